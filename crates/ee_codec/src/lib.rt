@@ -1,0 +1,2 @@
+//! The words of the store: elements, forgettings, receive words and marks.
+#![tactic(auto)]

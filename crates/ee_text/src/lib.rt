@@ -1,0 +1,2 @@
+//! Numbers and fields of a line of text.
+#![tactic(auto)]
