@@ -1,0 +1,125 @@
+use super::{
+    Address, MARK, MarkRead, Slot, element_word, forget_word, read_mark, read_receive, read_slot,
+    receive_word,
+};
+use ee_flash::Word;
+use std::test::Fail;
+
+/// The address of a number that has one.
+fn address(number: u16) -> Result<Address, Fail> {
+    Ok(Address::new(number).ok_or("no address")?)
+}
+
+#[test]
+fn addresses_are_1_to_65534(rt: HostRuntime) -> Result<(), Fail> {
+    assert!(rt; Address::new(0).is_none());
+    assert!(rt; Address::new(65535).is_none());
+    for number in [1, 2, 65534] {
+        assert_eq!(rt; address(number)?.get(), number);
+    }
+    assert!(rt; address(1)? < address(2)?);
+    Ok(())
+}
+
+#[test]
+fn elements_are_spelled(rt: HostRuntime) -> Result<(), Fail> {
+    for (number, value, word) in [
+        (1, 1, 0x0000_0001_0000_0001),
+        (1, 10, 0x0000_000a_0000_0001),
+        (1, 13, 0x0000_000d_0000_0001),
+        (2, 5, 0x0000_0005_0000_0002),
+        (65534, 4_294_967_295, 0xffff_ffff_0000_fffe),
+        (1, 0, 0x0000_0000_0000_0001),
+    ] {
+        let address = address(number)?;
+        assert_eq!(rt; element_word(address, value), word);
+        assert_eq!(rt;
+            read_slot(Word::Held(word)),
+            Slot::Element { address, value }
+        );
+    }
+    Ok(())
+}
+
+#[test]
+fn forgettings_are_spelled(rt: HostRuntime) -> Result<(), Fail> {
+    let address = address(1)?;
+    assert_eq!(rt; forget_word(address, 10), 0x0000_000a_0001_0001);
+    let read = read_slot(Word::Held(0x0000_000a_0001_0001));
+    assert_eq!(rt; read, Slot::Forgotten { address, value: 10 });
+    Ok(())
+}
+
+#[test]
+fn other_numbers_are_no_slot(rt: HostRuntime) {
+    for word in [
+        0x0000_000a_0000_0000,
+        0x0000_000a_0000_ffff,
+        0x0000_000a_0002_0001,
+        0x0000_0000_0000_0000,
+        0xaaaa_aaaa_0000_0000,
+        0xaaaa_aaaa_ffff_ffff,
+        0xaaaa_aaaa_aaaa_aaaa,
+    ] {
+        assert_eq!(rt; read_slot(Word::Held(word)), Slot::Foreign);
+    }
+    assert_eq!(rt; read_slot(Word::Erased), Slot::Free);
+    assert_eq!(rt; read_slot(Word::Torn), Slot::Spoiled);
+}
+
+#[test]
+fn receive_words_are_spelled(rt: HostRuntime) -> Result<(), Fail> {
+    for (generation, word) in [
+        (1, 0xaaaa_aaaa_0000_0001),
+        (4_294_967_294, 0xaaaa_aaaa_ffff_fffe),
+    ] {
+        assert_eq!(rt; receive_word(generation), word);
+        assert_eq!(rt; read_receive(Word::Held(word)), Some(generation));
+    }
+    for word in [
+        Word::Held(0x0000_000a_0000_0000),
+        Word::Held(0x0000_000a_0001_0001),
+        Word::Held(0x0000_0000_0000_0000),
+        Word::Held(0xaaaa_aaaa_0000_0000),
+        Word::Held(0xaaaa_aaaa_ffff_ffff),
+        Word::Erased,
+        Word::Torn,
+    ] {
+        assert_eq!(rt; read_receive(word), None);
+    }
+    Ok(())
+}
+
+#[test]
+fn only_the_mark_is_a_mark(rt: HostRuntime) {
+    assert_eq!(rt; MARK, 0xaaaa_aaaa_aaaa_aaaa);
+    assert_eq!(rt;
+        read_mark(Word::Held(0xaaaa_aaaa_aaaa_aaaa)),
+        MarkRead::Present
+    );
+    assert_eq!(rt; read_mark(Word::Erased), MarkRead::Absent);
+    assert_eq!(rt; read_mark(Word::Torn), MarkRead::Broken);
+    for word in [
+        0x0000_000a_0000_0000,
+        0xaaaa_aaaa_0000_0000,
+        0xaaaa_aaaa_0000_0001,
+    ] {
+        assert_eq!(rt; read_mark(Word::Held(word)), MarkRead::Foreign);
+    }
+}
+
+/// By its place alone the same word is an element or a receive word, a mark or a receive word.
+#[test]
+fn a_word_is_told_by_its_place(rt: HostRuntime) -> Result<(), Fail> {
+    let receive = Word::Held(0xaaaa_aaaa_0000_0001);
+    assert_eq!(rt;
+        read_slot(receive),
+        Slot::Element {
+            address: address(1)?,
+            value: 2_863_311_530
+        }
+    );
+    assert_eq!(rt; read_receive(receive), Some(1));
+    assert_eq!(rt; read_receive(Word::Held(MARK)), Some(2_863_311_530));
+    Ok(())
+}
