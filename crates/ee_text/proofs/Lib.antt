@@ -1,0 +1,6 @@
+pub mod Digits
+pub mod FirstPlace
+pub mod Joining
+pub mod Lacking
+pub mod LineFeeds
+pub mod NumberText

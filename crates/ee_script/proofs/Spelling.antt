@@ -1,0 +1,36 @@
+-- What a spelled line looks like: one line, and short.
+use Rattle.std.proofs.Common.{◌≡◌, ℕ, ◌≤◌, ◌<◌, ◌++◌, List, [], ◌∷◌, length, refl, arith, inl, length-append, codes, sym, ◌∙◌}
+use Rattle.std.specs.Fmt.{decimal}
+use Rattle.std.proofs.lemmas.Fmt.{length-decimal-le}
+use Rattle.ee_codec.specs.Words.{IsAddress, IsValue}
+use Rattle.ee_text.specs.Field.{IsField, Lacks}
+use Rattle.ee_text.proofs.Lacking.{Lacks-append, Lacks-decimal, first_place}
+use Rattle.ee_script.specs.declared.command.Command.{Command}
+use Rattle.ee_script.specs.declared.command.Command.TheVariants.{Write, Read, Clean}
+use Rattle.ee_script.specs.Command.{IsCommand, spelling}
+
+-- no spelling has a line feed
+pub Lacks-spelling : (command : Command) → IsCommand command → Lacks 10 (spelling command)
+Lacks-spelling (Write address value) h =
+    Lacks-append 10 (codes "w ") (decimal address ++ (codes " " ++ decimal value)) refl
+      (Lacks-append 10 (decimal address) (codes " " ++ decimal value) (Lacks-decimal 10 address (inl (omega arith)) (omega arith))
+        (Lacks-append 10 (codes " ") (decimal value) refl (Lacks-decimal 10 value (inl (omega arith)) (omega arith))))
+Lacks-spelling (Read address) h = Lacks-append 10 (codes "r ") (decimal address) refl (Lacks-decimal 10 address (inl (omega arith)) (omega arith))
+Lacks-spelling Clean h = refl
+
+-- no spelling has more than 24 bytes
+pub length-spelling : (command : Command) → IsCommand command → length (spelling command) ≤ 24
+length-spelling (Write address value) h =
+    let a : length (decimal address) ≤ 5 = length-decimal-le 5 address (omega arith) (omega arith) (omega arith) in
+    let v : length (decimal value) ≤ 10 = length-decimal-le 10 value (omega arith) (omega arith) (omega arith) in
+    simp length-append (omega arith)
+length-spelling (Read address) h =
+    let a : length (decimal address) ≤ 5 = length-decimal-le 5 address (omega arith) (omega arith) (omega arith) in
+    omega arith
+length-spelling Clean h = omega arith
+
+-- fields that spell an address and a value are cut at the space between them
+pub cut_between : (fields field tail : List ℕ) (address value : ℕ) → IsField field → fields ≡ field ++ 32 ∷ tail
+    → IsAddress address → fields ≡ decimal address ++ 32 ∷ decimal value → (field ≡ decimal address) × (tail ≡ decimal value)
+cut_between fields field tail address value in_field cut proper spelled =
+    first_place 32 field (decimal address) tail (decimal value) in_field (Lacks-decimal 32 address (inl (omega arith)) (omega arith)) (sym cut ∙ spelled)

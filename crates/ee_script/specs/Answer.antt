@@ -1,0 +1,17 @@
+-- The answers of a report, and how each is written on its line.
+use Rattle.std.specs.Prelude.{ℕ, List, decimal, codes, flat_map}
+use Rattle.ee_text.specs.Line.{line_of}
+use Rattle.ee_script.specs.declared.answer.Answer.{Answer}
+use Rattle.ee_script.specs.declared.answer.Answer.TheVariants.{Appended, Full, Value, NoValue, Idle}
+
+-- what its line says, without the line feed
+abbrev pub wording : Answer → List ℕ
+wording Appended = codes "ok"
+wording Full = codes "full"
+wording (Value value) = decimal value
+wording NoValue = codes "none"
+wording Idle = codes "idle"
+
+-- one line for each answer
+abbrev pub report : List Answer → List ℕ
+report answers = flat_map (λ answer. line_of (wording answer)) answers

@@ -1,0 +1,6 @@
+pub mod Command
+pub mod Answer
+pub mod Script
+pub mod Run
+pub mod Session
+pub mod Fault

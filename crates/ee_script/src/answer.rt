@@ -1,0 +1,36 @@
+ghost use Rattle.std.specs.Prelude.{◌≡◌, [], ◌∷◌, ◌++◌, OnOk};
+ghost use Rattle.ee_script.specs.Answer.{report};
+
+use ee_text::push_number;
+use std::alloc::{AllocError, Allocator};
+
+/// What a report says on one line.
+#[derive(Clone, Copy, Debug, PartialEq, Eq)]
+pub enum Answer {
+    /// `ok`: the write was appended.
+    Appended,
+    /// `full`: the address has no value, and there is no room for one more.
+    Full,
+    /// The value that was read.
+    Value(u32),
+    /// `none`: the address has no value.
+    NoValue,
+    /// `idle`: there was nothing to clean.
+    Idle,
+}
+
+/// Writes the answer's line at the end of a report. After an error the report may have a part of it.
+pub fn push_answer<A: Allocator>(out: &mut Vec<u8, A>, answer: Answer) -> Result<(), AllocError>
+    ensures { OnOk result (out.new.items ≡ out.old.items ++ report (answer ∷ [])) }
+{
+    match answer {
+        Answer::Appended => out.extend_from_slice(b"ok\n"),
+        Answer::Full => out.extend_from_slice(b"full\n"),
+        Answer::NoValue => out.extend_from_slice(b"none\n"),
+        Answer::Idle => out.extend_from_slice(b"idle\n"),
+        Answer::Value(value) => {
+            push_number(out, u64::from(value))?;
+            out.extend_from_slice(b"\n")
+        }
+    }
+}
