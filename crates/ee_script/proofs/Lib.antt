@@ -1,3 +1,5 @@
 pub mod Spelling
 pub mod Steps
 pub mod Faults
+pub mod Reading
+pub mod WholeScript

@@ -4,3 +4,5 @@ pub mod Script
 pub mod Run
 pub mod Session
 pub mod Fault
+pub mod Laws
+pub mod Whole

@@ -1,0 +1,74 @@
+-- A text is read in one way.
+use Rattle.std.proofs.Common.{◌≡◌, ℕ, ◌+◌, ◌<◌, ◌^◌, ◌++◌, List, [], ◌∷◌, length, get_or, refl, sym, ◌∙◌, ap, arith, append_assoc, length-append, inl}
+use Rattle.std.specs.Fmt.{decimal}
+use Rattle.std.proofs.lemmas.Fmt.{decimal_injective}
+use Rattle.std.proofs.lemmas.List.{append-nil}
+use Rattle.ee_codec.specs.Words.{IsAddress, IsValue}
+use Rattle.ee_text.specs.Line.{line_of}
+use Rattle.ee_text.proofs.Lacking.{first_place, Lacks-decimal}
+use Rattle.ee_text.proofs.LineFeeds.{first_line}
+use Rattle.ee_script.specs.declared.command.Command.{Command}
+use Rattle.ee_script.specs.declared.command.Command.TheVariants.{Write, Read, Clean}
+use Rattle.ee_script.specs.Command.{IsCommand, spelling}
+use Rattle.ee_script.specs.Script.{script, AreCommands, NoLine, IsScript, IsFirstBadLine}
+use Rattle.ee_script.proofs.Spelling.{Lacks-spelling}
+
+-- ---- two commands are never spelled alike
+
+write_injective : (a v b w : ℕ) → IsAddress a × IsValue v → IsAddress b × IsValue w → decimal a ++ 32 ∷ decimal v ≡ decimal b ++ 32 ∷ decimal w → (a ≡ b) × (v ≡ w)
+write_injective a v b w h k e =
+    let parts = first_place 32 (decimal a) (decimal b) (decimal v) (decimal w) (Lacks-decimal 32 a (inl (omega arith)) (omega arith)) (Lacks-decimal 32 b (inl (omega arith)) (omega arith)) e in
+    (decimal_injective a b (omega arith) (omega arith) parts.0, decimal_injective v w (omega arith) (omega arith) parts.1)
+
+pub spelling_injective : (c d : Command) → IsCommand c → IsCommand d → spelling c ≡ spelling d → c ≡ d
+spelling_injective (Write a v) (Write b w) h k e =
+    let rest : decimal a ++ 32 ∷ decimal v ≡ decimal b ++ 32 ∷ decimal w = cc in
+    let same = write_injective a v b w h k rest in
+    let first = same.0 in
+    let second = same.1 in
+    cc
+spelling_injective (Write a v) (Read b) h k e = absurd (omega (arith, ap (λ l. get_or l 0 0) e))
+spelling_injective (Write a v) Clean h k e = absurd (omega (arith, ap (λ l. get_or l 0 0) e))
+spelling_injective (Read a) (Write b w) h k e = absurd (omega (arith, ap (λ l. get_or l 0 0) e))
+spelling_injective (Read a) (Read b) h k e =
+    let rest : decimal a ≡ decimal b = cc in
+    ap Read (decimal_injective a b (omega arith) (omega arith) rest)
+spelling_injective (Read a) Clean h k e = absurd (omega (arith, ap (λ l. get_or l 0 0) e))
+spelling_injective Clean (Write b w) h k e = absurd (omega (arith, ap (λ l. get_or l 0 0) e))
+spelling_injective Clean (Read b) h k e = absurd (omega (arith, ap (λ l. get_or l 0 0) e))
+spelling_injective Clean Clean h k e = refl
+
+-- ---- the good lines at the front of a text
+
+-- the lines in front of what is no good line are determined
+pub good_front : (cs ds : List Command) (x y : List ℕ) → AreCommands cs → AreCommands ds → NoLine x → NoLine y → script cs ++ x ≡ script ds ++ y → (cs ≡ ds) × (x ≡ y)
+good_front [] [] x y h k no_x no_y e = (refl, e)
+good_front [] (d ∷ ds) x y h k no_x no_y e = absurd (no_x d (script ds ++ y) k.0 (e ∙ append_assoc (line_of (spelling d)) (script ds) y))
+good_front (c ∷ cs) [] x y h k no_x no_y e = absurd (no_y c (script cs ++ x) h.0 (sym e ∙ append_assoc (line_of (spelling c)) (script cs) x))
+good_front (c ∷ cs) (d ∷ ds) x y h k no_x no_y e =
+    let lines : line_of (spelling c) ++ (script cs ++ x) ≡ line_of (spelling d) ++ (script ds ++ y) =
+        sym (append_assoc (line_of (spelling c)) (script cs) x) ∙ e ∙ append_assoc (line_of (spelling d)) (script ds) y in
+    let first = first_line (spelling c) (spelling d) (script cs ++ x) (script ds ++ y) (Lacks-spelling c h.0) (Lacks-spelling d k.0) lines in
+    let command : c ≡ d = spelling_injective c d h.0 k.0 first.0 in
+    let rest = good_front cs ds x y h.1 k.1 no_x no_y first.1 in
+    let commands = rest.0 in
+    (cc, rest.1)
+
+-- nothing has no line
+pub no_line_in_nothing : NoLine []
+no_line_in_nothing command more proper e = omega (arith, ap length e, length-append (line_of (spelling command)) more, length-append (spelling command) (10 ∷ []))
+
+pub one_script_lem : (text : List ℕ) (commands others : List Command) → IsScript text commands → IsScript text others → commands ≡ others
+one_script_lem text commands others first second =
+    (good_front commands others [] [] first.proper second.proper no_line_in_nothing no_line_in_nothing
+      (append-nil (script commands) ∙ sym first.text_is ∙ second.text_is ∙ sym (append-nil (script others)))).0
+
+pub one_first_bad_line_lem : (text : List ℕ) (m n : ℕ) → IsFirstBadLine text m → IsFirstBadLine text n → m ≡ n
+one_first_bad_line_lem text m n first second =
+    let same = good_front first.good second.good first.rest second.rest first.proper second.proper first.bad second.bad (sym first.text_is ∙ second.text_is) in
+    first.number ∙ ap (λ good. length good + 1) same.0 ∙ sym second.number
+
+pub scripts_are_good_lem : (text : List ℕ) (commands : List Command) (n : ℕ) → IsScript text commands → IsFirstBadLine text n → ⊥
+scripts_are_good_lem text commands n whole bad =
+    let same = good_front commands bad.good [] bad.rest whole.proper bad.proper no_line_in_nothing bad.bad (append-nil (script commands) ∙ sym whole.text_is ∙ bad.text_is) in
+    bad.goes_on (sym same.1)

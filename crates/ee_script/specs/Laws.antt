@@ -1,0 +1,16 @@
+-- What holds of every text: it is read in one way.
+use Rattle.std.specs.Prelude.{◌≡◌, ℕ, List}
+use Rattle.ee_script.specs.declared.command.Command.{Command}
+use Rattle.ee_script.specs.Script.{IsScript, IsFirstBadLine}
+
+-- a text is the script of these commands and no others
+abbrev pub OneScript : Type 0
+OneScript = (text : List ℕ) (commands others : List Command) → IsScript text commands → IsScript text others → commands ≡ others
+
+-- no other line is the first bad one
+abbrev pub OneFirstBadLine : Type 0
+OneFirstBadLine = (text : List ℕ) (m n : ℕ) → IsFirstBadLine text m → IsFirstBadLine text n → m ≡ n
+
+-- a script has no bad line
+abbrev pub ScriptsAreGood : Type 0
+ScriptsAreGood = (text : List ℕ) (commands : List Command) (n : ℕ) → IsScript text commands → IsFirstBadLine text n → ⊥
