@@ -3,6 +3,7 @@ ghost use Rattle.std.specs.Prelude.{◌≡◌, ◌==◌, ◌++◌, ◌∷◌, If
 ghost use Rattle.ee_text.specs.Field.{Lacks};
 
 // What stands before the first `mark`, and what stands after it.
+#[tactic(auto, using(crate::proofs::FirstPlace::parts, crate::proofs::FirstPlace::before_lacks, crate::proofs::FirstPlace::lacks))]
 pub(crate) fn cut_at_first(bytes: &[u8], mark: u8) -> Option<(&[u8], &[u8])>
     ensures parts { IfSome result (λ parts. bytes.now ≡ parts.0.now ++ mark ∷ parts.1.now) }
     ensures first { IfSome result (λ parts. Lacks mark parts.0.now) }

@@ -10,3 +10,6 @@ mod numbers;
 pub use fields::next_field;
 pub use lines::next_line;
 pub use numbers::{number, number_up_to, push_number};
+
+#[cfg(test)]
+mod tests;

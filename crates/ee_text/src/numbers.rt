@@ -7,6 +7,7 @@ use itoa::Buffer;
 use std::alloc::{AllocError, Allocator};
 
 /// The number that the field writes. None where it writes no number, or one above `u64::MAX`.
+#[tactic(auto, using(crate::proofs::Digits::only, crate::proofs::Digits::not_empty))]
 pub fn number(field: &[u8]) -> Option<u64>
     // What is read is written so.
     ensures found { IfSome result (λ n. field.now ≡ decimal n) }
@@ -37,6 +38,7 @@ pub fn push_number<A: Allocator>(out: &mut Vec<u8, A>, n: u64) -> Result<(), All
 }
 
 // What the digits are worth. None where a byte is no digit, or the number is above `u64::MAX`.
+#[tactic(auto, using(crate::proofs::Digits::too_large, crate::proofs::Digits::whole))]
 fn value_of_digits(digits: &[u8]) -> Option<u64>
     ensures { SomeIff result (AllDigits 10 digits.now × (digits_value 10 digits.now < 2 ^ 64)) (digits_value 10 digits.now) }
 {

@@ -1,11 +1,8 @@
 -- proofs/numbers/number/Answers.antt
 use Rattle.std.proofs.Common.{◌≡◌, ◌<◌, arith, rules, length}
-use Rattle.ee_text.proofs.Digits.{found, only, not_empty, no_leading_zero}
+use Rattle.ee_text.proofs.Digits.{found, no_leading_zero}
 use Rattle.ee_text.proofs.numbers.number.Goals as goal
 use Rattle.ee_text.proofs.numbers.number.Goals.{else-first-eq48-via-then-first-eq48+else-not-is_empty, else-first-eq48-via-else-first-eq48}
-
-pub returns-in_err-first-clause-only : goal.returns-in_err-first-clause-only
-returns-in_err-first-clause-only c n fits e = absurd (not_empty c.args.field.now c.in_err-first.ensures.cases n fits e)
 
 pub returns-then-not-is_empty-clause-only : goal.returns-then-not-is_empty-clause-only
 returns-then-not-is_empty-clause-only c n fits e =
@@ -20,6 +17,3 @@ returns-clause-found c =
       | else-first-eq48-via-else-first-eq48 w ↦ absurd (omega arith)
     ] in
     found c.args.field.now c.in_ok-first.others.now c.in_ok-first.first.now c.value_of_digits.result c.in_ok-first.ensures.cases.0 plain c.value_of_digits.ensures
-
-pub returns-clause-only : goal.returns-clause-only
-returns-clause-only c = only c.args.field.now c.value_of_digits.result c.value_of_digits.ensures

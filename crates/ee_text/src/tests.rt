@@ -1,0 +1,54 @@
+// Worked texts, and each call once.
+use super::*;
+use std::alloc::AllocError;
+
+#[test]
+fn reads_numbers(rt: HostRuntime) {
+    let numbers: [(&[u8], Option<u64>); 14] = [
+        (b"0", Some(0)),
+        (b"7", Some(7)),
+        (b"10", Some(10)),
+        (b"4294967295", Some(4294967295)),
+        (b"18446744073709551615", Some(18446744073709551615)),
+        (b"18446744073709551616", None),
+        (b"99999999999999999999", None),
+        (b"100000000000000000000", None),
+        (b"", None),
+        (b"00", None),
+        (b"07", None),
+        (b"+7", None),
+        (b"7 ", None),
+        (b"0x7", None),
+    ];
+    for (field, want) in numbers {
+        assert_eq!(rt; number(field), want);
+    }
+    assert_eq!(rt; number_up_to(b"65534", 65534), Some(65534));
+    assert_eq!(rt; number_up_to(b"65535", 65534), None);
+}
+
+#[test]
+fn writes_numbers(rt: HostRuntime) -> Result<(), AllocError> {
+    let mut out = Vec::from_slice(rt.alloc(), b"wear ")?;
+    push_number(&mut out, 0)?;
+    push_number(&mut out, 18446744073709551615)?;
+    assert_eq!(rt; out.as_slice(), b"wear 018446744073709551615" as &[u8]);
+    Ok(())
+}
+
+#[test]
+fn reads_fields_and_lines(rt: HostRuntime) {
+    assert_eq!(rt;
+        next_field(b"ee 2 5"),
+        (b"ee" as &[u8], Some(b"2 5" as &[u8]))
+    );
+    assert_eq!(rt; next_field(b"5"), (b"5" as &[u8], None));
+    assert_eq!(rt; next_field(b""), (b"" as &[u8], None));
+    assert_eq!(rt; next_field(b"c "), (b"c" as &[u8], Some(b"" as &[u8])));
+    assert_eq!(rt;
+        next_line(b"ok\nmoved\n"),
+        Some((b"ok" as &[u8], b"moved\n" as &[u8]))
+    );
+    assert_eq!(rt; next_line(b"\n"), Some((b"" as &[u8], b"" as &[u8])));
+    assert_eq!(rt; next_line(b"ok"), None);
+}
