@@ -1,5 +1,5 @@
 ghost use Rattle.std.specs.Prelude.{◌≡◌};
-ghost use Rattle.ee_codec.specs.Words.{element, forgetting};
+ghost use Rattle.ee_codec.specs.Words.{IsAddress, element, forgetting};
 ghost use Rattle.ee_codec.specs.Reading.{slot_of, SaysSlot};
 
 use super::address::Address;
@@ -23,7 +23,8 @@ pub enum Slot {
 /// The word that says that `address` has `value`: the value in the high 32 bits, zero in the middle 16,
 /// the address in the low 16. Ours, as is every word of this crate.
 pub fn element_word(address: Address, value: u32) -> u64
-    ensures { result ≡ element address value }
+    ensures word { result ≡ element address value }
+    ensures proper { IsAddress address }
 {
     u64::from(value) << 32 | u64::from(address.get())
 }
@@ -31,7 +32,8 @@ pub fn element_word(address: Address, value: u32) -> u64
 /// The word that says that `address` has no value. It keeps the `value` forgotten in its high 32 bits, and
 /// has 1 in the middle 16.
 pub fn forget_word(address: Address, value: u32) -> u64
-    ensures { result ≡ forgetting address value }
+    ensures word { result ≡ forgetting address value }
+    ensures proper { IsAddress address }
 {
     element_word(address, value) + (1 << 16)
 }

@@ -1,0 +1,4 @@
+//! The commands of `ee` over bytes.
+#![tactic(auto)]
+
+mod slot_log;
