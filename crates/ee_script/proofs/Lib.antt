@@ -3,3 +3,4 @@ pub mod Steps
 pub mod Faults
 pub mod Reading
 pub mod WholeScript
+pub mod Seen
