@@ -2,3 +2,4 @@ pub mod Words
 pub mod Elements
 pub mod Appending
 pub mod Causes
+pub mod Streams

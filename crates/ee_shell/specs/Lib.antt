@@ -1,3 +1,4 @@
 pub mod Machine
 pub mod Places
 pub mod Replaying
+pub mod Fault

@@ -4,3 +4,4 @@ pub mod Joining
 pub mod Lacking
 pub mod LineFeeds
 pub mod NumberText
+pub mod Parting

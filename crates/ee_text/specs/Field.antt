@@ -1,6 +1,6 @@
 -- The fields of a line: one space stands between each two, and none in a field.
 use Rattle.std.specs.Prelude.{ℕ, List, IsTrue, not, ◌==◌}
-use Rattle.std.specs.List.{list_all, join_with_byte}
+use Rattle.std.specs.List.{list_all, join_with_byte, slice_split}
 
 abbrev pub space : ℕ
 space = 32
@@ -16,3 +16,7 @@ IsField text = Lacks space text
 -- the fields in a row, with a space between each two
 abbrev pub joined : List (List ℕ) → List ℕ
 joined fields = join_with_byte space fields
+
+-- the parts of a line between its spaces
+abbrev pub fields_of : List ℕ → List (List ℕ)
+fields_of line = slice_split (λ b. b == space) line

@@ -1,3 +1,4 @@
 pub mod Field
-pub mod Line
+pub mod Fields
 pub mod Laws
+pub mod Line

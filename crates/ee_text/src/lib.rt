@@ -1,4 +1,13 @@
-//! Numbers, fields and lines of a text.
+//! Numbers, fields and lines of a text: what every text of `ee` is made of.
+//!
+//! A line is its bytes and a line feed. Its fields stand one space apart. A number is decimal, with no
+//! sign and no zero in front. Each is stated by its spelling, in `specs/`: std's `decimal n` for a number,
+//! `joined fields` for a row of fields, `line_of text` for a line. What is read is spelled so, and what is
+//! spelled so is read. Nothing here allocates but `push_number`.
+//!
+//! The layers above read with `next_line`, `Fields` or `next_field`, and `number`. They write with
+//! `push_number` and std's `extend_from_slice`. Their proofs may use the lemmas of `proofs/`: `Joining`,
+//! `LineFeeds`, `NumberText`, `Parting` and `Lacking`. The module `laws` says what they come to.
 #![tactic(auto)]
 
 mod cuts;
@@ -7,7 +16,7 @@ pub mod laws;
 mod lines;
 mod numbers;
 
-pub use fields::next_field;
+pub use fields::{Fields, next_field};
 pub use lines::next_line;
 pub use numbers::{number, number_up_to, push_number};
 

@@ -52,3 +52,16 @@ fn reads_fields_and_lines(rt: HostRuntime) {
     assert_eq!(rt; next_line(b"\n"), Some((b"" as &[u8], b"" as &[u8])));
     assert_eq!(rt; next_line(b"ok"), None);
 }
+
+#[test]
+fn gives_each_field(rt: HostRuntime) {
+    let mut fields = Fields::of(b"w 1 10");
+    assert_eq!(rt; fields.next(), Some(b"w" as &[u8]));
+    assert_eq!(rt; fields.next(), Some(b"1" as &[u8]));
+    assert_eq!(rt; fields.next(), Some(b"10" as &[u8]));
+    assert_eq!(rt; fields.next(), None);
+    assert_eq!(rt; fields.next(), None);
+    let mut empty = Fields::of(b"");
+    assert_eq!(rt; empty.next(), Some(b"" as &[u8]));
+    assert_eq!(rt; empty.next(), None);
+}
