@@ -34,5 +34,5 @@ pub fault_in_turn : {S : Type 0} (step : S → Command → Answer → S → Type
 fault_in_turn step old mid piece i fault below first second =
     let front : IsFault old (take i piece ++ get_or piece i 0 ∷ []) fault = fault_later step old mid (take i piece) (get_or piece i 0 ∷ []) fault first second in
     let whole : (take i piece ++ get_or piece i 0 ∷ []) ++ drop (i + 1) piece ≡ piece =
-        ap (λ l. l ++ drop (i + 1) piece) (sym (take_more piece i 0 below)) ∙ take-append-drop (i + 1) piece in
+    ap (λ l. l ++ drop (i + 1) piece) (sym (take_more piece i 0 below)) ∙ take-append-drop (i + 1) piece in
     subst (λ text. IsFault old text fault) whole (fault_before old (take i piece ++ get_or piece i 0 ∷ []) (drop (i + 1) piece) fault front)

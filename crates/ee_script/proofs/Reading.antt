@@ -47,7 +47,7 @@ good_front [] (d ∷ ds) x y h k no_x no_y e = absurd (no_x d (script ds ++ y) k
 good_front (c ∷ cs) [] x y h k no_x no_y e = absurd (no_y c (script cs ++ x) h.0 (sym e ∙ append_assoc (line_of (spelling c)) (script cs) x))
 good_front (c ∷ cs) (d ∷ ds) x y h k no_x no_y e =
     let lines : line_of (spelling c) ++ (script cs ++ x) ≡ line_of (spelling d) ++ (script ds ++ y) =
-        sym (append_assoc (line_of (spelling c)) (script cs) x) ∙ e ∙ append_assoc (line_of (spelling d)) (script ds) y in
+    sym (append_assoc (line_of (spelling c)) (script cs) x) ∙ e ∙ append_assoc (line_of (spelling d)) (script ds) y in
     let first = first_line (spelling c) (spelling d) (script cs ++ x) (script ds ++ y) (Lacks-spelling c h.0) (Lacks-spelling d k.0) lines in
     let command : c ≡ d = spelling_injective c d h.0 k.0 first.0 in
     let rest = good_front cs ds x y h.1 k.1 no_x no_y first.1 in
@@ -61,7 +61,7 @@ no_line_in_nothing command more proper e = omega (arith, ap length e, length-app
 pub one_script_lem : (text : List ℕ) (commands others : List Command) → IsScript text commands → IsScript text others → commands ≡ others
 one_script_lem text commands others first second =
     (good_front commands others [] [] first.proper second.proper no_line_in_nothing no_line_in_nothing
-      (append-nil (script commands) ∙ sym first.text_is ∙ second.text_is ∙ sym (append-nil (script others)))).0
+    (append-nil (script commands) ∙ sym first.text_is ∙ second.text_is ∙ sym (append-nil (script others)))).0
 
 pub one_first_bad_line_lem : (text : List ℕ) (m n : ℕ) → IsFirstBadLine text m → IsFirstBadLine text n → m ≡ n
 one_first_bad_line_lem text m n first second =

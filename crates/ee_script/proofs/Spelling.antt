@@ -13,8 +13,8 @@ use Rattle.ee_script.specs.Command.{IsCommand, spelling}
 pub Lacks-spelling : (command : Command) → IsCommand command → Lacks 10 (spelling command)
 Lacks-spelling (Write address value) h =
     Lacks-append 10 (codes "w ") (decimal address ++ (codes " " ++ decimal value)) refl
-      (Lacks-append 10 (decimal address) (codes " " ++ decimal value) (Lacks-decimal 10 address (inl (omega arith)) (omega arith))
-        (Lacks-append 10 (codes " ") (decimal value) refl (Lacks-decimal 10 value (inl (omega arith)) (omega arith))))
+    (Lacks-append 10 (decimal address) (codes " " ++ decimal value) (Lacks-decimal 10 address (inl (omega arith)) (omega arith))
+    (Lacks-append 10 (codes " ") (decimal value) refl (Lacks-decimal 10 value (inl (omega arith)) (omega arith))))
 Lacks-spelling (Read address) h = Lacks-append 10 (codes "r ") (decimal address) refl (Lacks-decimal 10 address (inl (omega arith)) (omega arith))
 Lacks-spelling Clean h = refl
 

@@ -76,7 +76,7 @@ answered {S} step server text last new reported went ended = record {
   answers = went.answers;
   is_script = record {
     proper = went.proper;
-    text_is = went.text_is ∙ ap (λ rest. script went.commands ++ rest) ended.nothing_left ∙ append-nil (script went.commands)
+    text_is = went.text_is ∙ ap (λ rest. script went.commands ++ rest) ended.nothing_left ∙ append-nil (script went.commands);
   };
   run = subst (λ (s : S). Run step server went.commands went.answers s) (sym ended.server_is) went.run;
   report_is = ended.report_is ∙ went.report_is;

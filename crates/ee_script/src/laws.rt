@@ -4,17 +4,14 @@ ghost use Rattle.ee_script.specs.Laws.{OneFirstBadLine, OneScript, ScriptsAreGoo
 /// A text is the script of one list of commands at most.
 pub fn one_script()
     ensures { OneScript }
-{
-}
+{}
 
 /// A text has one first bad line at most.
 pub fn one_first_bad_line()
     ensures { OneFirstBadLine }
-{
-}
+{}
 
 /// A script has no bad line, so a text is a script, or has a first bad line, and not both.
 pub fn scripts_are_good()
     ensures { ScriptsAreGood }
-{
-}
+{}

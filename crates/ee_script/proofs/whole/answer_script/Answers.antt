@@ -23,14 +23,14 @@ returns-clause-fault g c =
     let small : length c.args.script.now < 2 ^ 64 = omega arith in
     let went = rw c.new.ensures at c.in_ok-feed.ensures in
     MatchResult-weaker c.finish.result c.finish.ensures (λ done ended. tt)
-      (λ fault ended. fault_at_end g.S.Serve.serves c.args.server c.args.script.now c.in_ok-feed.field-0 fault small went ended)
+    (λ fault ended. fault_at_end g.S.Serve.serves c.args.server c.args.script.now c.in_ok-feed.field-0 fault small went ended)
 
 pub returns-clause-bad : goal.returns-clause-bad
 returns-clause-bad g c n bad =
     let small : length c.args.script.now < 2 ^ 64 = omega arith in
     let went = rw c.new.ensures at c.in_ok-feed.ensures in
     MatchResult-weaker c.finish.result c.finish.ensures
-      (λ done ended. none_passed g.S.Serve.serves c.args.server done.0 c.args.script.now done.1.items n bad
-        (answered g.S.Serve.serves c.args.server c.args.script.now c.in_ok-feed.field-0 done.0 done.1.items went ended))
-      (λ fault ended. named c.args.script.now fault n bad
-        (fault_at_end g.S.Serve.serves c.args.server c.args.script.now c.in_ok-feed.field-0 fault small went ended))
+    (λ done ended. none_passed g.S.Serve.serves c.args.server done.0 c.args.script.now done.1.items n bad
+    (answered g.S.Serve.serves c.args.server c.args.script.now c.in_ok-feed.field-0 done.0 done.1.items went ended))
+    (λ fault ended. named c.args.script.now fault n bad
+    (fault_at_end g.S.Serve.serves c.args.server c.args.script.now c.in_ok-feed.field-0 fault small went ended))

@@ -18,4 +18,4 @@ returns-in_err-take g c =
 pub loop-byte-preserved : goal.loop-byte-preserved
 loop-byte-preserved g c =
     subst (λ text. Goes g.S.Serve.serves c.args.self text c.take.new.self) (sym (take_more c.args.piece.now c.loop-byte.byte-index 0 (omega arith)))
-      (goes_on g.S.Serve.serves c.args.self c.loop-byte.self c.take.new.self _ _ c.loop-byte.invariant c.in_ok-take.ensures)
+    (goes_on g.S.Serve.serves c.args.self c.loop-byte.self c.take.new.self _ _ c.loop-byte.invariant c.in_ok-take.ensures)
