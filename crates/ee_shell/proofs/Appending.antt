@@ -40,7 +40,7 @@ pub state-with_element : (device new : Device) (n page at word address value : �
     → IsFormed device → n < slot_count device.size → IsAddress address → IsValue value → state_of new (n + 1) ≡ appended address value (state_of device n)
 state-with_element device new n page at word address value is in_page at_place spelled formed below proper fits =
     let placed : new ≡ with_element device n address value =
-        is ∙ ap (λ p. programmed p at word device) in_page ∙ ap (λ q. programmed (n / page_slots device) q word device) at_place
-        ∙ ap (λ w. programmed (n / page_slots device) (4 + n % page_slots device) w device) spelled in
+    is ∙ ap (λ p. programmed p at word device) in_page ∙ ap (λ q. programmed (n / page_slots device) q word device) at_place
+    ∙ ap (λ w. programmed (n / page_slots device) (4 + n % page_slots device) w device) spelled in
     ap (λ d. state_of d (n + 1)) placed
     ∙ ap (λ es. let s : State = record { slots = slot_count device.size; values = from_entries es; fill = n + 1 } in s) (elements-with_element device n address value formed below proper fits)

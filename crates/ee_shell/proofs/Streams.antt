@@ -22,7 +22,7 @@ pub read_all : (first mid last : Option (List ℕ)) (bytes nothing : List ℕ) �
     → IfSome first (λ all. bytes ≡ all)
 read_all first mid last bytes nothing taken more none end =
     Consumes-whole first last (bytes ++ nothing) (λ all. bytes ≡ all) (Consumes-trans first mid last bytes nothing taken more) end
-      (sym (ap (λ l. bytes ++ l) none ∙ append-nil bytes))
+    (sym (ap (λ l. bytes ++ l) none ∙ append-nil bytes))
 
 longer : (first last : Option (List ℕ)) (bytes : List ℕ) (n : ℕ) → Consumes first last bytes → n < length bytes → IfSome first (λ all. n < length all)
 longer None last bytes n taken h = tt

@@ -56,4 +56,4 @@ pub slot_word_other : (device : Device) (n value k : ℕ) → IsFormed device �
     → slot_word (programmed (n / page_slots device) (4 + n % page_slots device) value device) k ≡ slot_word device k
 slot_word_other device n value k formed below other =
     word_at-programmed_other device (n / page_slots device) (4 + n % page_slots device) value (k / page_slots device) (4 + k % page_slots device)
-      (place_in_range device n formed below).0 (places_differ k n (page_slots device) other)
+    (place_in_range device n formed below).0 (places_differ k n (page_slots device) other)

@@ -55,7 +55,11 @@ impl<F: Flash + Drop> SlotLog<F> {
         ensures { result ≡ get (state_of (F.device self.now.flash) self.now.used).values address }
     {
         for slot in (0..self.used).rev() {
-            if let Slot::Element { address: named, value } = read_slot(self.word(slot)) {
+            if let Slot::Element {
+                address: named,
+                value,
+            } = read_slot(self.word(slot))
+            {
                 if named == address {
                     return Some(value);
                 }

@@ -16,8 +16,10 @@ returns-in_err-report-clause-bad g c n bad =
 pub returns-clause-report : goal.returns-clause-report
 returns-clause-report g c =
     let start : state_of (device_of c.new.result.flash) c.new.result.used ≡ blank c.args.shape =
-        c.new.ensures ∙ ap (λ memory. state_of memory.device 0) c.in_ok-flash.ensures in
+    c.new.ensures ∙ ap (λ memory. state_of memory.device 0) c.in_ok-flash.ensures in
     let done = c.in_ok-report.field-0-0 in
-    let last : State = state_of (device_of done.flash) done.used in
-    (last, subst (λ (first : State). IsAnswered Step first c.args.script.now last c.in_ok-report.report.items) start
-      (IsAnswered-seen (λ log. state_of (device_of log.flash) log.used) Step c.new.result done c.args.script.now c.in_ok-report.report.items c.in_ok-report.ensures.answered))
+    let last : State = state_of (device_of done.flash) done.used in (
+      last,
+      subst (λ (first : State). IsAnswered Step first c.args.script.now last c.in_ok-report.report.items) start
+          (IsAnswered-seen (λ log. state_of (device_of log.flash) log.used) Step c.new.result done c.args.script.now c.in_ok-report.report.items c.in_ok-report.ensures.answered),
+    )

@@ -23,7 +23,7 @@ pub loop-slot-preserved : goal.loop-slot-preserved
 loop-slot-preserved g c =
     let device = g.F.Flash.device c.args.self.now.flash in
     c.loop-slot.invariant ∙ newest_is_none device c.loop-slot.slot c.args.address (omega arith)
-      (λ named value says. c.in_default.not-Element named value (c.read_slot.ensures.exact ∙ ap slot_of c.word.ensures ∙ says))
+    (λ named value says. c.in_default.not-Element named value (c.read_slot.ensures.exact ∙ ap slot_of c.word.ensures ∙ says))
 
 pub returns : goal.returns
 returns g c =
