@@ -13,10 +13,13 @@ use Rattle.ee_codec.specs.Words.{IsAddress, IsValue, element, forgetting}
 abbrev pub SaysSlot : Word → Slot → Type 0
 SaysSlot Erased Free = Unit {0}
 SaysSlot Torn Spoiled = Unit {0}
-SaysSlot (Held number) (Element address value) = IsAddress address × IsValue value × (number ≡ element address value)
-SaysSlot (Held number) (Forgotten address value) = IsAddress address × IsValue value × (number ≡ forgetting address value)
+SaysSlot (Held number) (Element address value) =
+    IsAddress address × IsValue value × (number ≡ element address value)
+SaysSlot (Held number) (Forgotten address value) =
+    IsAddress address × IsValue value × (number ≡ forgetting address value)
 SaysSlot (Held number) Foreign =
-    (address value : ℕ) → IsAddress address → IsValue value → (number ≢ element address value) × (number ≢ forgetting address value)
+    (address value : ℕ) → IsAddress address → IsValue value
+    → (number ≢ element address value) × (number ≢ forgetting address value)
 SaysSlot word slot = ⊥
 
 -- A word says this as a mark.

@@ -4,7 +4,8 @@ ghost use Rattle.ee_codec.specs.Reading.{mark_of, receive_of, SaysMark};
 
 use ee_flash::Word;
 
-/// The mark: what the header words that say active, valid and erasing hold once they are programmed.
+/// The mark: what the header words that say active, valid and erasing hold once they are
+/// programmed.
 pub const MARK: u64 = 0xAAAA_AAAA_AAAA_AAAA;
 
 /// What a receive word is without its generation.
@@ -31,11 +32,13 @@ pub fn receive_word(generation: u32) -> u64
     RECEIVE + u64::from(generation)
 }
 
-/// Reads a word in the place of a receive word: the inverse of `receive_word`, and nothing else reads.
+/// Reads a word in the place of a receive word: the inverse of `receive_word`, and nothing else
+/// reads.
 pub fn read_receive(word: Word) -> Option<u32>
-    ensures found { IfSome result (λ generation. IsGeneration generation × (word ≡ Word.Held (receive generation))) }
-    ensures only { (generation : ℕ) → IsGeneration generation → word ≡ Word.Held (receive generation)
-        → result ≡ Some generation }
+    ensures found { IfSome result
+        (λ generation. IsGeneration generation × (word ≡ Word.Held (receive generation))) }
+    ensures only { (generation : ℕ) → IsGeneration generation
+        → word ≡ Word.Held (receive generation) → result ≡ Some generation }
     ensures exact { result ≡ receive_of word }
 {
     match word {

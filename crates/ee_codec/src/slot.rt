@@ -20,8 +20,8 @@ pub enum Slot {
     Foreign,
 }
 
-/// The word that says that `address` has `value`: the value in the high 32 bits, zero in the middle 16,
-/// the address in the low 16. Ours, as is every word of this crate.
+/// The word that says that `address` has `value`: the value in the high 32 bits, zero in the middle
+/// 16, the address in the low 16. Ours, as is every word of this crate.
 pub fn element_word(address: Address, value: u32) -> u64
     ensures word { result ≡ element address value }
     ensures proper { IsAddress address }
@@ -29,8 +29,8 @@ pub fn element_word(address: Address, value: u32) -> u64
     u64::from(value) << 32 | u64::from(address.get())
 }
 
-/// The word that says that `address` has no value. It keeps the `value` forgotten in its high 32 bits, and
-/// has 1 in the middle 16.
+/// The word that says that `address` has no value. It keeps the `value` forgotten in its high 32
+/// bits, and has 1 in the middle 16.
 pub fn forget_word(address: Address, value: u32) -> u64
     ensures word { result ≡ forgetting address value }
     ensures proper { IsAddress address }
@@ -38,8 +38,8 @@ pub fn forget_word(address: Address, value: u32) -> u64
     element_word(address, value) + (1 << 16)
 }
 
-/// Reads a word in the place of a slot: the inverse of `element_word` and `forget_word`, and nothing else
-/// reads as an element or a forgetting.
+/// Reads a word in the place of a slot: the inverse of `element_word` and `forget_word`, and
+/// nothing else reads as an element or a forgetting.
 pub fn read_slot(word: Word) -> Slot
     ensures says { SaysSlot word result }
     ensures exact { result ≡ slot_of word }

@@ -5,7 +5,9 @@ use Rattle.ee_script.specs.Script.{IsScript, IsFirstBadLine}
 
 -- a text is the script of these commands and no others
 abbrev pub OneScript : Type 0
-OneScript = (text : List ℕ) (commands others : List Command) → IsScript text commands → IsScript text others → commands ≡ others
+OneScript =
+    (text : List ℕ) (commands others : List Command)
+    → IsScript text commands → IsScript text others → commands ≡ others
 
 -- no other line is the first bad one
 abbrev pub OneFirstBadLine : Type 0

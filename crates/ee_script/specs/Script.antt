@@ -21,8 +21,8 @@ pub record IsScript (text : List ℕ) (commands : List Command) : Type 0 where
 abbrev pub NoLine : List ℕ → Type 0
 NoLine text = (command : Command) (more : List ℕ) → IsCommand command → text ≢ line_of (spelling command) ++ more
 
--- Line n is the first bad one: the good lines before it are one fewer, and after them the text goes on, but not with a good line.
--- A line that isn't ended by a line feed is bad too.
+-- Line n is the first bad one: the good lines before it are one fewer, and after them the text goes on, but not with a
+-- good line. A line that isn't ended by a line feed is bad too.
 pub record IsFirstBadLine (text : List ℕ) (n : ℕ) : Type 0 where
   pub good : List Command
   pub rest : List ℕ

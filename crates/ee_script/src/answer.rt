@@ -19,7 +19,8 @@ pub enum Answer {
     Idle,
 }
 
-/// Writes the answer's line at the end of a report. After an error the report may have a part of it.
+/// Writes the answer's line at the end of a report. After an error the report may have a part of
+/// it.
 pub fn push_answer<A: Allocator>(out: &mut Vec<u8, A>, answer: Answer) -> Result<(), AllocError>
     ensures { OnOk result (out.new.items ≡ out.old.items ++ report (answer ∷ [])) }
 {

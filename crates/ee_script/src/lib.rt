@@ -1,14 +1,15 @@
-//! A script and its report: the commands and how their lines are spelled, the answers and how they are
-//! written, and the session that answers a script as it comes.
+//! A script and its report: the commands and how their lines are spelled, the answers and how they
+//! are written, and the session that answers a script as it comes.
 //!
-//! A script is the lines of its commands and nothing else; a text that is no script has a first bad line.
-//! A session is fed the script in any pieces, keeps at most the bytes of one unfinished line, and has each
-//! command answered by something that serves: what that may answer, and what it is afterwards, is its own
-//! relation, and a session adds nothing to it.
+//! A script is the lines of its commands and nothing else; a text that is no script has a first bad
+//! line. A session is fed the script in any pieces, keeps at most the bytes of one unfinished line,
+//! and has each command answered by something that serves: what that may answer, and what it is
+//! afterwards, is its own relation, and a session adds nothing to it.
 //!
-//! What the layers above may use: the report is the answers of a run of what serves, one line each, and
-//! `laws` says that a text is read in one way. `specs/Command.antt`, `Script.antt`, `Answer.antt` and
-//! `Run.antt` are the definitions; `Session.antt` says what a piece adds, `Whole.antt` what a script gives.
+//! What the layers above may use: the report is the answers of a run of what serves, one line each,
+//! and `laws` says that a text is read in one way. `specs/Command.antt`, `Script.antt`,
+//! `Answer.antt` and `Run.antt` are the definitions; `Session.antt` says what a piece adds,
+//! `Whole.antt` what a script gives.
 #![tactic(auto)]
 
 mod answer;

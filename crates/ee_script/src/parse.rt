@@ -12,7 +12,8 @@ pub fn read_command(line: &[u8]) -> Option<Command>
     // What is read is spelled so.
     ensures found { IfSome result (λ command. IsCommand command × (line.now ≡ spelling command)) }
     // What is spelled so is read.
-    ensures only { (command : Command) → IsCommand command → line.now ≡ spelling command → result ≡ Some command }
+    ensures only { (command : Command) → IsCommand command → line.now ≡ spelling command
+        → result ≡ Some command }
 {
     match line {
         [b'w', b' ', fields @ ..] => read_write(fields),
@@ -26,9 +27,11 @@ pub fn read_command(line: &[u8]) -> Option<Command>
 
 /// The write of the address and the value that the two fields spell.
 fn read_write(fields: &[u8]) -> Option<Command>
-    ensures found { IfSome result (λ command. IsCommand command × (joined (codes "w" ∷ fields.now ∷ []) ≡ spelling command)) }
+    ensures found { IfSome result (λ command. IsCommand command
+        × (joined (codes "w" ∷ fields.now ∷ []) ≡ spelling command)) }
     ensures only { (address value : ℕ) → IsAddress address → IsValue value
-        → fields.now ≡ joined (decimal address ∷ decimal value ∷ []) → result ≡ Some (Command.Write address value) }
+        → fields.now ≡ joined (decimal address ∷ decimal value ∷ [])
+        → result ≡ Some (Command.Write address value) }
 {
     let (address, rest) = next_field(fields);
     let value = rest?;
@@ -41,7 +44,8 @@ fn read_write(fields: &[u8]) -> Option<Command>
 /// The address that a field spells.
 fn read_address(field: &[u8]) -> Option<Address>
     ensures found { IfSome result (λ address. IsAddress address × (field.now ≡ decimal address)) }
-    ensures only { (address : ℕ) → IsAddress address → field.now ≡ decimal address → result ≡ Some address }
+    ensures only { (address : ℕ) → IsAddress address → field.now ≡ decimal address
+        → result ≡ Some address }
 {
     Address::new(number_up_to(field, u64::from(u16::MAX))? as u16)
 }

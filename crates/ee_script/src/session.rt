@@ -1,4 +1,5 @@
 ghost use Rattle.std.specs.Prelude.{◌≡◌, ◌+◌, [], ◌∷◌, IfOk, MatchResult};
+ghost use Rattle.ee_text.specs.Line.{line_feed};
 ghost use Rattle.ee_script.specs.Session.{counted, Ends, Goes};
 ghost use Rattle.ee_script.specs.Fault.{EndsBadly, IsFault};
 
@@ -45,8 +46,8 @@ pub trait Serve {
         ensures { IfOk result (λ answer. serves self.old command answer self.new) };
 }
 
-/// A script on its way: it comes in pieces, and each line is answered as soon as it has come. An error
-/// takes the session with it.
+/// A script on its way: it comes in pieces, and each line is answered as soon as it has come. An
+/// error takes the session with it.
 #[derive(Drop)]
 pub struct Session<S: Serve + Drop, A: Allocator = Global> {
     server: S,
@@ -61,7 +62,12 @@ impl<S: Serve + Drop, A: Allocator> Model for Session<S, A> {
 
     ghost Value = { Progress S };
 
-    ghost view = { λ s. record { server = s.server; report = s.report.items; lines = s.lines; unfinished = s.unfinished.items } };
+    ghost view = { λ s. record {
+      server = s.server;
+      report = s.report.items;
+      lines = s.lines;
+      unfinished = s.unfinished.items;
+    } };
 
     ghost invariant = { λ s. IsUnfinished s.unfinished.items };
 }
@@ -79,10 +85,12 @@ impl<S: Serve + Drop, A: Allocator> Session<S, A> {
         }
     }
 
-    /// Takes the next piece of the script: each line that ends in it is answered. A line is judged when
-    /// its line feed comes, or at the first byte that makes it longer than any good line.
+    /// Takes the next piece of the script: each line that ends in it is answered. A line is judged
+    /// when its line feed comes, or at the first byte that makes it longer than any good line.
     pub fn feed(mut self, piece: &[u8]) -> Result<Session<S, A>, ScriptFault>
-        ensures { MatchResult result (λ session. Goes S.serves self piece.now session) (IsFault self piece.now) }
+        ensures { MatchResult result
+            (λ session. Goes S.serves self piece.now session)
+            (IsFault self piece.now) }
     {
         for byte in piece {
             self.take(*byte)?;
@@ -90,7 +98,8 @@ impl<S: Serve + Drop, A: Allocator> Session<S, A> {
         Ok(self)
     }
 
-    /// Ends the script, and gives what served it and the report. A line that no line feed ended is bad.
+    /// Ends the script, and gives what served it and the report. A line that no line feed ended is
+    /// bad.
     pub fn finish(self) -> Result<(S, Vec<u8, A>), ScriptFault>
         ensures { MatchResult result (λ done. Ends self done.0 done.1.items) (EndsBadly self) }
     {
@@ -102,7 +111,9 @@ impl<S: Serve + Drop, A: Allocator> Session<S, A> {
 
     /// Takes the next byte.
     fn take(&mut self, byte: u8) -> Result<(), ScriptFault>
-        ensures { MatchResult result (λ _. Goes S.serves self.old (byte ∷ []) self.new) (IsFault self.old (byte ∷ [])) }
+        ensures { MatchResult result
+            (λ _. Goes S.serves self.old (byte ∷ []) self.new)
+            (IsFault self.old (byte ∷ [])) }
     {
         if byte == b'\n' {
             return self.judge();
@@ -116,7 +127,9 @@ impl<S: Serve + Drop, A: Allocator> Session<S, A> {
 
     /// Judges and answers the line that a line feed ends now.
     fn judge(&mut self) -> Result<(), ScriptFault>
-        ensures { MatchResult result (λ _. Goes S.serves self.old (10 ∷ []) self.new) (IsFault self.old (10 ∷ [])) }
+        ensures { MatchResult result
+            (λ _. Goes S.serves self.old (line_feed ∷ []) self.new)
+            (IsFault self.old (line_feed ∷ [])) }
     {
         let Some(command) = read_command(self.unfinished.as_slice()) else {
             return Err(self.bad_line());

@@ -15,11 +15,13 @@ pub fn answer_script<S: Serve + Drop, A: Allocator>(
     server: S,
     script: &[u8],
 ) -> Result<(S, Vec<u8, A>), ScriptFault>
-    ensures answered { IfOk result (λ done. IsAnswered S.serves server script.now done.0 done.1.items) }
+    ensures answered { IfOk result
+        (λ done. IsAnswered S.serves server script.now done.0 done.1.items) }
     ensures fault { IfErr result (IsScriptFault script.now) }
     // A bad line is never passed over.
     ensures bad { (n : ℕ) → IsFirstBadLine script.now n
-        → MatchResult result (λ _. ⊥) (λ fault. (fault ≡ ScriptFault.BadLine n) ⊎ (fault ≡ ScriptFault.Memory)) }
+        → MatchResult result (λ _. ⊥)
+        (λ fault. (fault ≡ ScriptFault.BadLine n) ⊎ (fault ≡ ScriptFault.Memory)) }
 {
     Session::new(alloc, server).feed(script)?.finish()
 }
