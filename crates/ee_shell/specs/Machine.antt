@@ -8,7 +8,8 @@ use Rattle.ee_script.specs.declared.command.Command.TheVariants.{Write, Read, Cl
 use Rattle.ee_script.specs.declared.answer.Answer.{Answer}
 use Rattle.ee_script.specs.declared.answer.Answer.TheVariants.{Appended, Full, Value, NoValue, Idle}
 
--- how many slots there are, the values of the addresses, and how many slots are used: one for each write that was accepted
+-- how many slots there are, the values of the addresses, and how many slots are used: one for each write that was
+-- accepted
 pub record State : Type 0 where
   pub slots : ℕ
   pub values : FinMap nat_cmp ℕ

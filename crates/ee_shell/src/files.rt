@@ -51,10 +51,12 @@ pub fn read_whole<A: Allocator + Copy, R: Read>(
     alloc: A,
     reader: &mut R,
 ) -> Result<Vec<u8, A>, ReadFault>
-    ensures whole { IfOk result (λ bytes. IfSome (R.remaining reader.old) (λ all. bytes.items ≡ all)) }
+    ensures whole { IfOk result
+        (λ bytes. IfSome (R.remaining reader.old) (λ all. bytes.items ≡ all)) }
     ensures end { OnOk result (IsAtEnd (R.remaining reader.new)) }
     ensures short { IfOk result (λ bytes. vec_len bytes ≤ MOST_BYTES) }
-    ensures too_long { IsErrOf result ReadFault.TooLong → IfSome (R.remaining reader.old) (λ all. MOST_BYTES < length all) }
+    ensures too_long { IsErrOf result ReadFault.TooLong
+        → IfSome (R.remaining reader.old) (λ all. MOST_BYTES < length all) }
 {
     let mut bytes = Vec::new(alloc);
     let mut chunk = [0u8; CHUNK];
@@ -74,11 +76,12 @@ pub fn read_whole<A: Allocator + Copy, R: Read>(
 ///
 /// # Errors
 ///
-/// `Stopped` at the first write that fails, an interruption included, or takes no byte: exactly that front
-/// of the bytes went out.
+/// `Stopped` at the first write that fails, an interruption included, or takes no byte: exactly
+/// that front of the bytes went out.
 pub fn write_whole<W: Write>(writer: &mut W, bytes: &[u8]) -> Result<(), Stopped>
     ensures all { OnOk result (Appends (W.contents writer.old) (W.contents writer.new) bytes.now) }
-    ensures front { IfErr result (λ stopped. Appends (W.contents writer.old) (W.contents writer.new) (take stopped.written bytes.now)) }
+    ensures front { IfErr result (λ stopped.
+        Appends (W.contents writer.old) (W.contents writer.new) (take stopped.written bytes.now)) }
     ensures short { IfErr result (λ stopped. stopped.written < length bytes.now) }
 {
     let mut written = 0;

@@ -1,12 +1,12 @@
 //! The commands of `ee` over bytes: what they give, and the line and the status of each fault.
 //!
-//! `try_script` answers a script, and its contract is the report machine of `specs/Machine.antt`: for every
-//! script the report is the answers of a run of that machine, and a text that is no script is refused at its
-//! first bad line. `read_whole` and `write_whole` say what of an input and an output went through them.
-//! `specs/Fault.antt` has each fault's line and status.
+//! `try_script` answers a script, and its contract is the report machine of `specs/Machine.antt`:
+//! for every script the report is the answers of a run of that machine, and a text that is no
+//! script is refused at its first bad line. `read_whole` and `write_whole` say what of an input and
+//! an output went through them. `specs/Fault.antt` has each fault's line and status.
 //!
-//! What the program above may use: these calls, and that a fault's line and status are those of the table.
-//! The program opens files and prints; it decides nothing.
+//! What the program above may use: these calls, and that a fault's line and status are those of the
+//! table. The program opens files and prints; it decides nothing.
 #![tactic(auto)]
 
 mod fault;

@@ -55,8 +55,8 @@ impl From<ScriptFault> for ReplayFault {
     }
 }
 
-/// Answers a script from a device of this shape on which nothing is written. The report has a line for each
-/// line of the script.
+/// Answers a script from a device of this shape on which nothing is written. The report has a line
+/// for each line of the script.
 ///
 /// # Errors
 ///
@@ -66,12 +66,14 @@ pub fn try_script<A: Allocator + Copy>(
     shape: Shape,
     script: &[u8],
 ) -> Result<Replayed<A>, ReplayFault>
-    ensures report { IfOk result (λ replayed. (last : State) × IsAnswered Step (blank shape) script.now last replayed.report.items) }
+    ensures report { IfOk result (λ replayed. (last : State)
+        × IsAnswered Step (blank shape) script.now last replayed.report.items) }
     ensures image { IfOk result (λ replayed. replayed.image.items ≡ []) }
     ensures fault { IfErr result (IsReplayFault script.now) }
     // A bad line is never passed over.
     ensures bad { (n : ℕ) → IsFirstBadLine script.now n
-        → MatchResult result (λ _. ⊥) (λ fault. (fault ≡ ReplayFault.Script n) ⊎ (fault ≡ ReplayFault.Memory)) }
+        → MatchResult result (λ _. ⊥)
+        (λ fault. (fault ≡ ReplayFault.Script n) ⊎ (fault ≡ ReplayFault.Memory)) }
 {
     let flash = MemFlash::blank(alloc, shape)?;
     let (_, report) = answer_script(alloc, SlotLog::new(flash), script)?;

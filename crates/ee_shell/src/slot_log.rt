@@ -1,5 +1,5 @@
-//! The first store: elements appended to the slots of the first set, never moved, with no header. A store
-//! that transfers takes its place.
+//! The first store: elements appended to the slots of the first set, never moved, with no header. A
+//! store that transfers takes its place.
 ghost use Rattle.std.specs.Prelude.{◌≡◌, ◌<◌, ◌+◌, ◌-◌, ◌/◌, ◌%◌, true, false, Some, None};
 ghost use Rattle.std.specs.FinMap.{get};
 ghost use Rattle.ee_codec.specs.Words.{IsAddress};
@@ -70,8 +70,8 @@ impl<F: Flash + Drop> SlotLog<F> {
 
     /// Appends an element, if a slot is free.
     fn write(&mut self, address: Address, value: u32) -> Answer
-        ensures { Step (state_of (F.device self.old.flash) self.old.used) (Write address value) result
-            (state_of (F.device self.new.flash) self.new.used) }
+        ensures { Step (state_of (F.device self.old.flash) self.old.used)
+            (Write address value) result (state_of (F.device self.new.flash) self.new.used) }
     {
         if self.used == self.flash.shape().slots() {
             return Answer::Full;
@@ -90,7 +90,9 @@ impl<F: Flash + Drop> Serve for SlotLog<F> {
     ghost use Rattle.ee_shell.specs.Machine.{Step};
     ghost use Rattle.ee_shell.specs.Places.{state_of};
 
-    ghost serves = { λ old command answer new. Step (state_of (F.device old.flash) old.used) command answer (state_of (F.device new.flash) new.used) };
+    ghost serves = { λ old command answer new.
+        Step (state_of (F.device old.flash) old.used) command answer
+        (state_of (F.device new.flash) new.used) };
 
     fn serve(&mut self, command: Command) -> Result<Answer, AllocError> {
         Ok(match command {
