@@ -1,3 +1,5 @@
 pub mod Pages
 pub mod Tears
-pub mod Steps
+pub mod Outcomes
+pub mod Fuses
+pub mod Joined

@@ -1,5 +1,5 @@
 -- What a change of the list of words does to its pages.
-use Rattle.std.proofs.Common.{◌≡◌, ◌≢◌, ◌⊎◌, inl, inr, ℕ, ◌+◌, ◌*◌, ◌<◌, ◌≤◌, List, [], ◌++◌, length, take, drop, get_or, set, replicate, refl, sym, ap, ◌∙◌, arith, rules}
+use Rattle.std.proofs.Common.{◌≡◌, ◌≢◌, ◌⊎◌, inl, inr, ℕ, ◌+◌, ◌-◌, ◌*◌, ◌<◌, ◌≤◌, List, [], ◌++◌, length, take, drop, get_or, set, replicate, refl, sym, ap, ◌∙◌, arith, rules}
 use borrow.Rule.Slice.PartMut.{put_mid}
 use Rattle.std.specs.List.{All}
 use Rattle.std.proofs.lemmas.Bool.{cases_eq, cases_order}
@@ -10,7 +10,9 @@ use Rattle.std.proofs.lemmas.Nat.{mul-add-lt, same_from_place, row_fits}
 use Rattle.ee_flash.specs.Size.{Size, page_count}
 use Rattle.ee_flash.specs.Pages.{page_words, pages_of}
 use Rattle.ee_flash.specs.Fuse.{left_page}
-use Rattle.ee_flash.proofs.Tears.{All-left_page, length-left_page}
+use Rattle.ee_flash.proofs.Tears.{All-left_page, IsPartlyErased-left_page, left_page-done, length-left_page}
+use Rattle.ee_flash.specs.Step.{IsPartlyErased}
+use Rattle.ee_flash.specs.declared.fuse.Tear.TheVariants.{Done}
 use Rattle.ee_flash.specs.declared.fuse.Tear.{Tear}
 use Rattle.ee_flash.specs.Formed.{length-page_words, length-pages_of, page-pages_of}
 use Rattle.ee_flash.specs.declared.word.Word.{Word}
@@ -121,28 +123,63 @@ module _ (size : Size) (cells : List Word) (page : ℕ) (words : List Word) (fil
 pub refilled : (cells new : List Word) (len : ℕ) → len ≡ length cells → length new ≡ length cells → take len (new ++ drop (length new) cells) ≡ new
 refilled cells new len is as_long = take_at new (drop (length new) cells) len (omega arith)
 
--- after a tear of a page of a `Vec`, as the code writes it
-module _ (size : Size) (cells : List Word) (page : ℕ) (tear : Tear) (filled : length cells ≡ page_count size * size.words) (in_range : page < page_count size) (len start count : ℕ) (seen new : List Word) (is_len : len ≡ length cells) (is_start : start ≡ page * size.words) (is_count : count ≡ size.words) (is_seen : seen ≡ cells) (is_new : new ≡ left_page tear (take count (drop start seen))) where
+-- what a tear of a page does to a list of words and its pages
+pub record IsTornPage (size : Size) (old new : List Word) (page : ℕ) (tear : Tear) : Type 0 where
+  pub left : pages_of size new ≡ set (pages_of size old) page (left_page tear (get_or (pages_of size old) page []))
+  pub whole : tear ≡ Done → pages_of size new ≡ set (pages_of size old) page (replicate size.words Erased)
+  pub partly : IsPartlyErased (get_or (pages_of size old) page []) (get_or (pages_of size new) page [])
+  pub own_page : pages_of size new ≡ set (pages_of size old) page (get_or (pages_of size new) page [])
+  pub below_all_ones : All IsBelowAllOnes old → All IsBelowAllOnes new
+
+-- the items of a `Vec` after `tear_words` wrote over a part of it
+module _ (size : Size) (cells : List Word) (page : ℕ) (tear : Tear) (filled : length cells ≡ page_count size * size.words) (in_range : page < page_count size) (len start width : ℕ) (seen new : List Word) (is_len : len ≡ length cells) (is_start : start ≡ page * size.words) (is_width : width ≡ size.words) (is_seen : seen ≡ cells) (is_new : new ≡ left_page tear (take (start + width - start) (drop start seen))) where
+  abbrev written : List Word
+  written = put_mid start (start + width - start) seen new
+
   abbrev torn_items : List Word
-  torn_items = take len (put_mid start count seen new ++ drop (length (put_mid start count seen new)) cells)
+  torn_items = take len (written ++ drop (length written) cells)
+
+  width_is : start + width - start ≡ size.words
+  width_is = omega arith
 
   new_is : new ≡ left_page tear (page_words size cells page)
-  new_is = cc
+  new_is = let same = width_is in cc
 
   new_as_long : length new ≡ size.words
   new_as_long = ap length new_is ∙ length-left_page tear (page_words size cells page) ∙ length-page_words size cells page filled in_range
 
   torn_is : torn_items ≡ put_mid (page * size.words) size.words cells new
   torn_is =
-      let written : put_mid start count seen new ≡ put_mid (page * size.words) size.words cells new = cc in
-      rw written (refilled cells _ len is_len (length-rewritten size cells page new filled in_range new_as_long))
+      let same = width_is in
+      let rewritten : written ≡ put_mid (page * size.words) size.words cells new = cc in
+      rw rewritten (refilled cells _ len is_len (length-rewritten size cells page new filled in_range new_as_long))
 
-  pub pages_of-torn : pages_of size torn_items ≡ set (pages_of size cells) page (left_page tear (get_or (pages_of size cells) page []))
-  pages_of-torn =
+  torn_left : pages_of size torn_items ≡ set (pages_of size cells) page (left_page tear (get_or (pages_of size cells) page []))
+  torn_left =
       ap (pages_of size) torn_is ∙ pages_of-rewritten size cells page new filled in_range new_as_long
       ∙ ap (set (pages_of size cells) page) (new_is ∙ ap (left_page tear) (sym (page-pages_of size cells page [] in_range)))
 
-  pub All-torn : All IsBelowAllOnes cells → All IsBelowAllOnes torn_items
-  All-torn each =
+  torn_page : get_or (pages_of size torn_items) page [] ≡ left_page tear (get_or (pages_of size cells) page [])
+  torn_page =
+      ap (λ (pages : List (List Word)). get_or pages page []) torn_left
+      ∙ get_or-set_same (pages_of size cells) page _ [] (omega (arith, length-pages_of size cells))
+
+  torn_whole : tear ≡ Done → pages_of size torn_items ≡ set (pages_of size cells) page (replicate size.words Erased)
+  torn_whole done =
+      let words = get_or (pages_of size cells) page [] in
+      let as_long : length words ≡ size.words = ap length (page-pages_of size cells page [] in_range) ∙ length-page_words size cells page filled in_range in
+      torn_left ∙ ap (set (pages_of size cells) page) (ap (λ (t : Tear). left_page t words) done ∙ left_page-done words ∙ ap (λ (n : ℕ). replicate n Erased) as_long)
+
+  torn_below : All IsBelowAllOnes cells → All IsBelowAllOnes torn_items
+  torn_below each =
       let page_each = All-take IsBelowAllOnes size.words _ (All-drop IsBelowAllOnes (page * size.words) cells each) in
       rw torn_is (All-rewritten size cells page new filled in_range new_as_long each (rw new_is (All-left_page tear _ page_each)))
+
+  pub IsTornPage-items : IsTornPage size cells torn_items page tear
+  IsTornPage-items = record {
+    left = torn_left;
+    whole = torn_whole;
+    partly = rw torn_page (IsPartlyErased-left_page tear (get_or (pages_of size cells) page []));
+    own_page = torn_left ∙ ap (set (pages_of size cells) page) (sym torn_page);
+    below_all_ones = torn_below;
+  }

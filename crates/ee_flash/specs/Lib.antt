@@ -5,4 +5,6 @@ pub mod Power
 pub mod Fuse
 pub mod Pages
 pub mod Formed
+pub mod Cells
 pub mod Memory
+pub mod Laws

@@ -29,9 +29,18 @@ module _ {A : Type 0} where
   abbrev pub memory_of : MemFlash A → Memory
   memory_of flash = record { device = device_of flash; steps = flash.steps; fuse = flash.fuse }
 
+-- with this device
+abbrev pub with_device : Device → Memory → Memory
+with_device device memory = record memory { device = device }
+
 -- a device that no step has met
 abbrev pub unused : Device → Memory
 unused device = record { device = device; steps = 0; fuse = None }
+
+-- with this fuse
+abbrev pub armed : Fuse → Memory → Memory
+armed fuse memory =
+    record memory { device = record memory.device { cuts_left = cuts_left_of (Some fuse) }; fuse = Some fuse }
 
 -- the device once power is cut, and no cut is left
 abbrev pub with_power_cut : Device → Device

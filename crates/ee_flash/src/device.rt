@@ -1,18 +1,23 @@
-ghost use Rattle.std.specs.Prelude.{◌<◌, ◌≡◌, ◌⊎◌, OnErr, OnOk, true, IsTrue, ◌↔◌};
+ghost use Rattle.std.specs.Prelude.{◌<◌, ◌≡◌, ◌⊎◌, OnErr, OnOk, true};
 ghost use Rattle.ee_flash.specs.Device.{Device, IsBelowAllOnes, IsFormed, IsOn, all_ones, wear_at, word_at};
 ghost use Rattle.ee_flash.specs.Size.{page_count};
 ghost use Rattle.ee_flash.specs.Step.{Erase, IsCutIn, IsUntouched, Program, erased, programmed};
 
 use crate::{Shape, Word};
 
-/// Power failed during a step, or was off.
+/// Power failed during a step, or was off before it.
+///
+/// Source: ours.
 #[derive(Clone, Copy, Debug, PartialEq, Eq)]
 pub struct Cut;
 
 /// A flash device: words that are programmed one at a time, and erased a page at a time.
 ///
-/// Programming by 64-bit words, erasing by pages, and a word that reads as unreadable: AN4894. The rest, and what a
-/// cut may leave, is ours.
+/// Pages are numbered from 0, those of the first set first, and so are the words of a page. Both
+/// are in range, as a condition of each call.
+///
+/// Source: programming by 64-bit words, erasing by pages and words that read as unreadable, AN4894;
+/// the rest, and what a cut may leave, is ours.
 pub trait Flash {
     /// The device as a value.
     ghost device: { Self → Device };
@@ -41,7 +46,8 @@ pub trait Flash {
     ///
     /// # Errors
     ///
-    /// `Cut`, only with the device off afterwards: power failed in this step, or it was off and nothing changed.
+    /// `Cut`, only with the device off afterwards: power failed in this step, or was off before it
+    /// and nothing changed.
     fn program(&mut self, page: usize, at: usize, value: u64) -> Result<(), Cut>
         requires page_in_range { page < page_count (device self.old).size }
         requires place_in_range { at < (device self.old).size.words }
@@ -49,27 +55,30 @@ pub trait Flash {
         requires below_all_ones { value < all_ones }
         ensures on { OnOk result (IsOn (device self.old)) }
         ensures done { OnOk result (device self.new ≡ programmed page at value (device self.old)) }
-        ensures cut { OnErr result (IsCutIn (Program page at value) (device self.old) (device self.new)
+        ensures cut { OnErr result
+            (IsCutIn (Program page at value) (device self.old) (device self.new)
             ⊎ IsUntouched (device self.old) (device self.new)) };
 
     /// Erases a page. An erase that starts adds 1 to the page's wear, also when it is cut.
     ///
     /// # Errors
     ///
-    /// `Cut`, only with the device off afterwards: power failed in this step, or it was off and nothing changed.
+    /// `Cut`, only with the device off afterwards: power failed in this step, or was off before it
+    /// and nothing changed.
     fn erase(&mut self, page: usize) -> Result<(), Cut>
         requires { page < page_count (device self.old).size }
         ensures on { OnOk result (IsOn (device self.old)) }
         ensures done { OnOk result (device self.new ≡ erased page (device self.old)) }
-        ensures cut { OnErr result (IsCutIn (Erase page) (device self.old) (device self.new)
+        ensures cut { OnErr result
+            (IsCutIn (Erase page) (device self.old) (device self.new)
             ⊎ IsUntouched (device self.old) (device self.new)) };
 
     /// How often power was cut in a step that had begun, saturating at `u64::MAX`.
     fn cuts(&self) -> u64
         ensures { result ≡ (device self.now).cuts };
 
-    /// How many cuts may still come, `None` for any number. A step is cut only while this is not `Some(0)`, and a cut
-    /// lowers it by one.
+    /// How many cuts may still come, `None` for any number. A step is cut only while this is not
+    /// `Some(0)`, and a cut lowers a number by one.
     fn cuts_left(&self) -> Option<u64>
         ensures { result ≡ (device self.now).cuts_left };
 

@@ -26,7 +26,8 @@ pub enum Tear {
     Done,
     /// All torn.
     Torn,
-    /// A programmed word torn. Of an erased page the words 0, 3, 6 .. as before, 1, 4, 7 .. erased, 2, 5, 8 .. torn.
+    /// A programmed word torn. Of an erased page the words 0, 3, 6 .. as before, 1, 4, 7 .. erased
+    /// and 2, 5, 8 .. torn.
     Mixed,
 }
 

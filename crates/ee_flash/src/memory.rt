@@ -1,11 +1,24 @@
-ghost use Rattle.std.specs.Prelude.{◌<◌, ◌≤◌, ◌*◌, ◌≡◌, ◌⊎◌, ◌+◌, ◌↔◌, IfOk, IsTrue, OnErr, OnOk, is_ok, vec_len};
+ghost use Rattle.std.specs.Bool.{MatchBool};
+ghost use Rattle.std.specs.Prelude.{true, ◌<◌, ◌≤◌, ◌*◌, ◌≡◌, ◌⊎◌, ◌+◌, ◌↔◌, IfErr, IfNone, IfOk, IfSome, IsTrue, OnErr, OnOk, is_ok, replicate, vec_len};
 ghost use Rattle.std.specs.List.{All};
+ghost use Rattle.ee_flash.specs.Cells.{IsFirstAllOnes};
 ghost use Rattle.ee_flash.specs.Device.{IsBelowAllOnes, all_ones, page_at};
 ghost use Rattle.ee_flash.specs.Size.{IsWithinLimits, page_count};
 
 use crate::fuse::tear_words;
 use crate::{Cut, Flash, Fuse, Shape, Tear, Word};
 use std::alloc::{AllocError, Allocator, Global};
+
+/// Why words and wears are no device.
+///
+/// Source: ours.
+#[derive(Clone, Copy, Debug, PartialEq, Eq)]
+pub enum CellFault {
+    /// The words or the wears are not as many as the shape says.
+    WrongLength,
+    /// The word at this index, counted from 0 and the first of its kind, is held at `u64::MAX`.
+    AllOnes(usize),
+}
 
 /// A flash device in memory, with a fuse that may cut a step.
 ///
@@ -56,14 +69,68 @@ impl<A: Allocator + Copy> MemFlash<A> {
 }
 
 impl<A: Allocator> MemFlash<A> {
-    ghost use Rattle.ee_flash.specs.Memory.{begun, device_of, memory_of};
+    ghost use Rattle.ee_flash.specs.Memory.{armed, begun, device_of, memory_of, unused, with_device};
+    ghost use Rattle.ee_flash.specs.Cells.{HasLengths, IsCellFault, device_from};
     ghost use Rattle.ee_flash.specs.Device.{IsOff, IsOn};
-    ghost use Rattle.ee_flash.specs.Step.{with_page, with_word, worn};
+    ghost use Rattle.ee_flash.specs.Step.{IsPartlyErased, with_page, with_word, worn};
     ghost use Rattle.ee_flash.specs.Fuse.{left_page, next_tear};
 
-    // How a step begins: it is counted, and cut if the fuse says so. With the power off nothing changes.
+    /// The device of these words, page after page, and these wears of its pages. It is on, with no
+    /// cuts, no steps and no fuse. It takes no memory.
+    ///
+    /// # Errors
+    ///
+    /// The first that applies, and both vectors are dropped: `WrongLength`, where the words or the
+    /// wears are not those of two sets of pages; `AllOnes`, where a word is held at `u64::MAX`.
+    pub fn from_cells(
+        shape: Shape,
+        cells: Vec<Word, A>,
+        wear: Vec<u64, A>,
+    ) -> Result<Self, CellFault>
+        ensures device { IfOk result
+            (λ flash. memory_of flash ≡ unused (device_from shape cells.items wear.items)) }
+        ensures lengths { OnOk result (HasLengths shape cells.items wear.items) }
+        ensures below_all_ones { OnOk result (All IsBelowAllOnes cells.items) }
+        ensures fault { IfErr result (IsCellFault shape cells.items wear.items) }
+    {
+        let pages = 2 * shape.pages();
+        if cells.len() != pages * shape.words() || wear.len() != pages {
+            return Err(CellFault::WrongLength);
+        }
+        if let Some(at) = first_all_ones(&cells) {
+            return Err(CellFault::AllOnes(at));
+        }
+        Ok(MemFlash {
+            shape,
+            cells,
+            wear,
+            cuts: 0,
+            on: true,
+            steps: 0,
+            fuse: None,
+        })
+    }
+
+    /// Sets the fuse: `after` further steps pass and the next one is cut. A new fuse replaces an
+    /// old one.
+    pub fn arm(&mut self, fuse: Fuse)
+        ensures { memory_of self.new ≡ armed fuse (memory_of self.old) }
+    {
+        self.fuse = Some(fuse);
+    }
+
+    /// How many steps began while the device was on, saturating at `u64::MAX`.
+    pub fn steps(&self) -> u64
+        ensures { result ≡ (memory_of self.now).steps }
+    {
+        self.steps
+    }
+
+    // How a step begins: it is counted, and cut if the fuse says so. While power is off nothing
+    // changes.
     fn begin(&mut self) -> Result<Option<Tear>, Cut>
-        ensures off { OnErr result (IsOff (device_of self.old) × (memory_of self.new ≡ memory_of self.old)) }
+        ensures off { OnErr result (IsOff (device_of self.old)) }
+        ensures untouched { OnErr result (memory_of self.new ≡ memory_of self.old) }
         ensures on { OnOk result (IsOn (device_of self.old)) }
         ensures tear { IfOk result (λ tear. tear ≡ next_tear self.old.fuse) }
         ensures begun { OnOk result (memory_of self.new ≡ begun (memory_of self.old)) }
@@ -97,27 +164,40 @@ impl<A: Allocator> MemFlash<A> {
         page * self.shape.words()
     }
 
+    // Puts a word in a place, whatever was there.
     fn set_word(&mut self, page: usize, at: usize, word: Word)
         requires page_in_range { page < page_count self.old.shape }
         requires place_in_range { at < self.old.shape.words }
         requires below_all_ones { IsBelowAllOnes word }
-        ensures { memory_of self.new ≡ record (memory_of self.old) { device = with_word page at word (device_of self.old) } }
+        ensures { memory_of self.new
+            ≡ with_device (with_word page at word (device_of self.old)) (memory_of self.old) }
     {
         let start = self.page_start(page);
         self.cells[start + at] = word;
     }
 
+    // Counts an erase of a page.
     fn wear_out(&mut self, page: usize)
         requires { page < page_count self.old.shape }
-        ensures { memory_of self.new ≡ record (memory_of self.old) { device = worn page (device_of self.old) } }
+        ensures { memory_of self.new
+            ≡ with_device (worn page (device_of self.old)) (memory_of self.old) }
     {
         self.wear[page] = self.wear[page].saturating_add(1);
     }
 
+    // Leaves a page as an erase with this tear does, a whole one where it is `Done`.
     fn tear_page(&mut self, page: usize, tear: Tear)
         requires { page < page_count self.old.shape }
-        ensures { memory_of self.new ≡ record (memory_of self.old)
-            { device = with_page page (left_page tear (page_at (device_of self.old) page)) (device_of self.old) } }
+        ensures left { let left = left_page tear (page_at (device_of self.old) page) in
+            memory_of self.new
+            ≡ with_device (with_page page left (device_of self.old)) (memory_of self.old) }
+        ensures whole { let erased = replicate self.old.shape.words Word.Erased in
+            tear ≡ Tear.Done → memory_of self.new
+            ≡ with_device (with_page page erased (device_of self.old)) (memory_of self.old) }
+        ensures partly { IsPartlyErased
+            (page_at (device_of self.old) page) (page_at (device_of self.new) page) }
+        ensures own_page { let left = page_at (device_of self.new) page in
+            (device_of self.new).image ≡ (with_page page left (device_of self.old)).image }
     {
         let start = self.page_start(page);
         let end = start + self.shape.words();
@@ -125,8 +205,28 @@ impl<A: Allocator> MemFlash<A> {
     }
 }
 
+// Whether the word is held at `u64::MAX`.
+fn is_all_ones(word: Word) -> bool
+    ensures { MatchBool result (word ≡ Word.Held all_ones) (IsBelowAllOnes word) }
+{
+    matches!(word, Word::Held(u64::MAX))
+}
+
+// The index of the first word that is held at `u64::MAX`.
+fn first_all_ones(words: &[Word]) -> Option<usize>
+    ensures found { IfSome result (IsFirstAllOnes words.now) }
+    ensures none { IfNone result (All IsBelowAllOnes words.now) }
+{
+    for (at, word) in words.iter().enumerate() {
+        if is_all_ones(*word) {
+            return Some(at);
+        }
+    }
+    None
+}
+
 impl<A: Allocator> Flash for MemFlash<A> {
-    ghost use Rattle.ee_flash.specs.Memory.{after_step, device_of, memory_of, Passes};
+    ghost use Rattle.ee_flash.specs.Memory.{Passes, after_step, device_of, memory_of, with_device};
     ghost use Rattle.ee_flash.specs.Device.{IsOn, word_at};
     ghost use Rattle.ee_flash.specs.Step.{Erase, IsCutIn, IsUntouched, Program, erased, programmed};
     ghost use Rattle.ee_flash.specs.Formed.{IsFormed-pages_of};
@@ -134,7 +234,8 @@ impl<A: Allocator> Flash for MemFlash<A> {
 
     ghost device = { device_of };
 
-    ghost formed = { λ flash. IsFormed-pages_of flash.shape flash.cells.items flash.wear.items flash.cuts flash.fuse flash.on
+    ghost formed = { λ flash. IsFormed-pages_of
+        flash.shape flash.cells.items flash.wear.items flash.cuts flash.fuse flash.on
         flash.within_limits (sym flash.cells.ok.0 ∙ flash.cells_length) flash.below_all_ones
         (sym flash.wear.ok.0 ∙ flash.wear_length) flash.wear_fits flash.cuts_fit };
 
@@ -161,11 +262,14 @@ impl<A: Allocator> Flash for MemFlash<A> {
         requires erased { word_at (device_of self.old) page at ≡ Word.Erased }
         requires below_all_ones { value < all_ones }
         ensures on { OnOk result (IsOn (device_of self.old)) }
-        ensures done { OnOk result (device_of self.new ≡ programmed page at value (device_of self.old)) }
-        ensures cut { OnErr result (IsCutIn (Program page at value) (device_of self.old) (device_of self.new)
+        ensures done { OnOk result
+            (device_of self.new ≡ programmed page at value (device_of self.old)) }
+        ensures cut { OnErr result
+            (IsCutIn (Program page at value) (device_of self.old) (device_of self.new)
             ⊎ IsUntouched (device_of self.old) (device_of self.new)) }
 
-        ensures exact { memory_of self.new ≡ after_step (Program page at value) (memory_of self.old) }
+        ensures exact { memory_of self.new
+            ≡ after_step (Program page at value) (memory_of self.old) }
         ensures passes { IsTrue (is_ok result) ↔ Passes (memory_of self.old) }
     {
         let tear = self.begin()?;
@@ -181,7 +285,8 @@ impl<A: Allocator> Flash for MemFlash<A> {
         requires { page < page_count (device_of self.old).size }
         ensures on { OnOk result (IsOn (device_of self.old)) }
         ensures done { OnOk result (device_of self.new ≡ erased page (device_of self.old)) }
-        ensures cut { OnErr result (IsCutIn (Erase page) (device_of self.old) (device_of self.new)
+        ensures cut { OnErr result
+            (IsCutIn (Erase page) (device_of self.old) (device_of self.new)
             ⊎ IsUntouched (device_of self.old) (device_of self.new)) }
 
         ensures exact { memory_of self.new ≡ after_step (Erase page) (memory_of self.old) }
@@ -189,10 +294,15 @@ impl<A: Allocator> Flash for MemFlash<A> {
     {
         let tear = self.begin()?;
         self.wear_out(page);
-        self.tear_page(page, tear.unwrap_or(Tear::Done));
         match tear {
-            None => Ok(()),
-            Some(_) => Err(Cut),
+            None => {
+                self.tear_page(page, Tear::Done);
+                Ok(())
+            }
+            Some(tear) => {
+                self.tear_page(page, tear);
+                Err(Cut)
+            }
         }
     }
 
@@ -207,7 +317,11 @@ impl<A: Allocator> Flash for MemFlash<A> {
         }
     }
 
-    fn power_on(&mut self) {
+    // As of any device, and the fuse stays.
+    fn power_on(&mut self)
+        ensures { memory_of self.new
+            ≡ with_device (record (device_of self.old) { on = true }) (memory_of self.old) }
+    {
         self.on = true;
     }
 }

@@ -3,7 +3,8 @@ ghost use Rattle.ee_flash.specs.Size.{IsWithinLimits, size_of, slot_count};
 
 use std::marker::Model;
 
-/// How large a device is: the pages of each of its two sets, 1 to 64, and the words of a page, 5 to 512.
+/// How large a device is: the pages of each of its two sets, 1 to 64, and the words of a page, 5 to
+/// 512.
 ///
 /// Source: two sets of as many pages, AN4894; the limits are ours.
 #[derive(Clone, Copy, Debug, PartialEq, Eq)]

@@ -1,4 +1,6 @@
 /// What a word of flash holds, as it reads.
+///
+/// Source: words of 64 bits, some of them unreadable, AN4894; the rest is ours.
 #[derive(Clone, Copy, Debug, PartialEq, Eq)]
 pub enum Word {
     /// Nothing was programmed since the page was erased.

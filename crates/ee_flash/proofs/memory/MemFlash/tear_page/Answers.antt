@@ -1,17 +1,37 @@
-use Rattle.std.proofs.Common.{◌+◌, ◌-◌, List, sym, ◌∙◌, ap, arith}
-use Rattle.ee_flash.specs.Device.{Device}
-use Rattle.ee_flash.specs.Memory.{Memory, device_of, memory_of}
+use Rattle.std.proofs.Common.{List, sym, ◌∙◌, ap}
+use Rattle.ee_flash.specs.Memory.{Memory, device_of, memory_of, with_device}
 use Rattle.ee_flash.specs.declared.word.Word.{Word}
-use Rattle.ee_flash.proofs.Pages.{All-torn, pages_of-torn}
+use Rattle.ee_flash.proofs.Pages.{IsTornPage-items}
 use Rattle.ee_flash.proofs.memory.MemFlash.tear_page.Goals as goal
 
 pub invariant_of-self-clause-below_all_ones : goal.invariant_of-self-clause-below_all_ones
 invariant_of-self-clause-below_all_ones g c =
     let flash = c.args.self.now in
-    All-torn flash.shape flash.cells.items c.args.page c.args.tear (sym flash.cells.ok.0 ∙ flash.cells_length) c.requires _ c.page_start-start.result (c.page_start-start.result + c.words.result - c.page_start-start.result) _ _ flash.cells.ok.0 c.page_start-start.ensures.value (omega arith) c.deref_mut.ensures.value c.tear_words.ensures flash.below_all_ones
+    let torn = IsTornPage-items flash.shape flash.cells.items c.args.page c.args.tear (sym flash.cells.ok.0 ∙ flash.cells_length) c.requires _ _ _ _ _ flash.cells.ok.0 c.page_start-start.ensures.value c.words.ensures.value c.deref_mut.ensures.value c.tear_words.ensures in
+    torn.below_all_ones flash.below_all_ones
 
-pub returns : goal.returns
-returns g c =
+pub returns-clause-left : goal.returns-clause-left
+returns-clause-left g c =
     let flash = c.args.self.now in
-    let image = pages_of-torn flash.shape flash.cells.items c.args.page c.args.tear (sym flash.cells.ok.0 ∙ flash.cells_length) c.requires _ c.page_start-start.result (c.page_start-start.result + c.words.result - c.page_start-start.result) _ _ flash.cells.ok.0 c.page_start-start.ensures.value (omega arith) c.deref_mut.ensures.value c.tear_words.ensures in
-    ap (λ (pages : List (List Word)). let memory : Memory = memory_of flash in let device : Device = device_of flash in let now : Memory = record memory { device = record device { image = pages } } in now) image
+    let torn = IsTornPage-items flash.shape flash.cells.items c.args.page c.args.tear (sym flash.cells.ok.0 ∙ flash.cells_length) c.requires _ _ _ _ _ flash.cells.ok.0 c.page_start-start.ensures.value c.words.ensures.value c.deref_mut.ensures.value c.tear_words.ensures in
+    let with_pages : List (List Word) → Memory = λ pages. with_device (record (device_of flash) { image = pages }) (memory_of flash) in
+    ap with_pages torn.left
+
+pub returns-clause-whole : goal.returns-clause-whole
+returns-clause-whole g c done =
+    let flash = c.args.self.now in
+    let torn = IsTornPage-items flash.shape flash.cells.items c.args.page c.args.tear (sym flash.cells.ok.0 ∙ flash.cells_length) c.requires _ _ _ _ _ flash.cells.ok.0 c.page_start-start.ensures.value c.words.ensures.value c.deref_mut.ensures.value c.tear_words.ensures in
+    let with_pages : List (List Word) → Memory = λ pages. with_device (record (device_of flash) { image = pages }) (memory_of flash) in
+    ap with_pages (torn.whole done)
+
+pub returns-clause-partly : goal.returns-clause-partly
+returns-clause-partly g c =
+    let flash = c.args.self.now in
+    let torn = IsTornPage-items flash.shape flash.cells.items c.args.page c.args.tear (sym flash.cells.ok.0 ∙ flash.cells_length) c.requires _ _ _ _ _ flash.cells.ok.0 c.page_start-start.ensures.value c.words.ensures.value c.deref_mut.ensures.value c.tear_words.ensures in
+    torn.partly
+
+pub returns-clause-own_page : goal.returns-clause-own_page
+returns-clause-own_page g c =
+    let flash = c.args.self.now in
+    let torn = IsTornPage-items flash.shape flash.cells.items c.args.page c.args.tear (sym flash.cells.ok.0 ∙ flash.cells_length) c.requires _ _ _ _ _ flash.cells.ok.0 c.page_start-start.ensures.value c.words.ensures.value c.deref_mut.ensures.value c.tear_words.ensures in
+    torn.own_page

@@ -1,0 +1,5 @@
+use Rattle.ee_flash.proofs.Fuses.{fuse_cuts}
+use Rattle.ee_flash.proofs.laws.fuse_cuts.Goals as goal
+
+pub returns : goal.returns
+returns c = fuse_cuts

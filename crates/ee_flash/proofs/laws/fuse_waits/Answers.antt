@@ -1,0 +1,5 @@
+use Rattle.ee_flash.proofs.Fuses.{fuse_waits}
+use Rattle.ee_flash.proofs.laws.fuse_waits.Goals as goal
+
+pub returns : goal.returns
+returns c = fuse_waits

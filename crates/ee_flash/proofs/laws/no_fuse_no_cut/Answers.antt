@@ -1,0 +1,5 @@
+use Rattle.ee_flash.proofs.Fuses.{no_fuse_no_cut}
+use Rattle.ee_flash.proofs.laws.no_fuse_no_cut.Goals as goal
+
+pub returns : goal.returns
+returns c = no_fuse_no_cut
