@@ -1,0 +1,46 @@
+-- What stands behind a name, and the field there.
+use Rattle.std.proofs.Common.{◌≡◌, ◌≢◌, ℕ, ◌<◌, ◌^◌, ◌++◌, List, ◌∷◌, refl, sym, ◌∙◌, ap, subst, arith, inl, true, not, eqb, Option, Some, None, IfSome, IfNone, MatchOption, Bor, Result, Ok, Err, IfErr, OnErr, MatchResult}
+use Rattle.std.specs.Fmt.{decimal}
+use Rattle.std.specs.Option.{option_eq}
+use Rattle.std.specs.Result.{IsErrAnd}
+use Rattle.std.proofs.lemmas.Bool.{eq-eqb}
+use mathlib.Core.Bool.{true≢false}
+use Rattle.ee_text.specs.Field.{IsField}
+use Rattle.ee_text.proofs.Lacking.{first_place, no_place, Lacks-decimal}
+
+pub some_part : {X : Type 0} (r : Option X) (N : Type 0) (F : X → Type 0) → MatchOption r N F → IfSome r F
+some_part (Some x) N F h = h
+some_part None N F h = tt
+
+pub none_part : {X : Type 0} (r : Option X) (N : Type 0) (F : X → Type 0) → MatchOption r N F → IfNone r N
+none_part (Some x) N F h = tt
+none_part None N F h = h
+
+-- the field before the first space, where a number stands there
+pub number_field : (text field : List ℕ) (tail : Option (Bor (List ℕ))) (n : ℕ) (rest : List ℕ) → IsField field
+    → IfNone tail (text ≡ field) → IfSome tail (λ t. text ≡ field ++ 32 ∷ t.now) → n < 2 ^ 64 → text ≡ decimal n ++ 32 ∷ rest
+    → (field ≡ decimal n) × MatchOption tail ⊥ (λ t. t.now ≡ rest)
+number_field text field None n rest in_field last more fits e = absurd (no_place 32 field (decimal n) rest in_field (sym last ∙ e))
+number_field text field (Some t) n rest in_field last more fits e =
+    first_place 32 field (decimal n) t.now rest in_field (Lacks-decimal 32 n (inl (omega arith)) fits) (sym more ∙ e)
+
+-- a count that was found to be another
+pub other_count : (r : Option ℕ) (n : ℕ) → true ≡ not (option_eq eqb r (Some n)) → r ≢ Some n
+other_count r n told e =
+    let a : true ≡ not (option_eq eqb (Some n) (Some n)) = subst (λ o. true ≡ not (option_eq eqb o (Some n))) e told in
+    absurd (true≢false (a ∙ ap not (eq-eqb n n refl)))
+
+-- an error that is passed on
+pub passed_on : {T E : Type 0} (r : Result T E) (fault : E) (P : E → Type 0) → IsErrAnd r (λ e. e ≡ fault) → P fault → IfErr r P
+passed_on (Ok x) fault P e h = absurd e
+passed_on (Err given) fault P e h = subst P (sym e) h
+
+-- an answer that is passed on with it
+pub error_passed_on : {T E : Type 0} (r : Result T E) (fault : E) (O : T → Type 0) (P : E → Type 0) → IsErrAnd r (λ e. e ≡ fault) → P fault → MatchResult r O P
+error_passed_on (Ok x) fault O P e h = absurd e
+error_passed_on (Err given) fault O P e h = subst P (sym e) h
+
+-- what holds anyway
+pub on_err_anyway : {T E : Type 0} (r : Result T E) (P : Type 0) → P → OnErr r P
+on_err_anyway (Ok x) P h = tt
+on_err_anyway (Err given) P h = h

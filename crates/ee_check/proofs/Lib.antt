@@ -1,0 +1,10 @@
+pub mod Sizes
+pub mod Dominance
+pub mod Tight
+pub mod Bounds
+pub mod Walks
+pub mod Stretches
+pub mod Flaws
+pub mod Fields
+pub mod Lines
+pub mod Texts

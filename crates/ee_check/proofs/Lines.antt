@@ -1,0 +1,51 @@
+-- The lines of a certificate's text: none has a line feed in it, so each is told from what follows.
+use Rattle.std.proofs.Common.{◌≡◌, ◌≢◌, ℕ, ◌++◌, List, refl, sym, ◌∙◌, arith, inl, codes}
+use Rattle.std.specs.Fmt.{decimal}
+use Rattle.ee_text.specs.Field.{Lacks}
+use Rattle.ee_text.specs.Line.{IsLine, line_of}
+use Rattle.ee_text.proofs.Lacking.{Lacks-append, Lacks-decimal}
+use Rattle.ee_text.proofs.LineFeeds as feeds
+use Rattle.ee_check.specs.declared.certificate.Stretch.{Stretch}
+use Rattle.ee_check.specs.Text.{heading, spelling, ending, IsNumber, IsStretch, NoFirstLine, NoStretch}
+
+number_lacks : (n : ℕ) → IsNumber n → Lacks 10 (decimal n)
+number_lacks n fits = Lacks-decimal 10 n (inl (omega arith)) fits
+
+pub heading_is_line : (slots fill live writes : ℕ) → IsNumber slots → IsNumber fill → IsNumber live → IsNumber writes → IsLine (heading slots fill live writes)
+heading_is_line slots fill live writes a b c d =
+    Lacks-append 10 (codes "slots ") (decimal slots ++ (codes " fill " ++ (decimal fill ++ (codes " live " ++ (decimal live ++ (codes " writes " ++ decimal writes)))))) refl
+    (Lacks-append 10 (decimal slots) (codes " fill " ++ (decimal fill ++ (codes " live " ++ (decimal live ++ (codes " writes " ++ decimal writes))))) (number_lacks slots a)
+    (Lacks-append 10 (codes " fill ") (decimal fill ++ (codes " live " ++ (decimal live ++ (codes " writes " ++ decimal writes)))) refl
+    (Lacks-append 10 (decimal fill) (codes " live " ++ (decimal live ++ (codes " writes " ++ decimal writes))) (number_lacks fill b)
+    (Lacks-append 10 (codes " live ") (decimal live ++ (codes " writes " ++ decimal writes)) refl
+    (Lacks-append 10 (decimal live) (codes " writes " ++ decimal writes) (number_lacks live c)
+    (Lacks-append 10 (codes " writes ") (decimal writes) refl (number_lacks writes d)))))))
+
+pub spelling_is_line : (stretch : Stretch) → IsStretch stretch → IsLine (spelling stretch)
+spelling_is_line stretch proper =
+    Lacks-append 10 (codes "to ") (decimal stretch.to ++ (codes " from " ++ decimal stretch.from)) refl
+    (Lacks-append 10 (decimal stretch.to) (codes " from " ++ decimal stretch.from) (number_lacks stretch.to proper.to)
+    (Lacks-append 10 (codes " from ") (decimal stretch.from) refl (number_lacks stretch.from proper.from)))
+
+pub ending_is_line : (count : ℕ) → IsNumber count → IsLine (ending count)
+ending_is_line count fits = Lacks-append 10 (codes "transfers ") (decimal count) refl (number_lacks count fits)
+
+-- a first line that is none
+pub other_heading : (text line rest : List ℕ) → text ≡ line_of line ++ rest → IsLine line
+    → ((slots fill live writes : ℕ) → IsNumber slots → IsNumber fill → IsNumber live → IsNumber writes → line ≢ heading slots fill live writes) → NoFirstLine text
+other_heading text line rest parts is_line other claim more proper e =
+    let same = feeds.first_line line (heading claim.slots claim.fill claim.live claim.writes) rest more is_line
+    (heading_is_line claim.slots claim.fill claim.live claim.writes proper.slots proper.fill proper.live proper.writes) (sym parts ∙ e) in
+    other claim.slots claim.fill claim.live claim.writes proper.slots proper.fill proper.live proper.writes same.0
+
+-- a first line that is no stretch's
+pub other_stretch : (text line rest : List ℕ) → text ≡ line_of line ++ rest → IsLine line
+    → ((stretch : Stretch) → IsStretch stretch → line ≢ spelling stretch) → NoStretch text
+other_stretch text line rest parts is_line other stretch more proper e =
+    other stretch proper (feeds.first_line line (spelling stretch) rest more is_line (spelling_is_line stretch proper) (sym parts ∙ e)).0
+
+-- a first line that isn't the last one of a certificate
+pub other_ending : (text line rest : List ℕ) (count : ℕ) → text ≡ line_of line ++ rest → IsLine line → IsNumber count → line ≢ ending count
+    → (more : List ℕ) → text ≢ line_of (ending count) ++ more
+other_ending text line rest count parts is_line fits other more e =
+    other (feeds.first_line line (ending count) rest more is_line (ending_is_line count fits) (sym parts ∙ e)).0

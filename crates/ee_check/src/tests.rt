@@ -1,0 +1,256 @@
+// Worked certificates and texts, and each call once.
+use super::{
+    Change, CheckFault, Start, Stretch, TextFault, check, read_certificate, write_certificate,
+};
+use ee_codec::Address;
+use std::alloc::Global;
+use std::collections::BTreeSet;
+use std::test::Fail;
+
+/// The address of a number that has one.
+fn address(number: u16) -> Result<Address, Fail> {
+    Ok(Address::new(number).ok_or("no address")?)
+}
+
+/// A write of the address.
+fn write(number: u16) -> Result<Change, Fail> {
+    Ok(Change::Write(address(number)?))
+}
+
+/// A forgetting of the address.
+fn forget(number: u16) -> Result<Change, Fail> {
+    Ok(Change::Forget(address(number)?))
+}
+
+/// The addresses of these numbers.
+fn addresses(alloc: Global, numbers: &[u16]) -> Result<BTreeSet<Address>, Fail> {
+    let mut live = BTreeSet::new(alloc);
+    for number in numbers {
+        Change::Write(address(*number)?).make(&mut live)?;
+    }
+    Ok(live)
+}
+
+/// A start with these addresses live.
+fn start(alloc: Global, slots: u64, fill: u64, live: &[u16]) -> Result<Start, Fail> {
+    Ok(Start::new(slots, fill, addresses(alloc, live)?).ok_or("no start")?)
+}
+
+/// What the checker says of the certificate that the text spells.
+fn checked(
+    alloc: Global,
+    start: &Start,
+    trace: &[Change],
+    text: &[u8],
+) -> Result<Result<u64, CheckFault>, Fail> {
+    Ok(check(alloc, start, trace, &read_certificate(alloc, text)?))
+}
+
+#[test]
+fn starts_have_limits(rt: HostRuntime) -> Result<(), Fail> {
+    for (slots, fill, live, is) in [
+        (0, 0, &[] as &[u16], false),
+        (1, 0, &[], true),
+        (32512, 32512, &[], true),
+        (32513, 0, &[], false),
+        (2, 3, &[], false),
+        (2, 1, &[1, 2], false),
+        (2, 2, &[1, 2], true),
+    ] {
+        let live = addresses(rt.alloc(), live)?;
+        assert_eq!(rt; Start::new(slots, fill, live).is_some(), is);
+    }
+    let start = start(rt.alloc(), 6, 3, &[7, 4])?;
+    assert_eq!(rt; start.slots(), 6);
+    assert_eq!(rt; start.fill(), 3);
+    assert_eq!(rt; start.live().len(), 2);
+    assert!(rt; start.live().contains(&address(4)?));
+    assert_eq!(rt; start.live_in(rt.alloc())?.len(), 2);
+    Ok(())
+}
+
+#[test]
+fn two_moves(rt: HostRuntime) -> Result<(), Fail> {
+    let start = start(rt.alloc(), 2, 0, &[])?;
+    let trace = [write(1)?, write(1)?, write(1)?, write(2)?, write(1)?];
+    for (text, want) in [
+        (
+            b"slots 2 fill 0 live 0 writes 5\nto 3 from 0\nto 5 from 1\ntransfers 2\n" as &[u8],
+            Ok(2),
+        ),
+        // a certificate needs not be tight
+        (
+            b"slots 2 fill 0 live 0 writes 5\nto 4 from 0\ntransfers 1\n",
+            Ok(1),
+        ),
+        (b"slots 2 fill 0 live 0 writes 5\ntransfers 0\n", Ok(0)),
+        (
+            b"slots 2 fill 0 live 0 writes 5\nto 2 from 0\nto 5 from 1\ntransfers 2\n",
+            Err(CheckFault::NotForced(1)),
+        ),
+        (
+            b"slots 2 fill 0 live 0 writes 5\nto 3 from 0\nto 5 from 2\ntransfers 2\n",
+            Err(CheckFault::WrongFrom(2)),
+        ),
+        (
+            b"slots 2 fill 0 live 0 writes 5\nto 3 from 0\nto 3 from 1\ntransfers 2\n",
+            Err(CheckFault::NotRising(2)),
+        ),
+        (
+            b"slots 2 fill 0 live 0 writes 4\nto 3 from 0\nto 5 from 1\ntransfers 2\n",
+            Err(CheckFault::WrongStart),
+        ),
+        // the first fault is named, of a stretch too
+        (
+            b"slots 2 fill 0 live 0 writes 5\nto 3 from 1\nto 3 from 0\ntransfers 2\n",
+            Err(CheckFault::WrongFrom(1)),
+        ),
+        (
+            b"slots 2 fill 0 live 0 writes 5\nto 6 from 1\ntransfers 1\n",
+            Err(CheckFault::NotRising(1)),
+        ),
+    ] {
+        assert_eq!(rt; checked(rt.alloc(), &start, &trace, text)?, want);
+    }
+    Ok(())
+}
+
+#[test]
+fn numbers_up_to_the_greatest(rt: HostRuntime) -> Result<(), Fail> {
+    let start = start(rt.alloc(), 2, 0, &[])?;
+    let trace = [write(1)?];
+    for (text, want) in [
+        (
+            b"slots 2 fill 0 live 0 writes 1\nto 1 from 18446744073709551615\ntransfers 1\n" as &[u8],
+            Err(CheckFault::WrongFrom(1)),
+        ),
+        (
+            b"slots 2 fill 0 live 0 writes 1\nto 18446744073709551615 from 0\ntransfers 1\n",
+            Err(CheckFault::NotRising(1)),
+        ),
+        (
+            b"slots 2 fill 0 live 0 writes 18446744073709551615\ntransfers 0\n",
+            Err(CheckFault::WrongStart),
+        ),
+    ] {
+        assert_eq!(rt; checked(rt.alloc(), &start, &trace, text)?, want);
+    }
+    Ok(())
+}
+
+#[test]
+fn empty_script_and_all_live(rt: HostRuntime) -> Result<(), Fail> {
+    let empty = start(rt.alloc(), 2, 0, &[])?;
+    let text = b"slots 2 fill 0 live 0 writes 0\ntransfers 0\n";
+    assert_eq!(rt; checked(rt.alloc(), &empty, &[], text)?, Ok(0));
+    let full = start(rt.alloc(), 2, 2, &[1, 2])?;
+    let text = b"slots 2 fill 2 live 2 writes 1\nto 1 from 2\ntransfers 1\n";
+    assert_eq!(rt; checked(rt.alloc(), &full, &[write(2)?], text)?, Ok(1));
+    Ok(())
+}
+
+#[test]
+fn one_slot(rt: HostRuntime) -> Result<(), Fail> {
+    let start = start(rt.alloc(), 1, 0, &[])?;
+    let text = b"slots 1 fill 0 live 0 writes 3\nto 2 from 0\nto 3 from 1\ntransfers 2\n";
+    let trace = [write(1)?, write(1)?, write(1)?];
+    assert_eq!(rt; checked(rt.alloc(), &start, &trace, text)?, Ok(2));
+    Ok(())
+}
+
+#[test]
+fn forgettings(rt: HostRuntime) -> Result<(), Fail> {
+    let two = start(rt.alloc(), 2, 0, &[])?;
+    let trace = [write(1)?, write(2)?, forget(1)?, write(3)?];
+    let text = b"slots 2 fill 0 live 0 writes 4\nto 3 from 0\ntransfers 1\n";
+    assert_eq!(rt; checked(rt.alloc(), &two, &trace, text)?, Ok(1));
+    let one = start(rt.alloc(), 1, 0, &[])?;
+    let trace = [write(1)?, forget(1)?, write(2)?, forget(2)?];
+    let text = b"slots 1 fill 0 live 0 writes 4\nto 2 from 0\nto 4 from 0\ntransfers 2\n";
+    assert_eq!(rt; checked(rt.alloc(), &one, &trace, text)?, Ok(2));
+    // forgetting what isn't live takes a slot all the same
+    let trace = [forget(1)?, forget(1)?];
+    let text = b"slots 1 fill 0 live 0 writes 2\nto 2 from 0\ntransfers 1\n";
+    assert_eq!(rt; checked(rt.alloc(), &one, &trace, text)?, Ok(1));
+    Ok(())
+}
+
+#[test]
+fn texts_are_read_and_written(rt: HostRuntime) -> Result<(), Fail> {
+    let text = b"slots 2 fill 0 live 0 writes 5\nto 3 from 0\nto 5 from 1\ntransfers 2\n";
+    let certificate = read_certificate(rt.alloc(), text)?;
+    assert_eq!(rt; certificate.slots, 2);
+    assert_eq!(rt; certificate.fill, 0);
+    assert_eq!(rt; certificate.live, 0);
+    assert_eq!(rt; certificate.writes, 5);
+    assert_eq!(rt;
+        certificate.stretches.as_slice(),
+        [Stretch { to: 3, from: 0 }, Stretch { to: 5, from: 1 }].as_slice()
+    );
+    let mut out = Vec::from_slice(rt.alloc(), b"end\n")?;
+    write_certificate(&certificate, &mut out)?;
+    assert_eq!(rt;
+        out.as_slice(),
+        b"end\nslots 2 fill 0 live 0 writes 5\nto 3 from 0\nto 5 from 1\ntransfers 2\n" as &[u8]
+    );
+    Ok(())
+}
+
+/// Whether a text is read, and if not, why.
+fn fault_of(alloc: Global, text: &[u8]) -> Option<TextFault> {
+    read_certificate(alloc, text).err()
+}
+
+#[test]
+fn every_prefix_breaks_off_at_its_line(rt: HostRuntime) {
+    let text = b"slots 2 fill 0 live 0 writes 5\nto 3 from 0\nto 5 from 1\ntransfers 2\n";
+    let mut line: u64 = 1;
+    for (length, byte) in text.iter().enumerate() {
+        assert_eq!(rt;
+            fault_of(rt.alloc(), &text[..length]),
+            Some(TextFault::BadText(line))
+        );
+        if *byte == b'\n' {
+            line = line.saturating_add(1);
+        }
+    }
+    assert_eq!(rt; fault_of(rt.alloc(), text), None);
+}
+
+#[test]
+fn one_spelling_is_read(rt: HostRuntime) {
+    for (text, line) in [
+        (b"" as &[u8], 1),
+        (b"\n", 1),
+        (b"slots 2 fill 0 live 0\ntransfers 0\n", 1),
+        (b"slots 02 fill 0 live 0 writes 5\ntransfers 0\n", 1),
+        (b"slots 2  fill 0 live 0 writes 5\ntransfers 0\n", 1),
+        (b"slots 2 fill 0 live 0 writes 5 \ntransfers 0\n", 1),
+        (
+            b"slots 18446744073709551616 fill 0 live 0 writes 5\ntransfers 0\n",
+            1,
+        ),
+        (
+            b"slots 2 fill 0 live 0 writes 5\nto 3 from +0\ntransfers 1\n",
+            2,
+        ),
+        (
+            b"slots 2 fill 0 live 0 writes 5\nfrom 0 to 3\ntransfers 1\n",
+            2,
+        ),
+        (
+            b"slots 2 fill 0 live 0 writes 5\nto 3 from 0\ntransfers 2\n",
+            3,
+        ),
+        (
+            b"slots 2 fill 0 live 0 writes 5\nto 3 from 0\r\ntransfers 1\n",
+            2,
+        ),
+        (b"slots 2 fill 0 live 0 writes 5\ntransfers 0\n\n", 3),
+        (b"slots 2 fill 0 live 0 writes 5\ntransfers 0\nto", 3),
+    ] {
+        assert_eq!(rt; fault_of(rt.alloc(), text), Some(TextFault::BadText(line)));
+    }
+    let greatest = b"slots 18446744073709551615 fill 0 live 0 writes 5\ntransfers 0\n";
+    assert_eq!(rt; fault_of(rt.alloc(), greatest), None);
+}

@@ -1,0 +1,20 @@
+-- Why a device whose fates are listed is formed.
+use Rattle.std.specs.Prelude.{◌≡◌, ◌≤◌, ℕ, ◌*◌, Bool, None, List, length}
+use Rattle.std.specs.List.{All}
+use Rattle.ee_flash.specs.Device.{IsBelowAllOnes, IsFormed, all_ones}
+use Rattle.ee_flash.specs.Formed.{below_all_ones, length-pages_of, page_lengths}
+use Rattle.ee_flash.specs.Pages.{pages_of}
+use Rattle.ee_flash.specs.Size.{IsWithinLimits, Size, page_count}
+use Rattle.ee_flash.specs.declared.word.Word.{Word}
+
+pub IsFormed-listed : (size : Size) (cells : List Word) (wear : List ℕ) (cuts : ℕ) (on : Bool) → IsWithinLimits size → length cells ≡ page_count size * size.words → All IsBelowAllOnes cells → length wear ≡ page_count size → All (λ count. count ≤ all_ones) wear → cuts ≤ all_ones → IsFormed (record { size = size; image = pages_of size cells; wear = wear; cuts = cuts; cuts_left = None; on = on })
+IsFormed-listed size cells wear cuts on limits filled below worn fits cut = record {
+  within_limits = limits;
+  image_length = length-pages_of size cells;
+  page_lengths = page_lengths size cells filled;
+  below_all_ones = below_all_ones size cells below;
+  wear_length = worn;
+  wear_fits = fits;
+  cuts_fit = cut;
+  cuts_left_fit = λ left none. cc;
+}

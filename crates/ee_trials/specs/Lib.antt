@@ -1,0 +1,4 @@
+pub mod Stream
+pub mod Fate
+pub mod Listed
+pub mod Formed

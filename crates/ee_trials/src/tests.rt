@@ -1,0 +1,7 @@
+//! The trials: each call with its requests for memory refused in turn, with streams that fail, and with cuts of every kind.
+mod cuts;
+mod files;
+mod memory;
+mod scripts;
+mod streams;
+mod trial;

@@ -1,0 +1,74 @@
+use super::trial::with_each_refusal;
+use ee_flash::Shape;
+use ee_script::{Answer, push_answer};
+use ee_shell::{Fault, File, ReplayFault, fault_line, try_script};
+use ee_text::push_number;
+use std::test::Fail;
+
+#[test]
+fn a_number(rt: HostRuntime) {
+    let requests = with_each_refusal(&rt, rt.alloc(), &true, |alloc| {
+        let mut out = Vec::from_slice(alloc, b"n ").ok()?;
+        if push_number(&mut out, u64::MAX).is_err() {
+            assert_eq!(rt; out.as_slice(), b"n ".as_slice());
+            return None;
+        }
+        Some(out.as_slice() == b"n 18446744073709551615".as_slice())
+    });
+    assert_eq!(rt; requests, 2);
+}
+
+#[test]
+fn an_answer(rt: HostRuntime) {
+    let answers: [(Answer, &[u8]); 3] = [
+        (Answer::Appended, b"ok\n"),
+        (Answer::NoValue, b"none\n"),
+        (Answer::Value(4_294_967_295), b"4294967295\n"),
+    ];
+    for (answer, line) in answers {
+        let requests = with_each_refusal(&rt, rt.alloc(), &true, |alloc| {
+            let mut out = Vec::new(alloc);
+            match push_answer(&mut out, answer) {
+                Ok(()) => Some(out.as_slice() == line),
+                Err(_) => None,
+            }
+        });
+        assert!(rt; requests > 0);
+    }
+}
+
+#[test]
+fn a_script(rt: HostRuntime) -> Result<(), Fail> {
+    let shape = Shape::new(1, 6).ok_or("a shape")?;
+    let requests = with_each_refusal(&rt, rt.alloc(), &true, |alloc| {
+        match try_script(alloc, shape, b"w 1 10\nr 1\nr 2\n") {
+            Ok(replayed) => Some(replayed.report.as_slice() == b"ok\n10\nnone\n".as_slice()),
+            Err(ReplayFault::Memory) => None,
+            Err(_) => Some(false),
+        }
+    });
+    assert!(rt; requests > 2);
+    Ok(())
+}
+
+#[test]
+fn a_fault_line(rt: HostRuntime) {
+    let faults: [(Fault, &[u8]); 3] = [
+        (Fault::CannotRead(File::Script), b"ee: cannot read script\n"),
+        (
+            Fault::BadLine {
+                file: File::Certificate,
+                line: 12,
+            },
+            b"ee: certificate line 12\n",
+        ),
+        (Fault::Memory, b"ee: out of memory\n"),
+    ];
+    for (fault, line) in faults {
+        let requests = with_each_refusal(&rt, rt.alloc(), &true, |alloc| {
+            let written = fault_line(alloc, &fault).ok()?;
+            Some(written.as_slice() == line)
+        });
+        assert!(rt; requests > 0);
+    }
+}
