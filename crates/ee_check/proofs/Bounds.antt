@@ -12,10 +12,10 @@ use Rattle.ee_check.proofs.Tight.{IsLateAt, tight_from, one_tight, late_meets, l
 
 -- ---- before the trace
 
-at_start : (start : Situation) (trace : List Change) → IsProper start → IsAt start trace start 0 trace
+pub at_start : (start : Situation) (trace : List Change) → IsProper start → IsAt start trace start 0 trace
 at_start start trace proper = record { slots = refl; rest = omega arith; counts = λ i. let e : 0 + i ≡ i = omega arith in ap (λ n. live_count start.live trace n) e; held = proper.held }
 
-late_at_start : (start : Situation) (trace : List Change) → IsProper start → IsLateAt start trace start 0 trace (first_place start)
+pub late_at_start : (start : Situation) (trace : List Change) → IsProper start → IsLateAt start trace start 0 trace (first_place start)
 late_at_start start trace proper = record { at = at_start start trace proper; behind = omega arith; fill = omega arith }
 
 first_later : (start : Situation) (trace : List Change) (stretches : List Stretch) → EachStretch start trace IsForced (first_place start) stretches → EndsLater 0 stretches

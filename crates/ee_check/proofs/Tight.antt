@@ -27,7 +27,7 @@ place_fits start trace place (stretch ∷ stretches) each fits =
     let a = each.0.forced.rising in let b = each.0.tight in let c = each.0.forced.from_is in omega arith
 
 -- one change more is appended, or carried
-late_append : (start : Situation) (trace : List Change) (s : Situation) (n : ℕ) (change : Change) (changes : List Change) (place : Place)
+pub late_append : (start : Situation) (trace : List Change) (s : Situation) (n : ℕ) (change : Change) (changes : List Change) (place : Place)
     → IsLateAt start trace s n (change ∷ changes) place → IsLateAt start trace (after_move s (Append change)) (n + 1) changes place
 late_append start trace s n change changes place late = record {
   at = at_next start trace s n (s.fill + 1) change changes late.at (let h = changed-le s.live change in let g = late.at.held in omega arith);
@@ -35,7 +35,7 @@ late_append start trace s n change changes place late = record {
   fill = let a = late.behind in let b = late.fill in omega arith;
 }
 
-late_carry : (start : Situation) (trace : List Change) (s : Situation) (n to : ℕ) (change : Change) (changes : List Change) (place : Place) → to ≡ n + 1
+pub late_carry : (start : Situation) (trace : List Change) (s : Situation) (n to : ℕ) (change : Change) (changes : List Change) (place : Place) → to ≡ n + 1
     → IsLateAt start trace s n (change ∷ changes) place → IsLateAt start trace (after_move s (Carry change)) (n + 1) changes (place_at start trace to)
 late_carry start trace s n to change changes place e late =
     let here : IsAt start trace (after_move s (Carry change)) (n + 1) changes = at_next start trace s n (length (changed s.live change)) change changes late.at (omega arith) in
@@ -46,7 +46,7 @@ late_carry start trace s n to change changes place e late =
     }
 
 -- what is live after a change has room, where the trace keeps within the slots
-change_fits : (s : Situation) (change : Change) (changes : List Change) → length s.live ≤ s.slots → KeepsWithin s.slots s.live (change ∷ changes)
+pub change_fits : (s : Situation) (change : Change) (changes : List Change) → length s.live ≤ s.slots → KeepsWithin s.slots s.live (change ∷ changes)
     → (length (changed s.live change) ≤ s.slots) × KeepsWithin s.slots (changed s.live change) changes
 change_fits s (Write address) changes h keeps = (keeps.0, keeps.1)
 change_fits s (Forget address) changes h keeps = (let g = remove_key-le (is_at (nat_cmp address)) s.live in omega arith, keeps)

@@ -11,12 +11,15 @@ use Rattle.ee_check.specs.Certificate.{Claim, Place, first_place, last_place, Is
 abbrev pub Rises : List Change → Place → Stretch → Type 0
 Rises trace place stretch = (place.after < stretch.to) × (stretch.to ≤ length trace)
 
+-- it ends at the place or before it, or behind the trace
 abbrev pub DoesNotRise : Situation → List Change → Place → Stretch → Type 0
 DoesNotRise start trace place stretch = (stretch.to ≤ place.after) ⊎ (length trace < stretch.to)
 
+-- it rises, and states another number of slots
 abbrev pub HasWrongFrom : Situation → List Change → Place → Stretch → Type 0
 HasWrongFrom start trace place stretch = Rises trace place stretch × (stretch.from ≢ place.used)
 
+-- it rises and states the right number, and all its changes may find a free slot
 abbrev pub DoesNotForce : Situation → List Change → Place → Stretch → Type 0
 DoesNotForce start trace place stretch =
     Rises trace place stretch × (stretch.from ≡ place.used) × (stretch.from + (stretch.to - place.after) ≤ start.slots)

@@ -23,6 +23,7 @@ abbrev pub SchedulesKeepWithin : Type 0
 SchedulesKeepWithin = (start : Situation) (trace : List Change) (moves : List Move) → IsProper start → IsSchedule start trace moves
     → KeepsWithin start.slots start.live trace
 
+-- a tight certificate is one
 abbrev pub TightAreCertificates : Type 0
 TightAreCertificates = (start : Situation) (trace : List Change) (claim : Claim) → IsTight start trace claim → IsCertificate start trace claim
 

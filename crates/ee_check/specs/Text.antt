@@ -20,6 +20,7 @@ spelling stretch = joined (codes "to" ∷ decimal stretch.to ∷ codes "from" �
 abbrev pub ending : ℕ → List ℕ
 ending count = joined (codes "transfers" ∷ decimal count ∷ [])
 
+-- the lines of a claim: the first, those of the stretches, the last
 abbrev pub first_line : Claim → List ℕ
 first_line claim = line_of (heading claim.slots claim.fill claim.live claim.writes)
 
@@ -37,6 +38,7 @@ text_of claim = first_line claim ++ (stretch_lines claim.stretches ++ last_line 
 abbrev pub IsNumber : ℕ → Type 0
 IsNumber n = n < 2 ^ 64
 
+-- the numbers of a stretch
 pub record IsStretch (stretch : Stretch) : Type 0 where
   pub to : IsNumber stretch.to
   pub from : IsNumber stretch.from
@@ -45,6 +47,7 @@ abbrev pub AreStretches : List Stretch → Type 0
 AreStretches [] = Unit {0}
 AreStretches (stretch ∷ stretches) = IsStretch stretch × AreStretches stretches
 
+-- the numbers of a claim
 pub record IsClaim (claim : Claim) : Type 0 where
   pub slots : IsNumber claim.slots
   pub fill : IsNumber claim.fill

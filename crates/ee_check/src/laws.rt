@@ -15,8 +15,7 @@ pub fn certificates_dominate()
 /// A trace keeps within the slots wherever it has a schedule; by `some_is_tight` and `tight_is_met`, nowhere else.
 pub fn schedules_keep_within()
     ensures { SchedulesKeepWithin }
-{
-}
+{}
 
 /// A tight certificate is a certificate.
 pub fn tight_are_certificates()
