@@ -14,7 +14,8 @@ pub record Claim : Type 0 where
   pub writes : ℕ
   pub stretches : List Stretch
 
--- A place in the trace: so many changes stand before it, and a store that has made no more transfers than it had to uses so many slots at least.
+-- A place in the trace: so many changes stand before it, and a store that has made no more transfers than it had to
+-- uses so many slots at least.
 pub record Place : Type 0 where
   pub after : ℕ
   pub used : ℕ
@@ -32,8 +33,8 @@ abbrev pub last_place : Situation → List Change → Place → List Stretch →
 last_place start trace place [] = place
 last_place start trace place (stretch ∷ stretches) = last_place start trace (place_at start trace stretch.to) stretches
 
--- The stretch goes on from the place to a later change of the trace, states how many slots are used there, and has more changes than the slots
--- that are free: no store appends them all.
+-- The stretch goes on from the place to a later change of the trace, states how many slots are used there, and has more
+-- changes than the slots that are free: no store appends them all.
 pub record IsForced (start : Situation) (trace : List Change) (place : Place) (stretch : Stretch) : Type 0 where
   pub rising : place.after < stretch.to
   pub within : stretch.to ≤ length trace

@@ -1,4 +1,5 @@
--- Every store that appends each change and transfers by copying the live set: what it can do to a trace, and what that costs.
+-- Every store that appends each change and transfers by copying the live set: what it can do to a trace, and what that
+-- costs.
 use Rattle.std.specs.Prelude.{◌≡◌, ℕ, ◌+◌, ◌<◌, ◌≤◌, List, [], ◌∷◌, length}
 use Rattle.ee_check.specs.declared.change.Change.{Change}
 use Rattle.ee_check.specs.declared.change.Change.TheVariants.{Write, Forget}

@@ -13,7 +13,8 @@ use std::alloc::{AllocError, Allocator};
 /// Why a certificate is refused. Stretches are counted from 1.
 #[derive(Clone, Copy, Debug, PartialEq, Eq)]
 pub enum CheckFault {
-    /// The slots, the fill, the live addresses or the changes that it states aren't the start's and the trace's.
+    /// The slots, the fill, the live addresses or the changes that it states aren't the start's and
+    /// the trace's.
     WrongStart,
     /// This stretch doesn't end behind the one before it, or it ends behind the trace.
     NotRising(u64),
@@ -49,13 +50,19 @@ pub fn check<A: Allocator + Copy, B: Allocator, C: Allocator>(
     certificate: &Certificate<C>,
 ) -> Result<u64, CheckFault>
     // It is a certificate, of so many stretches.
-    ensures accepted { IfOk result (λ k. IsCertificate start.now trace.now (claim_of certificate.now) × (k ≡ length (claim_of certificate.now).stretches)) }
+    ensures accepted { IfOk result (λ k.
+        IsCertificate start.now trace.now (claim_of certificate.now)
+        × (k ≡ length (claim_of certificate.now).stretches)) }
     // No schedule costs less.
-    ensures bound { IfOk result (λ k. (moves : List Move) → IsSchedule start.now trace.now moves → k ≤ cost moves) }
-    ensures refused { IfErr result (λ fault. IsCause start.now trace.now (claim_of certificate.now) fault ⊎ (fault ≡ CheckFault.Memory)) }
+    ensures bound { IfOk result
+        (λ k. (moves : List Move) → IsSchedule start.now trace.now moves → k ≤ cost moves) }
+    ensures refused { IfErr result (λ fault.
+        IsCause start.now trace.now (claim_of certificate.now) fault ⊎ (fault ≡ CheckFault.Memory)) }
     // Every certificate is accepted, and every cause of a fault is named.
     ensures accepts { IsCertificate start.now trace.now (claim_of certificate.now)
-        → MatchResult result (λ k. k ≡ length (claim_of certificate.now).stretches) (λ fault. fault ≡ CheckFault.Memory) }
+        → MatchResult result
+        (λ k. k ≡ length (claim_of certificate.now).stretches)
+        (λ fault. fault ≡ CheckFault.Memory) }
     ensures names { (cause : CheckFault) → IsCause start.now trace.now (claim_of certificate.now) cause
         → MatchResult result (λ _. ⊥) (λ fault. (fault ≡ cause) ⊎ (fault ≡ CheckFault.Memory)) }
 {
@@ -80,15 +87,19 @@ fn has_header<B: Allocator, C: Allocator>(
         && certificate.writes == trace.len() as u64
 }
 
-/// The number of these stretches, each of which is forced where the one before it ends; or the first flaw.
+/// The number of these stretches, each of which is forced where the one before it ends; or the
+/// first flaw.
 fn check_stretches<A: Allocator + Copy, B: Allocator>(
     alloc: A,
     start: &Start<B>,
     trace: &[Change],
     stretches: &[Stretch],
 ) -> Result<u64, CheckFault>
-    ensures ok { IfOk result (λ k. EachStretch start.now trace.now IsForced (first_place start.now) stretches.now × (k ≡ length stretches.now)) }
-    ensures err { IfErr result (λ fault. IsFirstFlaw start.now trace.now stretches.now fault ⊎ (fault ≡ CheckFault.Memory)) }
+    ensures ok { IfOk result (λ k.
+        EachStretch start.now trace.now IsForced (first_place start.now) stretches.now
+        × (k ≡ length stretches.now)) }
+    ensures err { IfErr result (λ fault.
+        IsFirstFlaw start.now trace.now stretches.now fault ⊎ (fault ≡ CheckFault.Memory)) }
 {
     let mut walk = Walk::new(alloc, start)?;
     let mut count = 0;

@@ -42,7 +42,9 @@ pub fn read_certificate<A: Allocator + Copy>(
     ensures fault { IfErr result (IsTextFault text.now) }
     // Every text of a claim is read, and every bad line is named.
     ensures only { (claim : Claim) → IsText text.now claim
-        → MatchResult result (λ certificate. claim_of certificate ≡ claim) (λ fault. fault ≡ TextFault.Memory) }
+        → MatchResult result
+        (λ certificate. claim_of certificate ≡ claim)
+        (λ fault. fault ≡ TextFault.Memory) }
     ensures bad { (n : ℕ) → IsFirstBadLine text.now n
         → MatchResult result (λ _. ⊥) (λ fault. (fault ≡ TextFault.BadText n) ⊎ (fault ≡ TextFault.Memory)) }
 {
@@ -71,7 +73,8 @@ struct Heading {
 
 /// The numbers of the first line, and what stands behind it.
 fn next_heading(text: &[u8]) -> Option<(Heading, &[u8])>
-    ensures found { IfSome result (λ parts. text.now ≡ line_of (heading parts.0.slots parts.0.fill parts.0.live parts.0.writes) ++ parts.1.now) }
+    ensures found { IfSome result (λ parts. text.now
+        ≡ line_of (heading parts.0.slots parts.0.fill parts.0.live parts.0.writes) ++ parts.1.now) }
     ensures none { IfNone result (NoFirstLine text.now) }
 {
     let (line, rest) = next_line(text)?;
@@ -98,7 +101,8 @@ fn read_stretches<A: Allocator + Copy>(
 
 /// The stretch whose line stands at the front of the text, and what stands behind it.
 fn next_stretch(text: &[u8]) -> Option<(Stretch, &[u8])>
-    ensures found { IfSome result (λ parts. IsStretch parts.0 × (text.now ≡ line_of (spelling parts.0) ++ parts.1.now)) }
+    ensures found { IfSome result (λ parts.
+        IsStretch parts.0 × (text.now ≡ line_of (spelling parts.0) ++ parts.1.now)) }
     ensures none { IfNone result (NoStretch text.now) }
 {
     let (line, rest) = next_line(text)?;
@@ -126,8 +130,10 @@ fn check_ending(text: &[u8], count: u64) -> Result<(), TextFault>
 /// The numbers that the first line says.
 fn read_heading(line: &[u8]) -> Option<Heading>
     ensures found { IfSome result (λ h. line.now ≡ heading h.slots h.fill h.live h.writes) }
-    ensures only { (slots fill live writes : ℕ) → IsNumber slots → IsNumber fill → IsNumber live → IsNumber writes
-        → line.now ≡ heading slots fill live writes → result ≡ Some record { slots = slots; fill = fill; live = live; writes = writes } }
+    ensures only { (slots fill live writes : ℕ)
+        → IsNumber slots → IsNumber fill → IsNumber live → IsNumber writes
+        → line.now ≡ heading slots fill live writes
+        → result ≡ Some record { slots = slots; fill = fill; live = live; writes = writes } }
 {
     let (slots, rest) = first_number(b"slots ", line)?;
     let (fill, rest) = first_number(b"fill ", rest)?;
@@ -144,7 +150,8 @@ fn read_heading(line: &[u8]) -> Option<Heading>
 /// The stretch that a line says.
 fn read_stretch(line: &[u8]) -> Option<Stretch>
     ensures found { IfSome result (λ stretch. IsStretch stretch × (line.now ≡ spelling stretch)) }
-    ensures only { (stretch : Stretch) → IsStretch stretch → line.now ≡ spelling stretch → result ≡ Some stretch }
+    ensures only { (stretch : Stretch) → IsStretch stretch → line.now ≡ spelling stretch
+        → result ≡ Some stretch }
 {
     let (to, rest) = first_number(b"to ", line)?;
     let from = last_number(b"from ", rest)?;

@@ -10,8 +10,8 @@ use std::marker::Model;
 /// The most slots that a set has.
 const MOST_SLOTS: u64 = 32512;
 
-/// What a trace starts from: how many slots a set has, how many of the live set's are used, and which
-/// addresses are live.
+/// What a trace starts from: how many slots a set has, how many of the live set's are used, and
+/// which addresses are live.
 #[derive(Drop)]
 pub struct Start<A: Allocator = Global> {
     slots: u64,
@@ -31,10 +31,12 @@ impl<A: Allocator> Model for Start<A> {
 }
 
 impl<A: Allocator> Start<A> {
-    /// A start, or `None` if `slots` isn't 1 to 32512, or `fill` isn't the number of the live addresses to
-    /// `slots`.
+    /// A start, or `None` if `slots` isn't 1 to 32512, or `fill` isn't the number of the live
+    /// addresses to `slots`.
     pub fn new(slots: u64, fill: u64, live: BTreeSet<Address, A>) -> Option<Start<A>>
-        ensures { SomeIff result (IsStart record { slots = slots; fill = fill; live = live.keys }) record { slots = slots; fill = fill; live = live.keys } }
+        ensures { SomeIff result
+            (IsStart record { slots = slots; fill = fill; live = live.keys })
+            record { slots = slots; fill = fill; live = live.keys } }
     {
         let has_slots = 1 <= slots && slots <= MOST_SLOTS;
         if !has_slots || fill < live.len() as u64 || slots < fill {

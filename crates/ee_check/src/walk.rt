@@ -33,7 +33,8 @@ impl<A: Allocator> Model for Walk<A> {
 impl<A: Allocator + Copy> Walk<A> {
     /// A walk that begins.
     pub(crate) fn new<B: Allocator>(alloc: A, start: &Start<B>) -> Result<Walk<A>, AllocError>
-        ensures { IfOk result (λ walk. walk ≡ record { place = first_place start.now; live = start.now.live }) }
+        ensures { IfOk result
+            (λ walk. walk ≡ record { place = first_place start.now; live = start.now.live }) }
     {
         Ok(Walk {
             after: 0,
@@ -50,7 +51,9 @@ impl<A: Allocator + Copy> Walk<A> {
         stretch: Stretch,
         number: u64,
     ) -> Result<(), CheckFault>
-        ensures { MatchResult result (λ _. IsForced start.now trace.now self.now.place stretch) (IsFlaw start.now trace.now self.now.place stretch number) }
+        ensures { MatchResult result
+            (λ _. IsForced start.now trace.now self.now.place stretch)
+            (IsFlaw start.now trace.now self.now.place stretch number) }
     {
         if stretch.to <= self.after || (trace.len() as u64) < stretch.to {
             return Err(CheckFault::NotRising(number));
@@ -68,7 +71,8 @@ impl<A: Allocator + Copy> Walk<A> {
     pub(crate) fn pass(&mut self, trace: &[Change], to: u64) -> Result<(), AllocError>
         requires behind { self.old.place.after ≤ to }
         requires within { to ≤ length trace.now }
-        ensures live { OnOk result (self.new.live ≡ live_after self.old.live (slice_range trace.now self.old.place.after to)) }
+        ensures live { OnOk result (self.new.live
+            ≡ live_after self.old.live (slice_range trace.now self.old.place.after to)) }
         ensures place { OnOk result (self.new.place ≡ record { after = to; used = length self.new.live }) }
     {
         make_all(&trace[self.after as usize..to as usize], &mut self.live)?;
