@@ -1,0 +1,36 @@
+-- The slots before the first erased one.
+use Rattle.std.proofs.Common.{◌≡◌, inl, inr, ℕ, ◌+◌, ◌<◌, ◌≤◌, Bool, true, false, cond, List, [], ◌∷◌, length, get_or, refl, arith, suc}
+use Rattle.std.specs.List.{filter, prefix_len}
+use Rattle.std.proofs.lemmas.Bool.{cases_order, cases_lt}
+use Rattle.std.proofs.lemmas.List.Sums.{prefix_len-le-length, prefix_len_passes, prefix_len_stops}
+
+module _ {X : Type 0} (p : X → Bool) (d : X) where
+  -- what passes up to an element that does not
+  pub prefix_len_to : (xs : List X) (n : ℕ) → n < length xs → ((k : ℕ) → k < n → p (get_or xs k d) ≡ true) → p (get_or xs n d) ≡ false → prefix_len p xs ≡ n
+  prefix_len_to xs n h each stops = elim (cases_order (prefix_len p xs) n) [
+    | inl same ↦ same
+    | inr (inl less) ↦ let e = each (prefix_len p xs) less in let f = prefix_len_stops p xs d (omega arith) in cc
+    | inr (inr more) ↦ let e = prefix_len_passes p xs n d more in cc
+  ]
+
+  -- all pass
+  pub prefix_len_of_all : (xs : List X) → ((k : ℕ) → k < length xs → p (get_or xs k d) ≡ true) → prefix_len p xs ≡ length xs
+  prefix_len_of_all xs each = elim (cases_lt (prefix_len p xs) (length xs)) [
+    | inl less ↦ let e = each (prefix_len p xs) less in let f = prefix_len_stops p xs d less in cc
+    | inr end ↦ let most = prefix_len-le-length p xs in omega arith
+  ]
+
+  none_of : (xs : List X) → ((k : ℕ) → p (get_or xs k d) ≡ false) → length (filter p xs) ≡ 0
+  none_of [] each = refl
+  none_of (x ∷ xs) each = rw (each 0) (none_of xs (λ k. each (suc k)))
+
+  one_more : (b : Bool) (x : X) (ys : List X) (n : ℕ) → (b ≡ true → length ys ≡ n) → (b ≡ false → length ys ≡ 0) → length (cond b (x ∷ ys) ys) ≡ cond b (1 + n) 0
+  one_more true x ys n passes fails = let e = passes refl in omega arith
+  one_more false x ys n passes fails = fails refl
+
+  -- where nothing behind the first that fails passes, as many pass as stand before it
+  pub filter_front : (xs : List X) → ((k : ℕ) → prefix_len p xs ≤ k → p (get_or xs k d) ≡ false) → length (filter p xs) ≡ prefix_len p xs
+  filter_front [] behind = refl
+  filter_front (x ∷ xs) behind = one_more (p x) x (filter p xs) (prefix_len p xs)
+      (λ passes. filter_front xs (λ k h. behind (suc k) (rw passes (omega arith))))
+      (λ fails. none_of xs (λ k. behind (suc k) (rw fails (omega arith))))

@@ -1,0 +1,9 @@
+use Rattle.std.proofs.Common.{◌≡◌, ℕ, ◌<◌, true, get_or}
+use Rattle.ee_flash.specs.declared.word.Word.TheVariants.{Erased}
+use Rattle.ee_pages.specs.Page.{is_written}
+use Rattle.ee_pages.specs.Sets.{set_of, slots_of}
+use Rattle.ee_pages.proofs.find.count_front.Given as goal
+
+abbrev pub invariant-loop-slot : goal.invariant-loop-slot
+invariant-loop-slot g l =
+    (k : ℕ) → k < l.slot → is_written (get_or (slots_of (set_of l.side (g.F.Flash.device l.flash))) k Erased) ≡ true

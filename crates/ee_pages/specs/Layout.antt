@@ -1,0 +1,46 @@
+-- What a scan finds, or why it finds nothing.
+use Rattle.std.specs.Prelude.{◌≡◌, ◌<◌, ◌≤◌, ℕ, ◌+◌, ◌-◌, Some, None, true, false, List}
+use Rattle.std.specs.List.{All}
+use Rattle.ee_flash.specs.Device.{Device}
+use Rattle.ee_flash.specs.Size.{Size}
+use Rattle.ee_flash.specs.declared.word.Word.{Word}
+use Rattle.ee_pages.specs.Page.{is_blank}
+use Rattle.ee_pages.specs.Sets.{committed, fill_of, first_page, live_of, page_of_slot, set_of, slots_of}
+use Rattle.ee_pages.specs.Legal.{IsLive, is_allowed_at}
+use Rattle.ee_pages.specs.declared.find.Layout.{Layout}
+use Rattle.ee_pages.specs.declared.find.ScanFault.{ScanFault}
+use Rattle.ee_pages.specs.declared.find.ScanFault.TheVariants.{Unformatted, NoLiveSet, TwoLive, Foreign}
+use Rattle.ee_pages.specs.declared.side.Side.{Side}
+use Rattle.ee_pages.specs.declared.side.Side.TheVariants.{First, Second}
+
+-- The image is legal, and this is its live set, with its generation, its fill, and the page of the last written slot, by
+-- its number in the device: the set's first page if no slot is written.
+pub record IsLayout (device : Device) (layout : Layout) : Type 0 where
+  pub live : IsLive device layout.side layout.generation
+  pub fill : layout.fill ≡ fill_of (slots_of (set_of layout.side device))
+  pub current : layout.current ≡ first_page device.size layout.side + page_of_slot device.size (layout.fill - 1)
+
+-- every word of the device is erased
+abbrev pub IsUnformatted : Device → Type 0
+IsUnformatted device = All (λ page. is_blank page ≡ true) device.image
+
+-- the first word of the set, by page and then place, that may not stand in its place
+pub record IsFirstForeign (size : Size) (generation : ℕ) (pages : List (List Word)) (page at : ℕ) : Type 0 where
+  pub page_in_range : page < size.pages
+  pub place_in_range : at < size.words
+  pub foreign : is_allowed_at size generation pages page at ≡ false
+  pub pages_before : (k j : ℕ) → k < page → j < size.words → is_allowed_at size generation pages k j ≡ true
+  pub places_before : (j : ℕ) → j < at → is_allowed_at size generation pages page j ≡ true
+
+-- why a scan finds nothing; the first of these that applies
+abbrev pub IsScanFault : Device → ScanFault → Type 0
+IsScanFault device Unformatted = IsUnformatted device
+IsScanFault device NoLiveSet =
+    ¬ IsUnformatted device × (committed (set_of First device) ≡ None) × (committed (set_of Second device) ≡ None)
+IsScanFault device TwoLive =
+    ¬ IsUnformatted device
+    × ((generation : ℕ) × (committed (set_of First device) ≡ Some generation) × (committed (set_of Second device) ≡ Some generation))
+IsScanFault device (Foreign page at) =
+    ¬ IsUnformatted device
+    × ((side : Side) × (generation : ℕ) × (live_of device ≡ Some (side, generation)) × (first_page device.size side ≤ page)
+    × IsFirstForeign device.size generation (set_of side device) (page - first_page device.size side) at)

@@ -1,0 +1,5 @@
+pub mod Page
+pub mod Sets
+pub mod Meaning
+pub mod Legal
+pub mod Layout

@@ -1,0 +1,141 @@
+ghost use Rattle.std.specs.Prelude.{◌≡◌, ◌<◌, ◌∷◌, ℕ, IfSome, List, slice_index_or};
+ghost use Rattle.ee_codec.specs.Words.{IsAddress};
+ghost use Rattle.ee_flash.specs.Size.{slot_count};
+ghost use Rattle.ee_pages.specs.Layout.{IsLayout};
+ghost use Rattle.ee_pages.specs.Meaning.{IsNextLive, IsNextNamed, Names, above_of, live_in, meaning, says as word_says};
+ghost use Rattle.ee_pages.specs.Sets.{set_of, slots_of};
+
+use crate::find::Layout;
+use crate::side::set_slot;
+use ee_codec::{Address, Slot, read_slot};
+use ee_flash::{Flash, Word};
+
+/// The word in a slot of the live set, by the slot's number, counted from 0.
+pub fn slot_word<F: Flash>(flash: &F, layout: &Layout, slot: usize) -> Word
+    requires layout { IsLayout (F.device flash.now) layout.now }
+    requires slot_in_range { slot < slot_count (F.device flash.now).size }
+    ensures { let slots = slots_of (set_of layout.now.side (F.device flash.now)) in
+        result ≡ slice_index_or slots slot Word.Erased }
+{
+    set_slot(flash, layout.side, slot)
+}
+
+/// The value of an address, `None` if it has none. It reads each slot once at most, from the newest
+/// down to the first that says something of the address.
+pub fn latest<F: Flash>(flash: &F, layout: &Layout, address: Address) -> Option<u32>
+    requires { IsLayout (F.device flash.now) layout.now }
+    ensures { let slots = slots_of (set_of layout.now.side (F.device flash.now)) in
+        result ≡ meaning slots address }
+{
+    let mut slot = layout.fill;
+    'slots: while slot > 0 {
+        slot -= 1;
+        if let Some(said) = says(slot_word(flash, layout, slot), address) {
+            return said;
+        }
+    }
+    None
+}
+
+/// The next live address above `after`, or of all if `after` is `None`, with its value. `None` if
+/// there is none. It is one scan, and one more for each forgotten address that it passes over.
+pub fn next_live<F: Flash>(
+    flash: &F,
+    layout: &Layout,
+    after: Option<Address>,
+) -> Option<(Address, u32)>
+    requires { IsLayout (F.device flash.now) layout.now }
+    ensures next { let slots = slots_of (set_of layout.now.side (F.device flash.now)) in
+        IsNextLive (meaning slots) (above_of after) result }
+    ensures proper { IfSome result (λ found. IsAddress found.0) }
+{
+    let mut above = match after {
+        None => 0,
+        Some(address) => address.get(),
+    };
+    'named: while let Some((address, said)) = next_named(flash, layout, above) {
+        if let Some(value) = said {
+            return Some((address, value));
+        }
+        above = address.get();
+    }
+    None
+}
+
+/// How many addresses have a value.
+pub fn live_count<F: Flash>(flash: &F, layout: &Layout) -> usize
+    requires { IsLayout (F.device flash.now) layout.now }
+    ensures { let slots = slots_of (set_of layout.now.side (F.device flash.now)) in
+        result ≡ live_in (meaning slots) }
+{
+    let mut count = 0;
+    let mut after = None;
+    'live: while let Some((address, _)) = next_live(flash, layout, after) {
+        count += 1;
+        after = Some(address);
+    }
+    count
+}
+
+// The next address above this one of which a slot says something, with what the last one says.
+fn next_named<F: Flash>(flash: &F, layout: &Layout, above: u16) -> Option<(Address, Option<u32>)>
+    requires { IsLayout (F.device flash.now) layout.now }
+    ensures { let slots = slots_of (set_of layout.now.side (F.device flash.now)) in
+        IsNextNamed slots above result }
+{
+    let mut next = None;
+    let mut slot = layout.fill;
+    'slots: while slot > 0 {
+        slot -= 1;
+        next = nearer(above, named(slot_word(flash, layout, slot)), next);
+    }
+    next
+}
+
+// The address of which a word says something, with what it says.
+fn named(word: Word) -> Option<(Address, Option<u32>)>
+    ensures { Names word result }
+{
+    match read_slot(word) {
+        Slot::Element { address, value } => Some((address, Some(value))),
+        Slot::Forgotten { address, .. } => Some((address, None)),
+        _ => None,
+    }
+}
+
+// What comes next above an address once one slot more is read, before those that were read.
+fn nearer(
+    above: u16,
+    named: Option<(Address, Option<u32>)>,
+    next: Option<(Address, Option<u32>)>,
+) -> Option<(Address, Option<u32>)>
+    ensures { (word : Word) → (slots : List Word) → Names word named
+        → IsNextNamed slots above next → IsNextNamed (word ∷ slots) above result }
+{
+    let Some((address, said)) = named else {
+        return next;
+    };
+    if address.get() <= above {
+        return next;
+    }
+    if let Some((least, known)) = next {
+        if least.get() <= address.get() {
+            return Some((least, known));
+        }
+    }
+    Some((address, said))
+}
+
+// What a word says of an address: nothing, or that it has a value or none from here on.
+fn says(word: Word, address: Address) -> Option<Option<u32>>
+    ensures { result ≡ word_says word address }
+{
+    match read_slot(word) {
+        Slot::Element {
+            address: named,
+            value,
+        } if named.get() == address.get() => Some(Some(value)),
+        Slot::Forgotten { address: named, .. } if named.get() == address.get() => Some(None),
+        _ => None,
+    }
+}

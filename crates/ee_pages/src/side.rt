@@ -1,0 +1,57 @@
+ghost use Rattle.std.specs.Prelude.{◌≡◌, ◌<◌, IfSome, slice_index_or};
+ghost use Rattle.ee_codec.specs.Words.{IsGeneration};
+ghost use Rattle.ee_flash.specs.Size.{slot_count};
+ghost use Rattle.ee_pages.specs.Sets.{committed as commits, first_page as first, set_of, slots_of, word_of};
+
+use ee_codec::{MarkRead, read_mark, read_receive};
+use ee_flash::{Flash, Word};
+
+/// One of the two sets of pages.
+///
+/// Source: two sets, AN4894.
+#[derive(Clone, Copy, Debug, PartialEq, Eq)]
+pub enum Side {
+    /// The pages from 0 on.
+    First,
+    /// The pages behind those.
+    Second,
+}
+
+// The number, in the device, of a set's first page.
+pub(crate) fn first_page<F: Flash>(flash: &F, side: Side) -> usize
+    ensures { result ≡ first (F.device flash.now).size side }
+{
+    match side {
+        Side::First => 0,
+        Side::Second => flash.shape().pages(),
+    }
+}
+
+// The word at a place of a page of a set.
+pub(crate) fn set_word<F: Flash>(flash: &F, side: Side, page: usize, at: usize) -> Word
+    requires page_in_range { page < (F.device flash.now).size.pages }
+    requires place_in_range { at < (F.device flash.now).size.words }
+    ensures { result ≡ word_of (set_of side (F.device flash.now)) page at }
+{
+    flash.word(first_page(flash, side) + page, at)
+}
+
+// The slot of this number of a set, counted from 0.
+pub(crate) fn set_slot<F: Flash>(flash: &F, side: Side, slot: usize) -> Word
+    requires { slot < slot_count (F.device flash.now).size }
+    ensures { result ≡ slice_index_or (slots_of (set_of side (F.device flash.now))) slot Word.Erased }
+{
+    let slots = flash.shape().words() - 4;
+    set_word(flash, side, slot / slots, 4 + slot % slots)
+}
+
+// The generation with which a set is committed.
+pub(crate) fn committed<F: Flash>(flash: &F, side: Side) -> Option<u32>
+    ensures generation { result ≡ commits (set_of side (F.device flash.now)) }
+    ensures proper { IfSome result IsGeneration }
+{
+    match read_mark(set_word(flash, side, 0, 1)) {
+        MarkRead::Present => read_receive(set_word(flash, side, 0, 0)),
+        _ => None,
+    }
+}

@@ -1,0 +1,21 @@
+use Rattle.std.proofs.Common.{◌+◌, arith}
+use Rattle.ee_check.proofs.Fields.{passed_on}
+use Rattle.ee_plan.specs.Plan.{IsPlanFault}
+use Rattle.ee_plan.proofs.Following.{made_more, refused}
+use Rattle.ee_plan.proofs.planning.follow.Goals as goal
+
+pub returns-in_err-make-clause-err : goal.returns-in_err-make-clause-err
+returns-in_err-make-clause-err g c =
+    let l = c.loop-change in
+    passed_on c.from_residual-in_err-make.result c.in_err-make.field-0.0 (IsPlanFault c.args.start.now c.args.trace.now) c.from_residual-in_err-make.ensures.1
+    (refused c.args.start.now c.args.trace.now l.change-index (l.number + 1) c.change-item.result l.store c.in_err-make.field-0.0 (omega (arith, l.invariant.counted))
+    c.loop-change-test.true l.invariant.so_far c.change-item.is c.in_err-make.ensures.err)
+
+pub loop-change-preserved : goal.loop-change-preserved
+loop-change-preserved g c =
+    let l = c.loop-change in
+    record {
+      counted = omega (arith, l.invariant.counted);
+      so_far = made_more c.args.start.now c.args.trace.now l.change-index (l.number + 1) c.change-item.result l.store c.make.new.self (omega (arith, l.invariant.counted))
+          c.loop-change-test.true l.invariant.so_far c.change-item.is c.in_ok-make.ensures.made c.in_ok-make.ensures.fits;
+    }

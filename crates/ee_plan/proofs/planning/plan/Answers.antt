@@ -1,0 +1,33 @@
+use Rattle.std.proofs.Common.{◌≡◌, ◌⊎◌, ◌-◌, length, refl, arith, rules}
+use Rattle.ee_check.proofs.Fields.{passed_on, error_passed_on}
+use Rattle.ee_plan.specs.declared.planned.PlanFault.TheVariants.{NotFitting, Memory}
+use Rattle.ee_plan.proofs.Whole.{whole_certificate, whole_reached, whole_best, whole_breaks_nowhere, memory_alone, first_named}
+use Rattle.ee_plan.proofs.planning.plan.Goals as goal
+
+pub returns-in_err-store-clause-fits : goal.returns-in_err-store-clause-fits
+returns-in_err-store-clause-fits g c = λ keeps.
+    passed_on c.from_residual.result c.in_err-store.field-0.0 (λ fault. fault ≡ Memory) c.from_residual.ensures.1
+    (memory_alone c.args.start.now c.args.trace.now c.in_err-store.field-0.0 c.in_err-store.ensures.err keeps)
+
+pub returns-in_err-store-clause-names : goal.returns-in_err-store-clause-names
+returns-in_err-store-clause-names g c = λ n first.
+    error_passed_on c.from_residual.result c.in_err-store.field-0.0 (λ plan. ⊥) (λ fault. (fault ≡ NotFitting n) ⊎ (fault ≡ Memory)) c.from_residual.ensures.1
+    (first_named c.args.start.now c.args.trace.now c.in_err-store.field-0.0 n c.in_err-store.ensures.err first)
+
+pub returns-clause-certificate : goal.returns-clause-certificate
+returns-clause-certificate g c =
+    whole_certificate c.args.start.now c.args.trace.now c.in_ok-store.store
+    record { slots = c.slots-2.result; fill = c.fill-2.result; live = c.len-2.result; writes = length c.args.trace.now; stretches = c.into_stretches-stretches.result.items }
+    c.in_ok-store.ensures.ok c.into_stretches-stretches.ensures
+    record { slots = c.slots-2.ensures.slots; fill = c.fill-2.ensures.fill; live = search rules; writes = refl }
+
+pub returns-clause-reached : goal.returns-clause-reached
+returns-clause-reached g c =
+    whole_reached c.args.start.now c.args.trace.now c.in_ok-store.store c.len.result (c.slots.result - c.fill.result) c.slots.ensures.start.proper c.in_ok-store.ensures.ok
+    (search rules) (let a = c.slots.ensures.slots in let b = c.fill.ensures in omega arith)
+
+pub returns-clause-best : goal.returns-clause-best
+returns-clause-best g c = whole_best c.args.start.now c.args.trace.now c.in_ok-store.store c.slots.ensures.start.proper c.in_ok-store.ensures.ok
+
+pub returns-clause-names : goal.returns-clause-names
+returns-clause-names g c = λ n first. whole_breaks_nowhere c.args.start.now c.args.trace.now c.in_ok-store.store n c.in_ok-store.ensures.ok first

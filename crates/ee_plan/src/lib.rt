@@ -1,0 +1,19 @@
+//! The plan of a trace: how few transfers it takes, at which changes, and how much room they leave.
+//!
+//! The planner is the store that transfers exactly when each slot is used, without a flash: it keeps the
+//! live addresses and how many slots are used, and notes a stretch of the tight certificate where it would
+//! transfer. It makes one insertion or removal for each change.
+//!
+//! The layer above calls `plan`. Its contract has the whole promise: the certificate is tight, some
+//! schedule reaches it, and no schedule does better wherever the trace is broken off.
+#![tactic(auto)]
+
+mod late_store;
+mod planned;
+mod planning;
+
+pub use planned::{Plan, PlanFault};
+pub use planning::plan;
+
+#[cfg(test)]
+mod tests;

@@ -1,0 +1,147 @@
+// Worked traces: each plan with the values that it must have, and the checker's yes.
+use super::{Plan, PlanFault, plan};
+use ee_check::{Change, Start, Stretch, check};
+use ee_codec::Address;
+use std::alloc::Global;
+use std::collections::BTreeSet;
+use std::process::Abort;
+use std::test::Fail;
+
+/// The address of a number that has one.
+fn address(number: u16) -> Result<Address, Fail> {
+    Ok(Address::new(number).ok_or("no address")?)
+}
+
+/// A write of the address.
+fn write(number: u16) -> Result<Change, Fail> {
+    Ok(Change::Write(address(number)?))
+}
+
+/// A forgetting of the address.
+fn forget(number: u16) -> Result<Change, Fail> {
+    Ok(Change::Forget(address(number)?))
+}
+
+/// A start with these addresses live.
+fn start(alloc: Global, slots: u64, fill: u64, numbers: &[u16]) -> Result<Start, Fail> {
+    let mut live = BTreeSet::new(alloc);
+    for number in numbers {
+        live.insert(address(*number)?)?;
+    }
+    Ok(Start::new(slots, fill, live).ok_or("no start")?)
+}
+
+/// A stretch.
+fn stretch(to: u64, from: u64) -> Stretch {
+    Stretch { to, from }
+}
+
+/// The trace is planned with these stretches and this room, and the checker accepts the certificate.
+fn assert_planned(
+    rt: &impl Abort,
+    alloc: Global,
+    start: &Start,
+    trace: &[Change],
+    stretches: &[Stretch],
+    room: u64,
+) -> Result<(), Fail> {
+    let plan: Plan = match plan(alloc, start, trace) {
+        Ok(plan) => plan,
+        Err(_) => return Err("no plan".into()),
+    };
+    assert_eq!(rt; plan.transfers, stretches.len() as u64);
+    assert_eq!(rt; plan.moments.len(), stretches.len());
+    for (moment, stretch) in plan.moments.iter().zip(stretches) {
+        assert_eq!(rt; *moment, stretch.to);
+    }
+    assert_eq!(rt; plan.room, room);
+    let certificate = plan.certificate;
+    assert_eq!(rt; certificate.slots, start.slots());
+    assert_eq!(rt; certificate.fill, start.fill());
+    assert_eq!(rt; certificate.live, start.live().len() as u64);
+    assert_eq!(rt; certificate.writes, trace.len() as u64);
+    assert_eq!(rt; certificate.stretches.as_slice(), stretches);
+    assert_eq!(rt;
+        check(alloc, start, trace, &certificate),
+        Ok(plan.transfers)
+    );
+    Ok(())
+}
+
+#[test]
+fn one_slot(rt: HostRuntime) -> Result<(), Fail> {
+    let trace = [write(1)?, write(1)?, write(1)?];
+    let start = start(rt.alloc(), 1, 0, &[])?;
+    assert_planned(
+        &rt,
+        rt.alloc(),
+        &start,
+        &trace,
+        &[stretch(2, 0), stretch(3, 1)],
+        0,
+    )
+}
+
+#[test]
+fn one_move_and_two(rt: HostRuntime) -> Result<(), Fail> {
+    let trace = [write(1)?, write(1)?, write(1)?, write(2)?, write(1)?];
+    let start = start(rt.alloc(), 2, 0, &[])?;
+    assert_planned(&rt, rt.alloc(), &start, &trace[..3], &[stretch(3, 0)], 1)?;
+    assert_planned(
+        &rt,
+        rt.alloc(),
+        &start,
+        &trace,
+        &[stretch(3, 0), stretch(5, 1)],
+        0,
+    )
+}
+
+#[test]
+fn starts_count(rt: HostRuntime) -> Result<(), Fail> {
+    let empty = start(rt.alloc(), 2, 0, &[])?;
+    assert_planned(&rt, rt.alloc(), &empty, &[], &[], 2)?;
+    let torn = start(rt.alloc(), 2, 2, &[])?;
+    assert_planned(&rt, rt.alloc(), &torn, &[write(1)?], &[stretch(1, 2)], 1)?;
+    let live = start(rt.alloc(), 2, 2, &[1, 2])?;
+    assert_planned(&rt, rt.alloc(), &live, &[write(2)?], &[stretch(1, 2)], 0)
+}
+
+#[test]
+fn not_fitting(rt: HostRuntime) -> Result<(), Fail> {
+    let empty = start(rt.alloc(), 2, 0, &[])?;
+    let trace = [write(1)?, write(2)?, write(3)?, write(4)?];
+    assert_eq!(rt;
+        plan(rt.alloc(), &empty, &trace).err(),
+        Some(PlanFault::NotFitting(3))
+    );
+    let live = start(rt.alloc(), 2, 2, &[1, 2])?;
+    let trace = [write(2)?, forget(3)?, write(3)?];
+    assert_eq!(rt;
+        plan(rt.alloc(), &live, &trace).err(),
+        Some(PlanFault::NotFitting(3))
+    );
+    Ok(())
+}
+
+#[test]
+fn forgettings(rt: HostRuntime) -> Result<(), Fail> {
+    let two = start(rt.alloc(), 2, 0, &[])?;
+    let trace = [write(1)?, write(2)?, forget(1)?, write(3)?];
+    assert_planned(&rt, rt.alloc(), &two, &trace, &[stretch(3, 0)], 0)?;
+    let trace = [write(1)?, forget(1)?, write(1)?];
+    assert_planned(&rt, rt.alloc(), &two, &trace, &[stretch(3, 0)], 1)?;
+    // a forgetting of an address that isn't live takes a slot all the same
+    let trace = [write(1)?, forget(1)?, forget(1)?, write(1)?];
+    assert_planned(&rt, rt.alloc(), &two, &trace, &[stretch(3, 0)], 1)?;
+    let one = start(rt.alloc(), 1, 0, &[])?;
+    let trace = [write(1)?, forget(1)?, write(2)?, forget(2)?];
+    assert_planned(
+        &rt,
+        rt.alloc(),
+        &one,
+        &trace,
+        &[stretch(2, 0), stretch(4, 0)],
+        1,
+    )
+}
