@@ -24,11 +24,14 @@ pub fn run<R: Input + Print + Eprint + AllocGlobal>(rt: &R, words: &[String]) ->
 /// Tries the script of standard input, and prints its report.
 fn try_input<R: Input + Print + AllocGlobal>(rt: &R) -> Result<(), Fault> {
     let shape = Shape::new(1, 6).unwrap();
-    let script = read_whole(rt.alloc(), &mut rt.reader())
-        .map_err(|fault| Fault::reading(File::Script, fault))?;
+    let script = read_whole(rt.alloc(), &mut rt.reader()).map_err(|fault| Fault::reading(
+        File::Script,
+        fault,
+    ))?;
     let replayed = try_script(rt.alloc(), shape, script.as_slice())?;
-    write_whole(&mut io::writer(rt), replayed.report.as_slice())
-        .map_err(|_| Fault::CannotWriteOutput)
+    write_whole(&mut io::writer(rt), replayed.report.as_slice()).map_err(
+        |_| Fault::CannotWriteOutput,
+    )
 }
 
 /// Prints the line of a fault on standard error, and gives its status.

@@ -1,4 +1,4 @@
-use Rattle.std.proofs.Common.{◌≡◌, ◌⊎◌, ◌-◌, length, refl, arith, rules}
+use Rattle.std.proofs.Common.{◌≡◌, ◌⊎◌, arith, rules}
 use Rattle.ee_check.proofs.Fields.{passed_on, error_passed_on}
 use Rattle.ee_plan.specs.declared.planned.PlanFault.TheVariants.{NotFitting, Memory}
 use Rattle.ee_plan.proofs.Whole.{whole_certificate, whole_reached, whole_best, whole_breaks_nowhere, memory_alone, first_named}
@@ -16,14 +16,12 @@ returns-in_err-store-clause-names g c = λ n first.
 
 pub returns-clause-certificate : goal.returns-clause-certificate
 returns-clause-certificate g c =
-    whole_certificate c.args.start.now c.args.trace.now c.in_ok-store.store
-    record { slots = c.slots-2.result; fill = c.fill-2.result; live = c.len-2.result; writes = length c.args.trace.now; stretches = c.into_stretches-stretches.result.items }
-    c.in_ok-store.ensures.ok c.into_stretches-stretches.ensures
-    record { slots = c.slots-2.ensures.slots; fill = c.fill-2.ensures.fill; live = search rules; writes = refl }
+    whole_certificate c.args.start.now c.args.trace.now c.in_ok-store.store _ c.in_ok-store.ensures.ok (search rules)
+    record { slots = search rules; fill = search rules; live = search rules; writes = search rules }
 
 pub returns-clause-reached : goal.returns-clause-reached
 returns-clause-reached g c =
-    whole_reached c.args.start.now c.args.trace.now c.in_ok-store.store c.len.result (c.slots.result - c.fill.result) c.slots.ensures.start.proper c.in_ok-store.ensures.ok
+    whole_reached c.args.start.now c.args.trace.now c.in_ok-store.store _ _ c.slots.ensures.start.proper c.in_ok-store.ensures.ok
     (search rules) (let a = c.slots.ensures.slots in let b = c.fill.ensures in omega arith)
 
 pub returns-clause-best : goal.returns-clause-best
