@@ -4,3 +4,5 @@ pub mod Legal
 pub mod Scans
 pub mod LastSaid
 pub mod Counts
+pub mod OtherSet
+pub mod OtherPages

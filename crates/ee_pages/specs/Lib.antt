@@ -3,3 +3,4 @@ pub mod Sets
 pub mod Meaning
 pub mod Legal
 pub mod Layout
+pub mod Laws

@@ -44,6 +44,8 @@ pub enum ScanFault {
 
 /// Finds the live set of a legal image. It reads each word of the live set at most three times.
 ///
+/// Source: one of two sets takes the writes, AN4894; the rest is ours.
+///
 /// # Errors
 ///
 /// The first `ScanFault` that applies, exactly where the image is not legal.

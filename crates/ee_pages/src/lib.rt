@@ -6,11 +6,12 @@
 //! scan finds. All of it is a function or a relation of the device.
 //!
 //! The layers above may use: a scan is `Ok` exactly on a legal image; the readers give the image's
-//! values; a mark is one step at most, and none where its word is written. Nothing here takes
-//! memory.
+//! values; a mark is one step at most, and none where its word is written; and `laws` says what
+//! every outcome of a step keeps. Nothing here takes memory.
 #![tactic(auto)]
 
 mod find;
+pub mod laws;
 mod marking;
 mod read;
 mod side;

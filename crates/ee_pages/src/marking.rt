@@ -9,7 +9,10 @@ use crate::state::{Mark, is_written};
 use ee_codec::{MARK, receive_word};
 use ee_flash::{Cut, Flash};
 
-/// Programs a mark, unless its word is written, torn or not: then it takes no step.
+/// Programs a mark, unless its word is written, torn or not: then it takes no step. Pages are
+/// numbered from 0, those of the first set first.
+///
+/// Source: ours.
 ///
 /// # Errors
 ///

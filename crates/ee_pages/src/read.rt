@@ -10,7 +10,10 @@ use crate::side::set_slot;
 use ee_codec::{Address, Slot, read_slot};
 use ee_flash::{Flash, Word};
 
-/// The word in a slot of the live set, by the slot's number, counted from 0.
+/// The word in a slot of the live set, by the slot's number, counted from 0 and below the capacity.
+/// The layout is the image's.
+///
+/// Source: ours.
 pub fn slot_word<F: Flash>(flash: &F, layout: &Layout, slot: usize) -> Word
     requires layout { IsLayout (F.device flash.now) layout.now }
     requires slot_in_range { slot < slot_count (F.device flash.now).size }
@@ -21,7 +24,9 @@ pub fn slot_word<F: Flash>(flash: &F, layout: &Layout, slot: usize) -> Word
 }
 
 /// The value of an address, `None` if it has none. It reads each slot once at most, from the newest
-/// down to the first that says something of the address.
+/// down to the first that says something of the address. The layout is the image's.
+///
+/// Source: the last element written for an address is its value, AN4894; a forgetting is ours.
 pub fn latest<F: Flash>(flash: &F, layout: &Layout, address: Address) -> Option<u32>
     requires { IsLayout (F.device flash.now) layout.now }
     ensures { let slots = slots_of (set_of layout.now.side (F.device flash.now)) in
@@ -38,7 +43,10 @@ pub fn latest<F: Flash>(flash: &F, layout: &Layout, address: Address) -> Option<
 }
 
 /// The next live address above `after`, or of all if `after` is `None`, with its value. `None` if
-/// there is none. It is one scan, and one more for each forgotten address that it passes over.
+/// there is none. It is one scan of the slots, and one more for each forgotten address that it
+/// passes over. The layout is the image's.
+///
+/// Source: ours.
 pub fn next_live<F: Flash>(
     flash: &F,
     layout: &Layout,
@@ -62,7 +70,9 @@ pub fn next_live<F: Flash>(
     None
 }
 
-/// How many addresses have a value.
+/// How many addresses have a value, 0 to the capacity. The layout is the image's.
+///
+/// Source: ours.
 pub fn live_count<F: Flash>(flash: &F, layout: &Layout) -> usize
     requires { IsLayout (F.device flash.now) layout.now }
     ensures { let slots = slots_of (set_of layout.now.side (F.device flash.now)) in

@@ -37,7 +37,10 @@ pub enum Mark {
     Erasing,
 }
 
-/// The state of a page, which the last written word of its header names.
+/// The state of a page, which the last written word of its header names. Pages are numbered from 0,
+/// those of the first set first.
+///
+/// Source: ours.
 pub fn state_of<F: Flash>(flash: &F, page: usize) -> State
     requires { page < page_count (F.device flash.now).size }
     ensures { result ≡ state_of_words (page_at (F.device flash.now) page) }
@@ -55,7 +58,9 @@ pub fn state_of<F: Flash>(flash: &F, page: usize) -> State
     }
 }
 
-/// Whether every word of a page is erased.
+/// Whether every word of a page is erased. Pages are numbered as for `state_of`.
+///
+/// Source: ours.
 pub fn is_blank<F: Flash>(flash: &F, page: usize) -> bool
     requires { page < page_count (F.device flash.now).size }
     ensures { result ≡ blank (page_at (F.device flash.now) page) }

@@ -1,0 +1,5 @@
+use Rattle.ee_pages.proofs.OtherSet.{other_set_keeps_live}
+use Rattle.ee_pages.proofs.laws.other_set_keeps_live.Goals as goal
+
+pub returns : goal.returns
+returns c = other_set_keeps_live
