@@ -8,7 +8,7 @@ pub live_to-zero : (map : Map) → live_to map 0 ≡ 0
 unfolding live_to
 live_to-zero map = refl
 
-live_to-suc : (map : Map) (n : ℕ) → live_to map (suc n) ≡ live_to map n + cond (is_some (map (suc n))) 1 0
+pub live_to-suc : (map : Map) (n : ℕ) → live_to map (suc n) ≡ live_to map n + cond (is_some (map (suc n))) 1 0
 unfolding live_to
 live_to-suc map n = refl
 
@@ -21,7 +21,7 @@ gap map n (suc k) none =
     let rest : live_to map (n + k) ≡ live_to map n = gap map n k (λ address low high. none address low (omega arith)) in
     ap (live_to map) e ∙ live_to-suc map (n + k) ∙ rw here (omega (arith, rest))
 
-gap_to : (map : Map) (n m : ℕ) → n ≤ m → ((address : ℕ) → n < address → address ≤ m → map address ≡ None) → live_to map m ≡ live_to map n
+pub gap_to : (map : Map) (n m : ℕ) → n ≤ m → ((address : ℕ) → n < address → address ≤ m → map address ≡ None) → live_to map m ≡ live_to map n
 gap_to map n m h none =
     let e : m ≡ n + (m - n) = omega arith in
     ap (live_to map) e ∙ gap map n (m - n) (λ address low high. none address low (omega arith))

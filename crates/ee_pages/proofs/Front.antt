@@ -20,7 +20,7 @@ module _ {X : Type 0} (p : X → Bool) (d : X) where
     | inr end ↦ let most = prefix_len-le-length p xs in omega arith
   ]
 
-  none_of : (xs : List X) → ((k : ℕ) → p (get_or xs k d) ≡ false) → length (filter p xs) ≡ 0
+  pub none_of : (xs : List X) → ((k : ℕ) → p (get_or xs k d) ≡ false) → length (filter p xs) ≡ 0
   none_of [] each = refl
   none_of (x ∷ xs) each = rw (each 0) (none_of xs (λ k. each (suc k)))
 

@@ -6,3 +6,14 @@ pub mod LastSaid
 pub mod Counts
 pub mod OtherSet
 pub mod OtherPages
+pub mod InTheSet
+pub mod SetPrograms
+pub mod SlotWrites
+pub mod HeaderWrites
+pub mod OwnSet
+pub mod Commits
+pub mod FirstCommits
+pub mod LiveSteps
+pub mod FillingSteps
+pub mod BlankPages
+pub mod LiveCounts

@@ -9,15 +9,15 @@ use Rattle.ee_flash.specs.declared.word.Word.{Word}
 use Rattle.ee_flash.specs.declared.word.Word.TheVariants.{Erased, Held, Torn}
 use Rattle.ee_flash.proofs.Outcomes.{step_changes_one_page, step_keeps_formed, step_leaves_pages}
 use Rattle.ee_codec.specs.Reading.{mark_of, receive_of}
-use Rattle.ee_pages.specs.Laws.{CannotCommit, IsPageOf, OtherSetKeepsLive}
-use Rattle.ee_pages.specs.Legal.{is_allowed_at}
+use Rattle.ee_pages.specs.Laws.{CannotCommit, IsPageOf, Keeps, OtherSetKeepsLive}
+use Rattle.ee_pages.specs.Legal.{IsLive, is_allowed_at}
 use Rattle.ee_pages.specs.Meaning.{meaning}
 use Rattle.ee_pages.specs.Page.{word_in}
 use Rattle.ee_pages.specs.Sets.{committed, fill_of, first_page, greater, is_mark, live_of, other, set_of, slots_of, word_of}
 use Rattle.ee_pages.specs.declared.side.Side.{Side}
 use Rattle.ee_pages.specs.declared.side.Side.TheVariants.{First, Second}
 
-same_set : (side : Side) (old new : Device) (page : ℕ) → DiffersInPage page old new → IsPageOf old.size (other side) page → set_of side new ≡ set_of side old
+pub same_set : (side : Side) (old new : Device) (page : ℕ) → DiffersInPage page old new → IsPageOf old.size (other side) page → set_of side new ≡ set_of side old
 same_set First old new page differs at =
     ap (λ size. take size.pages new.image) differs.same_size ∙ ap (take old.size.pages) differs.image
     ∙ take-set-le old.size.pages old.image page (page_at new page) at.from
@@ -26,7 +26,7 @@ same_set Second old new page differs at =
     ∙ drop-set-lt old.size.pages old.image page (page_at new page) (omega (arith, at.below))
 
 -- the words of a set's first page
-first_word : (side : Side) (device : Device) (k : ℕ) → IsFormed device → word_of (set_of side device) 0 k ≡ word_at device (first_page device.size side) k
+pub first_word : (side : Side) (device : Device) (k : ℕ) → IsFormed device → word_of (set_of side device) 0 k ≡ word_at device (first_page device.size side) k
 first_word First device k formed = ap (λ words. word_in words k) (get_or-take device.size.pages device.image 0 [] (omega (arith, formed.within_limits.some_pages)))
 first_word Second device k formed =
     let e : device.size.pages + 0 ≡ device.size.pages = omega arith in
@@ -111,13 +111,13 @@ second_by true above first second generation e = let sides : First ≡ Second = 
 second_by false true first second generation e = e
 second_by false false first second generation e = cc
 
-greater_first : (first second : Option ℕ) (generation : ℕ) → greater first second ≡ Some (First, generation) → greater first None ≡ Some (First, generation)
+pub greater_first : (first second : Option ℕ) (generation : ℕ) → greater first second ≡ Some (First, generation) → greater first None ≡ Some (First, generation)
 greater_first None None generation e = e
 greater_first None (Some second) generation e = let sides : Second ≡ First = ap side_in e in cc sides
 greater_first (Some first) None generation e = e
 greater_first (Some first) (Some second) generation e = first_by (nat_lt second first) (nat_lt first second) first second generation e
 
-greater_second : (first second : Option ℕ) (generation : ℕ) → greater first second ≡ Some (Second, generation) → greater None second ≡ Some (Second, generation)
+pub greater_second : (first second : Option ℕ) (generation : ℕ) → greater first second ≡ Some (Second, generation) → greater None second ≡ Some (Second, generation)
 greater_second None None generation e = e
 greater_second None (Some second) generation e = e
 greater_second (Some first) None generation e = let sides : First ≡ Second = ap side_in e in cc sides
@@ -131,6 +131,20 @@ live_stays Second old new generation same (inr gone) e = rw (same, gone) (greate
 
 commits_by : (side : Side) (device : Device) → IsFormed device → committed (set_of side device) ≡ commits (word_at device (first_page device.size side) 0) (word_at device (first_page device.size side) 1)
 commits_by side device formed = rw (first_word side device 0 formed, first_word side device 1 formed) refl
+
+-- so the live set is live still, where the other one commits as it did, or not at all
+pub keeps_live : (side : Side) (old new : Device) (generation : ℕ) → IsLive old side generation → IsFormed new → new.size ≡ old.size → set_of side new ≡ set_of side old → (committed (set_of (other side) new) ≡ committed (set_of (other side) old)) ⊎ (committed (set_of (other side) new) ≡ None) → Keeps old new side generation
+keeps_live side old new generation live formed same_size same after = record {
+  live = record {
+    formed = formed;
+    live = live_stays side old new generation same after live.live;
+    allowed = λ page place in_range within. ap (λ (pages : List (List Word)). is_allowed_at new.size generation pages page place) same ∙ ap (λ size. is_allowed_at size generation (set_of side old) page place) same_size ∙ live.allowed page place (omega (arith, ap (λ size. size.pages) same_size)) (omega (arith, ap (λ size. size.words) same_size));
+  };
+  same_size = same_size;
+  same_slots = ap slots_of same;
+  same_fill = ap (λ (pages : List (List Word)). fill_of (slots_of pages)) same;
+  same_map = λ address. ap (λ (pages : List (List Word)). meaning (slots_of pages) address) same;
+}
 
 pub other_set_keeps_live : OtherSetKeepsLive
 other_set_keeps_live step old new side generation live taken at may =
@@ -146,14 +160,4 @@ other_set_keeps_live step old new side generation live taken at may =
       | inl as_before ↦ inl (new_commit ∙ as_before ∙ sym old_commit)
       | inr gone ↦ inr (new_commit ∙ gone)
     ] in
-    record {
-      live = record {
-        formed = formed;
-        live = live_stays side old new generation same after live.live;
-        allowed = λ page place in_range within. ap (λ (pages : List (List Word)). is_allowed_at new.size generation pages page place) same ∙ ap (λ size. is_allowed_at size generation (set_of side old) page place) differs.same_size ∙ live.allowed page place (omega (arith, ap (λ size. size.pages) differs.same_size)) (omega (arith, ap (λ size. size.words) differs.same_size));
-      };
-      same_size = differs.same_size;
-      same_set = same;
-      same_fill = ap (λ (pages : List (List Word)). fill_of (slots_of pages)) same;
-      same_map = λ address. ap (λ (pages : List (List Word)). meaning (slots_of pages) address) same;
-    }
+    (keeps_live side old new generation live formed differs.same_size same after, same)

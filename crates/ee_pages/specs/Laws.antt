@@ -16,11 +16,11 @@ pub record IsPageOf (size : Size) (side : Side) (page : ℕ) : Type 0 where
   pub from : first_page size side ≤ page
   pub below : page < first_page size side + size.pages
 
--- the live set is as before, and so is all that follows from it
+-- the live set is live still, with the same slots, and so is all that follows from them as before
 pub record Keeps (old new : Device) (side : Side) (generation : ℕ) : Type 0 where
   pub live : IsLive new side generation
   pub same_size : new.size ≡ old.size
-  pub same_set : set_of side new ≡ set_of side old
+  pub same_slots : slots_of (set_of side new) ≡ slots_of (set_of side old)
   pub same_fill : fill_of (slots_of (set_of side new)) ≡ fill_of (slots_of (set_of side old))
   pub same_map : (address : ℕ) → meaning (slots_of (set_of side new)) address ≡ meaning (slots_of (set_of side old)) address
 
@@ -31,12 +31,13 @@ CannotCommit first (Erase page) old = Unit {0}
 CannotCommit first (Program page at value) old =
     (page ≡ first → at ≢ 1) × (page ≡ first → at ≡ 0 → word_at old first 1 ≡ Erased)
 
--- every outcome of a step in the set that is not live keeps the live set, unless the step can commit that other set
+-- every outcome of a step in the set that is not live keeps the live set, page for page, unless the step can commit that
+-- other set
 abbrev pub OtherSetKeepsLive : Type 0
 OtherSetKeepsLive =
     (step : Step) (old new : Device) (side : Side) (generation : ℕ) → IsLive old side generation → IsStep step old new
     → IsPageOf old.size (other side) (page_of step) → CannotCommit (first_page old.size (other side)) step old
-    → Keeps old new side generation
+    → Keeps old new side generation × (set_of side new ≡ set_of side old)
 
 -- every outcome of a step leaves the other pages blank, or not, as they were
 abbrev pub StepKeepsOtherPages : Type 0

@@ -4,3 +4,6 @@ pub mod Meaning
 pub mod Legal
 pub mod Layout
 pub mod Laws
+pub mod Pushing
+pub mod Filling
+pub mod Pending

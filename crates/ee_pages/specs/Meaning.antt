@@ -2,7 +2,7 @@
 use Rattle.std.specs.Prelude.{◌≡◌, ◌<◌, ℕ, ◌+◌, ◌==◌, is_some, if◌then◌else◌, Option, Some, None, List, [], ◌∷◌, zero, suc}
 use Rattle.ee_flash.specs.declared.word.Word.{Word}
 use Rattle.ee_codec.specs.Reading.{slot_of}
-use Rattle.ee_codec.specs.Words.{element, forgetting}
+use Rattle.ee_codec.specs.Words.{IsAddress, IsValue, element, forgetting}
 use Rattle.ee_codec.specs.declared.slot.Slot.{Slot}
 use Rattle.ee_codec.specs.declared.slot.Slot.TheVariants.{Free, Spoiled, Element, Forgotten, Foreign}
 
@@ -89,7 +89,8 @@ abbrev pub changed_by : List Change → Map → Map
 changed_by [] map = map
 changed_by (change ∷ changes) map = changed_by changes (changed change map)
 
--- a change is spelled by a word; the value in a forgetting means nothing
+-- The change, of a proper address and a value that fits, is spelled by this number; the value in a forgetting means
+-- nothing.
 abbrev pub Spells : ℕ → Change → Type 0
-Spells number (Put address value) = number ≡ element address value
-Spells number (Forget address) = (value : ℕ) × (number ≡ forgetting address value)
+Spells number (Put address value) = IsAddress address × IsValue value × (number ≡ element address value)
+Spells number (Forget address) = (value : ℕ) × IsAddress address × IsValue value × (number ≡ forgetting address value)

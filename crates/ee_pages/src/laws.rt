@@ -1,5 +1,8 @@
 //! Laws that hold of every device and every step, each the contract of a function that does nothing.
+ghost use Rattle.ee_pages.specs.Filling.{CommitCommits, FirstCommitCommits, OpensPage, OpensSet, StagesChange, WholeCommitCommits};
 ghost use Rattle.ee_pages.specs.Laws.{OtherSetKeepsLive, ProgramLeavesWritten, StepKeepsOtherPages};
+ghost use Rattle.ee_pages.specs.Pending.{ChangeCounts, EraseLowersPending, FullSetHasNoBlankPage, LiveWithinFill, ProgramKeepsPending, WholeEraseLowersPending};
+ghost use Rattle.ee_pages.specs.Pushing.{MarkKeepsLive, PushTakes, WholePushTakes};
 
 /// Every outcome of a step in the set that is not live keeps the live set, its slots, its fill and
 /// its meaning, and the image legal, unless the step can commit that other set.
@@ -15,4 +18,83 @@ pub fn step_keeps_other_pages()
 /// Every outcome of a program leaves its page not blank, or all pages as they were.
 pub fn program_leaves_written()
     ensures { ProgramLeavesWritten }
+{}
+
+/// Every outcome of an active or valid mark on a page of the live set, behind written slots, keeps
+/// the live set, and the other set as it was.
+pub fn mark_keeps_live()
+    ensures { MarkKeepsLive }
+{}
+
+/// Every outcome of programming a change into the first free slot leaves the live set as it was, a
+/// slot more spoiled, or the map changed; and the other set as it was.
+pub fn push_takes()
+    ensures { PushTakes }
+{}
+
+/// The whole step writes the slot, and the map is changed.
+pub fn whole_push_takes()
+    ensures { WholePushTakes }
+{}
+
+/// A receive word on the first of blank pages opens a set for a transfer.
+pub fn opens_set()
+    ensures { OpensSet }
+{}
+
+/// A receive word on a further page opens it, behind written slots.
+pub fn opens_page()
+    ensures { OpensPage }
+{}
+
+/// A change in the first free slot of the set being filled changes the map that it will have.
+pub fn stages_change()
+    ensures { StagesChange }
+{}
+
+/// Every outcome of the commit keeps the live set, or makes the filled one live; and the pages of
+/// the set that was live are as they were.
+pub fn commit_commits()
+    ensures { CommitCommits }
+{}
+
+/// The whole commit makes the filled set live.
+pub fn whole_commit_commits()
+    ensures { WholeCommitCommits }
+{}
+
+/// Every outcome of erasing a page that is not blank leaves as many pages that are not, or one less.
+pub fn erase_lowers_pending()
+    ensures { EraseLowersPending }
+{}
+
+/// The whole erase leaves one less, and its page blank.
+pub fn whole_erase_lowers_pending()
+    ensures { WholeEraseLowersPending }
+{}
+
+/// Every outcome of a program in a page that is not blank leaves as many pages that are not.
+pub fn program_keeps_pending()
+    ensures { ProgramKeepsPending }
+{}
+
+/// A live set of which every slot is written has no blank page.
+pub fn full_set_has_no_blank_page()
+    ensures { FullSetHasNoBlankPage }
+{}
+
+/// Each address that has a value takes a slot.
+pub fn live_within_fill()
+    ensures { LiveWithinFill }
+{}
+
+/// A change counts one address more or less, or as many as before.
+pub fn change_counts()
+    ensures { ChangeCounts }
+{}
+
+/// The commit of a filled set, done whole, makes it live also where the other set is not committed,
+/// and leaves that other set as it was.
+pub fn first_commit_commits()
+    ensures { FirstCommitCommits }
 {}

@@ -23,5 +23,5 @@ mod tests;
 pub use find::{Layout, ScanFault, scan};
 pub use marking::mark;
 pub use read::{latest, live_count, next_live, slot_word};
-pub use side::Side;
+pub use side::{Side, first_page};
 pub use state::{Mark, State, is_blank, state_of};

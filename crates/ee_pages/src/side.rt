@@ -1,7 +1,7 @@
 ghost use Rattle.std.specs.Prelude.{◌≡◌, ◌<◌, IfSome, slice_index_or};
 ghost use Rattle.ee_codec.specs.Words.{IsGeneration};
 ghost use Rattle.ee_flash.specs.Size.{slot_count};
-ghost use Rattle.ee_pages.specs.Sets.{committed as commits, first_page as first, set_of, slots_of, word_of};
+ghost use Rattle.ee_pages.specs.Sets.{committed as commits, first_page as first, other as other_of, set_of, slots_of, word_of};
 
 use ee_codec::{MarkRead, read_mark, read_receive};
 use ee_flash::{Flash, Word};
@@ -17,8 +17,22 @@ pub enum Side {
     Second,
 }
 
-// The number, in the device, of a set's first page.
-pub(crate) fn first_page<F: Flash>(flash: &F, side: Side) -> usize
+impl Side {
+    /// The other of the two sets.
+    pub fn other(self) -> Side
+        ensures { result ≡ other_of self }
+    {
+        match self {
+            Side::First => Side::Second,
+            Side::Second => Side::First,
+        }
+    }
+}
+
+/// The number, in the device, of a set's first page.
+///
+/// Source: ours.
+pub fn first_page<F: Flash>(flash: &F, side: Side) -> usize
     ensures { result ≡ first (F.device flash.now).size side }
 {
     match side {

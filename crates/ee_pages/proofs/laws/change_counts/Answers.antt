@@ -1,0 +1,5 @@
+use Rattle.ee_pages.proofs.LiveCounts.{change_counts}
+use Rattle.ee_pages.proofs.laws.change_counts.Goals as goal
+
+pub returns : goal.returns
+returns c = change_counts

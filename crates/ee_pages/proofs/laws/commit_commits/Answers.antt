@@ -1,0 +1,5 @@
+use Rattle.ee_pages.proofs.Commits.{commit_commits}
+use Rattle.ee_pages.proofs.laws.commit_commits.Goals as goal
+
+pub returns : goal.returns
+returns c = commit_commits

@@ -1,0 +1,5 @@
+use Rattle.ee_pages.proofs.BlankPages.{erase_lowers_pending}
+use Rattle.ee_pages.proofs.laws.erase_lowers_pending.Goals as goal
+
+pub returns : goal.returns
+returns c = erase_lowers_pending

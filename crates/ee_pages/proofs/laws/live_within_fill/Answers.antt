@@ -1,0 +1,5 @@
+use Rattle.ee_pages.proofs.LiveCounts.{live_within_fill}
+use Rattle.ee_pages.proofs.laws.live_within_fill.Goals as goal
+
+pub returns : goal.returns
+returns c = live_within_fill

@@ -1,0 +1,5 @@
+use Rattle.ee_pages.proofs.FillingSteps.{opens_set}
+use Rattle.ee_pages.proofs.laws.opens_set.Goals as goal
+
+pub returns : goal.returns
+returns c = opens_set

@@ -1,0 +1,5 @@
+use Rattle.ee_pages.proofs.FillingSteps.{stages_change}
+use Rattle.ee_pages.proofs.laws.stages_change.Goals as goal
+
+pub returns : goal.returns
+returns c = stages_change

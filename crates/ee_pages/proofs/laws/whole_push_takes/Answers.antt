@@ -1,0 +1,5 @@
+use Rattle.ee_pages.proofs.LiveSteps.{whole_push_takes}
+use Rattle.ee_pages.proofs.laws.whole_push_takes.Goals as goal
+
+pub returns : goal.returns
+returns c = whole_push_takes
