@@ -1,0 +1,1 @@
+// The worked wear, and each call at a concrete type.
