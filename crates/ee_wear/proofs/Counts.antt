@@ -1,11 +1,11 @@
 -- Lists of counts: those of a device, and their differences.
-use Rattle.std.specs.Prelude.{◌≡◌, ◌<◌, ◌≤◌, ℕ, suc, ◌+◌, ◌-◌, ◌*◌, List, [], ◌∷◌, map, length, slice_index}
-use Rattle.std.specs.List.{All, range_with_len, sum, zip}
-use Rattle.std.proofs.Common.{arith, refl, sym, ◌∙◌}
+use Rattle.std.specs.Prelude.{◌≡◌, ◌≤◌, ℕ, suc, ◌+◌, ◌-◌, List, [], ◌∷◌, map}
+use Rattle.std.specs.List.{range_with_len, sum}
+use Rattle.std.proofs.Common.{arith, refl, sym}
 use Rattle.std.proofs.lemmas.List.FromFn.{fill_by_all}
 use Rattle.std.proofs.lemmas.List.Sums.{sum_by-cons}
 use Rattle.ee_flash.specs.Size.{page_count}
-use Rattle.ee_flash.specs.Device.{Device, IsFormed, all_ones, wear_at}
+use Rattle.ee_flash.specs.Device.{Device, IsFormed, wear_at}
 use Rattle.ee_wear.specs.Counts.{IsLedger}
 use Rattle.ee_wear.specs.Since.{NoneFell, differences}
 

@@ -1,9 +1,7 @@
 -- Laws of ledgers: each is proved by the function of its name.
-use Rattle.std.specs.Prelude.{◌≡◌, ◌≤◌, ℕ, ◌+◌, List}
+use Rattle.std.specs.Prelude.{◌≡◌, ℕ, ◌+◌, List}
 use Rattle.std.specs.List.{sum}
-use Rattle.ee_flash.specs.Device.{Device}
 use Rattle.ee_wear.specs.Since.{NoneFell, differences}
-use Rattle.ee_wear.specs.Total.{total_wear_of}
 
 -- where no page fell, the differences together are the difference of the totals
 abbrev pub DifferencesAddUp : Type 0

@@ -4,8 +4,8 @@ ghost use Rattle.ee_wear.specs.Counts.{IsLedger, greatest_of, least_of};
 ghost use Rattle.ee_wear.specs.Since.{IsSinceFault, NoneFell, differences};
 ghost use Rattle.ee_wear.specs.Total.{total_wear_of};
 
-use crate::since::first_fallen;
 use crate::SinceFault;
+use crate::since::first_fallen;
 use ee_flash::Flash;
 use std::alloc::{AllocError, Allocator, Global};
 use std::marker::Model;
@@ -72,7 +72,9 @@ impl<A: Allocator> Ledger<A> {
             return Err(SinceFault::Backwards(page));
         }
         let pairs = before.counts.iter().zip(&self.counts);
-        let counts = pairs.map(|(old, new)| new.saturating_sub(*old)).collect(alloc)?;
+        let counts = pairs
+            .map(|(old, new)| new.saturating_sub(*old))
+            .collect(alloc)?;
         Ok(Ledger { counts })
     }
 
