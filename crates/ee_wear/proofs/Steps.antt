@@ -8,7 +8,6 @@ use Rattle.ee_flash.specs.Device.{Device, IsOn, all_ones, wear_at}
 use Rattle.ee_flash.specs.Laws.{IsStep}
 use Rattle.ee_flash.specs.Step.{Step, Program, Erase, MayFollow, completed, one_more}
 use Rattle.ee_wear.specs.Since.{NoneFell}
-use Rattle.ee_wear.specs.Laws.{ErasesWearOne, NoWearFalls, ProgramsWearNothing}
 
 wear_is : (step : Step) (old new : Device) → MayFollow step old new → (new.wear ≡ old.wear) ⊎ (new.wear ≡ (completed step old).wear)
 wear_is step old new (inl done) = inr (ap (λ (device : Device). device.wear) done.done)
@@ -35,10 +34,10 @@ wear_stays (Erase page) old new taken (inr more) =
     let fits : wear_at old page ≤ all_ones = taken.formed.wear_fits page 0 within in
     NoneFell-set old.wear new.wear page (one_more (wear_at old page)) within (omega (arith, fits)) more
 
-pub no_wear_falls : NoWearFalls
+pub no_wear_falls : (step : Step) (old new : Device) → IsStep step old new → NoneFell old.wear new.wear
 no_wear_falls step old new taken = wear_stays step old new taken (wear_is step old new taken.follows)
 
-pub programs_wear_nothing : ProgramsWearNothing
+pub programs_wear_nothing : (page at value : ℕ) (old new : Device) → IsStep (Program page at value) old new → sum new.wear ≡ sum old.wear
 programs_wear_nothing page at value old new taken = elim (wear_is (Program page at value) old new taken.follows) [
   | inl same ↦ ap sum same
   | inr same ↦ ap sum same
@@ -54,6 +53,6 @@ wear_of_erase page old new (inl done) on = ap (λ (device : Device). device.wear
 wear_of_erase page old new (inr (inl cut)) on = cut.wear
 wear_of_erase page old new (inr (inr untouched)) on = cc
 
-pub erases_wear_one : ErasesWearOne
+pub erases_wear_one : (page : ℕ) (old new : Device) → IsStep (Erase page) old new → IsOn old → get_or old.wear page 0 < all_ones → sum new.wear ≡ sum old.wear + 1
 erases_wear_one page old new taken on below =
     one_more-set old.wear new.wear page (omega (arith, taken.formed.wear_length, taken.may)) below (wear_of_erase page old new taken.follows on)
