@@ -3,9 +3,9 @@ use Rattle.std.specs.Prelude.{◌≤◌, ℕ, min, max, List, length, unwrap_or}
 use Rattle.std.specs.List.{All, reduce}
 use Rattle.ee_flash.specs.Device.{all_ones}
 
--- one count for each page, of which there are 1 to 128, and each fits 64 bits
+-- one count for each page, of which there are 2 to 128, and each fits 64 bits
 pub record IsLedger (counts : List ℕ) : Type 0 where
-  pub some_pages : 1 ≤ length counts
+  pub some_pages : 2 ≤ length counts
   pub few_pages : length counts ≤ 128
   pub fits : All (λ count. count ≤ all_ones) counts
 

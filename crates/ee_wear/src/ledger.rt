@@ -39,8 +39,8 @@ impl<A: Allocator + Copy> Ledger<A> {
     ///
     /// `AllocError`: memory was refused.
     pub fn of<F: Flash>(alloc: A, flash: &F) -> Result<Self, AllocError>
-        ensures wear { IfOk result (λ ledger. ledger ≡ (F.Flash.device flash.now).wear) }
-        ensures total { IfOk result (λ ledger. sum ledger ≡ total_wear_of (F.Flash.device flash.now)) }
+        ensures wear { IfOk result (λ ledger. ledger ≡ (F.device flash.now).wear) }
+        ensures total { IfOk result (λ ledger. sum ledger ≡ total_wear_of (F.device flash.now)) }
     {
         let pages = 2 * flash.shape().pages();
         let counts = (0..pages).map(|page| flash.wear(page)).collect(alloc)?;
@@ -71,6 +71,7 @@ impl<A: Allocator> Ledger<A> {
         if let Some(page) = first_fallen(&before.counts, &self.counts) {
             return Err(SinceFault::Backwards(page));
         }
+        // No page has less than before, so nothing is cut off.
         let pairs = before.counts.iter().zip(&self.counts);
         let counts = pairs
             .map(|(old, new)| new.saturating_sub(*old))
@@ -78,7 +79,7 @@ impl<A: Allocator> Ledger<A> {
         Ok(Ledger { counts })
     }
 
-    /// How many pages there are: 1 to 128.
+    /// How many pages there are: 2 to 128.
     pub fn pages(&self) -> usize
         ensures value { result ≡ length self.now }
         ensures ledger { IsLedger self.now }
