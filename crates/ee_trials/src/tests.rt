@@ -2,6 +2,7 @@
 mod certificates;
 mod cuts;
 mod files;
+mod ledgers;
 mod memory;
 mod scripts;
 mod streams;

@@ -1,0 +1,4 @@
+pub mod Counts
+pub mod Since
+pub mod Total
+pub mod Laws

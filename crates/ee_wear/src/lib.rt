@@ -1,0 +1,16 @@
+//! The wear ledger: how often each page of a device was erased, and what came since an earlier one.
+//!
+//! A ledger is the list of its counts, one for each page, by rising page. `specs/Counts.antt` says
+//! what is a ledger, and what its least and greatest counts are; its total is their sum.
+//! `specs/Since.antt` says what the difference of two ledgers is and why there may be none, and
+//! `specs/Total.antt` what the total wear of a device is. `laws` ties totals and differences.
+#![tactic(auto)]
+
+pub mod laws;
+mod ledger;
+mod since;
+#[cfg(test)]
+mod tests;
+
+pub use ledger::Ledger;
+pub use since::SinceFault;
