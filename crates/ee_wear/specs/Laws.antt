@@ -5,7 +5,7 @@ use Rattle.ee_flash.specs.Device.{Device, IsOn, all_ones, wear_at}
 use Rattle.ee_flash.specs.Step.{Step, Program, Erase}
 use Rattle.ee_flash.specs.Laws.{IsStep}
 use Rattle.ee_wear.specs.Since.{NoneFell, differences}
-use Rattle.ee_wear.specs.Total.{total_wear_of}
+use Rattle.ee_flash.specs.Wear.{total_wear_of}
 
 -- where no page fell, the differences together are the difference of the totals
 abbrev pub DifferencesAddUp : Type 0

@@ -1,4 +1,3 @@
 pub mod Counts
 pub mod Since
-pub mod Total
 pub mod Laws

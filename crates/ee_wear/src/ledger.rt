@@ -2,7 +2,7 @@ ghost use Rattle.std.specs.Prelude.{◌≡◌, ◌<◌, ◌≤◌, IfErr, IfOk, 
 ghost use Rattle.std.specs.List.{All, Contains};
 ghost use Rattle.ee_wear.specs.Counts.{IsLedger, greatest_of, least_of};
 ghost use Rattle.ee_wear.specs.Since.{IsSinceFault, NoneFell, differences};
-ghost use Rattle.ee_wear.specs.Total.{total_wear_of};
+ghost use Rattle.ee_flash.specs.Wear.{total_wear_of};
 
 use crate::SinceFault;
 use crate::since::first_fallen;
