@@ -2,8 +2,8 @@
 //!
 //! A ledger is the list of its counts, one for each page, by rising page. `specs/Counts.antt` says
 //! what is a ledger, and what its least and greatest counts are; its total is their sum.
-//! `specs/Since.antt` says what the difference of two ledgers is and why there may be none, and
-//! `specs/Total.antt` what the total wear of a device is. `laws` ties totals and differences.
+//! `specs/Since.antt` says what the difference of two ledgers is and why there may be none. `laws`
+//! ties totals and differences, and says what steps do to the total wear of a device.
 #![tactic(auto)]
 
 pub mod laws;
