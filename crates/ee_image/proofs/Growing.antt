@@ -1,7 +1,7 @@
 -- A text that is written grows by words and by pages.
-use Rattle.std.proofs.Common.{◌≡◌, ℕ, zero, suc, ◌+◌, ◌<◌, ◌≤◌, List, [], ◌∷◌, ◌++◌, length, get_or, map, take, sym, ap, ◌∙◌, arith, add-one, append_assoc, Result, Ok, Err, OnErr}
+use Rattle.std.proofs.Common.{◌≡◌, ℕ, zero, suc, ◌+◌, ◌<◌, List, [], ◌∷◌, ◌++◌, length, get_or, map, take, sym, ap, ◌∙◌, arith, add-one, append_assoc, Result, Ok, Err, OnErr}
 use Rattle.std.specs.Fmt.{decimal}
-use Rattle.std.proofs.lemmas.List.{append-nil, map-append, take_all, take_more}
+use Rattle.std.proofs.lemmas.List.{append-nil, map-append, take_more}
 use Rattle.std.proofs.lemmas.List.Elements.{All-get_or}
 use Rattle.ee_text.specs.Field.{joined}
 use Rattle.ee_text.specs.Line.{line_of}
@@ -10,7 +10,7 @@ use Rattle.ee_flash.specs.Size.{page_count}
 use Rattle.ee_flash.specs.Device.{Device, IsFormed, page_at, wear_at, word_at}
 use Rattle.ee_flash.specs.declared.word.Word.{Word}
 use Rattle.ee_flash.specs.declared.word.Word.TheVariants.{Erased}
-use Rattle.ee_image.specs.Text.{word_text, page_text, page_lines, size_text, image_text}
+use Rattle.ee_image.specs.Text.{word_text, page_text, page_lines, size_text}
 use Rattle.ee_image.specs.Reading.{IsLonger}
 
 -- what holds anyway
@@ -47,10 +47,6 @@ page_grows device page at old out spaced new word formed in_range within so_far 
     written ∙ ap (λ l. l ++ word_text word) (space ∙ ap (λ l. l ++ 32 ∷ []) so_far) ∙ append_assoc (old ++ front) (32 ∷ []) (word_text word)
     ∙ append_assoc old front (32 ∷ word_text word) ∙ ap (λ l. old ++ l) (sym grown)
 
--- all words of a page
-pub page_whole : (device : Device) (page at : ℕ) → IsFormed device → page < page_count device.size → device.size.words ≤ at → take at (page_at device page) ≡ page_at device page
-page_whole device page at formed in_range all = take_all at (page_at device page) (omega (arith, length-page_at device page formed in_range))
-
 -- one page more
 page_lines-take : (pages : List (List Word)) (wears : List ℕ) (n : ℕ) → length pages ≡ length wears → n < length pages
     → page_lines (take (suc n) pages) (take (suc n) wears) ≡ page_lines (take n pages) (take n wears) ++ line_of (page_text (get_or wears n 0) (get_or pages n []))
@@ -72,9 +68,3 @@ image_grows device page old out new formed in_range so_far written =
     let grown : page_lines (take (page + 1) device.image) (take (page + 1) device.wear) ≡ lines ++ line =
     rw add-one (page_lines-take device.image device.wear page (formed.image_length ∙ sym formed.wear_length) (omega (arith, formed.image_length))) in
     written ∙ ap (λ l. l ++ line) so_far ∙ append_assoc old (first ++ lines) line ∙ ap (λ l. old ++ l) (append_assoc first lines line ∙ ap (λ l. first ++ l) (sym grown))
-
-pub image_whole : (device : Device) (page : ℕ) → IsFormed device → page_count device.size ≤ page
-    → line_of (size_text device.size) ++ page_lines (take page device.image) (take page device.wear) ≡ image_text device
-image_whole device page formed all =
-    ap (λ l. line_of (size_text device.size) ++ page_lines l (take page device.wear)) (take_all page device.image (omega (arith, formed.image_length)))
-    ∙ ap (λ l. line_of (size_text device.size) ++ page_lines device.image l) (take_all page device.wear (omega (arith, formed.wear_length)))

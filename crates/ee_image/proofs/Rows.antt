@@ -1,5 +1,5 @@
 -- The first of a row of fields, and the fields behind it.
-use Rattle.std.proofs.Common.{◌≡◌, ℕ, true, false, List, [], ◌∷◌, sym, ◌∙◌, Option, Some, None, is_some, MatchOption, Bor}
+use Rattle.std.proofs.Common.{◌≡◌, ℕ, true, List, [], ◌∷◌, sym, ◌∙◌, Option, Some, None, is_some, MatchOption, Bor}
 use Rattle.std.proofs.lemmas.Bool.{false≢true}
 
 -- two ways to part one row
@@ -12,8 +12,3 @@ same_parts row others more field other e f =
 pub none_left : (row more : List (List ℕ)) (r : Option (Bor (List ℕ))) → row ≡ [] → MatchOption r ((row ≡ []) × (more ≡ [])) (λ x. row ≡ x.now ∷ more) → is_some r ≡ true → ⊥
 none_left row more None empty steps some = false≢true some
 none_left row more (Some field) empty steps some = cc
-
--- a row that gives no field is empty
-pub is_empty : (row more : List (List ℕ)) (r : Option (Bor (List ℕ))) → MatchOption r ((row ≡ []) × (more ≡ [])) (λ x. row ≡ x.now ∷ more) → is_some r ≡ false → row ≡ []
-is_empty row more None steps none = steps.0
-is_empty row more (Some field) steps none = absurd (false≢true (sym none))

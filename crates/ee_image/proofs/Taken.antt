@@ -1,5 +1,5 @@
 -- Words and pages, read one after another.
-use Rattle.std.proofs.Common.{◌≡◌, ◌≢◌, ℕ, ◌+◌, ◌^◌, ◌<◌, List, [], ◌∷◌, ◌++◌, length, map, refl, sym, ap, ◌∙◌, arith, append_assoc, length-append, inl, inr, subst, Result, Ok, Err, IfErr, MatchResult}
+use Rattle.std.proofs.Common.{◌≡◌, ℕ, ◌+◌, ◌<◌, List, [], ◌∷◌, ◌++◌, length, map, refl, sym, ap, ◌∙◌, arith, append_assoc, length-append, subst, Result, Ok, Err, IfErr, MatchResult}
 use Rattle.std.specs.Result.{IsErrAnd}
 use Rattle.std.specs.Fmt.{decimal}
 use Rattle.std.specs.List.{All, AllByRecursion, flat_map}
@@ -8,16 +8,13 @@ use Rattle.ee_text.specs.Line.{IsLine, line_of}
 use Rattle.std.proofs.lemmas.List.{append-nil, map-append}
 use Rattle.std.proofs.lemmas.List.Elements.{All-head, All-nil, All-push, All-tail}
 use Rattle.std.proofs.lemmas.Grind.{flat_map-append}
-use Rattle.ee_flash.specs.Size.{Size, page_count}
 use Rattle.ee_flash.specs.Device.{IsBelowAllOnes}
 use Rattle.ee_flash.specs.declared.word.Word.{Word}
 use Rattle.ee_image.specs.Text.{word_text, page_text, page_lines, IsPage, ArePages}
-use Rattle.ee_image.specs.Fault.{IsBadPage, NoPage}
 use Rattle.ee_image.specs.Reading.{ArePagesRead, AreWordsRead, IsLineFault, IsOtherLine, IsPageFault, IsPageRead, IsNextPage, IsWordsFault, NoWords}
 use Rattle.ee_image.specs.declared.reading.PageFault.{PageFault}
 use Rattle.ee_image.specs.declared.reading.PageFault.TheVariants.{Bad, NoMemory}
 use Rattle.ee_image.proofs.Lines.{other_page, page_fields}
-use Rattle.ee_image.proofs.Rows.{same_parts}
 use Rattle.ee_image.proofs.Fronts.{ArePages-push, page_lines-push}
 
 -- ---- words
@@ -89,36 +86,26 @@ pub other_line : (words : ℕ) (line : List ℕ) (row : List (List ℕ)) → ((f
     → ((wear : ℕ) (page : List Word) → IsPage words wear page → row ≡ decimal wear ∷ map word_text page → ⊥) → IsOtherLine words line
 other_line words line row only none wear page proper e = none wear page proper (only (decimal wear) (map word_text page) (page_fields words wear page proper) e)
 
+-- what stands behind the wear, where the line is a page's
+abbrev pub BehindWear : ℕ → List (List ℕ) → List (List ℕ) → Type 0
+BehindWear words row rest = (wear : ℕ) (page : List Word) → IsPage words wear page → row ≡ decimal wear ∷ map word_text page → rest ≡ map word_text page
+
 -- what was wrong with the words is wrong with the line
-pub words_wrong : (words : ℕ) (line : List ℕ) (row rest : List (List ℕ)) (field : List ℕ) (fault : PageFault)
+pub words_wrong : (words : ℕ) (line : List ℕ) (row rest : List (List ℕ)) (fault : PageFault)
     → ((first : List ℕ) (others : List (List ℕ)) → AllByRecursion IsField (first ∷ others) → line ≡ joined (first ∷ others) → row ≡ first ∷ others)
-    → row ≡ field ∷ rest → IsWordsFault words rest fault → IsLineFault words line fault
-words_wrong words line row rest field Bad only first none =
+    → BehindWear words row rest → IsWordsFault words rest fault → IsLineFault words line fault
+words_wrong words line row rest Bad only behind none =
     other_line words line row only (λ wear page proper e.
-    let behind = (same_parts row rest (map word_text page) field (decimal wear) first e).1 in
-    none page [] proper.as_long proper.below_all_ones (behind ∙ sym (append-nil (map word_text page))))
-words_wrong words line row rest field NoMemory only first none = tt
+    none page [] proper.as_long proper.below_all_ones (behind wear page proper e ∙ sym (append-nil (map word_text page))))
+words_wrong words line row rest NoMemory only behind none = tt
 
 -- a field behind the words
-pub too_many_words : (words : ℕ) (line : List ℕ) (row rest after : List (List ℕ)) (field : List ℕ) (old new : List Word)
+pub too_many_words : (words : ℕ) (line : List ℕ) (row rest after : List (List ℕ)) (old new : List Word)
     → ((first : List ℕ) (others : List (List ℕ)) → AllByRecursion IsField (first ∷ others) → line ≡ joined (first ∷ others) → row ≡ first ∷ others)
-    → row ≡ field ∷ rest → AreWordsRead words rest after old new → (after ≡ [] → ⊥) → IsOtherLine words line
-too_many_words words line row rest after field old new only first read more =
+    → BehindWear words row rest → AreWordsRead words rest after old new → (after ≡ [] → ⊥) → IsOtherLine words line
+too_many_words words line row rest after old new only behind read more =
     other_line words line row only (λ wear page proper e.
-    let behind = (same_parts row rest (map word_text page) field (decimal wear) first e).1 in
-    more (nothing_behind read.words page after (omega (arith, read.as_long, proper.as_long)) (sym read.fields ∙ behind)))
-
-pub line_read : (words wear : ℕ) (line : List ℕ) (row rest after : List (List ℕ)) (field : List ℕ) (old new : List Word) → line ≡ joined row → row ≡ field ∷ rest → field ≡ decimal wear
-    → wear < 2 ^ 64 → AreWordsRead words rest after old new → after ≡ [] → IsPageRead words wear line old new
-line_read words wear line row rest after field old new is_line first number fits read none =
-    let fields : rest ≡ map word_text read.words = read.fields ∙ ap (λ l. map word_text read.words ++ l) none ∙ append-nil (map word_text read.words) in
-    let row_is : row ≡ decimal wear ∷ map word_text read.words = first ∙ ap (λ f. f ∷ rest) number ∙ ap (λ l. decimal wear ∷ l) fields in
-    record {
-      page = read.words;
-      proper = record { wear_fits = omega arith; as_long = read.as_long; below_all_ones = read.below_all_ones };
-      line_is = is_line ∙ ap joined row_is;
-      cells = read.cells;
-    }
+    more (nothing_behind read.words page after (omega (arith, read.as_long, proper.as_long)) (sym read.fields ∙ behind wear page proper e)))
 
 -- ---- the line at the front of a text
 
@@ -151,29 +138,3 @@ one_page_more words n wear text rest more cells new wears counts read next pushe
           next.cells ∙ ap (λ l. l ++ next.page) read.cells_are
           ∙ sym (flat_map-append (λ page. page) read.pages (next.page ∷ []) ∙ ap (λ l. flat_map (λ page. page) read.pages ++ l) (append-nil next.page));
     }
-
--- a page that is needed and isn't there
-pub page_lacks : (size : Size) (n line : ℕ) (text rest : List ℕ) (cells : List Word) (wears : List ℕ) → ArePagesRead size.words n text rest cells wears → n < page_count size → NoPage size.words rest
-    → line ≡ n + 2 → IsBadPage size text line
-page_lacks size n line text rest cells wears read early none is = record {
-  pages = read.pages;
-  wears = wears;
-  rest = rest;
-  proper = read.proper;
-  text_is = read.text_is;
-  stops = inl (omega (arith, read.count_is), none);
-  number = omega (arith, read.count_is);
-}
-
--- and a line behind the last page
-pub line_too_many : (size : Size) (line : ℕ) (text rest : List ℕ) (cells : List Word) (wears : List ℕ) → ArePagesRead size.words (page_count size) text rest cells wears → rest ≢ []
-    → line ≡ page_count size + 2 → IsBadPage size text line
-line_too_many size line text rest cells wears read more is = record {
-  pages = read.pages;
-  wears = wears;
-  rest = rest;
-  proper = read.proper;
-  text_is = read.text_is;
-  stops = inr (read.count_is, more);
-  number = omega (arith, read.count_is);
-}

@@ -1,5 +1,5 @@
 //! Reading the text of an image.
-ghost use Rattle.std.specs.Prelude.{◌≡◌, ◌⊎◌, Some, [], SomeIff, IfSome, IfNone, IfOk, IfErr, MatchResult};
+ghost use Rattle.std.specs.Prelude.{◌≡◌, ◌⊎◌, ℕ, ◌<◌, ◌^◌, Some, List, [], ◌∷◌, SomeIff, IfSome, IfNone, IfOk, IfErr, MatchResult, decimal};
 ghost use Rattle.ee_text.specs.Fields.{fields_left};
 ghost use Rattle.ee_flash.specs.Size.{Size, IsWithinLimits, page_count, size_of};
 ghost use Rattle.ee_flash.specs.Device.{Device, IsFormed};
@@ -27,10 +27,7 @@ const LONGEST: usize = 4_194_304;
 /// come in place of any answer but `TooLong`.
 ///
 /// Source: ours.
-pub fn read_image<A: Allocator + Copy>(
-    alloc: A,
-    bytes: &[u8],
-) -> Result<MemFlash<A>, ImageFault>
+pub fn read_image<A: Allocator + Copy>(alloc: A, bytes: &[u8]) -> Result<MemFlash<A>, ImageFault>
     ensures found { IfOk result (λ flash. bytes.now ≡ image_text (device_of flash)) }
     ensures at_rest { IfOk result (λ flash. memory_of flash ≡ unused (at_rest (device_of flash))) }
     ensures fault { IfErr result (IsImageFault bytes.now) }
@@ -96,12 +93,23 @@ fn read_heading(line: &[u8]) -> Option<Heading>
     if fields.next()? != b"ee".as_slice() {
         return None;
     }
-    let pages = number(fields.next()?)?;
-    let words = number(fields.next()?)?;
+    let pages = next_number(&mut fields)?;
+    let words = next_number(&mut fields)?;
     if fields.next().is_some() {
         return None;
     }
     Some(Heading { pages, words })
+}
+
+/// The number that the next field writes.
+fn next_number(fields: &mut Fields<'_>) -> Option<u64>
+    ensures found { IfSome result
+        (λ n. fields_left fields.old ≡ decimal n ∷ fields_left fields.new) }
+    ensures only { (n : ℕ) (more : List (List ℕ)) → n < 2 ^ 64
+        → fields_left fields.old ≡ decimal n ∷ more
+        → (result ≡ Some n) × (fields_left fields.new ≡ more) }
+{
+    number(fields.next()?)
 }
 
 /// Why no page was read.
@@ -175,10 +183,7 @@ fn read_page<A: Allocator>(
     ensures fault { IfErr result (IsLineFault words line.now) }
 {
     let mut fields = Fields::of(line);
-    let Some(field) = fields.next() else {
-        return Err(PageFault::Bad);
-    };
-    let Some(wear) = number(field) else {
+    let Some(wear) = next_number(&mut fields) else {
         return Err(PageFault::Bad);
     };
     read_words(&mut fields, words, cells)?;

@@ -2,6 +2,7 @@
 mod certificates;
 mod cuts;
 mod files;
+mod images;
 mod memory;
 mod scripts;
 mod streams;

@@ -11,7 +11,9 @@ use Rattle.ee_image.proofs.reading.read_image.Given
 use Rattle.ee_image.proofs.reading.read_image.Goals as goal
 
 pub returns-then-bytes-gt-LONGEST-clause-only : goal.returns-then-bytes-gt-LONGEST-clause-only
-returns-then-bytes-gt-LONGEST-clause-only g c = λ device formed spelled. only_memory c.args.bytes.now TooLong device (inl c.if-bytes-gt-LONGEST.true) formed spelled
+returns-then-bytes-gt-LONGEST-clause-only g c = λ device formed spelled.
+    let bad : IsImageFault c.args.bytes.now TooLong = inl (omega arith) in
+    only_memory c.args.bytes.now TooLong device bad formed spelled
 
 pub returns-in_default-shape-clause-only : goal.returns-in_default-shape-clause-only
 returns-in_default-shape-clause-only g c = λ device formed spelled.

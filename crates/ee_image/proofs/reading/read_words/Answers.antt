@@ -15,7 +15,7 @@ loop-preserved g c =
     record {
       going = (tt, tt);
       read = one_word_more c.loop.counter (fields_left c.args.fields.now) (fields_left c.loop.fields) (fields_left c.next.new.self) c.args.cells.now.items c.loop.cells.items c.push.new.self.items
-      c.in-Some.field.now c.in-Some-read_word.word c.loop.invariant.read c.in-Some.ensures.steps c.in-Some-read_word.ensures.found pushed;
+          c.in-Some.field.now c.in-Some-read_word.word c.loop.invariant.read c.in-Some.ensures.steps c.in-Some-read_word.ensures.found pushed;
     }
 
 pub returns-clause-found : goal.returns-clause-found
