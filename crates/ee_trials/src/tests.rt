@@ -2,7 +2,11 @@
 mod certificates;
 mod cuts;
 mod files;
+<<<<<<< HEAD
 mod ledgers;
+=======
+mod images;
+>>>>>>> b7f767b940783fe0f0df74f10aec6195ec350563
 mod memory;
 mod scripts;
 mod streams;

@@ -1,0 +1,137 @@
+-- How words are spelled: no two alike, and each as a field of a line.
+use Rattle.std.proofs.Common.{◌≡◌, ◌≢◌, ℕ, zero, suc, ◌<◌, ◌^◌, ◌/◌, ◌%◌, List, [], ◌∷◌, length, get_or, map, refl, sym, ap, ◌∙◌, arith, codes, Ok, Result, Option, Some, None, is_some}
+use Rattle.std.specs.Int.{to_be_bytes, from_be_bytes, w64, byte_at, bytes_high_first}
+use Rattle.std.specs.List.{All, AllByRecursion}
+use Rattle.std.proofs.lemmas.List.Elements.{All-head, All-tail}
+use Rattle.std.proofs.lemmas.Nat.{from_be_bytes-to_be_bytes_8}
+use Rattle.std.specs.Result.{is_ok, result_ok}
+use Rattle.std.proofs.lemmas.Bool.{false≢true}
+use Rattle.hex.specs.declared.error.FromHexError.{FromHexError}
+use Rattle.hex.specs.Hex.{IsBytes, decode_of, decode_sized, encode_with, lower_digits}
+use Rattle.hex.proofs.HexLemmas.{decode_of-encode_lower, decode_of-same, decode_sized-encode_lower, length-encode_with}
+use Rattle.ee_text.specs.Field.{Lacks}
+use Rattle.ee_text.proofs.Lacking.{Lacks-parts, Lacks-cons}
+use Rattle.ee_flash.specs.Device.{IsBelowAllOnes}
+use Rattle.ee_flash.specs.declared.word.Word.{Word}
+use Rattle.ee_flash.specs.declared.word.Word.TheVariants.{Erased, Held, Torn}
+use Rattle.ee_image.specs.Text.{digits, word_text}
+
+-- a byte that a list lacks is at none of its places
+lacks_at : (c : ℕ) (xs : List ℕ) (k : ℕ) → Lacks c xs → 0 ≢ c → get_or xs k 0 ≢ c
+lacks_at c [] k lacks other = other
+lacks_at c (x ∷ xs) zero lacks other = (Lacks-parts c x xs lacks).0
+lacks_at c (x ∷ xs) (suc k) lacks other = lacks_at c xs k (Lacks-parts c x xs lacks).1 other
+
+Lacks-encode_with : (c : ℕ) (t xs : List ℕ) → Lacks c t → 0 ≢ c → Lacks c (encode_with t xs)
+unfolding encode_with
+Lacks-encode_with c t [] lacks other = refl
+Lacks-encode_with c t (b ∷ rest) lacks other =
+    Lacks-cons c (get_or t (b / 16) 0) (get_or t (b % 16) 0 ∷ encode_with t rest) (lacks_at c t (b / 16) lacks other)
+    (Lacks-cons c (get_or t (b % 16) 0) (encode_with t rest) (lacks_at c t (b % 16) lacks other) (Lacks-encode_with c t rest lacks other))
+
+-- what no word has in it
+pub record NoByteOfWords (c : ℕ) : Type 0 where
+  pub erased : Lacks c (codes "-")
+  pub torn : Lacks c (codes "?")
+  pub digit : Lacks c lower_digits
+  pub some : 0 ≢ c
+
+pub no_space : NoByteOfWords 32
+no_space = record { erased = refl; torn = refl; digit = refl; some = λ e. omega arith }
+
+pub no_line_feed : NoByteOfWords 10
+no_line_feed = record { erased = refl; torn = refl; digit = refl; some = λ e. omega arith }
+
+Lacks-word : (c : ℕ) → NoByteOfWords c → (word : Word) → Lacks c (word_text word)
+unfolding digits
+Lacks-word c none Erased = none.erased
+Lacks-word c none Torn = none.torn
+Lacks-word c none (Held value) = Lacks-encode_with c lower_digits (to_be_bytes w64 value) none.digit none.some
+
+pub Lacks-words : (c : ℕ) → NoByteOfWords c → (words : List Word) → AllByRecursion (Lacks c) (map word_text words)
+Lacks-words c none [] = tt
+Lacks-words c none (word ∷ words) = (Lacks-word c none word, Lacks-words c none words)
+
+pub length-digits : (value : ℕ) → length (digits value) ≡ 16
+unfolding digits
+length-digits value = length-encode_with lower_digits (to_be_bytes w64 value)
+
+byte_below : (place value : ℕ) → byte_at place value < 256
+byte_below zero value = omega arith
+byte_below (suc place) value = omega arith
+
+bytes_below : (count value i : ℕ) → get_or (bytes_high_first count value) i 0 < 256
+bytes_below zero value i = omega arith
+bytes_below (suc count) value zero = byte_below count value
+bytes_below (suc count) value (suc i) = bytes_below count value i
+
+pub IsBytes-to_be_bytes : (value : ℕ) → IsBytes (to_be_bytes w64 value)
+IsBytes-to_be_bytes value = bytes_below 8 value
+
+pub decode-digits : (value : ℕ) → decode_of (digits value) ≡ Ok (to_be_bytes w64 value)
+unfolding digits
+decode-digits value = decode_of-encode_lower (to_be_bytes w64 value) (IsBytes-to_be_bytes value)
+
+pub digits_injective : (m n : ℕ) → m < 2 ^ 64 → n < 2 ^ 64 → digits m ≡ digits n → m ≡ n
+digits_injective m n fits suits e =
+    let same : to_be_bytes w64 m ≡ to_be_bytes w64 n = decode_of-same (digits m) (to_be_bytes w64 m) (to_be_bytes w64 n) (decode-digits m) (ap decode_of e ∙ decode-digits n) in
+    sym (from_be_bytes-to_be_bytes_8 m fits) ∙ ap (from_be_bytes w64) same ∙ from_be_bytes-to_be_bytes_8 n suits
+
+held_fits : (value : ℕ) → IsBelowAllOnes (Held value) → value < 2 ^ 64
+held_fits value below = let h = below value refl in omega arith
+
+-- two words are never spelled alike
+pub word_text_injective : (word other : Word) → IsBelowAllOnes word → IsBelowAllOnes other → word_text word ≡ word_text other → word ≡ other
+word_text_injective Erased Erased below under e = refl
+word_text_injective Erased Torn below under e = absurd (omega (arith, ap (λ l. get_or l 0 0) e))
+word_text_injective Erased (Held n) below under e = absurd (omega (arith, ap length e, length-digits n))
+word_text_injective Torn Erased below under e = absurd (omega (arith, ap (λ l. get_or l 0 0) e))
+word_text_injective Torn Torn below under e = refl
+word_text_injective Torn (Held n) below under e = absurd (omega (arith, ap length e, length-digits n))
+word_text_injective (Held m) Erased below under e = absurd (omega (arith, ap length e, length-digits m))
+word_text_injective (Held m) Torn below under e = absurd (omega (arith, ap length e, length-digits m))
+word_text_injective (Held m) (Held n) below under e = ap Held (digits_injective m n (held_fits m below) (held_fits n under) e)
+
+-- nor are two rows of words
+pub words_injective : (words others : List Word) → All IsBelowAllOnes words → All IsBelowAllOnes others → map word_text words ≡ map word_text others → words ≡ others
+words_injective [] [] below under e = refl
+words_injective [] (other ∷ others) below under e = cc
+words_injective (word ∷ words) [] below under e = cc
+words_injective (word ∷ words) (other ∷ others) below under e =
+    let heads : word_text word ≡ word_text other = cc in
+    let tails : map word_text words ≡ map word_text others = cc in
+    let first = word_text_injective word other (All-head IsBelowAllOnes word words below) (All-head IsBelowAllOnes other others under) heads in
+    let rest = words_injective words others (All-tail IsBelowAllOnes word words below) (All-tail IsBelowAllOnes other others under) tails in
+    cc
+
+-- ---- what a reader of digits finds
+
+decode_sized-digits : (value : ℕ) → decode_sized (digits value) 8 ≡ Ok (to_be_bytes w64 value)
+unfolding digits
+decode_sized-digits value = decode_sized-encode_lower (to_be_bytes w64 value) 8 refl (IsBytes-to_be_bytes value)
+
+pub not_refused : (field : List ℕ) (value : ℕ) (r : Result (List ℕ) FromHexError) (o : Option (List ℕ)) → field ≡ digits value → r ≡ decode_sized field 8
+    → is_some o ≡ is_ok r → o ≡ None → ⊥
+not_refused field value r o spelled decoded same none =
+    let read : r ≡ Ok (to_be_bytes w64 value) = decoded ∙ ap (λ text. decode_sized text 8) spelled ∙ decode_sized-digits value in
+    false≢true (sym (ap is_some none) ∙ same ∙ ap is_ok read)
+
+pub read_back : (field : List ℕ) (value found : ℕ) (r : Result (List ℕ) FromHexError) (o : Option (List ℕ)) (bytes : List ℕ) → value < 2 ^ 64 → field ≡ digits value
+    → r ≡ decode_sized field 8 → o ≡ result_ok r → o ≡ Some bytes → found ≡ from_be_bytes w64 bytes → found ≡ value
+read_back field value found r o bytes fits spelled decoded kept some is =
+    let read : r ≡ Ok (to_be_bytes w64 value) = decoded ∙ ap (λ text. decode_sized text 8) spelled ∙ decode_sized-digits value in
+    let both : Some bytes ≡ Some (to_be_bytes w64 value) = sym some ∙ kept ∙ ap result_ok read in
+    let same : bytes ≡ to_be_bytes w64 value = cc in
+    is ∙ ap (from_be_bytes w64) same ∙ from_be_bytes-to_be_bytes_8 value fits
+
+-- ---- fields of one byte
+
+pub dash_only : (field : List ℕ) (word : Word) → length field < 2 → get_or field 0 0 ≡ 45 → field ≡ word_text word → Erased ≡ word
+dash_only field Erased one dash spelled = refl
+dash_only field Torn one dash spelled = absurd (omega (arith, ap (λ l. get_or l 0 0) spelled))
+dash_only field (Held n) one dash spelled = absurd (omega (arith, ap length spelled, length-digits n))
+
+pub mark_only : (field : List ℕ) (word : Word) → length field < 2 → get_or field 0 0 ≡ 63 → field ≡ word_text word → Torn ≡ word
+mark_only field Erased one mark spelled = absurd (omega (arith, ap (λ l. get_or l 0 0) spelled))
+mark_only field Torn one mark spelled = refl
+mark_only field (Held n) one mark spelled = absurd (omega (arith, ap length spelled, length-digits n))

@@ -1,0 +1,9 @@
+pub mod Digits
+pub mod Lines
+pub mod Rows
+pub mod Taken
+pub mod Growing
+pub mod Answered
+pub mod Fronts
+pub mod Lengths
+pub mod Texts

@@ -1,0 +1,5 @@
+use Rattle.ee_image.proofs.Texts.{one_fault_lem}
+use Rattle.ee_image.proofs.laws.one_fault.Goals as goal
+
+pub returns : goal.returns
+returns c = one_fault_lem

@@ -1,0 +1,5 @@
+use Rattle.ee_image.proofs.Texts.{texts_are_good_lem}
+use Rattle.ee_image.proofs.laws.texts_are_good.Goals as goal
+
+pub returns : goal.returns
+returns c = texts_are_good_lem

@@ -1,0 +1,25 @@
+use Rattle.std.proofs.Common.{rules, ◌≡◌, Some, arith, ap, sym, ◌∙◌}
+use Rattle.ee_image.specs.Text.{digits}
+use Rattle.ee_image.proofs.Digits.{not_refused, read_back}
+use Rattle.ee_image.proofs.word.read_digits.Goals.{then-value-via-then-value, then-value-via-else-value+then-ne}
+use Rattle.ee_image.proofs.word.read_digits.Goals as goal
+
+pub returns-in_err-ok-clause-only : goal.returns-in_err-ok-clause-only
+returns-in_err-ok-clause-only c = λ value below spelled.
+    absurd (not_refused c.args.field.now value c.from_hex.result c.ok.result spelled c.from_hex.ensures c.ok.ensures.variant c.in_err-ok.was)
+
+-- what the eight bytes are worth is the number that was spelled
+pub returns-then-value-clause-only : goal.returns-then-value-clause-only
+returns-then-value-clause-only c = λ value below spelled.
+    let same : c.from_be_bytes-value.result ≡ value =
+    read_back c.args.field.now value c.from_be_bytes-value.result c.from_hex.result c.ok.result c.in_ok-ok.field-0 (omega arith) spelled c.from_hex.ensures c.ok.ensures.value c.in_ok-ok.was c.from_be_bytes-value.ensures in
+    elim c.then-value.branch [
+      | then-value-via-then-value w ↦ absurd (omega arith)
+      | then-value-via-else-value+then-ne w ↦
+          let written : w.as_slice.result.now ≡ c.args.field.now = w.as_slice.ensures ∙ w.digits_of.ensures ∙ ap digits same ∙ sym spelled in
+          search rules
+    ]
+
+pub returns-clause-only : goal.returns-clause-only
+returns-clause-only c = λ value below spelled.
+    ap Some (read_back c.args.field.now value c.from_be_bytes-value.result c.from_hex.result c.ok.result c.in_ok-ok.field-0 (omega arith) spelled c.from_hex.ensures c.ok.ensures.value c.in_ok-ok.was c.from_be_bytes-value.ensures)

@@ -1,0 +1,4 @@
+pub mod Text
+pub mod Fault
+pub mod Reading
+pub mod Laws
