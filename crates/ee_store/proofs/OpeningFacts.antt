@@ -1,0 +1,61 @@
+-- What an opening leaves, from what setting the marks leaves.
+use Rattle.std.proofs.Common.{◌≡◌, ℕ, Option, Some, None, Result, Ok, Err, sym, subst, ap, ◌∙◌}
+use Rattle.ee_flash.specs.Device.{Device}
+use Rattle.ee_flash.specs.Power.{GoesOn, IsCut}
+use Rattle.ee_pages.specs.Layout.{IsLayout}
+use Rattle.ee_pages.specs.Legal.{IsLive}
+use Rattle.ee_pages.specs.Sets.{live_of, pending_of}
+use Rattle.ee_pages.specs.declared.find.Layout.{Layout}
+use Rattle.ee_pages.specs.declared.side.Side.{Side}
+use Rattle.ee_pages.specs.declared.side.Side.TheVariants.{First}
+use Rattle.ee_store.proofs.LiveMarks.{layout_stays}
+use Rattle.ee_store.proofs.States.{state_stays}
+use Rattle.ee_store.proofs.Wears.{no_wear}
+use Rattle.ee_store.specs.Finished.{IsFinished, IsMarked, IsStore}
+use Rattle.ee_store.specs.Openings.{IsCutOpening, IsFormatted, Opens}
+use Rattle.ee_store.specs.Parts.{Stays}
+use Rattle.ee_store.specs.State.{WearRises, formatted, state_of}
+
+abbrev side_in : Option (Side × ℕ) → Side
+side_in None = First
+side_in (Some live) = live.0
+
+-- where the marks of the live set and of the other one are set, none is left
+pub finished_from : (device : Device) (side : Side) (generation : ℕ) → IsLive device side generation → IsMarked device side → IsFinished device
+finished_from device side generation live marked found number is =
+    let same : side ≡ found = ap side_in (sym live.live ∙ is) in
+    subst (λ set. IsMarked device set) same marked
+
+module _ (layout : Layout) (old new : Device) (is : IsLayout old layout) (stays : Stays old new layout.side layout.generation) where
+  pub opens : IsMarked new layout.side → (IsMarked old layout.side → new ≡ old) → GoesOn old new → Opens old new
+  opens marked no_step on = record {
+    legal = (layout.side, layout.generation, is.live);
+    store = record {
+      legal = (layout.side, layout.generation, stays.keeps.live);
+      finished = λ power. finished_from new layout.side layout.generation stays.keeps.live marked;
+    };
+    goes_on = on;
+    state_is = state_stays old new layout.side layout.generation is.live stays;
+    no_wear = no_wear old new stays.same_wear;
+    no_step = λ finished. no_step (finished layout.side layout.generation is.live.live);
+  }
+
+  pub opening_cut : (IsMarked old layout.side → ⊥) → IsCut old new → IsCutOpening old new
+  opening_cut left cut = record {
+    was_legal = (layout.side, layout.generation, is.live);
+    mark_left = λ finished. left (finished layout.side layout.generation is.live.live);
+    cut = cut;
+    legal = (layout.side, layout.generation, stays.keeps.live);
+    state_is = state_stays old new layout.side layout.generation is.live stays;
+  }
+
+pub formats : (layout : Layout) (old new : Device) → IsLayout new layout → layout.side ≡ First → IsMarked new First → state_of new ≡ formatted → WearRises (pending_of old.image) old new → GoesOn old new → IsFormatted old new
+formats layout old new is first marked state wear on = record {
+  store = record {
+    legal = (layout.side, layout.generation, is.live);
+    finished = λ power. finished_from new layout.side layout.generation is.live (subst (λ set. IsMarked new set) (sym first) marked);
+  };
+  goes_on = on;
+  state_is = state;
+  wear = wear;
+}

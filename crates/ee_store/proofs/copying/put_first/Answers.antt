@@ -1,0 +1,12 @@
+use Rattle.ee_pages.specs.Meaning.{meaning}
+use Rattle.ee_pages.specs.Sets.{other as other_of, set_of, slots_of}
+use Rattle.ee_store.proofs.CopiedMaps.{live_in-nothing, put_alone}
+use Rattle.ee_store.proofs.copying.put_first.Goals as goal
+
+pub returns-in-Forget-clause-each_once : goal.returns-in-Forget-clause-each_once
+returns-in-Forget-clause-each_once g c = live_in-nothing _ c.requires.nothing
+
+pub returns-clause-each_once : goal.returns-clause-each_once
+returns-clause-each_once g c =
+    let slot = c.in_ok-stage.ensures.slot in
+    put_alone c.args.change _ _ c.in_default.is slot.0 slot.1 _ _ c.requires.nothing c.in_ok-stage.ensures.map

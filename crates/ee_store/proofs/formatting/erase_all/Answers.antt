@@ -1,0 +1,47 @@
+use Rattle.std.proofs.Common.{◌≡◌, ◌≢◌, ◌<◌, ◌≤◌, ◌+◌, ◌*◌, true, false, length, take, ap, arith, ◌∙◌, sym, subst}
+use Rattle.ee_flash.specs.Device.{page_at}
+use Rattle.ee_flash.specs.Size.{page_count}
+use Rattle.ee_pages.specs.Page.{is_blank}
+use Rattle.ee_pages.specs.Sets.{pending_of}
+use Rattle.ee_store.proofs.AfterCalls.{goes_on_both}
+use Rattle.ee_store.proofs.FormatFacts.{BlanksPage, all_blank, blank_already, blank_more, blanks_page, counts, pending_more}
+use Rattle.ee_store.proofs.Wears.{wear_adds}
+use Rattle.ee_store.specs.State.{WearRises}
+use Rattle.ee_store.proofs.formatting.erase_all.Goals.{then-not-is_blank+in_ok-erase, else-not-is_blank}
+use Rattle.ee_store.proofs.formatting.erase_all.Goals as goal
+
+pub pages-preserved : goal.pages-preserved
+pages-preserved g c =
+    let old = g.F.Flash.device c.args.flash.now in
+    let mid = g.F.Flash.device c.pages.flash in
+    let new = g.F.Flash.device c.if-not-is_blank.flash in
+    let page = c.pages.page in
+    let pages = ap (λ size. size.pages) c.shape.ensures in
+    let same = ap page_count c.pages.invariant.power.same_size in
+    let in_range : page < page_count old.size = omega (arith, c.pages-page-end.ensures.value, pages, c.pages-test.true) in
+    let now_in_range : page < page_count mid.size = omega (arith, in_range, same) in
+    let formed = g.met.F.Flash.formed c.args.flash.now in
+    let within : page < length old.image = omega (arith, in_range, formed.image_length) in
+    let step : BlanksPage mid new page = elim c.if-not-is_blank.branch [
+      | then-not-is_blank+in_ok-erase w ↦ rw w.flash-is (blanks_page page mid _ (g.met.F.Flash.formed c.pages.flash) now_in_range (sym c.is_blank.ensures ∙ w.if-not-is_blank.true) w.in_ok-erase.ensures.on w.in_ok-erase.ensures.done)
+      | else-not-is_blank w ↦ rw w.flash-is (blank_already mid page (sym c.is_blank.ensures ∙ w.if-not-is_blank.false))
+    ] in
+    let more : pending_of (take (page + 1) old.image) ≡ pending_of (take page old.image) + counts (page_at mid page) =
+    pending_more old.image page within ∙ ap (λ words. pending_of (take page old.image) + counts words) (sym (c.pages.invariant.rest page (omega arith))) in
+    record {
+      blank = blank_more page mid new c.pages.invariant.blank step;
+      rest = λ k h.
+          let apart : k ≢ page = λ e. omega (arith, e, h) in
+          step.others k apart ∙ c.pages.invariant.rest k (omega (arith, h));
+      wear = subst (λ erases. WearRises erases old new) (sym more) (wear_adds (pending_of (take page old.image)) (counts (page_at mid page)) old mid new c.pages.invariant.wear step.wear);
+      power = goes_on_both old mid new c.pages.invariant.power step.power;
+    }
+
+pub returns-clause-blank : goal.returns-clause-blank
+returns-clause-blank g c =
+    let old = g.F.Flash.device c.args.flash.now in
+    let new = g.F.Flash.device c.pages.flash in
+    let pages = ap (λ size. size.pages) c.shape.ensures in
+    let same = ap page_count c.pages.invariant.power.same_size in
+    let formed = g.met.F.Flash.formed c.pages.flash in
+    all_blank new c.pages.page (omega (arith, c.pages-page-end.ensures.value, pages, same, formed.image_length, c.pages-test.false)) c.pages.invariant.blank

@@ -1,0 +1,48 @@
+use Rattle.ee_store.proofs.FirstSet.{active_unset, first_layout, first_marked, first_state, unmarked}
+use Rattle.ee_pages.specs.declared.state.Mark.TheVariants.{Active, Receive}
+use Rattle.std.proofs.Common.{◌≡◌, ◌<◌, false, arith}
+use Rattle.ee_flash.specs.Size.{page_count}
+use Rattle.ee_pages.specs.Page.{is_marked}
+use Rattle.ee_store.proofs.formatting.write_format.Goals as goal
+
+pub returns-clause-layout : goal.returns-clause-layout
+returns-clause-layout g c =
+    let blank = g.F.Flash.device c.erase_all.new.flash in
+    let mid = g.F.Flash.device c.mark.new.flash in
+    let new = g.F.Flash.device c.mark-2.new.flash in
+    let formed = g.met.F.Flash.formed c.erase_all.new.flash in
+    let all = c.in_ok-erase_all.ensures.blank in
+    let h : 0 < page_count blank.size = omega (arith, formed.within_limits.some_pages) in
+    let unset = unmarked blank 0 (Receive 1) formed all h in
+    let on = c.in_ok-mark.ensures.on unset in
+    let whole = c.in_ok-mark.ensures.done unset in
+    let next = active_unset blank mid formed all on whole in
+    first_layout blank mid formed all on whole new (c.in_ok-mark-2.ensures.on next) (c.in_ok-mark-2.ensures.done next)
+
+pub returns-clause-marked : goal.returns-clause-marked
+returns-clause-marked g c =
+    let blank = g.F.Flash.device c.erase_all.new.flash in
+    let mid = g.F.Flash.device c.mark.new.flash in
+    let new = g.F.Flash.device c.mark-2.new.flash in
+    let formed = g.met.F.Flash.formed c.erase_all.new.flash in
+    let all = c.in_ok-erase_all.ensures.blank in
+    let h : 0 < page_count blank.size = omega (arith, formed.within_limits.some_pages) in
+    let unset = unmarked blank 0 (Receive 1) formed all h in
+    let on = c.in_ok-mark.ensures.on unset in
+    let whole = c.in_ok-mark.ensures.done unset in
+    let next = active_unset blank mid formed all on whole in
+    first_marked blank mid formed all on whole new (c.in_ok-mark-2.ensures.on next) (c.in_ok-mark-2.ensures.done next)
+
+pub returns-clause-state : goal.returns-clause-state
+returns-clause-state g c =
+    let blank = g.F.Flash.device c.erase_all.new.flash in
+    let mid = g.F.Flash.device c.mark.new.flash in
+    let new = g.F.Flash.device c.mark-2.new.flash in
+    let formed = g.met.F.Flash.formed c.erase_all.new.flash in
+    let all = c.in_ok-erase_all.ensures.blank in
+    let h : 0 < page_count blank.size = omega (arith, formed.within_limits.some_pages) in
+    let unset = unmarked blank 0 (Receive 1) formed all h in
+    let on = c.in_ok-mark.ensures.on unset in
+    let whole = c.in_ok-mark.ensures.done unset in
+    let next = active_unset blank mid formed all on whole in
+    first_state blank mid formed all on whole new (c.in_ok-mark-2.ensures.on next) (c.in_ok-mark-2.ensures.done next)

@@ -1,0 +1,19 @@
+use Rattle.std.proofs.Common.{◌≡◌, ℕ, ◌<◌, ◌+◌, ◌-◌, true}
+use Rattle.ee_flash.specs.Power.{GoesOn}
+use Rattle.ee_pages.specs.Page.{is_marked}
+use Rattle.ee_pages.specs.Sets.{first_page}
+use Rattle.ee_pages.specs.declared.state.Mark.TheVariants.{Valid}
+use Rattle.ee_store.specs.Finished.{IsLiveMarked}
+use Rattle.ee_store.specs.Parts.{Stays}
+use Rattle.ee_store.proofs.marking.mark_live_set.Given as goal
+
+abbrev pub invariant-pages : goal.invariant-pages
+invariant-pages g l =
+    let old = g.F.Flash.device l.fn.flash in
+    let now = g.F.Flash.device l.flash in
+    record {
+      stays : Stays old now l.layout.side l.layout.generation;
+      valid : (k : ℕ) → k < l.page - first_page old.size l.layout.side → is_marked now (first_page old.size l.layout.side + k) Valid ≡ true;
+      no_step : IsLiveMarked old l.layout.side → now ≡ old;
+      power : GoesOn old now;
+    }

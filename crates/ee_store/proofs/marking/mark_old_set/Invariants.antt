@@ -1,0 +1,20 @@
+use Rattle.std.proofs.Common.{◌≡◌, ◌⊎◌, ℕ, ◌<◌, ◌+◌, ◌-◌, true}
+use Rattle.ee_flash.specs.Power.{GoesOn}
+use Rattle.ee_pages.specs.Sets.{first_page, other}
+use Rattle.ee_store.specs.Finished.{IsOldMarked}
+use Rattle.ee_store.specs.Parts.{KeepsMarks, Stays}
+use Rattle.ee_store.proofs.LiveMarks.{IsPageDone}
+use Rattle.ee_store.proofs.marking.mark_old_set.Given as goal
+
+abbrev pub invariant-pages : goal.invariant-pages
+invariant-pages g l =
+    let old = g.F.Flash.device l.fn.flash in
+    let now = g.F.Flash.device l.flash in
+    let first = first_page old.size (other l.layout.side) in
+    record {
+      stays : Stays old now l.layout.side l.layout.generation;
+      marks : KeepsMarks old now;
+      done : (k : ℕ) → k < l.page - first → IsPageDone now (first + k);
+      no_step : IsOldMarked old (other l.layout.side) → now ≡ old;
+      power : GoesOn old now;
+    }

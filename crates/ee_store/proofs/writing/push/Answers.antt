@@ -1,0 +1,47 @@
+use Rattle.std.proofs.Common.{ap, ◌∙◌, ◌≡◌}
+use Rattle.ee_flash.specs.Size.{Size}
+use Rattle.ee_store.specs.Parts.{meant}
+use Rattle.ee_store.proofs.Appending.{cut_push_leaves, cut_push_marks, cut_push_other, free_slot_erased, on_err, push_is_taken, push_marks, push_other}
+use Rattle.ee_store.proofs.writing.push.Goals as goal
+
+pub program-requires-clause-erased : goal.program-requires-clause-erased
+program-requires-clause-erased g c =
+    let words = c.words-slots.ensures.value ∙ ap (λ (size : Size). size.words) c.shape.ensures in
+    let found = c.requires.layout in
+    cc (free_slot_erased c.args.layout.now.side c.args.layout.now.generation c.args.layout.now.fill _ _ _ found.live found.fill c.requires.free c.first_page.ensures words)
+
+pub returns-in_err-program-clause-cut : goal.returns-in_err-program-clause-cut
+returns-in_err-program-clause-cut g c =
+    let words = c.words-slots.ensures.value ∙ ap (λ (size : Size). size.words) c.shape.ensures in
+    let found = c.requires.layout in
+    on_err _ c.from_residual.result (cut_push_leaves c.args.layout.now.side c.args.layout.now.generation c.args.layout.now.fill _ _ _ found.live found.fill c.requires.free c.first_page.ensures words _ (meant c.args.change) _ c.word.ensures.spells c.word.ensures.below_all_ones c.in_err-program.ensures.cut)
+
+pub returns-in_err-program-clause-marks : goal.returns-in_err-program-clause-marks
+returns-in_err-program-clause-marks g c =
+    let words = c.words-slots.ensures.value ∙ ap (λ (size : Size). size.words) c.shape.ensures in
+    let found = c.requires.layout in
+    cut_push_marks c.args.layout.now.side c.args.layout.now.generation c.args.layout.now.fill _ _ _ found.live found.fill c.requires.free c.first_page.ensures words _ (meant c.args.change) _ c.word.ensures.spells c.word.ensures.below_all_ones c.in_err-program.ensures.cut
+
+pub returns-in_err-program-clause-other : goal.returns-in_err-program-clause-other
+returns-in_err-program-clause-other g c =
+    let words = c.words-slots.ensures.value ∙ ap (λ (size : Size). size.words) c.shape.ensures in
+    let found = c.requires.layout in
+    cut_push_other c.args.layout.now.side c.args.layout.now.generation c.args.layout.now.fill _ _ _ found.live found.fill c.requires.free c.first_page.ensures words _ (meant c.args.change) _ c.word.ensures.spells c.word.ensures.below_all_ones c.in_err-program.ensures.cut
+
+pub returns-clause-takes : goal.returns-clause-takes
+returns-clause-takes g c =
+    let words = c.words-slots.ensures.value ∙ ap (λ (size : Size). size.words) c.shape.ensures in
+    let found = c.requires.layout in
+    push_is_taken c.args.layout.now.side c.args.layout.now.generation c.args.layout.now.fill _ _ _ found.live found.fill c.requires.free c.first_page.ensures words _ (meant c.args.change) _ c.word.ensures.spells c.word.ensures.below_all_ones c.in_ok-program.ensures.on c.in_ok-program.ensures.done
+
+pub returns-clause-marks : goal.returns-clause-marks
+returns-clause-marks g c =
+    let words = c.words-slots.ensures.value ∙ ap (λ (size : Size). size.words) c.shape.ensures in
+    let found = c.requires.layout in
+    push_marks c.args.layout.now.side c.args.layout.now.generation c.args.layout.now.fill _ _ _ found.live found.fill c.requires.free c.first_page.ensures words _ (meant c.args.change) _ c.word.ensures.spells c.word.ensures.below_all_ones c.in_ok-program.ensures.on c.in_ok-program.ensures.done
+
+pub returns-clause-other : goal.returns-clause-other
+returns-clause-other g c =
+    let words = c.words-slots.ensures.value ∙ ap (λ (size : Size). size.words) c.shape.ensures in
+    let found = c.requires.layout in
+    push_other c.args.layout.now.side c.args.layout.now.generation c.args.layout.now.fill _ _ _ found.live found.fill c.requires.free c.first_page.ensures words _ (meant c.args.change) _ c.word.ensures.spells c.word.ensures.below_all_ones c.in_ok-program.ensures.on c.in_ok-program.ensures.done

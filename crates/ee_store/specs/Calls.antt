@@ -1,0 +1,61 @@
+-- What each call of a store answers, and what it leaves: one relation for each, by cases on the answer. Every store keeps
+-- them.
+use Rattle.std.specs.Prelude.{◌≡◌, ◌≢◌, ◌<◌, ◌⊎◌, ℕ, ◌+◌, ◌-◌, Option, None, Result, Ok, Err, Bool, true, false}
+use Rattle.ee_flash.specs.Device.{Device, IsOff, IsOn}
+use Rattle.ee_flash.specs.Power.{GoesOn, IsCut}
+use Rattle.ee_pages.specs.Meaning.{Put, Forget}
+use Rattle.ee_store.specs.Changes.{Appends, IsCutChange, IsFull, IsSpent, Moves, Proceeds}
+use Rattle.ee_store.specs.State.{WearRises, capacity, state_of, with_pending}
+use Rattle.ee_store.specs.declared.variables.Written.{Written}
+use Rattle.ee_store.specs.declared.variables.Written.TheVariants.{Appended, Moved}
+use Rattle.ee_store.specs.declared.variables.WriteFault.{WriteFault}
+use Rattle.ee_store.specs.declared.variables.WriteFault.TheVariants as write
+use Rattle.ee_store.specs.declared.variables.ForgetFault.{ForgetFault}
+use Rattle.ee_store.specs.declared.variables.ForgetFault.TheVariants as forget
+
+-- reading gives the map's value, or the device was off
+abbrev pub Reads : {E : Type 0} → Device → ℕ → Result (Option ℕ) E → Type 0
+Reads device address (Ok value) = IsOn device × (value ≡ (state_of device).map address)
+Reads device address (Err off) = IsOff device
+
+-- A write is appended or moved; or it was refused, for the first cause that applies, and nothing changed; or memory ran out,
+-- and nothing changed; or power was cut.
+abbrev pub Writes : Device → ℕ → ℕ → Result Written WriteFault → Device → Type 0
+Writes old address value (Ok Appended) new = Appends old (Put address value) new
+Writes old address value (Ok Moved) new = Moves old (Put address value) new
+Writes old address value (Err write.Off) new = IsOff old × (new ≡ old)
+Writes old address value (Err write.Full) new = IsOn old × IsFull (capacity old) (state_of old) address × (new ≡ old)
+Writes old address value (Err write.Spent) new = IsOn old × ¬ IsFull (capacity old) (state_of old) address × IsSpent (capacity old) (state_of old) × (new ≡ old)
+Writes old address value (Err write.Memory) new = Proceeds old (Put address value) × (new ≡ old)
+Writes old address value (Err write.Cut) new = IsCutChange old (Put address value) new
+
+-- a forgetting likewise, of an address that has a value; it needs no memory
+abbrev pub Forgets : Device → ℕ → Result Written ForgetFault → Device → Type 0
+Forgets old address (Ok Appended) new = Appends old (Forget address) new
+Forgets old address (Ok Moved) new = Moves old (Forget address) new
+Forgets old address (Err forget.Off) new = IsOff old × (new ≡ old)
+Forgets old address (Err forget.Absent) new = IsOn old × ((state_of old).map address ≡ None) × (new ≡ old)
+Forgets old address (Err forget.Spent) new = IsOn old × ((state_of old).map address ≢ None) × IsSpent (capacity old) (state_of old) × (new ≡ old)
+Forgets old address (Err forget.Cut) new = IsCutChange old (Forget address) new
+
+-- a page that waited was erased
+pub record ErasesOne (old new : Device) : Type 0 where
+  pub was_on : IsOn old
+  pub goes_on : GoesOn old new
+  pub some : 0 < (state_of old).pending
+  pub state_is : state_of new ≡ with_pending ((state_of old).pending - 1) (state_of old)
+  pub wear : WearRises 1 old new
+
+-- power was cut in erasing one: as many pages wait, or one less
+pub record IsCutClean (old new : Device) : Type 0 where
+  pub cut : IsCut old new
+  pub some : 0 < (state_of old).pending
+  pub state_is : (state_of new ≡ state_of old) ⊎ (state_of new ≡ with_pending ((state_of old).pending - 1) (state_of old))
+
+-- a clean step erases one page of those that wait, if there is one
+abbrev pub Cleans : Device → Result Bool WriteFault → Device → Type 0
+Cleans old (Ok true) new = ErasesOne old new
+Cleans old (Ok false) new = IsOn old × ((state_of old).pending ≡ 0) × (new ≡ old)
+Cleans old (Err write.Off) new = IsOff old × (new ≡ old)
+Cleans old (Err write.Cut) new = IsCutClean old new
+Cleans old (Err fault) new = ⊥

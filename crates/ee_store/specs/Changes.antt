@@ -1,0 +1,68 @@
+-- What a change of a store's map leaves, and when none is made.
+use Rattle.std.specs.Prelude.{◌≡◌, ◌<◌, ◌≤◌, ◌⊎◌, ℕ, None, length}
+use Rattle.ee_flash.specs.Device.{Device, IsOn}
+use Rattle.ee_flash.specs.Power.{GoesOn, IsCut}
+use Rattle.ee_pages.specs.Meaning.{Change, Put, Forget, live_in}
+use Rattle.ee_store.specs.State.{State, WearRises, appended, capacity, moved, spoiled, state_of, with_pending}
+
+-- the greatest generation: no transfer follows it
+abbrev pub greatest_generation : ℕ
+greatest_generation = 4294967294
+
+-- in so many slots: the address has no value, and as many addresses have one as there are slots
+pub record IsFull (slots : ℕ) (state : State) (address : ℕ) : Type 0 where
+  pub new_address : state.map address ≡ None
+  pub all_live : live_in state.map ≡ slots
+
+-- a transfer would be needed, and no generation is left for it
+pub record IsSpent (slots : ℕ) (state : State) : Type 0 where
+  pub all_used : state.fill ≡ slots
+  pub last_generation : state.generation ≡ greatest_generation
+
+-- a put finds no room for its address, or a forgetting finds no value
+abbrev pub HasNoPlace : ℕ → State → Change → Type 0
+HasNoPlace slots state (Put address value) = IsFull slots state address
+HasNoPlace slots state (Forget address) = state.map address ≡ None
+
+-- no refusal applies to the change
+pub record IsAccepted (slots : ℕ) (state : State) (change : Change) : Type 0 where
+  pub has_place : ¬ HasNoPlace slots state change
+  pub not_spent : ¬ IsSpent slots state
+
+-- the device is on, and no refusal applies
+pub record Proceeds (device : Device) (change : Change) : Type 0 where
+  pub on : IsOn device
+  pub accepted : IsAccepted (capacity device) (state_of device) change
+
+-- a slot was free, and the change stands in it
+pub record Appends (old : Device) (change : Change) (new : Device) : Type 0 where
+  pub proceeds : Proceeds old change
+  pub goes_on : GoesOn old new
+  pub free : (state_of old).fill < capacity old
+  pub state_is : state_of new ≡ appended change (state_of old)
+  pub no_wear : WearRises 0 old new
+
+-- no slot was free, and the map was moved to the other set with the change; the pages of that set which waited to be
+-- erased were erased
+pub record Moves (old : Device) (change : Change) (new : Device) : Type 0 where
+  pub proceeds : Proceeds old change
+  pub goes_on : GoesOn old new
+  pub all_used : (state_of old).fill ≡ capacity old
+  pub state_is : state_of new ≡ moved old.size.pages change (state_of old)
+  pub wear : WearRises (state_of old).pending old new
+
+-- With a slot free, a cut leaves the state as it was, or a slot more torn, or the change appended.
+abbrev pub IsCutAppend : State → Change → State → Type 0
+IsCutAppend old change new = (new ≡ old) ⊎ (new ≡ spoiled old) ⊎ (new ≡ appended change old)
+
+-- With no slot free, it leaves the state as it was but for the pages that wait to be erased, or the map moved with the
+-- change.
+abbrev pub IsCutMove : ℕ → State → Change → State → Type 0
+IsCutMove pages old change new = ((pending : ℕ) × (pending ≤ pages) × (new ≡ with_pending pending old)) ⊎ (new ≡ moved pages change old)
+
+-- power was cut in a change
+pub record IsCutChange (old : Device) (change : Change) (new : Device) : Type 0 where
+  pub proceeds : Proceeds old change
+  pub cut : IsCut old new
+  pub free : (state_of old).fill < capacity old → IsCutAppend (state_of old) change (state_of new)
+  pub all_used : (state_of old).fill ≡ capacity old → IsCutMove old.size.pages (state_of old) change (state_of new)

@@ -1,0 +1,6 @@
+pub mod State
+pub mod Finished
+pub mod Changes
+pub mod Calls
+pub mod Openings
+pub mod Parts

@@ -1,0 +1,76 @@
+-- What a store is to its users: the map that the live set means, and how far it is used.
+use Rattle.std.specs.Prelude.{◌≡◌, ◌+◌, ◌<◌, ◌≤◌, ℕ, Option, Some, None}
+use Rattle.std.specs.List.{All}
+use Rattle.ee_flash.specs.Device.{Device, all_ones}
+use Rattle.ee_flash.specs.Size.{slot_count}
+use Rattle.ee_flash.specs.Wear.{total_wear_of}
+use Rattle.ee_pages.specs.Meaning.{Change, Map, changed, live_in, meaning}
+use Rattle.ee_pages.specs.Sets.{fill_of, live_of, other, pending_of, set_of, slots_of}
+use Rattle.ee_pages.specs.declared.side.Side.{Side}
+
+-- the value of each address that has one, how many slots are used, the generation of the live set, and how many pages of
+-- the other set wait to be erased
+pub record State : Type 0 where
+  pub map : Map
+  pub fill : ℕ
+  pub generation : ℕ
+  pub pending : ℕ
+
+-- with this live set of this generation
+abbrev pub state_with : Device → Side → ℕ → State
+state_with device side generation = record {
+  map = meaning (slots_of (set_of side device));
+  fill = fill_of (slots_of (set_of side device));
+  generation = generation;
+  pending = pending_of (set_of (other side) device);
+}
+
+-- nothing was ever written
+abbrev pub empty_state : State
+empty_state = record { map = λ address. None; fill = 0; generation = 0; pending = 0 }
+
+abbrev pub state_in : Device → Option (Side × ℕ) → State
+state_in device None = empty_state
+state_in device (Some live) = state_with device live.0 live.1
+
+-- the state that a device's image says
+abbrev pub state_of : Device → State
+state_of device = state_in device (live_of device)
+
+-- the slots of a set
+abbrev pub capacity : Device → ℕ
+capacity device = slot_count device.size
+
+-- just formatted
+abbrev pub formatted : State
+formatted = record { map = λ address. None; fill = 0; generation = 1; pending = 0 }
+
+-- a change is appended: it takes a slot
+abbrev pub appended : Change → State → State
+appended change state = record state { map = changed change state.map; fill = state.fill + 1 }
+
+-- a slot is torn
+abbrev pub spoiled : State → State
+spoiled state = record state { fill = state.fill + 1 }
+
+-- the map, changed, moved to the other set: each address with a value takes a slot, and all pages of the set that it left
+-- wait to be erased
+abbrev pub moved : ℕ → Change → State → State
+moved pages change state = record {
+  map = changed change state.map;
+  fill = live_in (changed change state.map);
+  generation = state.generation + 1;
+  pending = pages;
+}
+
+-- with so many pages that wait to be erased
+abbrev pub with_pending : ℕ → State → State
+with_pending pages state = record state { pending = pages }
+
+-- no page was erased as often as can be counted
+abbrev pub CountsWear : Device → Type 0
+CountsWear device = All (λ count. count < all_ones) device.wear
+
+-- So many pages were erased between. It is said where no page of the device then was erased as often as can be counted.
+abbrev pub WearRises : ℕ → Device → Device → Type 0
+WearRises erases old new = CountsWear new → CountsWear old × (total_wear_of new ≡ total_wear_of old + erases)

@@ -1,0 +1,217 @@
+ghost use Rattle.std.specs.Prelude.{◌≡◌, ◌≢◌, ◌<◌, ◌≤◌, ℕ, ◌+◌, ◌-◌, ◌*◌, ◌/◌, IfOk, IfSome, None, OnOk, slice_set};
+ghost use Rattle.ee_codec.specs.Words.{IsAddress, IsGeneration};
+ghost use Rattle.ee_flash.specs.Power.{Ends};
+ghost use Rattle.ee_flash.specs.Size.{slot_count};
+ghost use Rattle.ee_flash.specs.declared.word.Word.TheVariants.{Held};
+ghost use Rattle.ee_pages.specs.Filling.{IsFilling};
+ghost use Rattle.ee_pages.specs.Laws.{Keeps};
+ghost use Rattle.ee_pages.specs.Layout.{IsLayout};
+ghost use Rattle.ee_pages.specs.Meaning.{IsNextLive, Spells, above_of, changed, live_in, meaning};
+ghost use Rattle.ee_pages.specs.Sets.{other as other_of, set_of, slots_of};
+ghost use Rattle.ee_store.specs.Parts.{meant, replaced};
+
+use crate::change::Change;
+use ee_codec::Address;
+use ee_flash::{Cut, Flash};
+use ee_pages::{Layout, Mark, first_page, mark, next_live};
+use std::marker::Model;
+
+/// Goes over the live addresses of a set, by rising address.
+#[derive(Drop)]
+pub(crate) struct Cursor {
+    after: Option<Address>,
+}
+
+impl Model for Cursor {
+    ghost use Rattle.std.specs.Prelude.{ℕ};
+    ghost use Rattle.ee_pages.specs.Meaning.{above_of};
+
+    // The address behind which it goes on, 0 at first.
+    ghost Value = { ℕ };
+
+    ghost view = { λ cursor. above_of cursor.after };
+}
+
+impl Cursor {
+    /// Before the first.
+    pub(crate) fn new() -> Cursor
+        ensures { result ≡ 0 }
+    {
+        Cursor { after: None }
+    }
+
+    /// The next live address, with its value. `None` if there is none.
+    pub(crate) fn next<F: Flash>(&mut self, flash: &F, layout: &Layout) -> Option<(Address, u32)>
+        requires { IsLayout (F.device flash.now) layout.now }
+        ensures next { IsNextLive (meaning (slots_of (set_of layout.now.side (F.device flash.now)))) self.old result }
+        ensures proper { IfSome result (λ found. IsAddress found.0) }
+        ensures moved { IfSome result (λ found. self.new ≡ found.0) }
+    {
+        let Some((address, value)) = next_live(flash, layout, self.after) else {
+            return None;
+        };
+        self.after = Some(address);
+        Some((address, value))
+    }
+}
+
+/// Fills the other set, which was opened, with the map after a change: a value that is written comes
+/// first, and then each other live address, rising. Gives how many slots that takes.
+pub(crate) fn fill_set<F: Flash>(
+    flash: &mut F,
+    layout: &Layout,
+    change: Change,
+) -> Result<usize, Cut>
+    requires layout { IsLayout (F.device flash.old) layout.now }
+    requires generation { IsGeneration (layout.now.generation + 1) }
+    requires filling { IsFilling (F.device flash.old) (other_of layout.now.side) (layout.now.generation + 1) 0 }
+    requires nothing { (address : ℕ) → meaning (slots_of (set_of (other_of layout.now.side) (F.device flash.old))) address ≡ None }
+    requires fits { live_in (changed (meant change) (meaning (slots_of (set_of layout.now.side (F.device flash.old)))))
+        ≤ slot_count (F.device flash.old).size }
+    ensures keeps { Keeps (F.device flash.old) (F.device flash.new) layout.now.side layout.now.generation }
+    ensures filling { IfOk result
+        (IsFilling (F.device flash.new) (other_of layout.now.side) (layout.now.generation + 1)) }
+    ensures map { OnOk result ((address : ℕ) → meaning (slots_of (set_of (other_of layout.now.side) (F.device flash.new))) address
+        ≡ changed (meant change) (meaning (slots_of (set_of layout.now.side (F.device flash.old)))) address) }
+    ensures each_once { IfOk result (λ count. count
+        ≡ live_in (changed (meant change) (meaning (slots_of (set_of layout.now.side (F.device flash.old)))))) }
+    ensures wear { (F.device flash.new).wear ≡ (F.device flash.old).wear }
+    ensures power { Ends result (F.device flash.old) (F.device flash.new) }
+{
+    let address = change.address();
+    let first = put_first(flash, layout, change)?;
+    let count = copy_others(flash, layout, address, first)?;
+    Ok(count)
+}
+
+// Writes a value that is put into the first slot of the other set; a forgetting takes no slot. Gives
+// how many slots that took.
+fn put_first<F: Flash>(flash: &mut F, layout: &Layout, change: Change) -> Result<usize, Cut>
+    requires layout { IsLayout (F.device flash.old) layout.now }
+    requires generation { IsGeneration (layout.now.generation + 1) }
+    requires filling { IsFilling (F.device flash.old) (other_of layout.now.side) (layout.now.generation + 1) 0 }
+    requires nothing { (address : ℕ) → meaning (slots_of (set_of (other_of layout.now.side) (F.device flash.old))) address ≡ None }
+    ensures keeps { Keeps (F.device flash.old) (F.device flash.new) layout.now.side layout.now.generation }
+    ensures filling { IfOk result
+        (IsFilling (F.device flash.new) (other_of layout.now.side) (layout.now.generation + 1)) }
+    ensures map { OnOk result ((address : ℕ) → meaning (slots_of (set_of (other_of layout.now.side) (F.device flash.new))) address
+        ≡ changed (meant change) (λ address. None) address) }
+    ensures each_once { IfOk result (λ count. count
+        ≡ live_in (meaning (slots_of (set_of (other_of layout.now.side) (F.device flash.new))))) }
+    ensures wear { (F.device flash.new).wear ≡ (F.device flash.old).wear }
+    ensures power { Ends result (F.device flash.old) (F.device flash.new) }
+{
+    if let Change::Forget { .. } = change {
+        return Ok(0);
+    }
+    stage(flash, layout, 0, change)?;
+    Ok(1)
+}
+
+// Copies each live address but this one to the other set, of which so many slots are written. Gives
+// how many are then.
+fn copy_others<F: Flash>(
+    flash: &mut F,
+    layout: &Layout,
+    except: Address,
+    count: usize,
+) -> Result<usize, Cut>
+    requires layout { IsLayout (F.device flash.old) layout.now }
+    requires generation { IsGeneration (layout.now.generation + 1) }
+    requires filling { IsFilling (F.device flash.old) (other_of layout.now.side) (layout.now.generation + 1) count }
+    requires only { (address : ℕ) → address ≢ except
+        → meaning (slots_of (set_of (other_of layout.now.side) (F.device flash.old))) address ≡ None }
+    requires each_once { count ≡ live_in (meaning (slots_of (set_of (other_of layout.now.side) (F.device flash.old)))) }
+    requires fits { live_in (replaced (meaning (slots_of (set_of (other_of layout.now.side) (F.device flash.old)))) except
+        (meaning (slots_of (set_of layout.now.side (F.device flash.old))))) ≤ slot_count (F.device flash.old).size }
+    ensures keeps { Keeps (F.device flash.old) (F.device flash.new) layout.now.side layout.now.generation }
+    ensures filling { IfOk result
+        (IsFilling (F.device flash.new) (other_of layout.now.side) (layout.now.generation + 1)) }
+    ensures map { OnOk result ((address : ℕ) → meaning (slots_of (set_of (other_of layout.now.side) (F.device flash.new))) address
+        ≡ replaced (meaning (slots_of (set_of (other_of layout.now.side) (F.device flash.old)))) except
+        (meaning (slots_of (set_of layout.now.side (F.device flash.old)))) address) }
+    ensures each_once { IfOk result (λ all. all
+        ≡ live_in (replaced (meaning (slots_of (set_of (other_of layout.now.side) (F.device flash.old)))) except
+        (meaning (slots_of (set_of layout.now.side (F.device flash.old)))))) }
+    ensures wear { (F.device flash.new).wear ≡ (F.device flash.old).wear }
+    ensures power { Ends result (F.device flash.old) (F.device flash.new) }
+{
+    let mut count = count;
+    let mut cursor = Cursor::new();
+    'live: while let Some((address, value)) = cursor.next(flash, layout) {
+        if address != except {
+            stage(flash, layout, count, Change::Put { address, value })?;
+            count += 1;
+        }
+    }
+    Ok(count)
+}
+
+// Writes a change into the first free slot of the other set, of which so many slots are written. A
+// further page gets its receive word first.
+fn stage<F: Flash>(flash: &mut F, layout: &Layout, count: usize, change: Change) -> Result<(), Cut>
+    requires layout { IsLayout (F.device flash.old) layout.now }
+    requires generation { IsGeneration (layout.now.generation + 1) }
+    requires filling { IsFilling (F.device flash.old) (other_of layout.now.side) (layout.now.generation + 1) count }
+    requires free { count < slot_count (F.device flash.old).size }
+    ensures keeps { Keeps (F.device flash.old) (F.device flash.new) layout.now.side layout.now.generation }
+    ensures filling { OnOk result
+        (IsFilling (F.device flash.new) (other_of layout.now.side) (layout.now.generation + 1) (count + 1)) }
+    // The change stands in the slot of this number.
+    ensures slot { OnOk result ((number : ℕ) × Spells number (meant change)
+        × (slots_of (set_of (other_of layout.now.side) (F.device flash.new))
+        ≡ slice_set (slots_of (set_of (other_of layout.now.side) (F.device flash.old))) count (Held number))) }
+    ensures map { OnOk result ((address : ℕ) → meaning (slots_of (set_of (other_of layout.now.side) (F.device flash.new))) address
+        ≡ changed (meant change) (meaning (slots_of (set_of (other_of layout.now.side) (F.device flash.old)))) address) }
+    ensures wear { (F.device flash.new).wear ≡ (F.device flash.old).wear }
+    ensures power { Ends result (F.device flash.old) (F.device flash.new) }
+{
+    let slots = flash.shape().words() - 4;
+    if count % slots == 0 {
+        receive(flash, layout, count)?;
+    }
+    put_in(flash, layout, count, change)?;
+    Ok(())
+}
+
+// Gives the page of the first free slot of the other set the receive word, if it has none.
+fn receive<F: Flash>(flash: &mut F, layout: &Layout, count: usize) -> Result<(), Cut>
+    requires layout { IsLayout (F.device flash.old) layout.now }
+    requires generation { IsGeneration (layout.now.generation + 1) }
+    requires filling { IsFilling (F.device flash.old) (other_of layout.now.side) (layout.now.generation + 1) count }
+    requires free { count < slot_count (F.device flash.old).size }
+    ensures keeps { Keeps (F.device flash.old) (F.device flash.new) layout.now.side layout.now.generation }
+    ensures filling { OnOk result
+        (IsFilling (F.device flash.new) (other_of layout.now.side) (layout.now.generation + 1) count) }
+    ensures same_slots { OnOk result (slots_of (set_of (other_of layout.now.side) (F.device flash.new))
+        ≡ slots_of (set_of (other_of layout.now.side) (F.device flash.old))) }
+    ensures wear { (F.device flash.new).wear ≡ (F.device flash.old).wear }
+    ensures power { Ends result (F.device flash.old) (F.device flash.new) }
+{
+    let slots = flash.shape().words() - 4;
+    let page = first_page(flash, layout.side.other()) + count / slots;
+    mark(flash, page, Mark::Receive(layout.generation + 1))?;
+    Ok(())
+}
+
+// Programs a change into the first free slot of the other set.
+fn put_in<F: Flash>(flash: &mut F, layout: &Layout, count: usize, change: Change) -> Result<(), Cut>
+    requires layout { IsLayout (F.device flash.old) layout.now }
+    requires filling { IsFilling (F.device flash.old) (other_of layout.now.side) (layout.now.generation + 1) count }
+    requires free { count < slot_count (F.device flash.old).size }
+    ensures keeps { Keeps (F.device flash.old) (F.device flash.new) layout.now.side layout.now.generation }
+    ensures filling { OnOk result
+        (IsFilling (F.device flash.new) (other_of layout.now.side) (layout.now.generation + 1) (count + 1)) }
+    ensures slot { OnOk result ((number : ℕ) × Spells number (meant change)
+        × (slots_of (set_of (other_of layout.now.side) (F.device flash.new))
+        ≡ slice_set (slots_of (set_of (other_of layout.now.side) (F.device flash.old))) count (Held number))) }
+    ensures map { OnOk result ((address : ℕ) → meaning (slots_of (set_of (other_of layout.now.side) (F.device flash.new))) address
+        ≡ changed (meant change) (meaning (slots_of (set_of (other_of layout.now.side) (F.device flash.old)))) address) }
+    ensures wear { (F.device flash.new).wear ≡ (F.device flash.old).wear }
+    ensures power { Ends result (F.device flash.old) (F.device flash.new) }
+{
+    let slots = flash.shape().words() - 4;
+    let page = first_page(flash, layout.side.other()) + count / slots;
+    flash.program(page, 4 + count % slots, change.word())?;
+    Ok(())
+}

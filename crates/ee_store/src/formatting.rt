@@ -1,0 +1,50 @@
+ghost use Rattle.std.specs.Prelude.{◌≡◌, ℕ, IfOk, OnOk, true};
+ghost use Rattle.std.specs.List.{All};
+ghost use Rattle.ee_flash.specs.Device.{IsOn};
+ghost use Rattle.ee_flash.specs.Power.{Ends};
+ghost use Rattle.ee_pages.specs.Layout.{IsLayout};
+ghost use Rattle.ee_pages.specs.Page.{is_blank};
+ghost use Rattle.ee_pages.specs.Sets.{pending_of};
+ghost use Rattle.ee_store.specs.Finished.{IsMarked};
+ghost use Rattle.ee_store.specs.State.{WearRises, formatted, state_of};
+ghost use Rattle.ee_pages.specs.declared.side.Side.TheVariants.{First};
+
+use ee_flash::{Cut, Flash};
+use ee_pages::{Layout, Mark, Side, is_blank as page_is_blank, mark};
+
+/// Erases what is not blank, makes the first set the live one with generation 1, and gives the
+/// layout.
+pub(crate) fn write_format<F: Flash>(flash: &mut F) -> Result<Layout, Cut>
+    ensures layout { IfOk result (IsLayout (F.device flash.new)) }
+    ensures first { IfOk result (λ layout. layout.side ≡ First) }
+    ensures marked { OnOk result (IsMarked (F.device flash.new) First) }
+    ensures state { OnOk result (state_of (F.device flash.new) ≡ formatted) }
+    ensures wear { OnOk result (WearRises (pending_of (F.device flash.old).image)
+        (F.device flash.old) (F.device flash.new)) }
+    ensures power { Ends result (F.device flash.old) (F.device flash.new) }
+{
+    erase_all(flash)?;
+    mark(flash, 0, Mark::Receive(1))?;
+    mark(flash, 0, Mark::Active)?;
+    Ok(Layout {
+        side: Side::First,
+        generation: 1,
+        fill: 0,
+        current: 0,
+    })
+}
+
+// Erases each page that is not blank, by rising page.
+fn erase_all<F: Flash>(flash: &mut F) -> Result<(), Cut>
+    ensures blank { OnOk result (All (λ page. is_blank page ≡ true) (F.device flash.new).image) }
+    ensures wear { OnOk result (WearRises (pending_of (F.device flash.old).image)
+        (F.device flash.old) (F.device flash.new)) }
+    ensures power { Ends result (F.device flash.old) (F.device flash.new) }
+{
+    'pages: for page in 0..2 * flash.shape().pages() {
+        if !page_is_blank(flash, page) {
+            flash.erase(page)?;
+        }
+    }
+    Ok(())
+}

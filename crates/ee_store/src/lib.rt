@@ -1,0 +1,27 @@
+//! The store: a map of addresses to values in a flash device, over every device that keeps the step
+//! outcomes, with power cuts in the contract of each call.
+//!
+//! `specs/State.antt` says what a store is to its users, `specs/Changes.antt` and `specs/Calls.antt`
+//! what each call answers and leaves, cuts included, `specs/Openings.antt` how a store comes to be,
+//! and `specs/Finished.antt` which marks an opening sets.
+//!
+//! The layers above may use: the contract of `Variables`, which is one relation for each call over
+//! the device before and after; `open` and `format`; and that a store's image is legal, always.
+//! Nothing here takes memory.
+#![tactic(auto)]
+
+mod change;
+mod changing;
+mod cleaning;
+mod copying;
+mod formatting;
+mod marking;
+mod moving;
+mod opening;
+mod store;
+mod variables;
+mod writing;
+
+pub use opening::{OpenFault, format, open};
+pub use store::Store;
+pub use variables::{ForgetFault, Off, Variables, WriteFault, Written};

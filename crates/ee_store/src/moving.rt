@@ -1,0 +1,137 @@
+ghost use Rattle.std.specs.Prelude.{◌≡◌, ◌<◌, ◌≤◌, ◌⊎◌, ℕ, ◌+◌, IfOk, None, OnErr, OnOk, true};
+ghost use Rattle.std.specs.List.{All};
+ghost use Rattle.ee_codec.specs.Words.{IsGeneration};
+ghost use Rattle.ee_flash.specs.Power.{Ends};
+ghost use Rattle.ee_flash.specs.Size.{slot_count};
+ghost use Rattle.ee_pages.specs.Filling.{IsCommitted, IsFilling};
+ghost use Rattle.ee_pages.specs.Laws.{Keeps};
+ghost use Rattle.ee_pages.specs.Layout.{IsLayout};
+ghost use Rattle.ee_pages.specs.Meaning.{changed, live_in, meaning};
+ghost use Rattle.ee_pages.specs.Page.{is_blank};
+ghost use Rattle.ee_pages.specs.Sets.{other as other_of, pending_of, set_of, slots_of};
+ghost use Rattle.ee_store.specs.Finished.{IsMarked};
+ghost use Rattle.ee_store.specs.Parts.{HasMoved, IsSameSet, meant};
+ghost use Rattle.ee_store.specs.State.{WearRises};
+
+use crate::change::Change;
+use crate::cleaning::erase_other;
+use crate::copying::fill_set;
+use crate::marking::finish;
+use ee_flash::{Cut, Flash};
+use ee_pages::{Layout, Mark, first_page, is_blank as page_is_blank, mark};
+
+/// Moves the map, with a change, from a live set of which every slot is used to the other set, and
+/// makes that one live. The layout follows.
+pub(crate) fn transfer<F: Flash>(
+    flash: &mut F,
+    layout: &mut Layout,
+    change: Change,
+) -> Result<(), Cut>
+    requires layout { IsLayout (F.device flash.old) layout.old }
+    requires all_used { layout.old.fill ≡ slot_count (F.device flash.old).size }
+    requires generation { IsGeneration (layout.old.generation + 1) }
+    requires fits { live_in (changed (meant change) (meaning (slots_of (set_of layout.old.side (F.device flash.old)))))
+        ≤ slot_count (F.device flash.old).size }
+    ensures moved { OnOk result (HasMoved (F.device flash.old) (F.device flash.new) layout.old.side layout.old.generation (meant change)) }
+    ensures layout { OnOk result (IsLayout (F.device flash.new) layout.new) }
+    ensures other_set { OnOk result (layout.new.side ≡ other_of layout.old.side) }
+    ensures marked { OnOk result (IsMarked (F.device flash.new) (other_of layout.old.side)) }
+    ensures wear { OnOk result (WearRises (pending_of (set_of (other_of layout.old.side) (F.device flash.old)))
+        (F.device flash.old) (F.device flash.new)) }
+    ensures cut { OnErr result (
+        Keeps (F.device flash.old) (F.device flash.new) layout.old.side layout.old.generation
+        ⊎ HasMoved (F.device flash.old) (F.device flash.new) layout.old.side layout.old.generation (meant change)) }
+    ensures power { Ends result (F.device flash.old) (F.device flash.new) }
+{
+    let count = move_map(flash, layout, change)?;
+    let slots = flash.shape().words() - 4;
+    *layout = Layout {
+        side: layout.side.other(),
+        generation: layout.generation + 1,
+        fill: count,
+        current: first_page(flash, layout.side.other()) + count.saturating_sub(1) / slots,
+    };
+    finish(flash, layout)?;
+    Ok(())
+}
+
+// Moves the map, with a change, to the other set, and makes that one live. Gives how many slots it
+// takes there.
+fn move_map<F: Flash>(flash: &mut F, layout: &Layout, change: Change) -> Result<usize, Cut>
+    requires layout { IsLayout (F.device flash.old) layout.now }
+    requires all_used { layout.now.fill ≡ slot_count (F.device flash.old).size }
+    requires generation { IsGeneration (layout.now.generation + 1) }
+    requires fits { live_in (changed (meant change) (meaning (slots_of (set_of layout.now.side (F.device flash.old)))))
+        ≤ slot_count (F.device flash.old).size }
+    ensures moved { OnOk result
+        (HasMoved (F.device flash.old) (F.device flash.new) layout.now.side layout.now.generation (meant change)) }
+    ensures each_once { IfOk result (λ count. count
+        ≡ live_in (changed (meant change) (meaning (slots_of (set_of layout.now.side (F.device flash.old)))))) }
+    ensures wear { OnOk result (WearRises (pending_of (set_of (other_of layout.now.side) (F.device flash.old)))
+        (F.device flash.old) (F.device flash.new)) }
+    ensures cut { OnErr result (
+        Keeps (F.device flash.old) (F.device flash.new) layout.now.side layout.now.generation
+        ⊎ HasMoved (F.device flash.old) (F.device flash.new) layout.now.side layout.now.generation (meant change)) }
+    ensures power { Ends result (F.device flash.old) (F.device flash.new) }
+{
+    clear(flash, layout)?;
+    open_set(flash, layout)?;
+    let count = fill_set(flash, layout, change)?;
+    commit(flash, layout)?;
+    Ok(count)
+}
+
+// Erases each page of the other set that is not blank, by rising page.
+fn clear<F: Flash>(flash: &mut F, layout: &Layout) -> Result<(), Cut>
+    requires { IsLayout (F.device flash.old) layout.now }
+    ensures keeps { Keeps (F.device flash.old) (F.device flash.new) layout.now.side layout.now.generation }
+    ensures blank { OnOk result (All (λ page. is_blank page ≡ true) (set_of (other_of layout.now.side) (F.device flash.new))) }
+    ensures wear { OnOk result (WearRises (pending_of (set_of (other_of layout.now.side) (F.device flash.old)))
+        (F.device flash.old) (F.device flash.new)) }
+    ensures power { Ends result (F.device flash.old) (F.device flash.new) }
+{
+    let first = first_page(flash, layout.side.other());
+    'pages: for page in first..first + flash.shape().pages() {
+        if !page_is_blank(flash, page) {
+            erase_other(flash, layout.side, layout.generation, page)?;
+        }
+    }
+    Ok(())
+}
+
+// Gives the first page of the other set, which is blank, the receive word of the next generation.
+fn open_set<F: Flash>(flash: &mut F, layout: &Layout) -> Result<(), Cut>
+    requires layout { IsLayout (F.device flash.old) layout.now }
+    requires generation { IsGeneration (layout.now.generation + 1) }
+    requires blank { All (λ page. is_blank page ≡ true) (set_of (other_of layout.now.side) (F.device flash.old)) }
+    ensures keeps { Keeps (F.device flash.old) (F.device flash.new) layout.now.side layout.now.generation }
+    ensures filling { OnOk result
+        (IsFilling (F.device flash.new) (other_of layout.now.side) (layout.now.generation + 1) 0) }
+    ensures nothing { OnOk result ((address : ℕ)
+        → meaning (slots_of (set_of (other_of layout.now.side) (F.device flash.new))) address ≡ None) }
+    ensures wear { (F.device flash.new).wear ≡ (F.device flash.old).wear }
+    ensures power { Ends result (F.device flash.old) (F.device flash.new) }
+{
+    let first = first_page(flash, layout.side.other());
+    mark(flash, first, Mark::Receive(layout.generation + 1))?;
+    Ok(())
+}
+
+// Makes the other set, which is filled, the live one.
+fn commit<F: Flash>(flash: &mut F, layout: &Layout) -> Result<(), Cut>
+    requires layout { IsLayout (F.device flash.old) layout.now }
+    requires generation { IsGeneration (layout.now.generation + 1) }
+    requires filling { (count : ℕ) × IsFilling (F.device flash.old) (other_of layout.now.side) (layout.now.generation + 1) count }
+    ensures committed { OnOk result
+        (IsCommitted (F.device flash.old) (F.device flash.new) (other_of layout.now.side) (layout.now.generation + 1)) }
+    ensures cut { OnErr result (
+        Keeps (F.device flash.old) (F.device flash.new) layout.now.side layout.now.generation
+        ⊎ IsCommitted (F.device flash.old) (F.device flash.new) (other_of layout.now.side) (layout.now.generation + 1)) }
+    ensures same_set { IsSameSet layout.now.side (F.device flash.old) (F.device flash.new) }
+    ensures wear { (F.device flash.new).wear ≡ (F.device flash.old).wear }
+    ensures power { Ends result (F.device flash.old) (F.device flash.new) }
+{
+    let first = first_page(flash, layout.side.other());
+    mark(flash, first, Mark::Active)?;
+    Ok(())
+}

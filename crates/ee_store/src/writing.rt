@@ -1,0 +1,98 @@
+ghost use Rattle.std.specs.Prelude.{◌≡◌, ◌<◌, ◌⊎◌, ℕ, OnErr, OnOk};
+ghost use Rattle.ee_flash.specs.Power.{Ends};
+ghost use Rattle.ee_flash.specs.Size.{slot_count};
+ghost use Rattle.ee_pages.specs.Laws.{Keeps};
+ghost use Rattle.ee_pages.specs.Layout.{IsLayout};
+ghost use Rattle.ee_pages.specs.Meaning.{changed, meaning};
+ghost use Rattle.ee_pages.specs.Pushing.{Takes};
+ghost use Rattle.ee_pages.specs.Sets.{other as other_of, set_of, slots_of};
+ghost use Rattle.ee_store.specs.Finished.{IsMarked};
+ghost use Rattle.ee_store.specs.Parts.{IsReady, IsSameSet, KeepsMarks, Stays, meant};
+
+use crate::change::Change;
+use crate::marking::mark_live;
+use ee_flash::{Cut, Flash};
+use ee_pages::{Layout, Mark, first_page};
+
+/// Writes a change into the first free slot of the live set. If that slot is the first of a further
+/// page, the page before it is marked valid and that one active first. The layout follows.
+pub(crate) fn append<F: Flash>(
+    flash: &mut F,
+    layout: &mut Layout,
+    change: Change,
+) -> Result<(), Cut>
+    requires layout { IsLayout (F.device flash.old) layout.old }
+    requires marked { IsMarked (F.device flash.old) layout.old.side }
+    requires free { layout.old.fill < slot_count (F.device flash.old).size }
+    ensures takes { OnOk result (
+        Takes (F.device flash.old) (F.device flash.new) layout.old.side layout.old.generation
+        (changed (meant change)
+        (meaning (slots_of (set_of layout.old.side (F.device flash.old)))))) }
+    ensures layout { OnOk result (IsLayout (F.device flash.new) layout.new) }
+    ensures same_set { OnOk result (layout.new.side ≡ layout.old.side) }
+    ensures marked { OnOk result (IsMarked (F.device flash.new) layout.old.side) }
+    ensures cut { OnErr result (
+        Keeps (F.device flash.old) (F.device flash.new) layout.old.side layout.old.generation
+        ⊎ Takes (F.device flash.old) (F.device flash.new) layout.old.side layout.old.generation
+        (meaning (slots_of (set_of layout.old.side (F.device flash.old))))
+        ⊎ Takes (F.device flash.old) (F.device flash.new) layout.old.side layout.old.generation
+        (changed (meant change)
+        (meaning (slots_of (set_of layout.old.side (F.device flash.old)))))) }
+    ensures other { IsSameSet (other_of layout.old.side) (F.device flash.old) (F.device flash.new) }
+    ensures wear { (F.device flash.new).wear ≡ (F.device flash.old).wear }
+    ensures power { Ends result (F.device flash.old) (F.device flash.new) }
+{
+    open_page(flash, layout)?;
+    push(flash, layout, change)?;
+    let slots = flash.shape().words() - 4;
+    layout.current = first_page(flash, layout.side) + layout.fill / slots;
+    layout.fill += 1;
+    Ok(())
+}
+
+// Marks the page of the first free slot as the one that is used, if it is a further one, and the
+// page before it as used up.
+fn open_page<F: Flash>(flash: &mut F, layout: &Layout) -> Result<(), Cut>
+    requires layout { IsLayout (F.device flash.old) layout.now }
+    requires marked { IsMarked (F.device flash.old) layout.now.side }
+    requires free { layout.now.fill < slot_count (F.device flash.old).size }
+    ensures stays { Stays (F.device flash.old) (F.device flash.new)
+        layout.now.side layout.now.generation }
+    ensures other { IsSameSet (other_of layout.now.side) (F.device flash.old) (F.device flash.new) }
+    ensures ready { OnOk result (IsReady (F.device flash.new) layout.now.side layout.now.fill) }
+    ensures power { Ends result (F.device flash.old) (F.device flash.new) }
+{
+    let slots = flash.shape().words() - 4;
+    if layout.fill == 0 || layout.fill % slots != 0 {
+        return Ok(());
+    }
+    mark_live(flash, layout, layout.current, Mark::Valid)?;
+    mark_live(flash, layout, layout.current + 1, Mark::Active)?;
+    Ok(())
+}
+
+// Programs a change into the first free slot of the live set.
+fn push<F: Flash>(flash: &mut F, layout: &Layout, change: Change) -> Result<(), Cut>
+    requires layout { IsLayout (F.device flash.old) layout.now }
+    requires free { layout.now.fill < slot_count (F.device flash.old).size }
+    ensures takes { OnOk result (
+        Takes (F.device flash.old) (F.device flash.new) layout.now.side layout.now.generation
+        (changed (meant change)
+        (meaning (slots_of (set_of layout.now.side (F.device flash.old)))))) }
+    ensures cut { OnErr result (
+        Keeps (F.device flash.old) (F.device flash.new) layout.now.side layout.now.generation
+        ⊎ Takes (F.device flash.old) (F.device flash.new) layout.now.side layout.now.generation
+        (meaning (slots_of (set_of layout.now.side (F.device flash.old))))
+        ⊎ Takes (F.device flash.old) (F.device flash.new) layout.now.side layout.now.generation
+        (changed (meant change)
+        (meaning (slots_of (set_of layout.now.side (F.device flash.old)))))) }
+    ensures marks { KeepsMarks (F.device flash.old) (F.device flash.new) }
+    ensures other { IsSameSet (other_of layout.now.side) (F.device flash.old) (F.device flash.new) }
+    ensures wear { (F.device flash.new).wear ≡ (F.device flash.old).wear }
+    ensures power { Ends result (F.device flash.old) (F.device flash.new) }
+{
+    let slots = flash.shape().words() - 4;
+    let page = first_page(flash, layout.side) + layout.fill / slots;
+    flash.program(page, 4 + layout.fill % slots, change.word())?;
+    Ok(())
+}
