@@ -2,15 +2,18 @@
 use Rattle.std.specs.Prelude.{ℕ, List, decimal, codes, flat_map}
 use Rattle.ee_text.specs.Line.{line_of}
 use Rattle.ee_script.specs.declared.answer.Answer.{Answer}
-use Rattle.ee_script.specs.declared.answer.Answer.TheVariants.{Appended, Full, Value, NoValue, Idle}
+use Rattle.ee_script.specs.declared.answer.Answer.TheVariants.{Appended, Moved, Full, Spent, Cleaned, Idle, Value, NoValue}
 
 -- what its line says, without the line feed
 abbrev pub wording : Answer → List ℕ
 wording Appended = codes "ok"
+wording Moved = codes "moved"
 wording Full = codes "full"
+wording Spent = codes "spent"
+wording Cleaned = codes "clean"
+wording Idle = codes "idle"
 wording (Value value) = decimal value
 wording NoValue = codes "none"
-wording Idle = codes "idle"
 
 -- one line for each answer
 abbrev pub report : List Answer → List ℕ

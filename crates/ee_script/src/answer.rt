@@ -9,14 +9,20 @@ use std::alloc::{AllocError, Allocator};
 pub enum Answer {
     /// `ok`: the write was appended.
     Appended,
+    /// `moved`: no slot was free, and all values were moved to the other set with the write.
+    Moved,
     /// `full`: the address has no value, and there is no room for one more.
     Full,
+    /// `spent`: no slot is free, and no generation is left to move the values to the other set.
+    Spent,
+    /// `clean`: a page was erased.
+    Cleaned,
+    /// `idle`: there was nothing to clean.
+    Idle,
     /// The value that was read.
     Value(u32),
     /// `none`: the address has no value.
     NoValue,
-    /// `idle`: there was nothing to clean.
-    Idle,
 }
 
 /// Writes the answer's line at the end of a report. After an error the report may have a part of
@@ -26,12 +32,15 @@ pub fn push_answer<A: Allocator>(out: &mut Vec<u8, A>, answer: Answer) -> Result
 {
     match answer {
         Answer::Appended => out.extend_from_slice(b"ok\n"),
+        Answer::Moved => out.extend_from_slice(b"moved\n"),
         Answer::Full => out.extend_from_slice(b"full\n"),
-        Answer::NoValue => out.extend_from_slice(b"none\n"),
+        Answer::Spent => out.extend_from_slice(b"spent\n"),
+        Answer::Cleaned => out.extend_from_slice(b"clean\n"),
         Answer::Idle => out.extend_from_slice(b"idle\n"),
         Answer::Value(value) => {
             push_number(out, u64::from(value))?;
             out.extend_from_slice(b"\n")
         }
+        Answer::NoValue => out.extend_from_slice(b"none\n"),
     }
 }

@@ -85,16 +85,19 @@ fn answers_are_lines(rt: HostRuntime) -> Result<(), Fail> {
     let mut out = Vec::new(rt.alloc());
     for answer in [
         Answer::Appended,
+        Answer::Moved,
         Answer::Full,
+        Answer::Spent,
+        Answer::Cleaned,
+        Answer::Idle,
         Answer::Value(4_294_967_295),
         Answer::NoValue,
-        Answer::Idle,
     ] {
         push_answer(&mut out, answer)?;
     }
     assert_eq!(rt;
         out.as_slice(),
-        b"ok\nfull\n4294967295\nnone\nidle\n".as_slice()
+        b"ok\nmoved\nfull\nspent\nclean\nidle\n4294967295\nnone\n".as_slice()
     );
     Ok(())
 }

@@ -1,5 +1,3 @@
-pub mod Words
-pub mod Elements
-pub mod Appending
 pub mod Causes
+pub mod Runs
 pub mod Streams

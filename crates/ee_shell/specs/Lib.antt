@@ -1,4 +1,4 @@
 pub mod Machine
-pub mod Places
+pub mod Serving
 pub mod Replaying
 pub mod Fault

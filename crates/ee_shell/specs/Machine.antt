@@ -1,34 +1,29 @@
--- The report machine: what a script's commands are answered, and what they change.
-use Rattle.std.specs.Prelude.{◌≡◌, ℕ, ◌+◌, ◌<◌, Some, None}
-use Rattle.std.specs.FinMap.{FinMap, get, insert, empty}
-use Rattle.std.specs.Ordering.{nat_cmp}
+-- The report machine: what a script's commands are answered, and what they leave of a store's state.
+use Rattle.std.specs.Prelude.{◌≡◌, ◌<◌, ◌-◌, Some, None}
 use Rattle.ee_flash.specs.Size.{Size, slot_count}
+use Rattle.ee_pages.specs.Meaning.{Put}
+use Rattle.ee_store.specs.State.{State, appended, moved, with_pending}
+use Rattle.ee_store.specs.Changes.{IsAccepted, IsFull, IsSpent}
 use Rattle.ee_script.specs.declared.command.Command.{Command}
 use Rattle.ee_script.specs.declared.command.Command.TheVariants.{Write, Read, Clean}
 use Rattle.ee_script.specs.declared.answer.Answer.{Answer}
-use Rattle.ee_script.specs.declared.answer.Answer.TheVariants.{Appended, Full, Value, NoValue, Idle}
+use Rattle.ee_script.specs.declared.answer.Answer.TheVariants.{Appended, Moved, Full, Spent, Cleaned, Idle, Value, NoValue}
 
--- how many slots there are, the values of the addresses, and how many slots are used: one for each write that was
--- accepted
-pub record State : Type 0 where
-  pub slots : ℕ
-  pub values : FinMap nat_cmp ℕ
-  pub fill : ℕ
-
--- nothing was written
-abbrev pub blank : Size → State
-blank size = record { slots = slot_count size; values = empty; fill = 0 }
-
--- the address has the value, and one slot more is used
-abbrev pub appended : ℕ → ℕ → State → State
-appended address value state = record state { values = insert state.values address value; fill = state.fill + 1 }
-
--- From old, the machine answers the command so, and goes on to new.
-abbrev pub Step : State → Command → Answer → State → Type 0
-Step old (Write address value) Appended new = (old.fill < old.slots) × (new ≡ appended address value old)
-Step old (Write address value) Full new = (old.fill ≡ old.slots) × (new ≡ old)
-Step old (Read address) (Value value) new = (get old.values address ≡ Some value) × (new ≡ old)
-Step old (Read address) NoValue new = (get old.values address ≡ None) × (new ≡ old)
-Step old Clean Idle new = new ≡ old
--- no other answer is given
-Step old command answer new = ⊥
+-- On a device of this size: from old, the machine answers the command so, and goes on to new.
+abbrev pub Step : Size → State → Command → Answer → State → Type 0
+-- A write is refused, for the first cause that applies, and changes nothing; or it is appended where a slot is free; or
+-- it is moved with the map to the other set.
+Step size old (Write address value) Full new = IsFull (slot_count size) old address × (new ≡ old)
+Step size old (Write address value) Spent new = ¬ IsFull (slot_count size) old address × IsSpent (slot_count size) old × (new ≡ old)
+Step size old (Write address value) Appended new =
+    IsAccepted (slot_count size) old (Put address value) × (old.fill < slot_count size) × (new ≡ appended (Put address value) old)
+Step size old (Write address value) Moved new =
+    IsAccepted (slot_count size) old (Put address value) × (old.fill ≡ slot_count size) × (new ≡ moved size.pages (Put address value) old)
+-- A read gives what the map has.
+Step size old (Read address) (Value value) new = (old.map address ≡ Some value) × (new ≡ old)
+Step size old (Read address) NoValue new = (old.map address ≡ None) × (new ≡ old)
+-- A clean step erases a page that waits, if one does.
+Step size old Clean Cleaned new = (0 < old.pending) × (new ≡ with_pending (old.pending - 1) old)
+Step size old Clean Idle new = (old.pending ≡ 0) × (new ≡ old)
+-- No other answer is given.
+Step size old command answer new = ⊥

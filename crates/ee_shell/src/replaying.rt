@@ -1,12 +1,14 @@
 ghost use Rattle.std.specs.Prelude.{◌≡◌, ◌⊎◌, ℕ, [], IfOk, IfErr, MatchResult};
 ghost use Rattle.ee_script.specs.Script.{IsFirstBadLine};
 ghost use Rattle.ee_script.specs.Whole.{IsAnswered};
-ghost use Rattle.ee_shell.specs.Machine.{State, Step, blank};
+ghost use Rattle.ee_shell.specs.Machine.{Step};
 ghost use Rattle.ee_shell.specs.Replaying.{IsReplayFault};
+ghost use Rattle.ee_store.specs.State.{State, formatted};
 
-use super::slot_log::SlotLog;
+use super::serving::answer_on;
 use ee_flash::{MemFlash, Shape};
-use ee_script::{ScriptFault, answer_script};
+use ee_script::ScriptFault;
+use ee_store::format;
 use std::alloc::{AllocError, Allocator, Global};
 use thiserror::Error;
 
@@ -55,8 +57,10 @@ impl From<ScriptFault> for ReplayFault {
     }
 }
 
-/// Answers a script from a device of this shape on which nothing is written. The report has a line
-/// for each line of the script.
+/// Answers a script on a store that is newly formatted, on a device of this shape in memory. The
+/// report has a line for each line of the script.
+///
+/// Source: ours.
 ///
 /// # Errors
 ///
@@ -66,8 +70,9 @@ pub fn try_script<A: Allocator + Copy>(
     shape: Shape,
     script: &[u8],
 ) -> Result<Replayed<A>, ReplayFault>
+    // The report is that of the report machine, from the state of a store with nothing in it.
     ensures report { IfOk result (λ replayed. (last : State)
-        × IsAnswered Step (blank shape) script.now last replayed.report.items) }
+        × IsAnswered (Step shape) formatted script.now last replayed.report.items) }
     ensures image { IfOk result (λ replayed. replayed.image.items ≡ []) }
     ensures fault { IfErr result (IsReplayFault script.now) }
     // A bad line is never passed over.
@@ -76,7 +81,11 @@ pub fn try_script<A: Allocator + Copy>(
         (λ fault. (fault ≡ ReplayFault.Script n) ⊎ (fault ≡ ReplayFault.Memory)) }
 {
     let flash = MemFlash::blank(alloc, shape)?;
-    let (_, report) = answer_script(alloc, SlotLog::new(flash), script)?;
+    let store = match format(flash) {
+        Ok(store) => store,
+        Err(_) => unreachable!("a device without a fuse is never cut"),
+    };
+    let (_, report) = answer_on(alloc, store, script)?;
     Ok(Replayed {
         image: Vec::new(alloc),
         report,

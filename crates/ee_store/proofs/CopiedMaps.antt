@@ -1,8 +1,8 @@
 -- Maps that are copied address by address, and how many addresses have a value in them.
 use Rattle.std.proofs.Common.{◌≡◌, inl, inr, ℕ, ◌+◌, ◌<◌, ◌≤◌, Bool, true, false, cond, Option, Some, None, is_some, nat_eq, nat_lt, nat_le, List, [], ◌∷◌, refl, sym, subst, ap, ◌∙◌, arith, suc, zero}
-use Rattle.std.specs.Prelude.{not, ◌&&◌, ◌==◌, ◌/◌, ◌%◌, ◌^◌}
+use Rattle.std.specs.Prelude.{◌&&◌, ◌==◌, ◌/◌, ◌%◌, ◌^◌}
 use Rattle.std.proofs.Math.Path.{fun_ext}
-use Rattle.std.proofs.lemmas.Bool.{cases_lt, cases_eq, eq-eqb, eqb-true, ne_eqb, not-false, le-leb, lt-leb}
+use Rattle.std.proofs.lemmas.Bool.{cases_lt, cases_eq, eq-eqb, ne_eqb, le-leb, lt-leb}
 use Rattle.ee_codec.specs.Reading.{slot_of}
 use Rattle.ee_codec.specs.Words.{IsAddress}
 use Rattle.ee_codec.specs.declared.slot.Slot.{Slot}
@@ -99,7 +99,7 @@ module _ (start map : Map) (except : ℕ) where
       ]
 
   -- the next live address is the one that is not copied
-  pub passed : (above next value : ℕ) → IsNextLive map above (Some (next, value)) → next ≡ except → (address : ℕ) → so_far above address ≡ so_far next address
+  passed : (above next value : ℕ) → IsNextLive map above (Some (next, value)) → next ≡ except → (address : ℕ) → so_far above address ≡ so_far next address
   passed above next value is here address = elim (cases_eq address except) [
     | inl same ↦ replaced-at start (map_to map above) except address same ∙ sym (replaced-at start (map_to map next) except address same)
     | inr other ↦
@@ -129,12 +129,12 @@ module _ (start map : Map) (except : ℕ) where
   ]
 
   -- so it is where the map before says the same as those copied so far
-  pub copied_to : (held : Map) (above next value : ℕ) → ((address : ℕ) → held address ≡ so_far above address) → IsNextLive map above (Some (next, value)) → (next ≡ except → ⊥) → (address : ℕ) → changed (Put next value) held address ≡ so_far next address
+  copied_to : (held : Map) (above next value : ℕ) → ((address : ℕ) → held address ≡ so_far above address) → IsNextLive map above (Some (next, value)) → (next ≡ except → ⊥) → (address : ℕ) → changed (Put next value) held address ≡ so_far next address
   copied_to held above next value same is apart address =
       ap (λ (said : Map). changed (Put next value) said address) (fun_ext same) ∙ copied above next value is apart address
 
   -- one address more has a value
-  pub one_more : (above next value : ℕ) → IsNextLive map above (Some (next, value)) → (next ≡ except → ⊥) → IsAddress next → live_in (so_far next) ≡ live_in (so_far above) + 1
+  one_more : (above next value : ℕ) → IsNextLive map above (Some (next, value)) → (next ≡ except → ⊥) → IsAddress next → live_in (so_far next) ≡ live_in (so_far above) + 1
   one_more above next value is apart proper =
       let new : so_far above next ≡ None = replaced-other start (map_to map above) except next apart ∙ map_to-above map above next is.0 in
       let counts = change_counts (Put next value) (so_far above) proper in
@@ -155,7 +155,7 @@ module _ (start map : Map) (except : ℕ) where
     ]
   ]
 
-  pub few_so_far : (above : ℕ) → live_in (so_far above) ≤ live_in (replaced start except map)
+  few_so_far : (above : ℕ) → live_in (so_far above) ≤ live_in (replaced start except map)
   few_so_far above = live_to-within 65534 (so_far above) (replaced start except map) (within_all above)
 
   -- so there is room for the next one
@@ -164,6 +164,19 @@ module _ (start map : Map) (except : ℕ) where
       let more = one_more above next value is apart proper in
       let few = few_so_far next in
       omega arith
+
+  -- the map and its count after the next address, whether it is the one that is not copied or not
+  pub taken_up : (above next value : ℕ) → IsNextLive map above (Some (next, value)) → IsAddress next → (held after : Map) (count more : ℕ) → ((address : ℕ) → held address ≡ so_far above address) → count ≡ live_in (so_far above) → (next ≡ except → (more ≡ count) × ((address : ℕ) → after address ≡ held address)) → ((next ≡ except → ⊥) → (more ≡ count + 1) × ((address : ℕ) → after address ≡ changed (Put next value) held address)) → (more ≡ live_in (so_far next)) × ((address : ℕ) → after address ≡ so_far next address)
+  taken_up above next value is proper held after count more same counted passing copying = elim (cases_eq next except) [
+    | inl here ↦
+        let left = passing here in
+        let kept = passed above next value is here in
+        (left.0 ∙ counted ∙ same_counts _ _ kept, λ address. left.1 address ∙ same address ∙ kept address)
+    | inr apart ↦
+        let taken = copying apart in
+        let further = one_more above next value is apart proper in
+        (omega (arith, taken.0, further), λ address. taken.1 address ∙ copied_to held above next value same is apart address)
+  ]
 
 -- no slot says anything of address 0
 element-zero : (address value : ℕ) → (address ≡ 0 → ⊥) → slot_says (Element address value) 0 ≡ None
@@ -252,10 +265,3 @@ then_all start map change same address = elim (cases_eq address (address_of chan
 pub all_count : (start map later : Map) (change : Change) (except : ℕ) → except ≡ address_of change → ((address : ℕ) → start address ≡ changed change nothing address) → ((address : ℕ) → later address ≡ map address) → live_in (replaced start except later) ≡ live_in (changed change map)
 all_count start map later change except is same kept =
     rw is (same_counts _ _ (λ address. then_all start later change same address ∙ ap (λ (said : Map). changed change said address) (fun_ext kept)))
-
--- what a test for another address says
-pub test_other : (first second : ℕ) → true ≡ not (nat_eq first second) → first ≡ second → ⊥
-test_other first second is same = let no : true ≡ false = is ∙ ap not (eq-eqb first second same) in cc no
-
-pub test_same : (first second : ℕ) → false ≡ not (nat_eq first second) → first ≡ second
-test_same first second is = eqb-true first second (not-false (nat_eq first second) (sym is))

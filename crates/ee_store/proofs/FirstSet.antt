@@ -1,5 +1,5 @@
 -- How a blank device gets its first set.
-use Rattle.std.proofs.Common.{◌≡◌, ◌<◌, inl, inr, ℕ, ◌+◌, ◌-◌, ◌/◌, true, false, None, List, [], ◌∷◌, length, get_or, set, refl, sym, subst, ap, ◌∙◌, arith, suc}
+use Rattle.std.proofs.Common.{◌≡◌, ◌<◌, inl, inr, ℕ, ◌+◌, ◌-◌, ◌/◌, true, false, None, List, [], ◌∷◌, length, set, refl, sym, subst, ap, ◌∙◌, arith, suc}
 use Rattle.std.specs.List.{All}
 use Rattle.std.specs.Prelude.{not}
 use Rattle.std.proofs.Math.Nat.{zero-div}
@@ -18,8 +18,7 @@ use Rattle.ee_pages.specs.Filling.{IsCommitted, IsFilling}
 use Rattle.ee_pages.specs.Layout.{IsLayout}
 use Rattle.ee_pages.specs.Meaning.{meaning}
 use Rattle.ee_pages.specs.Page.{is_blank, is_marked, is_written, marking, place_of_mark, word_in}
-use Rattle.ee_pages.specs.Sets.{committed, fill_of, first_page, page_of_slot, pending_of, set_of, slots_of, word_of}
-use Rattle.ee_pages.specs.declared.side.Side.{Side}
+use Rattle.ee_pages.specs.Sets.{committed, fill_of, page_of_slot, pending_of, set_of, slots_of, word_of}
 use Rattle.ee_pages.specs.declared.side.Side.TheVariants.{First, Second}
 use Rattle.ee_pages.specs.declared.state.Mark.{Mark}
 use Rattle.ee_pages.specs.declared.state.Mark.TheVariants.{Active, Receive}
@@ -28,7 +27,7 @@ use Rattle.ee_pages.proofs.OtherSet.{first_word, same_set}
 use Rattle.ee_pages.proofs.OwnSet.{page_of_set}
 use Rattle.ee_pages.proofs.Slots.{length-set_of}
 use Rattle.ee_pages.proofs.FillingSteps.{opens_set}
-use Rattle.ee_store.proofs.Marks.{IsProper, erased_from, mark_step}
+use Rattle.ee_store.proofs.Marks.{IsProper, erased_from, mark_step, marked_by}
 use Rattle.ee_store.proofs.States.{same_states, state_is}
 use Rattle.ee_store.specs.Finished.{IsMarked, last_used}
 use Rattle.ee_store.specs.State.{formatted, state_of}
@@ -63,17 +62,6 @@ proper_first generation e = let same : generation ≡ 1 = cc in (omega arith, om
 
 pub proper_active : IsProper Active
 proper_active generation e = cc
-
--- the word of a whole mark is written
-pub marked_by : (page : ℕ) (mark : Mark) (old new : Device) → IsStep (marking page mark) old new → new ≡ completed (marking page mark) old → is_marked new page mark ≡ true
-marked_by page mark old new taken whole =
-    let at = place_of_mark mark in
-    let in_range : page < length old.image = omega (arith, taken.formed.image_length, taken.may.0) in
-    let long = All-get_or (λ words. length words ≡ old.size.words) old.image page [] in_range taken.formed.page_lengths in
-    let within : at < length (page_at old page) = omega (arith, long, taken.may.1) in
-    ap (λ (device : Device). is_written (word_at device page at)) whole
-    ∙ ap (λ (words : List Word). is_written (word_in words at)) (get_or-set_same old.image page _ [] in_range)
-    ∙ ap is_written (get_or-set_same (page_at old page) at _ Erased within)
 
 module _ (blank mid : Device) (formed : IsFormed blank) (all : All (λ words. is_blank words ≡ true) blank.image) (on : IsOn blank) (whole : mid ≡ completed (marking 0 (Receive 1)) blank) where
   in_device : 0 < page_count blank.size

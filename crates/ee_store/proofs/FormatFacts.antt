@@ -18,7 +18,7 @@ use Rattle.ee_pages.proofs.Slots.{blank_page}
 use Rattle.ee_store.proofs.AfterCalls.{goes_on_same}
 use Rattle.ee_store.proofs.Wears.{no_wear}
 use Rattle.ee_store.specs.Parts.{IsSameBut}
-use Rattle.ee_store.specs.State.{CountsWear, WearRises}
+use Rattle.ee_store.specs.State.{WearRises}
 
 -- a count that is one more, below all ones
 below_more : (count top : ℕ) → min (count + 1) top < top → (count < top) × (min (count + 1) top ≡ count + 1)

@@ -16,3 +16,4 @@ pub mod CopiedMaps
 pub mod MovingFacts
 pub mod OtherSteps
 pub mod Making
+pub mod Running

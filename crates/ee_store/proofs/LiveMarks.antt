@@ -1,16 +1,13 @@
 -- The marks that an opening sets in the live set and in the other one, page after page.
-use Rattle.std.proofs.Common.{◌≡◌, ◌≢◌, ◌⊎◌, inl, inr, ℕ, ◌+◌, ◌-◌, ◌*◌, ◌/◌, ◌<◌, ◌≤◌, true, false, not, length, Result, Ok, Err, refl, sym, subst, ap, ◌∙◌, arith}
-use Rattle.std.specs.List.{filter}
-use Rattle.std.proofs.lemmas.Bool.{cases_eq, cases_lt, true≢false}
+use Rattle.std.proofs.Common.{◌≡◌, ◌≢◌, ◌⊎◌, inl, inr, ℕ, ◌+◌, ◌-◌, ◌*◌, ◌/◌, ◌<◌, ◌≤◌, true, false, not, refl, sym, subst, ap, ◌∙◌, arith}
+use Rattle.std.proofs.lemmas.Bool.{cases_lt, true≢false}
 use Rattle.std.proofs.lemmas.List.Filters.{length-filter_both}
 use Rattle.std.proofs.Math.Nat.{div-mul-le_self, mul-le-mul_right}
 use Rattle.ee_flash.specs.Device.{Device, IsFormed, page_at}
 use Rattle.ee_flash.specs.Power.{GoesOn}
 use Rattle.ee_flash.specs.Size.{Size, slot_count}
-use Rattle.ee_flash.specs.declared.word.Word.{Word}
 use Rattle.ee_flash.specs.declared.word.Word.TheVariants.{Erased}
 use Rattle.std.specs.Prelude.{slice_index_or}
-use Rattle.ee_pages.specs.Laws.{Keeps}
 use Rattle.ee_pages.specs.Layout.{IsLayout}
 use Rattle.ee_pages.specs.Legal.{IsLive}
 use Rattle.ee_pages.specs.Page.{is_blank, is_marked, is_written}
@@ -80,18 +77,12 @@ pub active_behind : (layout : Layout) (device : Device) → IsLayout device layo
 active_behind layout device is =
     mark_behind layout device (layout.current - first_page device.size layout.side) Active is (omega (arith, last_is layout device is)) (inl refl)
 
-pub from_first : (layout : Layout) (device : Device) → IsLayout device layout → first_page device.size layout.side ≤ layout.current
-from_first layout device is = omega (arith, last_is layout device is)
-
 -- where the live set is marked, each mark is set
 pub valid_already : (layout : Layout) (device : Device) (page : ℕ) → IsLayout device layout → IsLiveMarked device layout.side → first_page device.size layout.side ≤ page → page < layout.current → is_marked device page Valid ≡ true
 valid_already layout device page is marked from below =
     let place : page ≡ first_page device.size layout.side + (page - first_page device.size layout.side) = omega (arith, from) in
     ap (λ n. is_marked device n Valid) place
     ∙ marked.valid (page - first_page device.size layout.side) (omega (arith, last_is layout device is, from, below))
-
-pub active_already : (layout : Layout) (device : Device) → IsLayout device layout → IsLiveMarked device layout.side → is_marked device layout.current Active ≡ true
-active_already layout device is marked = ap (λ n. is_marked device n Active) (last_is layout device is) ∙ marked.active
 
 -- one page more is marked
 pub valid_more : (first page : ℕ) (mid new : Device) → first ≤ page → ((k : ℕ) → k < page - first → is_marked mid (first + k) Valid ≡ true) → KeepsMarks mid new → is_marked new page Valid ≡ true → (k : ℕ) → k < page + 1 - first → is_marked new (first + k) Valid ≡ true
@@ -172,11 +163,6 @@ done_already device side page marked from below =
     let place : first_page device.size side + (page - first_page device.size side) ≡ page = omega (arith, from) in
     subst (λ n. IsPageDone device n) place (marked (page - first_page device.size side) (omega (arith, from, below)))
 
--- the pages are done in the end
-pub old_marked : (side : Side) (old new : Device) → new.size ≡ old.size → ((k : ℕ) → k < old.size.pages → IsPageDone new (first_page old.size side + k)) → IsOldMarked new side
-old_marked side old new same done page below =
-    subst (λ n. IsPageDone new (n + page)) (ap (λ (size : Size). first_page size side) (sym same)) (done page (omega (arith, below, ap (λ (size : Size). size.pages) same)))
-
--- pages that are as before are as done
+-- in a device that is as before
 pub old_marks_kept : (side : Side) (old new : Device) → new ≡ old → IsOldMarked old side → IsOldMarked new side
 old_marks_kept side old new same marked = subst (λ device. IsOldMarked device side) (sym same) marked

@@ -1,24 +1,22 @@
 -- What programming a mark leaves of its device, in every outcome.
-use Rattle.std.proofs.Common.{◌≡◌, ◌≢◌, ◌⊎◌, inl, inr, ℕ, ◌+◌, ◌-◌, ◌*◌, ◌<◌, ◌≤◌, true, false, List, [], length, get_or, set, Result, Ok, Err, OnOk, OnErr, refl, sym, subst, ap, ◌∙◌, arith}
-use Rattle.std.proofs.lemmas.Bool.{cases_Bool, cases_eq, true≢false}
+use Rattle.std.proofs.Common.{◌≡◌, ◌⊎◌, inl, inr, ℕ, ◌+◌, ◌-◌, ◌<◌, ◌≤◌, true, false, List, [], length, get_or, set, Result, Ok, Err, OnOk, OnErr, refl, sym, subst, ap, ◌∙◌, arith}
+use Rattle.std.proofs.lemmas.Bool.{cases_Bool, cases_eq}
 use Rattle.std.proofs.lemmas.List.{get_or-set_other, get_or-set_same}
 use Rattle.std.proofs.lemmas.List.Elements.{All-get_or}
 use Rattle.ee_codec.specs.Words.{IsGeneration}
 use Rattle.ee_flash.specs.Device.{Device, IsFormed, IsOn, all_ones, page_at, word_at}
-use Rattle.ee_flash.specs.Laws.{IsStep, page_of}
+use Rattle.ee_flash.specs.Laws.{IsStep}
 use Rattle.ee_flash.specs.Size.{page_count}
 use Rattle.ee_flash.specs.Step.{Step, Program, IsCutIn, IsUntouched, MayFollow, completed}
 use Rattle.ee_flash.specs.declared.device.Cut.{Cut}
 use Rattle.ee_flash.specs.declared.word.Word.{Word}
 use Rattle.ee_flash.specs.declared.word.Word.TheVariants.{Erased, Held, Torn}
-use Rattle.ee_flash.proofs.Outcomes.{step_changes_one_page, step_leaves_pages}
-use Rattle.ee_pages.specs.Laws.{IsPageOf, Keeps}
-use Rattle.ee_pages.specs.Layout.{IsLayout}
+use Rattle.ee_flash.proofs.Outcomes.{step_leaves_pages}
+use Rattle.ee_pages.specs.Laws.{IsPageOf}
 use Rattle.ee_pages.specs.Legal.{IsLive}
 use Rattle.ee_pages.specs.Page.{is_blank, is_marked, is_written, marking, number_of_mark, place_of_mark, word_in}
 use Rattle.ee_pages.specs.Pushing.{IsMarkBehind}
-use Rattle.ee_pages.specs.Sets.{first_page, other, page_of_slot, pending_of, set_of}
-use Rattle.ee_pages.specs.declared.find.Layout.{Layout}
+use Rattle.ee_pages.specs.Sets.{first_page, other, pending_of}
 use Rattle.ee_pages.specs.declared.side.Side.{Side}
 use Rattle.ee_pages.specs.declared.side.Side.TheVariants.{First, Second}
 use Rattle.ee_pages.specs.declared.state.Mark.{Mark}
@@ -160,3 +158,21 @@ proper_live Erasing either = λ generation e. cc
 
 pub proper_old : IsProper Erasing
 proper_old generation e = cc
+
+-- the word of a whole mark is written
+pub marked_by : (page : ℕ) (mark : Mark) (old new : Device) → IsStep (marking page mark) old new → new ≡ completed (marking page mark) old → is_marked new page mark ≡ true
+marked_by page mark old new taken whole =
+    let at = place_of_mark mark in
+    let in_range : page < length old.image = omega (arith, taken.formed.image_length, taken.may.0) in
+    let long = All-get_or (λ words. length words ≡ old.size.words) old.image page [] in_range taken.formed.page_lengths in
+    let within : at < length (page_at old page) = omega (arith, long, taken.may.1) in
+    ap (λ (device : Device). is_written (word_at device page at)) whole
+    ∙ ap (λ (words : List Word). is_written (word_in words at)) (get_or-set_same old.image page _ [] in_range)
+    ∙ ap is_written (get_or-set_same (page_at old page) at _ Erased within)
+
+-- it was before, or is now
+pub marked_after : (page : ℕ) (mark : Mark) (old new : Device) → IsFormed old → page < page_count old.size → IsProper mark → (is_marked old page mark ≡ true → new ≡ old) → (is_marked old page mark ≡ false → IsOn old) → (is_marked old page mark ≡ false → new ≡ completed (marking page mark) old) → is_marked new page mark ≡ true
+marked_after page mark old new formed h proper same on done = elim (cases_Bool (is_marked old page mark)) [
+  | inl set ↦ ap (λ (device : Device). is_marked device page mark) (same set) ∙ set
+  | inr unset ↦ marked_by page mark old new (mark_step page mark old new formed h proper unset (inl (record { was_on = on unset; done = done unset }))) (done unset)
+]

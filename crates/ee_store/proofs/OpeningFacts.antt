@@ -1,17 +1,16 @@
 -- What an opening leaves, from what setting the marks leaves.
-use Rattle.std.proofs.Common.{◌≡◌, ℕ, Option, Some, None, Result, Ok, Err, sym, subst, ap, ◌∙◌}
+use Rattle.std.proofs.Common.{◌≡◌, ℕ, Option, Some, None, sym, subst, ap, ◌∙◌}
 use Rattle.ee_flash.specs.Device.{Device}
 use Rattle.ee_flash.specs.Power.{GoesOn, IsCut}
 use Rattle.ee_pages.specs.Layout.{IsLayout}
 use Rattle.ee_pages.specs.Legal.{IsLive}
-use Rattle.ee_pages.specs.Sets.{live_of, pending_of}
+use Rattle.ee_pages.specs.Sets.{pending_of}
 use Rattle.ee_pages.specs.declared.find.Layout.{Layout}
 use Rattle.ee_pages.specs.declared.side.Side.{Side}
 use Rattle.ee_pages.specs.declared.side.Side.TheVariants.{First}
-use Rattle.ee_store.proofs.LiveMarks.{layout_stays}
 use Rattle.ee_store.proofs.States.{state_stays}
 use Rattle.ee_store.proofs.Wears.{no_wear}
-use Rattle.ee_store.specs.Finished.{IsFinished, IsMarked, IsStore}
+use Rattle.ee_store.specs.Finished.{IsFinished, IsMarked}
 use Rattle.ee_store.specs.Openings.{IsCutOpening, IsFormatted, Opens}
 use Rattle.ee_store.specs.Parts.{Stays}
 use Rattle.ee_store.specs.State.{WearRises, formatted, state_of}

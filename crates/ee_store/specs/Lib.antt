@@ -4,3 +4,4 @@ pub mod Changes
 pub mod Calls
 pub mod Openings
 pub mod Parts
+pub mod Runs

@@ -19,6 +19,10 @@ abbrev pub meant : declared.Change → Change
 meant (kinds.Put address value) = Put address value
 meant (kinds.Forget address value) = Forget address
 
+-- the map that the slots of a set hold
+abbrev pub map_in : Side → Device → Map
+map_in side device = meaning (slots_of (set_of side device))
+
 -- the live set, the number of pages that wait to be erased and all wear are as before
 pub record Stays (old new : Device) (side : Side) (generation : ℕ) : Type 0 where
   pub keeps : Keeps old new side generation
@@ -55,6 +59,6 @@ map_to map last address = if nat_le address last then map address else None
 pub record HasMoved (old new : Device) (side : Side) (generation : ℕ) (change : Change) : Type 0 where
   pub live : IsLive new (other side) (generation + 1)
   pub same_size : new.size ≡ old.size
-  pub map_is : (address : ℕ) → meaning (slots_of (set_of (other side) new)) address ≡ changed change (meaning (slots_of (set_of side old))) address
-  pub fill_is : fill_of (slots_of (set_of (other side) new)) ≡ live_in (changed change (meaning (slots_of (set_of side old))))
+  pub map_is : (address : ℕ) → map_in (other side) new address ≡ changed change (map_in side old) address
+  pub fill_is : fill_of (slots_of (set_of (other side) new)) ≡ live_in (changed change (map_in side old))
   pub pending_is : pending_of (set_of side new) ≡ old.size.pages

@@ -29,7 +29,8 @@ pub(crate) fn make_change<F: Flash>(
         → Appends (F.device flash.old) (meant change) (F.device flash.new) }
     ensures moved { result ≡ Ok Written.Moved
         → Moves (F.device flash.old) (meant change) (F.device flash.new) }
-    ensures cut { OnErr result (IsCutChange (F.device flash.old) (meant change) (F.device flash.new)) }
+    ensures cut { OnErr result
+        (IsCutChange (F.device flash.old) (meant change) (F.device flash.new)) }
     ensures store { IsStore (F.device flash.new) }
     ensures layout { IsOn (F.device flash.new) → IsLayout (F.device flash.new) layout.new }
 {

@@ -1,4 +1,4 @@
-ghost use Rattle.std.specs.Prelude.{◌≡◌, ◌≢◌, ◌<◌, ◌≤◌, ℕ, ◌+◌, ◌-◌, ◌*◌, ◌/◌, IfOk, IfSome, None, OnOk, slice_set};
+ghost use Rattle.std.specs.Prelude.{◌≡◌, ◌≢◌, ◌<◌, ◌≤◌, ℕ, ◌+◌, ◌-◌, ◌*◌, ◌/◌, IfOk, IfSome, None, Ok, OnOk, slice_set};
 ghost use Rattle.ee_codec.specs.Words.{IsAddress, IsGeneration};
 ghost use Rattle.ee_flash.specs.Power.{Ends};
 ghost use Rattle.ee_flash.specs.Size.{slot_count};
@@ -6,9 +6,9 @@ ghost use Rattle.ee_flash.specs.declared.word.Word.TheVariants.{Held};
 ghost use Rattle.ee_pages.specs.Filling.{IsFilling};
 ghost use Rattle.ee_pages.specs.Laws.{Keeps};
 ghost use Rattle.ee_pages.specs.Layout.{IsLayout};
-ghost use Rattle.ee_pages.specs.Meaning.{IsNextLive, Spells, above_of, changed, live_in, meaning};
+ghost use Rattle.ee_pages.specs.Meaning.{IsNextLive, Put, Spells, above_of, changed, live_in, meaning};
 ghost use Rattle.ee_pages.specs.Sets.{other as other_of, set_of, slots_of};
-ghost use Rattle.ee_store.specs.Parts.{meant, replaced};
+ghost use Rattle.ee_store.specs.Parts.{map_in, meant, replaced};
 
 use crate::change::Change;
 use ee_codec::Address;
@@ -43,7 +43,7 @@ impl Cursor {
     /// The next live address, with its value. `None` if there is none.
     pub(crate) fn next<F: Flash>(&mut self, flash: &F, layout: &Layout) -> Option<(Address, u32)>
         requires { IsLayout (F.device flash.now) layout.now }
-        ensures next { IsNextLive (meaning (slots_of (set_of layout.now.side (F.device flash.now)))) self.old result }
+        ensures next { IsNextLive (map_in layout.now.side (F.device flash.now)) self.old result }
         ensures proper { IfSome result (λ found. IsAddress found.0) }
         ensures moved { IfSome result (λ found. self.new ≡ found.0) }
     {
@@ -64,17 +64,21 @@ pub(crate) fn fill_set<F: Flash>(
 ) -> Result<usize, Cut>
     requires layout { IsLayout (F.device flash.old) layout.now }
     requires generation { IsGeneration (layout.now.generation + 1) }
-    requires filling { IsFilling (F.device flash.old) (other_of layout.now.side) (layout.now.generation + 1) 0 }
-    requires nothing { (address : ℕ) → meaning (slots_of (set_of (other_of layout.now.side) (F.device flash.old))) address ≡ None }
-    requires fits { live_in (changed (meant change) (meaning (slots_of (set_of layout.now.side (F.device flash.old)))))
+    requires filling { IsFilling (F.device flash.old) (other_of layout.now.side)
+        (layout.now.generation + 1) 0 }
+    requires nothing { (address : ℕ)
+        → map_in (other_of layout.now.side) (F.device flash.old) address ≡ None }
+    requires fits { live_in (changed (meant change) (map_in layout.now.side (F.device flash.old)))
         ≤ slot_count (F.device flash.old).size }
-    ensures keeps { Keeps (F.device flash.old) (F.device flash.new) layout.now.side layout.now.generation }
+    ensures keeps { Keeps (F.device flash.old)
+        (F.device flash.new) layout.now.side layout.now.generation }
     ensures filling { IfOk result
         (IsFilling (F.device flash.new) (other_of layout.now.side) (layout.now.generation + 1)) }
-    ensures map { OnOk result ((address : ℕ) → meaning (slots_of (set_of (other_of layout.now.side) (F.device flash.new))) address
-        ≡ changed (meant change) (meaning (slots_of (set_of layout.now.side (F.device flash.old)))) address) }
+    ensures map { OnOk result ((address : ℕ)
+        → map_in (other_of layout.now.side) (F.device flash.new) address
+        ≡ changed (meant change) (map_in layout.now.side (F.device flash.old)) address) }
     ensures each_once { IfOk result (λ count. count
-        ≡ live_in (changed (meant change) (meaning (slots_of (set_of layout.now.side (F.device flash.old)))))) }
+        ≡ live_in (changed (meant change) (map_in layout.now.side (F.device flash.old)))) }
     ensures wear { (F.device flash.new).wear ≡ (F.device flash.old).wear }
     ensures power { Ends result (F.device flash.old) (F.device flash.new) }
 {
@@ -89,15 +93,19 @@ pub(crate) fn fill_set<F: Flash>(
 fn put_first<F: Flash>(flash: &mut F, layout: &Layout, change: Change) -> Result<usize, Cut>
     requires layout { IsLayout (F.device flash.old) layout.now }
     requires generation { IsGeneration (layout.now.generation + 1) }
-    requires filling { IsFilling (F.device flash.old) (other_of layout.now.side) (layout.now.generation + 1) 0 }
-    requires nothing { (address : ℕ) → meaning (slots_of (set_of (other_of layout.now.side) (F.device flash.old))) address ≡ None }
-    ensures keeps { Keeps (F.device flash.old) (F.device flash.new) layout.now.side layout.now.generation }
+    requires filling { IsFilling (F.device flash.old) (other_of layout.now.side)
+        (layout.now.generation + 1) 0 }
+    requires nothing { (address : ℕ)
+        → map_in (other_of layout.now.side) (F.device flash.old) address ≡ None }
+    ensures keeps { Keeps (F.device flash.old)
+        (F.device flash.new) layout.now.side layout.now.generation }
     ensures filling { IfOk result
         (IsFilling (F.device flash.new) (other_of layout.now.side) (layout.now.generation + 1)) }
-    ensures map { OnOk result ((address : ℕ) → meaning (slots_of (set_of (other_of layout.now.side) (F.device flash.new))) address
+    ensures map { OnOk result ((address : ℕ)
+        → map_in (other_of layout.now.side) (F.device flash.new) address
         ≡ changed (meant change) (λ address. None) address) }
     ensures each_once { IfOk result (λ count. count
-        ≡ live_in (meaning (slots_of (set_of (other_of layout.now.side) (F.device flash.new))))) }
+        ≡ live_in (map_in (other_of layout.now.side) (F.device flash.new))) }
     ensures wear { (F.device flash.new).wear ≡ (F.device flash.old).wear }
     ensures power { Ends result (F.device flash.old) (F.device flash.new) }
 {
@@ -118,51 +126,98 @@ fn copy_others<F: Flash>(
 ) -> Result<usize, Cut>
     requires layout { IsLayout (F.device flash.old) layout.now }
     requires generation { IsGeneration (layout.now.generation + 1) }
-    requires filling { IsFilling (F.device flash.old) (other_of layout.now.side) (layout.now.generation + 1) count }
+    requires filling { IsFilling (F.device flash.old) (other_of layout.now.side)
+        (layout.now.generation + 1) count }
     requires only { (address : ℕ) → address ≢ except
-        → meaning (slots_of (set_of (other_of layout.now.side) (F.device flash.old))) address ≡ None }
-    requires each_once { count ≡ live_in (meaning (slots_of (set_of (other_of layout.now.side) (F.device flash.old)))) }
-    requires fits { live_in (replaced (meaning (slots_of (set_of (other_of layout.now.side) (F.device flash.old)))) except
-        (meaning (slots_of (set_of layout.now.side (F.device flash.old))))) ≤ slot_count (F.device flash.old).size }
-    ensures keeps { Keeps (F.device flash.old) (F.device flash.new) layout.now.side layout.now.generation }
+        → map_in (other_of layout.now.side) (F.device flash.old) address ≡ None }
+    requires each_once { count ≡ live_in (map_in (other_of layout.now.side) (F.device flash.old)) }
+    requires fits { live_in (replaced
+        (map_in (other_of layout.now.side) (F.device flash.old)) except
+        (map_in layout.now.side (F.device flash.old))) ≤ slot_count (F.device flash.old).size }
+    ensures keeps { Keeps (F.device flash.old)
+        (F.device flash.new) layout.now.side layout.now.generation }
     ensures filling { IfOk result
         (IsFilling (F.device flash.new) (other_of layout.now.side) (layout.now.generation + 1)) }
-    ensures map { OnOk result ((address : ℕ) → meaning (slots_of (set_of (other_of layout.now.side) (F.device flash.new))) address
-        ≡ replaced (meaning (slots_of (set_of (other_of layout.now.side) (F.device flash.old)))) except
-        (meaning (slots_of (set_of layout.now.side (F.device flash.old)))) address) }
+    ensures map { OnOk result ((address : ℕ)
+        → map_in (other_of layout.now.side) (F.device flash.new) address
+        ≡ replaced (map_in (other_of layout.now.side) (F.device flash.old)) except
+            (map_in layout.now.side (F.device flash.old)) address) }
     ensures each_once { IfOk result (λ all. all
-        ≡ live_in (replaced (meaning (slots_of (set_of (other_of layout.now.side) (F.device flash.old)))) except
-        (meaning (slots_of (set_of layout.now.side (F.device flash.old)))))) }
+        ≡ live_in (replaced (map_in (other_of layout.now.side) (F.device flash.old)) except
+            (map_in layout.now.side (F.device flash.old)))) }
     ensures wear { (F.device flash.new).wear ≡ (F.device flash.old).wear }
     ensures power { Ends result (F.device flash.old) (F.device flash.new) }
 {
     let mut count = count;
     let mut cursor = Cursor::new();
     'live: while let Some((address, value)) = cursor.next(flash, layout) {
-        if address != except {
-            stage(flash, layout, count, Change::Put { address, value })?;
-            count += 1;
-        }
+        count = copy_one(flash, layout, except, count, address, value)?;
     }
     Ok(count)
 }
 
-// Writes a change into the first free slot of the other set, of which so many slots are written. A
-// further page gets its receive word first.
-fn stage<F: Flash>(flash: &mut F, layout: &Layout, count: usize, change: Change) -> Result<(), Cut>
+// Copies a live address to the other set, of which so many slots are written, unless it is the one
+// that is not copied. Gives how many are then.
+fn copy_one<F: Flash>(
+    flash: &mut F,
+    layout: &Layout,
+    except: Address,
+    count: usize,
+    address: Address,
+    value: u32,
+) -> Result<usize, Cut>
     requires layout { IsLayout (F.device flash.old) layout.now }
     requires generation { IsGeneration (layout.now.generation + 1) }
-    requires filling { IsFilling (F.device flash.old) (other_of layout.now.side) (layout.now.generation + 1) count }
+    requires filling { IsFilling (F.device flash.old) (other_of layout.now.side)
+        (layout.now.generation + 1) count }
+    requires free { address ≢ except → count < slot_count (F.device flash.old).size }
+    ensures keeps { Keeps (F.device flash.old)
+        (F.device flash.new) layout.now.side layout.now.generation }
+    ensures filling { IfOk result
+        (IsFilling (F.device flash.new) (other_of layout.now.side) (layout.now.generation + 1)) }
+    ensures passed { address ≡ except
+        → (result ≡ Ok count) × (F.device flash.new ≡ F.device flash.old) }
+    ensures one_more { address ≢ except → IfOk result (λ all. all ≡ count + 1) }
+    ensures map { address ≢ except → OnOk result ((named : ℕ)
+        → map_in (other_of layout.now.side) (F.device flash.new) named
+        ≡ changed (Put address value)
+        (map_in (other_of layout.now.side) (F.device flash.old)) named) }
+    ensures wear { (F.device flash.new).wear ≡ (F.device flash.old).wear }
+    ensures power { Ends result (F.device flash.old) (F.device flash.new) }
+{
+    if address == except {
+        return Ok(count);
+    }
+    stage(flash, layout, count, Change::Put { address, value })?;
+    Ok(count + 1)
+}
+
+// Writes a change into the first free slot of the other set, of which so many slots are written. A
+// further page gets its receive word first.
+fn stage<F: Flash>(
+    flash: &mut F,
+    layout: &Layout,
+    count: usize,
+    change: Change,
+) -> Result<(), Cut>
+    requires layout { IsLayout (F.device flash.old) layout.now }
+    requires generation { IsGeneration (layout.now.generation + 1) }
+    requires filling { IsFilling (F.device flash.old) (other_of layout.now.side)
+        (layout.now.generation + 1) count }
     requires free { count < slot_count (F.device flash.old).size }
-    ensures keeps { Keeps (F.device flash.old) (F.device flash.new) layout.now.side layout.now.generation }
+    ensures keeps { Keeps (F.device flash.old)
+        (F.device flash.new) layout.now.side layout.now.generation }
     ensures filling { OnOk result
-        (IsFilling (F.device flash.new) (other_of layout.now.side) (layout.now.generation + 1) (count + 1)) }
+        (IsFilling (F.device flash.new) (other_of layout.now.side) (layout.now.generation + 1)
+        (count + 1)) }
     // The change stands in the slot of this number.
     ensures slot { OnOk result ((number : ℕ) × Spells number (meant change)
         × (slots_of (set_of (other_of layout.now.side) (F.device flash.new))
-        ≡ slice_set (slots_of (set_of (other_of layout.now.side) (F.device flash.old))) count (Held number))) }
-    ensures map { OnOk result ((address : ℕ) → meaning (slots_of (set_of (other_of layout.now.side) (F.device flash.new))) address
-        ≡ changed (meant change) (meaning (slots_of (set_of (other_of layout.now.side) (F.device flash.old)))) address) }
+        ≡ slice_set (slots_of (set_of (other_of layout.now.side) (F.device flash.old))) count
+        (Held number))) }
+    ensures map { OnOk result ((address : ℕ)
+        → map_in (other_of layout.now.side) (F.device flash.new) address
+        ≡ changed (meant change) (map_in (other_of layout.now.side) (F.device flash.old)) address) }
     ensures wear { (F.device flash.new).wear ≡ (F.device flash.old).wear }
     ensures power { Ends result (F.device flash.old) (F.device flash.new) }
 {
@@ -178,12 +233,16 @@ fn stage<F: Flash>(flash: &mut F, layout: &Layout, count: usize, change: Change)
 fn receive<F: Flash>(flash: &mut F, layout: &Layout, count: usize) -> Result<(), Cut>
     requires layout { IsLayout (F.device flash.old) layout.now }
     requires generation { IsGeneration (layout.now.generation + 1) }
-    requires filling { IsFilling (F.device flash.old) (other_of layout.now.side) (layout.now.generation + 1) count }
+    requires filling { IsFilling (F.device flash.old) (other_of layout.now.side)
+        (layout.now.generation + 1) count }
     requires free { count < slot_count (F.device flash.old).size }
-    ensures keeps { Keeps (F.device flash.old) (F.device flash.new) layout.now.side layout.now.generation }
+    ensures keeps { Keeps (F.device flash.old)
+        (F.device flash.new) layout.now.side layout.now.generation }
     ensures filling { OnOk result
-        (IsFilling (F.device flash.new) (other_of layout.now.side) (layout.now.generation + 1) count) }
-    ensures same_slots { OnOk result (slots_of (set_of (other_of layout.now.side) (F.device flash.new))
+        (IsFilling (F.device flash.new) (other_of layout.now.side)
+        (layout.now.generation + 1) count) }
+    ensures same_slots { OnOk result
+        (slots_of (set_of (other_of layout.now.side) (F.device flash.new))
         ≡ slots_of (set_of (other_of layout.now.side) (F.device flash.old))) }
     ensures wear { (F.device flash.new).wear ≡ (F.device flash.old).wear }
     ensures power { Ends result (F.device flash.old) (F.device flash.new) }
@@ -195,18 +254,28 @@ fn receive<F: Flash>(flash: &mut F, layout: &Layout, count: usize) -> Result<(),
 }
 
 // Programs a change into the first free slot of the other set.
-fn put_in<F: Flash>(flash: &mut F, layout: &Layout, count: usize, change: Change) -> Result<(), Cut>
+fn put_in<F: Flash>(
+    flash: &mut F,
+    layout: &Layout,
+    count: usize,
+    change: Change,
+) -> Result<(), Cut>
     requires layout { IsLayout (F.device flash.old) layout.now }
-    requires filling { IsFilling (F.device flash.old) (other_of layout.now.side) (layout.now.generation + 1) count }
+    requires filling { IsFilling (F.device flash.old) (other_of layout.now.side)
+        (layout.now.generation + 1) count }
     requires free { count < slot_count (F.device flash.old).size }
-    ensures keeps { Keeps (F.device flash.old) (F.device flash.new) layout.now.side layout.now.generation }
+    ensures keeps { Keeps (F.device flash.old)
+        (F.device flash.new) layout.now.side layout.now.generation }
     ensures filling { OnOk result
-        (IsFilling (F.device flash.new) (other_of layout.now.side) (layout.now.generation + 1) (count + 1)) }
+        (IsFilling (F.device flash.new) (other_of layout.now.side) (layout.now.generation + 1)
+        (count + 1)) }
     ensures slot { OnOk result ((number : ℕ) × Spells number (meant change)
         × (slots_of (set_of (other_of layout.now.side) (F.device flash.new))
-        ≡ slice_set (slots_of (set_of (other_of layout.now.side) (F.device flash.old))) count (Held number))) }
-    ensures map { OnOk result ((address : ℕ) → meaning (slots_of (set_of (other_of layout.now.side) (F.device flash.new))) address
-        ≡ changed (meant change) (meaning (slots_of (set_of (other_of layout.now.side) (F.device flash.old)))) address) }
+        ≡ slice_set (slots_of (set_of (other_of layout.now.side) (F.device flash.old))) count
+        (Held number))) }
+    ensures map { OnOk result ((address : ℕ)
+        → map_in (other_of layout.now.side) (F.device flash.new) address
+        ≡ changed (meant change) (map_in (other_of layout.now.side) (F.device flash.old)) address) }
     ensures wear { (F.device flash.new).wear ≡ (F.device flash.old).wear }
     ensures power { Ends result (F.device flash.old) (F.device flash.new) }
 {

@@ -15,6 +15,7 @@ mod changing;
 mod cleaning;
 mod copying;
 mod formatting;
+pub mod laws;
 mod marking;
 mod moving;
 mod opening;

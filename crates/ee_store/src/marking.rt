@@ -17,7 +17,8 @@ use ee_pages::{Layout, Mark, first_page, is_blank as page_is_blank, mark};
 /// one that may be erased. A mark whose word is written already takes no step.
 pub(crate) fn finish<F: Flash>(flash: &mut F, layout: &Layout) -> Result<(), Cut>
     requires { IsLayout (F.device flash.old) layout.now }
-    ensures stays { Stays (F.device flash.old) (F.device flash.new) layout.now.side layout.now.generation }
+    ensures stays { Stays (F.device flash.old)
+        (F.device flash.new) layout.now.side layout.now.generation }
     ensures finished { OnOk result (IsMarked (F.device flash.new) layout.now.side) }
     ensures no_step { IsMarked (F.device flash.old) layout.now.side
         → (result ≡ Ok tt) × (F.device flash.new ≡ F.device flash.old) }
@@ -31,7 +32,8 @@ pub(crate) fn finish<F: Flash>(flash: &mut F, layout: &Layout) -> Result<(), Cut
 // Marks the pages of the live set: those before the last used one, and that one.
 fn mark_live_set<F: Flash>(flash: &mut F, layout: &Layout) -> Result<(), Cut>
     requires { IsLayout (F.device flash.old) layout.now }
-    ensures stays { Stays (F.device flash.old) (F.device flash.new) layout.now.side layout.now.generation }
+    ensures stays { Stays (F.device flash.old)
+        (F.device flash.new) layout.now.side layout.now.generation }
     ensures marked { OnOk result (IsLiveMarked (F.device flash.new) layout.now.side) }
     ensures no_step { IsLiveMarked (F.device flash.old) layout.now.side
         → (result ≡ Ok tt) × (F.device flash.new ≡ F.device flash.old) }
@@ -48,7 +50,8 @@ fn mark_live_set<F: Flash>(flash: &mut F, layout: &Layout) -> Result<(), Cut>
 // Marks the pages of the other set that are not blank.
 fn mark_old_set<F: Flash>(flash: &mut F, layout: &Layout) -> Result<(), Cut>
     requires { IsLayout (F.device flash.old) layout.now }
-    ensures stays { Stays (F.device flash.old) (F.device flash.new) layout.now.side layout.now.generation }
+    ensures stays { Stays (F.device flash.old)
+        (F.device flash.new) layout.now.side layout.now.generation }
     ensures marks { KeepsMarks (F.device flash.old) (F.device flash.new) }
     ensures marked { OnOk result (IsOldMarked (F.device flash.new) (other_of layout.now.side)) }
     ensures no_step { IsOldMarked (F.device flash.old) (other_of layout.now.side)
@@ -75,7 +78,8 @@ pub(crate) fn mark_live<F: Flash>(
     requires from { first (F.device flash.old).size layout.now.side ≤ page }
     requires behind { IsMarkBehind (F.device flash.old) layout.now.side
         (page - first (F.device flash.old).size layout.now.side) kind }
-    ensures stays { Stays (F.device flash.old) (F.device flash.new) layout.now.side layout.now.generation }
+    ensures stays { Stays (F.device flash.old)
+        (F.device flash.new) layout.now.side layout.now.generation }
     ensures others { IsSameBut page (F.device flash.old) (F.device flash.new) }
     ensures marks { KeepsMarks (F.device flash.old) (F.device flash.new) }
     ensures marked { OnOk result (is_marked (F.device flash.new) page kind ≡ true) }
@@ -92,7 +96,8 @@ fn mark_old<F: Flash>(flash: &mut F, layout: &Layout, page: usize) -> Result<(),
     requires layout { IsLayout (F.device flash.old) layout.now }
     requires page { IsPageOf (F.device flash.old).size (other_of layout.now.side) page }
     requires not_blank { is_blank (page_at (F.device flash.old) page) ≡ false }
-    ensures stays { Stays (F.device flash.old) (F.device flash.new) layout.now.side layout.now.generation }
+    ensures stays { Stays (F.device flash.old)
+        (F.device flash.new) layout.now.side layout.now.generation }
     ensures others { IsSameBut page (F.device flash.old) (F.device flash.new) }
     ensures marks { KeepsMarks (F.device flash.old) (F.device flash.new) }
     ensures marked { OnOk result (is_marked (F.device flash.new) page Mark.Erasing ≡ true) }

@@ -10,7 +10,7 @@ ghost use Rattle.ee_pages.specs.Meaning.{changed, live_in, meaning};
 ghost use Rattle.ee_pages.specs.Page.{is_blank};
 ghost use Rattle.ee_pages.specs.Sets.{other as other_of, pending_of, set_of, slots_of};
 ghost use Rattle.ee_store.specs.Finished.{IsMarked};
-ghost use Rattle.ee_store.specs.Parts.{HasMoved, IsSameSet, meant};
+ghost use Rattle.ee_store.specs.Parts.{HasMoved, IsSameSet, map_in, meant};
 ghost use Rattle.ee_store.specs.State.{WearRises};
 
 use crate::change::Change;
@@ -30,17 +30,21 @@ pub(crate) fn transfer<F: Flash>(
     requires layout { IsLayout (F.device flash.old) layout.old }
     requires all_used { layout.old.fill ≡ slot_count (F.device flash.old).size }
     requires generation { IsGeneration (layout.old.generation + 1) }
-    requires fits { live_in (changed (meant change) (meaning (slots_of (set_of layout.old.side (F.device flash.old)))))
+    requires fits { live_in (changed (meant change) (map_in layout.old.side (F.device flash.old)))
         ≤ slot_count (F.device flash.old).size }
-    ensures moved { OnOk result (HasMoved (F.device flash.old) (F.device flash.new) layout.old.side layout.old.generation (meant change)) }
+    ensures moved { OnOk result
+        (HasMoved (F.device flash.old) (F.device flash.new) layout.old.side layout.old.generation
+        (meant change)) }
     ensures layout { OnOk result (IsLayout (F.device flash.new) layout.new) }
     ensures other_set { OnOk result (layout.new.side ≡ other_of layout.old.side) }
     ensures marked { OnOk result (IsMarked (F.device flash.new) (other_of layout.old.side)) }
-    ensures wear { OnOk result (WearRises (pending_of (set_of (other_of layout.old.side) (F.device flash.old)))
+    ensures wear { OnOk result
+        (WearRises (pending_of (set_of (other_of layout.old.side) (F.device flash.old)))
         (F.device flash.old) (F.device flash.new)) }
     ensures cut { OnErr result (
         Keeps (F.device flash.old) (F.device flash.new) layout.old.side layout.old.generation
-        ⊎ HasMoved (F.device flash.old) (F.device flash.new) layout.old.side layout.old.generation (meant change)) }
+        ⊎ HasMoved (F.device flash.old) (F.device flash.new) layout.old.side layout.old.generation
+        (meant change)) }
     ensures power { Ends result (F.device flash.old) (F.device flash.new) }
 {
     let count = move_map(flash, layout, change)?;
@@ -61,17 +65,20 @@ fn move_map<F: Flash>(flash: &mut F, layout: &Layout, change: Change) -> Result<
     requires layout { IsLayout (F.device flash.old) layout.now }
     requires all_used { layout.now.fill ≡ slot_count (F.device flash.old).size }
     requires generation { IsGeneration (layout.now.generation + 1) }
-    requires fits { live_in (changed (meant change) (meaning (slots_of (set_of layout.now.side (F.device flash.old)))))
+    requires fits { live_in (changed (meant change) (map_in layout.now.side (F.device flash.old)))
         ≤ slot_count (F.device flash.old).size }
     ensures moved { OnOk result
-        (HasMoved (F.device flash.old) (F.device flash.new) layout.now.side layout.now.generation (meant change)) }
+        (HasMoved (F.device flash.old) (F.device flash.new) layout.now.side layout.now.generation
+        (meant change)) }
     ensures each_once { IfOk result (λ count. count
-        ≡ live_in (changed (meant change) (meaning (slots_of (set_of layout.now.side (F.device flash.old)))))) }
-    ensures wear { OnOk result (WearRises (pending_of (set_of (other_of layout.now.side) (F.device flash.old)))
+        ≡ live_in (changed (meant change) (map_in layout.now.side (F.device flash.old)))) }
+    ensures wear { OnOk result
+        (WearRises (pending_of (set_of (other_of layout.now.side) (F.device flash.old)))
         (F.device flash.old) (F.device flash.new)) }
     ensures cut { OnErr result (
         Keeps (F.device flash.old) (F.device flash.new) layout.now.side layout.now.generation
-        ⊎ HasMoved (F.device flash.old) (F.device flash.new) layout.now.side layout.now.generation (meant change)) }
+        ⊎ HasMoved (F.device flash.old) (F.device flash.new) layout.now.side layout.now.generation
+        (meant change)) }
     ensures power { Ends result (F.device flash.old) (F.device flash.new) }
 {
     clear(flash, layout)?;
@@ -84,9 +91,13 @@ fn move_map<F: Flash>(flash: &mut F, layout: &Layout, change: Change) -> Result<
 // Erases each page of the other set that is not blank, by rising page.
 fn clear<F: Flash>(flash: &mut F, layout: &Layout) -> Result<(), Cut>
     requires { IsLayout (F.device flash.old) layout.now }
-    ensures keeps { Keeps (F.device flash.old) (F.device flash.new) layout.now.side layout.now.generation }
-    ensures blank { OnOk result (All (λ page. is_blank page ≡ true) (set_of (other_of layout.now.side) (F.device flash.new))) }
-    ensures wear { OnOk result (WearRises (pending_of (set_of (other_of layout.now.side) (F.device flash.old)))
+    ensures keeps { Keeps (F.device flash.old)
+        (F.device flash.new) layout.now.side layout.now.generation }
+    ensures blank { OnOk result
+        (All (λ page. is_blank page ≡ true)
+        (set_of (other_of layout.now.side) (F.device flash.new))) }
+    ensures wear { OnOk result
+        (WearRises (pending_of (set_of (other_of layout.now.side) (F.device flash.old)))
         (F.device flash.old) (F.device flash.new)) }
     ensures power { Ends result (F.device flash.old) (F.device flash.new) }
 {
@@ -103,12 +114,14 @@ fn clear<F: Flash>(flash: &mut F, layout: &Layout) -> Result<(), Cut>
 fn open_set<F: Flash>(flash: &mut F, layout: &Layout) -> Result<(), Cut>
     requires layout { IsLayout (F.device flash.old) layout.now }
     requires generation { IsGeneration (layout.now.generation + 1) }
-    requires blank { All (λ page. is_blank page ≡ true) (set_of (other_of layout.now.side) (F.device flash.old)) }
-    ensures keeps { Keeps (F.device flash.old) (F.device flash.new) layout.now.side layout.now.generation }
+    requires blank { All (λ page. is_blank page ≡ true)
+        (set_of (other_of layout.now.side) (F.device flash.old)) }
+    ensures keeps { Keeps (F.device flash.old)
+        (F.device flash.new) layout.now.side layout.now.generation }
     ensures filling { OnOk result
         (IsFilling (F.device flash.new) (other_of layout.now.side) (layout.now.generation + 1) 0) }
     ensures nothing { OnOk result ((address : ℕ)
-        → meaning (slots_of (set_of (other_of layout.now.side) (F.device flash.new))) address ≡ None) }
+        → map_in (other_of layout.now.side) (F.device flash.new) address ≡ None) }
     ensures wear { (F.device flash.new).wear ≡ (F.device flash.old).wear }
     ensures power { Ends result (F.device flash.old) (F.device flash.new) }
 {
@@ -121,12 +134,16 @@ fn open_set<F: Flash>(flash: &mut F, layout: &Layout) -> Result<(), Cut>
 fn commit<F: Flash>(flash: &mut F, layout: &Layout) -> Result<(), Cut>
     requires layout { IsLayout (F.device flash.old) layout.now }
     requires generation { IsGeneration (layout.now.generation + 1) }
-    requires filling { (count : ℕ) × IsFilling (F.device flash.old) (other_of layout.now.side) (layout.now.generation + 1) count }
+    requires filling { (count : ℕ)
+        × IsFilling (F.device flash.old) (other_of layout.now.side)
+        (layout.now.generation + 1) count }
     ensures committed { OnOk result
-        (IsCommitted (F.device flash.old) (F.device flash.new) (other_of layout.now.side) (layout.now.generation + 1)) }
+        (IsCommitted (F.device flash.old) (F.device flash.new) (other_of layout.now.side)
+        (layout.now.generation + 1)) }
     ensures cut { OnErr result (
         Keeps (F.device flash.old) (F.device flash.new) layout.now.side layout.now.generation
-        ⊎ IsCommitted (F.device flash.old) (F.device flash.new) (other_of layout.now.side) (layout.now.generation + 1)) }
+        ⊎ IsCommitted (F.device flash.old) (F.device flash.new) (other_of layout.now.side)
+        (layout.now.generation + 1)) }
     ensures same_set { IsSameSet layout.now.side (F.device flash.old) (F.device flash.new) }
     ensures wear { (F.device flash.new).wear ≡ (F.device flash.old).wear }
     ensures power { Ends result (F.device flash.old) (F.device flash.new) }

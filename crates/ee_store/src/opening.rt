@@ -31,7 +31,8 @@ pub enum OpenFault {
 pub fn open<F: Flash + Drop>(flash: F) -> Result<Store<F>, (F, OpenFault)>
     requires { IsOn (F.device flash) }
     ensures opened { IfOk result (Opens (F.device flash)) }
-    ensures failed { IfErr result (λ failed. OpenFails (F.device flash) failed.1 (F.device failed.0)) }
+    ensures failed { IfErr result
+        (λ failed. OpenFails (F.device flash) failed.1 (F.device failed.0)) }
 {
     let mut flash = flash;
     let layout = match scan(&flash) {

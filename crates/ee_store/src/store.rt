@@ -1,5 +1,5 @@
 ghost use Rattle.std.specs.Bool.{MatchBool};
-ghost use Rattle.std.specs.Prelude.{◌≡◌, ◌<◌, IfErr, IfOk, IfSome, OnErr, OnOk};
+ghost use Rattle.std.specs.Prelude.{◌≡◌, ◌≢◌, ◌<◌, IfErr, IfOk, IfSome, OnErr, OnOk};
 ghost use Rattle.ee_codec.specs.Words.{IsAddress};
 ghost use Rattle.ee_flash.specs.Device.{IsOn};
 ghost use Rattle.ee_flash.specs.Size.{slot_count};
@@ -112,7 +112,11 @@ impl<F: Flash + Drop> Variables for Store<F> {
         Ok(latest(&self.flash, &self.layout, address))
     }
 
-    fn write(&mut self, address: Address, value: u32) -> Result<Written, WriteFault> {
+    fn write(&mut self, address: Address, value: u32) -> Result<Written, WriteFault>
+        ensures writes { Writes self.old address value result self.new }
+        // It keeps no index, and never runs out of memory.
+        ensures no_memory { result ≢ Err WriteFault.Memory }
+    {
         if !self.flash.is_on() {
             return Err(WriteFault::Off);
         }
@@ -122,11 +126,7 @@ impl<F: Flash + Drop> Variables for Store<F> {
         if self.is_spent() {
             return Err(WriteFault::Spent);
         }
-        match make_change(
-            &mut self.flash,
-            &mut self.layout,
-            Change::Put { address, value },
-        ) {
+        match make_change(&mut self.flash, &mut self.layout, Change::Put { address, value }) {
             Ok(written) => Ok(written),
             Err(Cut) => Err(WriteFault::Cut),
         }
@@ -142,11 +142,7 @@ impl<F: Flash + Drop> Variables for Store<F> {
         if self.is_spent() {
             return Err(ForgetFault::Spent);
         }
-        match make_change(
-            &mut self.flash,
-            &mut self.layout,
-            Change::Forget { address, value },
-        ) {
+        match make_change(&mut self.flash, &mut self.layout, Change::Forget { address, value }) {
             Ok(written) => Ok(written),
             Err(Cut) => Err(ForgetFault::Cut),
         }

@@ -7,7 +7,7 @@ ghost use Rattle.ee_pages.specs.Meaning.{changed, meaning};
 ghost use Rattle.ee_pages.specs.Pushing.{Takes};
 ghost use Rattle.ee_pages.specs.Sets.{other as other_of, set_of, slots_of};
 ghost use Rattle.ee_store.specs.Finished.{IsMarked};
-ghost use Rattle.ee_store.specs.Parts.{IsReady, IsSameSet, KeepsMarks, Stays, meant};
+ghost use Rattle.ee_store.specs.Parts.{IsReady, IsSameSet, KeepsMarks, Stays, map_in, meant};
 
 use crate::change::Change;
 use crate::marking::mark_live;
@@ -27,17 +27,17 @@ pub(crate) fn append<F: Flash>(
     ensures takes { OnOk result (
         Takes (F.device flash.old) (F.device flash.new) layout.old.side layout.old.generation
         (changed (meant change)
-        (meaning (slots_of (set_of layout.old.side (F.device flash.old)))))) }
+        (map_in layout.old.side (F.device flash.old)))) }
     ensures layout { OnOk result (IsLayout (F.device flash.new) layout.new) }
     ensures same_set { OnOk result (layout.new.side ≡ layout.old.side) }
     ensures marked { OnOk result (IsMarked (F.device flash.new) layout.old.side) }
     ensures cut { OnErr result (
         Keeps (F.device flash.old) (F.device flash.new) layout.old.side layout.old.generation
         ⊎ Takes (F.device flash.old) (F.device flash.new) layout.old.side layout.old.generation
-        (meaning (slots_of (set_of layout.old.side (F.device flash.old))))
+        (map_in layout.old.side (F.device flash.old))
         ⊎ Takes (F.device flash.old) (F.device flash.new) layout.old.side layout.old.generation
         (changed (meant change)
-        (meaning (slots_of (set_of layout.old.side (F.device flash.old)))))) }
+        (map_in layout.old.side (F.device flash.old)))) }
     ensures other { IsSameSet (other_of layout.old.side) (F.device flash.old) (F.device flash.new) }
     ensures wear { (F.device flash.new).wear ≡ (F.device flash.old).wear }
     ensures power { Ends result (F.device flash.old) (F.device flash.new) }
@@ -78,14 +78,14 @@ fn push<F: Flash>(flash: &mut F, layout: &Layout, change: Change) -> Result<(), 
     ensures takes { OnOk result (
         Takes (F.device flash.old) (F.device flash.new) layout.now.side layout.now.generation
         (changed (meant change)
-        (meaning (slots_of (set_of layout.now.side (F.device flash.old)))))) }
+        (map_in layout.now.side (F.device flash.old)))) }
     ensures cut { OnErr result (
         Keeps (F.device flash.old) (F.device flash.new) layout.now.side layout.now.generation
         ⊎ Takes (F.device flash.old) (F.device flash.new) layout.now.side layout.now.generation
-        (meaning (slots_of (set_of layout.now.side (F.device flash.old))))
+        (map_in layout.now.side (F.device flash.old))
         ⊎ Takes (F.device flash.old) (F.device flash.new) layout.now.side layout.now.generation
         (changed (meant change)
-        (meaning (slots_of (set_of layout.now.side (F.device flash.old)))))) }
+        (map_in layout.now.side (F.device flash.old)))) }
     ensures marks { KeepsMarks (F.device flash.old) (F.device flash.new) }
     ensures other { IsSameSet (other_of layout.now.side) (F.device flash.old) (F.device flash.new) }
     ensures wear { (F.device flash.new).wear ≡ (F.device flash.old).wear }

@@ -1,7 +1,6 @@
-use Rattle.std.proofs.Common.{◌≡◌, ◌≢◌, ◌<◌, ◌≤◌, ◌+◌, ◌*◌, true, false, length, take, ap, arith, ◌∙◌, sym, subst}
+use Rattle.std.proofs.Common.{◌≡◌, ◌≢◌, ◌<◌, ◌+◌, length, take, ap, arith, ◌∙◌, sym, subst}
 use Rattle.ee_flash.specs.Device.{page_at}
 use Rattle.ee_flash.specs.Size.{page_count}
-use Rattle.ee_pages.specs.Page.{is_blank}
 use Rattle.ee_pages.specs.Sets.{pending_of}
 use Rattle.ee_store.proofs.AfterCalls.{goes_on_both}
 use Rattle.ee_store.proofs.FormatFacts.{BlanksPage, all_blank, blank_already, blank_more, blanks_page, counts, pending_more}

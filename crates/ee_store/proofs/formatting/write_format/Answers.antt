@@ -1,8 +1,7 @@
 use Rattle.ee_store.proofs.FirstSet.{active_unset, first_layout, first_marked, first_state, unmarked}
-use Rattle.ee_pages.specs.declared.state.Mark.TheVariants.{Active, Receive}
-use Rattle.std.proofs.Common.{◌≡◌, ◌<◌, false, arith}
+use Rattle.ee_pages.specs.declared.state.Mark.TheVariants.{Receive}
+use Rattle.std.proofs.Common.{◌<◌, arith}
 use Rattle.ee_flash.specs.Size.{page_count}
-use Rattle.ee_pages.specs.Page.{is_marked}
 use Rattle.ee_store.proofs.formatting.write_format.Goals as goal
 
 pub returns-clause-layout : goal.returns-clause-layout

@@ -1,4 +1,6 @@
-use Rattle.ee_store.proofs.LiveMarks.{live_marks_kept}
+use Rattle.std.proofs.Common.{refl, ◌∙◌}
+use Rattle.ee_pages.specs.Sets.{other}
+use Rattle.ee_store.proofs.LiveMarks.{layout_stays, live_marks_kept, old_marks_kept}
 use Rattle.ee_store.proofs.marking.finish.Goals as goal
 
 pub returns-clause-finished : goal.returns-clause-finished
@@ -10,3 +12,13 @@ returns-clause-finished g c =
       live = live_marks_kept layout.side mid new layout.generation c.mark_old_set.ensures.stays c.mark_old_set.ensures.marks c.in_ok-mark_live_set.ensures.marked;
       old = c.in_ok-mark_old_set.ensures.marked;
     }
+
+pub mark_old_set-requires : goal.mark_old_set-requires
+mark_old_set-requires g c = layout_stays c.args.layout.now (g.F.Flash.device c.args.flash.now) (g.F.Flash.device c.mark_live_set.new.flash) c.requires c.mark_live_set.ensures.stays
+
+pub returns-clause-no_step : goal.returns-clause-no_step
+returns-clause-no_step g c marked =
+    let old = g.F.Flash.device c.args.flash.now in
+    let mid = g.F.Flash.device c.mark_live_set.new.flash in
+    let first = (c.mark_live_set.ensures.no_step marked.live).1 in
+    (refl, (c.mark_old_set.ensures.no_step (old_marks_kept (other c.args.layout.now.side) old mid first marked.old)).1 ∙ first)

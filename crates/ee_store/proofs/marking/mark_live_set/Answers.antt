@@ -1,11 +1,9 @@
-use Rattle.std.proofs.Common.{◌≡◌, ◌<◌, ◌≤◌, ◌+◌, ◌-◌, true, Ok, Err, ap, arith, ◌∙◌}
+use Rattle.std.proofs.Common.{◌≡◌, ◌≤◌, ◌-◌, true, ap, arith, ◌∙◌}
 use Rattle.ee_pages.specs.Page.{is_marked}
 use Rattle.ee_pages.specs.Sets.{first_page}
-use Rattle.ee_pages.specs.declared.state.Mark.TheVariants.{Active, Valid}
-use Rattle.ee_store.specs.Finished.{IsLiveMarked}
-use Rattle.ee_store.specs.Parts.{Stays}
+use Rattle.ee_pages.specs.declared.state.Mark.TheVariants.{Valid}
 use Rattle.ee_store.proofs.AfterCalls.{goes_on_both}
-use Rattle.ee_store.proofs.LiveMarks.{active_already, active_behind, layout_stays, live_marked, stays_both, valid_already, valid_behind, valid_more}
+use Rattle.ee_store.proofs.LiveMarks.{active_behind, layout_stays, live_marked, stays_both, valid_already, valid_behind, valid_more}
 use Rattle.ee_store.proofs.marking.mark_live_set.Goals as goal
 
 pub mark_live-requires-clause-behind : goal.mark_live-requires-clause-behind
@@ -47,3 +45,18 @@ mark_live-requires-2-clause-behind g c =
     let old = g.F.Flash.device c.args.flash.now in
     let mid = g.F.Flash.device c.pages.flash in
     active_behind c.args.layout.now mid (layout_stays c.args.layout.now old mid c.requires c.pages.invariant.stays)
+
+pub mark_live-requires-clause-layout : goal.mark_live-requires-clause-layout
+mark_live-requires-clause-layout g c = layout_stays c.args.layout.now (g.F.Flash.device c.args.flash.now) (g.F.Flash.device c.pages.flash) c.requires c.pages.invariant.stays
+
+pub mark_live-requires-2-clause-layout : goal.mark_live-requires-2-clause-layout
+mark_live-requires-2-clause-layout g c = layout_stays c.args.layout.now (g.F.Flash.device c.args.flash.now) (g.F.Flash.device c.pages.flash) c.requires c.pages.invariant.stays
+
+pub returns-clause-marked : goal.returns-clause-marked
+returns-clause-marked g c =
+    let old = g.F.Flash.device c.args.flash.now in
+    let mid = g.F.Flash.device c.pages.flash in
+    let new = g.F.Flash.device c.mark_live-2.new.flash in
+    let layout = c.args.layout.now in
+    let all = stays_both old mid new layout.side layout.generation c.pages.invariant.stays c.mark_live-2.ensures.stays in
+    live_marked layout old mid new c.requires all (λ k below. c.pages.invariant.valid k (omega (arith, c.pages-test.false, below))) c.mark_live-2.ensures.marks c.in_ok-mark_live-2.ensures.marked

@@ -1,8 +1,6 @@
-use Rattle.std.proofs.Common.{◌⊎◌, ◌≡◌, ◌<◌, ◌+◌, ◌-◌, arith}
-use Rattle.ee_flash.specs.Laws.{IsStep}
+use Rattle.std.proofs.Common.{◌<◌, ◌-◌, arith}
 use Rattle.ee_flash.specs.Size.{page_count}
-use Rattle.ee_pages.specs.Page.{marking}
-use Rattle.ee_pages.specs.Sets.{first_page, other}
+use Rattle.ee_pages.specs.Sets.{other}
 use Rattle.ee_pages.specs.declared.state.Mark.TheVariants.{Erasing}
 use Rattle.ee_store.proofs.Marks.{mark_keeps_marks, marks, old_mark_stays, page_in_device, proper_old}
 use Rattle.ee_store.proofs.marking.mark_old.Goals as goal

@@ -1,9 +1,6 @@
-use Rattle.std.proofs.Common.{◌≡◌, ◌<◌, ◌≤◌, ◌+◌, ◌-◌, true, false, inr, Ok, Err, ap, arith, ◌∙◌, sym, subst}
-use Rattle.ee_flash.specs.Device.{page_at}
-use Rattle.ee_pages.specs.Page.{is_blank, is_marked}
+use Rattle.std.proofs.Common.{◌≡◌, ◌<◌, ◌≤◌, ◌+◌, ◌-◌, inr, ap, arith, ◌∙◌, sym, subst}
 use Rattle.ee_pages.specs.Sets.{first_page, other}
 use Rattle.ee_pages.specs.declared.side.Side.{Side}
-use Rattle.ee_pages.specs.declared.state.Mark.TheVariants.{Erasing}
 use Rattle.ee_store.proofs.AfterCalls.{goes_on_both}
 use Rattle.ee_store.proofs.LiveMarks.{IsPageDone, MarksPage, done_already, done_more, marked_from, marks_none, stays_both}
 use Rattle.ee_store.proofs.marking.mark_old_set.Goals.{then-not-is_blank+in_ok-mark_old, else-not-is_blank}
@@ -53,3 +50,6 @@ pages-preserved g c =
           step.no_step (subst (λ device. IsPageDone device c.pages.page) (sym same) done) ∙ same;
       power = goes_on_both old mid new c.pages.invariant.power step.power;
     }
+
+pub returns-in_err-mark_old-clause-marks : goal.returns-in_err-mark_old-clause-marks
+returns-in_err-mark_old-clause-marks g c page mark was = c.mark_old.ensures.marks page mark (c.pages.invariant.marks page mark was)

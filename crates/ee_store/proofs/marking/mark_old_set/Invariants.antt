@@ -1,4 +1,4 @@
-use Rattle.std.proofs.Common.{◌≡◌, ◌⊎◌, ℕ, ◌<◌, ◌+◌, ◌-◌, true}
+use Rattle.std.proofs.Common.{◌≡◌, ℕ, ◌<◌, ◌+◌, ◌-◌}
 use Rattle.ee_flash.specs.Power.{GoesOn}
 use Rattle.ee_pages.specs.Sets.{first_page, other}
 use Rattle.ee_store.specs.Finished.{IsOldMarked}

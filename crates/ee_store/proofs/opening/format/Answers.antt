@@ -1,4 +1,3 @@
-use Rattle.std.proofs.Common.{◌≡◌}
 use Rattle.ee_store.proofs.OpeningFacts.{formats}
 use Rattle.ee_store.specs.Openings.{IsFormatted}
 use Rattle.ee_store.proofs.opening.format.Goals as goal

@@ -1,4 +1,3 @@
-use Rattle.std.proofs.Common.{◌≡◌, sym, subst, Ok, Err, ◌∙◌}
 use Rattle.ee_store.proofs.OpeningFacts.{opening_cut, opens}
 use Rattle.ee_store.specs.Openings.{Opens}
 use Rattle.ee_store.proofs.opening.open.Goals as goal

@@ -1,0 +1,172 @@
+-- What each call of a run does to power, wear, pending pages and the map, and so what a run does.
+use Rattle.std.proofs.Common.{◌≡◌, ℕ, ◌+◌, ◌-◌, ◌*◌, ◌++◌, Bool, true, false, cond, Ok, Err, List, [], ◌∷◌, refl, sym, ◌∙◌, ap, subst, arith}
+use Rattle.std.specs.List.{All, flat_map}
+use Rattle.std.proofs.lemmas.List.Elements.{All-tail}
+use Rattle.std.proofs.lemmas.List.Sums.{sum_by-cons}
+use Rattle.ee_flash.proofs.Outcomes.{calls_compose}
+use Rattle.ee_flash.specs.Device.{Device}
+use Rattle.ee_flash.specs.Power.{GoesOn}
+use Rattle.ee_flash.specs.Size.{Size}
+use Rattle.ee_flash.specs.Wear.{total_wear_of}
+use Rattle.ee_pages.specs.Meaning.{Change, Put, Forget, Map, changed, changed_by}
+use Rattle.ee_store.specs.Calls.{ErasesOne}
+use Rattle.ee_store.specs.Changes.{Appends, Moves}
+use Rattle.ee_store.specs.Runs.{Call, Wrote, Forgot, Cleaned, DidRead, AreAnsweredFrom, CleanRunsEraseSets, EachTransferErasesASet, Follows, IsAnsweredBy, IsRun, RunsGoOn, TheStoreIsAMap, changes_of, is_cut, is_transfer, transfers}
+use Rattle.ee_store.specs.State.{CountsWear, State, state_of}
+use Rattle.ee_store.specs.declared.variables.ForgetFault.TheVariants as forget
+use Rattle.ee_store.specs.declared.variables.WriteFault.TheVariants as write
+use Rattle.ee_store.specs.declared.variables.Written.TheVariants.{Appended, Moved}
+
+-- ---- one call
+
+-- so many pages more are erased or wait, where wear is counted
+abbrev Adds : ℕ → Device → Device → Type 0
+Adds more old new = CountsWear new → CountsWear old × (total_wear_of new + (state_of new).pending ≡ total_wear_of old + (state_of old).pending + more)
+
+-- the pages of a set for a transfer, none for another call
+abbrev cost : Bool → Device → ℕ
+cost transfer device = cond transfer device.size.pages 0
+
+-- what a call does where power is not cut in it
+record Goes (transfer : Bool) (changes : List Change) (old new : Device) : Type 0 where
+  pub power : GoesOn old new
+  pub adds : Adds (cost transfer old) old new
+  pub map_is : (state_of new).map ≡ changed_by changes (state_of old).map
+
+nothing : (old new : Device) → new ≡ old → Goes false [] old new
+nothing old new same = record {
+  power = record {
+    same_size = ap (λ (device : Device). device.size) same;
+    same_power = ap (λ (device : Device). device.on) same;
+    same_cuts = ap (λ (device : Device). device.cuts) same;
+    same_cuts_left = ap (λ (device : Device). device.cuts_left) same;
+    same_while_off = λ off. same;
+  };
+  adds = rw same (λ counts. (counts, omega arith));
+  map_is = ap (λ (device : Device). (state_of device).map) same;
+}
+
+appends : (old new : Device) (change : Change) → Appends old change new → Goes false (change ∷ []) old new
+appends old new change done = record {
+  power = done.goes_on;
+  adds = λ counts.
+      let wear = done.no_wear counts in
+      let pending : (state_of new).pending ≡ (state_of old).pending = ap (λ (state : State). state.pending) done.state_is in
+      (wear.0, omega (arith, wear.1, pending));
+  map_is = ap (λ (state : State). state.map) done.state_is;
+}
+
+moves : (old new : Device) (change : Change) → Moves old change new → Goes true (change ∷ []) old new
+moves old new change done = record {
+  power = done.goes_on;
+  adds = λ counts.
+      let wear = done.wear counts in
+      let pending : (state_of new).pending ≡ old.size.pages = ap (λ (state : State). state.pending) done.state_is in
+      (wear.0, omega (arith, wear.1, pending));
+  map_is = ap (λ (state : State). state.map) done.state_is;
+}
+
+erases : (old new : Device) → ErasesOne old new → Goes false [] old new
+erases old new done = record {
+  power = done.goes_on;
+  adds = λ counts.
+      let wear = done.wear counts in
+      let pending : (state_of new).pending ≡ (state_of old).pending - 1 = ap (λ (state : State). state.pending) done.state_is in
+      (wear.0, omega (arith, wear.1, pending, done.some));
+  map_is = ap (λ (state : State). state.map) done.state_is;
+}
+
+goes : (call : Call) (old new : Device) → is_cut call ≡ false → Follows call old new → Goes (is_transfer call) (changes_of call) old new
+goes (Wrote address value (Ok Appended)) old new whole done = assumption (appends old new (Put address value) done)
+goes (Wrote address value (Ok Moved)) old new whole done = assumption (moves old new (Put address value) done)
+goes (Wrote address value (Err write.Off)) old new whole done = nothing old new done.1
+goes (Wrote address value (Err write.Full)) old new whole done = nothing old new done.2
+goes (Wrote address value (Err write.Spent)) old new whole done = nothing old new done.3
+goes (Wrote address value (Err write.Memory)) old new whole done = nothing old new done.1
+goes (Wrote address value (Err write.Cut)) old new whole done = cc
+goes (Forgot address (Ok Appended)) old new whole done = assumption (appends old new (Forget address) done)
+goes (Forgot address (Ok Moved)) old new whole done = assumption (moves old new (Forget address) done)
+goes (Forgot address (Err forget.Off)) old new whole done = nothing old new done.1
+goes (Forgot address (Err forget.Absent)) old new whole done = nothing old new done.2
+goes (Forgot address (Err forget.Spent)) old new whole done = nothing old new done.3
+goes (Forgot address (Err forget.Cut)) old new whole done = cc
+goes (Cleaned (Ok true)) old new whole done = erases old new done
+goes (Cleaned (Ok false)) old new whole done = nothing old new done.2
+goes (Cleaned (Err write.Off)) old new whole done = nothing old new done.1
+goes (Cleaned (Err write.Full)) old new whole done = absurd done
+goes (Cleaned (Err write.Spent)) old new whole done = absurd done
+goes (Cleaned (Err write.Memory)) old new whole done = absurd done
+goes (Cleaned (Err write.Cut)) old new whole done = cc
+goes (DidRead address (Ok value)) old new whole done = nothing old new done.1
+goes (DidRead address (Err off)) old new whole done = nothing old new done.1
+
+answered : (call : Call) (old new : Device) → Follows call old new → IsAnsweredBy (state_of old).map call
+answered (Wrote address value answer) old new done = tt
+answered (Forgot address answer) old new done = tt
+answered (Cleaned answer) old new done = tt
+answered (DidRead address (Ok value)) old new done = done.0.1
+answered (DidRead address (Err off)) old new done = tt
+
+-- ---- a run
+
+-- what a run does where power is not cut in it
+record Went (calls : List Call) (old new : Device) : Type 0 where
+  pub power : GoesOn old new
+  pub adds : Adds (transfers calls * old.size.pages) old new
+  pub map_is : (state_of new).map ≡ changed_by (flat_map changes_of calls) (state_of old).map
+  pub answers : AreAnsweredFrom (state_of old).map calls
+
+-- what a call adds, and then what the calls after it add
+sum_of_more : (transfer : Bool) (pages later_pages rest all start middle end : ℕ) → later_pages ≡ pages → all ≡ cond transfer 1 0 + rest
+    → middle ≡ start + cond transfer pages 0 → end ≡ middle + rest * later_pages → end ≡ start + all * pages
+sum_of_more true pages later_pages rest all start middle end same is first more = rw (more, first, is, same) (grind arith)
+sum_of_more false pages later_pages rest all start middle end same is first more = rw (more, first, is, same) (grind arith)
+
+changed_by-append : (changes more : List Change) (map : Map) → changed_by (changes ++ more) map ≡ changed_by more (changed_by changes map)
+changed_by-append [] more map = refl
+changed_by-append (change ∷ changes) more map = changed_by-append changes more (changed change map)
+
+went : (calls : List Call) (old new : Device) → IsRun calls old new → All (λ call. is_cut call ≡ false) calls → Went calls old new
+went [] old new run whole =
+    let done = nothing old new run in
+    record {
+      power = done.power;
+      adds = λ counts.
+          let none = done.adds counts in
+          (none.0, omega (arith, none.1));
+      map_is = done.map_is;
+      answers = tt;
+    }
+went (call ∷ calls) old new run whole =
+    let first = goes call old run.0 (whole 0 call (omega arith)) run.1 in
+    let rest = went calls run.0 new run.2 (All-tail (λ (one : Call). is_cut one ≡ false) call calls whole) in
+    record {
+      power = (calls_compose old run.0 new first.power).0 rest.power;
+      adds = λ counts.
+          let later = rest.adds counts in
+          let sooner = first.adds later.0 in (
+            sooner.0,
+            sum_of_more (is_transfer call) old.size.pages run.0.size.pages (transfers calls) (transfers (call ∷ calls)) _ _ _
+                (ap (λ (size : Size). size.pages) first.power.same_size) (sum_by-cons (λ (one : Call). cond (is_transfer one) 1 0) call calls) sooner.1 later.1,
+          );
+      map_is = rest.map_is ∙ ap (changed_by (flat_map changes_of calls)) first.map_is ∙ sym (changed_by-append (changes_of call) (flat_map changes_of calls) (state_of old).map);
+      answers = (answered call old run.0 run.1, subst (λ (map : Map). AreAnsweredFrom map calls) first.map_is rest.answers);
+    }
+
+pub runs_go_on_lem : RunsGoOn
+runs_go_on_lem calls old new whole = assumption (went calls old new whole.run whole.without_cuts)
+
+pub each_transfer_erases_a_set_lem : EachTransferErasesASet
+each_transfer_erases_a_set_lem calls old new whole counts =
+    let counted : CountsWear new = assumption counts in
+    let sum = (went calls old new whole.run whole.without_cuts).adds counted in
+    omega (arith, sum.1)
+
+pub clean_runs_erase_sets_lem : CleanRunsEraseSets
+clean_runs_erase_sets_lem calls old new whole counts clean cleaned =
+    let counted : CountsWear new = assumption counts in
+    let sum = (went calls old new whole.run whole.without_cuts).adds counted in
+    omega (arith, sum.1, clean, cleaned)
+
+pub the_store_is_a_map_lem : TheStoreIsAMap
+the_store_is_a_map_lem calls old new whole = assumption (went calls old new whole.run whole.without_cuts)

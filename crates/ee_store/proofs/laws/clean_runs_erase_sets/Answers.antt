@@ -1,0 +1,5 @@
+use Rattle.ee_store.proofs.Running.{clean_runs_erase_sets_lem}
+use Rattle.ee_store.proofs.laws.clean_runs_erase_sets.Goals as goal
+
+pub returns : goal.returns
+returns c = clean_runs_erase_sets_lem

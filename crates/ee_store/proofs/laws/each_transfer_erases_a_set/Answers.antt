@@ -1,0 +1,5 @@
+use Rattle.ee_store.proofs.Running.{each_transfer_erases_a_set_lem}
+use Rattle.ee_store.proofs.laws.each_transfer_erases_a_set.Goals as goal
+
+pub returns : goal.returns
+returns c = each_transfer_erases_a_set_lem

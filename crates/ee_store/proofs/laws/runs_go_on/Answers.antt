@@ -1,0 +1,5 @@
+use Rattle.ee_store.proofs.Running.{runs_go_on_lem}
+use Rattle.ee_store.proofs.laws.runs_go_on.Goals as goal
+
+pub returns : goal.returns
+returns c = runs_go_on_lem
