@@ -1,7 +1,6 @@
 -- What calls in the other set leave together.
-use Rattle.std.proofs.Common.{◌≡◌, ◌≤◌, ◌<◌, ◌*◌, ◌-◌, ℕ, ◌+◌, true, List, [], ◌∷◌, length, get_or, refl, sym, subst, ap, ◌∙◌, arith, suc}
+use Rattle.std.proofs.Common.{◌≡◌, ◌≤◌, ◌<◌, ◌-◌, ℕ, ◌+◌, true, List, [], ◌∷◌, get_or, refl, sym, subst, ap, ◌∙◌, arith, suc}
 use Rattle.std.specs.List.{All}
-use Rattle.std.specs.Prelude.{not}
 use Rattle.std.proofs.lemmas.List.{get_or-drop, get_or-take}
 use Rattle.std.proofs.lemmas.List.Sums.{prefix_len-le-length}
 use Rattle.std.proofs.lemmas.List.Elements.{All-from_get_or}

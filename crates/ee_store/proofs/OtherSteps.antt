@@ -1,26 +1,26 @@
 -- Steps in the set that a transfer fills.
-use Rattle.std.proofs.Common.{◌≡◌, ◌≢◌, ◌⊎◌, inl, inr, ℕ, ◌+◌, ◌-◌, ◌*◌, ◌/◌, ◌%◌, ◌<◌, ◌≤◌, Bool, true, false, None, List, [], length, get_or, refl, sym, subst, ap, ◌∙◌, arith}
+use Rattle.std.proofs.Common.{◌≡◌, ◌⊎◌, inl, inr, ℕ, ◌+◌, ◌-◌, ◌<◌, Bool, true, false, None, List, [], length, refl, sym, subst, ap, ◌∙◌, arith}
 use Rattle.std.specs.List.{All}
 use Rattle.std.specs.Prelude.{not, Result, Ok, Err, slice_set}
-use Rattle.std.proofs.lemmas.Bool.{cases_Bool, cases_lt, cases_eq}
+use Rattle.std.proofs.lemmas.Bool.{cases_Bool, cases_lt}
 use Rattle.std.proofs.lemmas.List.{get_or-drop, get_or-take, get_or_past}
 use Rattle.std.proofs.lemmas.List.Elements.{All-get_or}
 use Rattle.std.proofs.lemmas.List.Folds.{list_any_at}
 use Rattle.std.proofs.Math.Nat.{div-mul-le_self}
 use Rattle.ee_codec.specs.Words.{IsGeneration, receive}
 use Rattle.ee_flash.specs.Device.{Device, IsFormed, IsOn, all_ones, word_at}
-use Rattle.ee_flash.specs.Laws.{CanTake, IsStep, page_of}
+use Rattle.ee_flash.specs.Laws.{IsStep}
 use Rattle.ee_flash.specs.Size.{page_count, slot_count}
 use Rattle.ee_flash.specs.Step.{Program, IsCutIn, IsUntouched, MayFollow, completed}
 use Rattle.ee_flash.specs.declared.word.Word.{Word}
 use Rattle.ee_flash.specs.declared.word.Word.TheVariants.{Erased, Held, Torn}
 use Rattle.ee_pages.specs.Filling.{IsCommitted, IsFilling}
-use Rattle.ee_pages.specs.Laws.{CannotCommit, IsPageOf, Keeps}
+use Rattle.ee_pages.specs.Laws.{IsPageOf, Keeps}
 use Rattle.ee_pages.specs.Legal.{IsLive}
 use Rattle.ee_pages.specs.Meaning.{Change, Spells, changed, meaning}
 use Rattle.ee_pages.specs.Page.{is_blank, is_marked, is_written, marking, number_of_mark, place_of_mark, word_in}
 use Rattle.ee_pages.specs.Pushing.{slot_step}
-use Rattle.ee_pages.specs.Sets.{fill_of, first_page, front, other, page_of_slot, place_of_slot, set_of, slots_of, word_of}
+use Rattle.ee_pages.specs.Sets.{first_page, front, other, page_of_slot, place_of_slot, set_of, slots_of, word_of}
 use Rattle.ee_pages.specs.declared.side.Side.{Side}
 use Rattle.ee_pages.specs.declared.side.Side.TheVariants.{First, Second}
 use Rattle.ee_pages.specs.declared.state.Mark.{Mark}

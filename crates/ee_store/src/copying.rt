@@ -1,4 +1,4 @@
-ghost use Rattle.std.specs.Prelude.{◌≡◌, ◌≢◌, ◌<◌, ◌≤◌, ℕ, ◌+◌, ◌-◌, ◌*◌, ◌/◌, IfOk, IfSome, None, Ok, OnOk, slice_set};
+ghost use Rattle.std.specs.Prelude.{◌≡◌, ◌≢◌, ◌<◌, ◌≤◌, ℕ, ◌+◌, IfOk, IfSome, None, Ok, OnOk, slice_set};
 ghost use Rattle.ee_codec.specs.Words.{IsAddress, IsGeneration};
 ghost use Rattle.ee_flash.specs.Power.{Ends};
 ghost use Rattle.ee_flash.specs.Size.{slot_count};
@@ -55,8 +55,8 @@ impl Cursor {
     }
 }
 
-/// Fills the other set, which was opened, with the map after a change: a value that is written comes
-/// first, and then each other live address, rising. Gives how many slots that takes.
+/// Fills the other set, which was opened, with the map after a change: a value that is written
+/// comes first, and then each other live address, rising. Gives how many slots that takes.
 pub(crate) fn fill_set<F: Flash>(
     flash: &mut F,
     layout: &Layout,
@@ -88,8 +88,8 @@ pub(crate) fn fill_set<F: Flash>(
     Ok(count)
 }
 
-// Writes a value that is put into the first slot of the other set; a forgetting takes no slot. Gives
-// how many slots that took.
+// Writes a value that is put into the first slot of the other set; a forgetting takes no slot.
+// Gives how many slots that took.
 fn put_first<F: Flash>(flash: &mut F, layout: &Layout, change: Change) -> Result<usize, Cut>
     requires layout { IsLayout (F.device flash.old) layout.now }
     requires generation { IsGeneration (layout.now.generation + 1) }
@@ -141,10 +141,10 @@ fn copy_others<F: Flash>(
     ensures map { OnOk result ((address : ℕ)
         → map_in (other_of layout.now.side) (F.device flash.new) address
         ≡ replaced (map_in (other_of layout.now.side) (F.device flash.old)) except
-            (map_in layout.now.side (F.device flash.old)) address) }
+        (map_in layout.now.side (F.device flash.old)) address) }
     ensures each_once { IfOk result (λ all. all
         ≡ live_in (replaced (map_in (other_of layout.now.side) (F.device flash.old)) except
-            (map_in layout.now.side (F.device flash.old)))) }
+        (map_in layout.now.side (F.device flash.old)))) }
     ensures wear { (F.device flash.new).wear ≡ (F.device flash.old).wear }
     ensures power { Ends result (F.device flash.old) (F.device flash.new) }
 {
@@ -194,12 +194,7 @@ fn copy_one<F: Flash>(
 
 // Writes a change into the first free slot of the other set, of which so many slots are written. A
 // further page gets its receive word first.
-fn stage<F: Flash>(
-    flash: &mut F,
-    layout: &Layout,
-    count: usize,
-    change: Change,
-) -> Result<(), Cut>
+fn stage<F: Flash>(flash: &mut F, layout: &Layout, count: usize, change: Change) -> Result<(), Cut>
     requires layout { IsLayout (F.device flash.old) layout.now }
     requires generation { IsGeneration (layout.now.generation + 1) }
     requires filling { IsFilling (F.device flash.old) (other_of layout.now.side)
@@ -254,12 +249,7 @@ fn receive<F: Flash>(flash: &mut F, layout: &Layout, count: usize) -> Result<(),
 }
 
 // Programs a change into the first free slot of the other set.
-fn put_in<F: Flash>(
-    flash: &mut F,
-    layout: &Layout,
-    count: usize,
-    change: Change,
-) -> Result<(), Cut>
+fn put_in<F: Flash>(flash: &mut F, layout: &Layout, count: usize, change: Change) -> Result<(), Cut>
     requires layout { IsLayout (F.device flash.old) layout.now }
     requires filling { IsFilling (F.device flash.old) (other_of layout.now.side)
         (layout.now.generation + 1) count }

@@ -1,4 +1,4 @@
-use Rattle.std.proofs.Common.{◌+◌, arith}
+use Rattle.std.proofs.Common.{arith}
 use Rattle.ee_store.proofs.MovingFacts.{few_written}
 use Rattle.ee_store.proofs.copying.copy_one.Goals as goal
 

@@ -1,9 +1,8 @@
-use Rattle.std.proofs.Common.{◌≡◌, ◌<◌, ◌≤◌, ℕ, ◌+◌, ◌-◌, ◌*◌, Option, Some, None, refl, sym, ap, subst, ◌∙◌, arith}
-use Rattle.std.proofs.Math.Path.{fun_ext}
+use Rattle.std.proofs.Common.{◌≡◌, ◌<◌, ℕ, ◌-◌, None, refl, ap, subst, ◌∙◌, arith}
 use Rattle.ee_flash.specs.Device.{Device}
 use Rattle.ee_flash.specs.Size.{slot_count}
 use Rattle.ee_flash.proofs.Outcomes.{calls_compose}
-use Rattle.ee_pages.specs.Meaning.{IsNextLive, live_in, meaning}
+use Rattle.ee_pages.specs.Meaning.{IsNextLive, meaning}
 use Rattle.ee_pages.specs.Sets.{other as other_of, set_of, slots_of}
 use Rattle.ee_store.specs.Parts.{map_to, replaced}
 use Rattle.ee_store.proofs.CopiedMaps.{at_first, at_last, meaning-zero, room, same_counts, taken_up}
@@ -33,8 +32,8 @@ copy_one-requires-clause-free g c =
     let map = meaning (slots_of (set_of c.args.layout.now.side device)) in
     let next = rw c.live.invariant.keeps.same_slots at c.in-Some.ensures.next in
     λ apart.
-      let free : c.live.count < slot_count device.size = room start map c.args.except c.live.cursor _ _ c.live.count (slot_count device.size) next apart c.in-Some.ensures.proper c.live.invariant.count c.requires.fits in
-      omega (arith, ap slot_count c.live.invariant.keeps.same_size)
+    let free : c.live.count < slot_count device.size = room start map c.args.except c.live.cursor _ _ c.live.count (slot_count device.size) next apart c.in-Some.ensures.proper c.live.invariant.count c.requires.fits in
+    omega (arith, ap slot_count c.live.invariant.keeps.same_size)
 
 pub live-preserved : goal.live-preserved
 live-preserved g c =

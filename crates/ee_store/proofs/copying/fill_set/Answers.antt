@@ -1,8 +1,6 @@
-use Rattle.std.proofs.Common.{◌≡◌, ◌≤◌, ℕ, ap, ◌∙◌, arith}
+use Rattle.std.proofs.Common.{ap, ◌∙◌, arith}
 use Rattle.ee_flash.specs.Size.{slot_count}
-use Rattle.ee_pages.specs.Meaning.{changed, live_in, meaning}
-use Rattle.ee_pages.specs.Sets.{other as other_of, set_of, slots_of}
-use Rattle.ee_store.specs.Parts.{meant, replaced}
+use Rattle.ee_store.specs.Parts.{meant}
 use Rattle.ee_store.proofs.CopiedMaps.{all_count}
 use Rattle.ee_store.proofs.copying.fill_set.Goals as goal
 

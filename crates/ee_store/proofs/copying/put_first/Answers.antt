@@ -1,5 +1,3 @@
-use Rattle.ee_pages.specs.Meaning.{meaning}
-use Rattle.ee_pages.specs.Sets.{other as other_of, set_of, slots_of}
 use Rattle.ee_store.proofs.CopiedMaps.{live_in-nothing, put_alone}
 use Rattle.ee_store.proofs.copying.put_first.Goals as goal
 

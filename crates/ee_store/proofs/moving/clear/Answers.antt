@@ -1,10 +1,9 @@
-use Rattle.std.proofs.Common.{◌≡◌, ◌<◌, ◌≤◌, inl, inr, ℕ, ◌+◌, true, ap, sym, ◌∙◌, arith}
-use Rattle.std.specs.List.{All}
+use Rattle.std.proofs.Common.{◌≡◌, inl, inr, ◌+◌, ap, sym, ◌∙◌, arith}
 use Rattle.std.proofs.lemmas.Bool.{cases_eq}
 use Rattle.ee_flash.specs.Device.{page_at}
 use Rattle.ee_flash.proofs.Outcomes.{calls_compose}
 use Rattle.ee_pages.specs.Page.{is_blank}
-use Rattle.ee_pages.specs.Sets.{first_page, other as other_of, set_of}
+use Rattle.ee_pages.specs.Sets.{first_page, other as other_of}
 use Rattle.ee_store.proofs.MovingFacts.{all_blank, erased_all, erased_one_more, keeps_both, none_pending}
 use Rattle.ee_store.proofs.moving.clear.Goals.{then-not-is_blank+in_ok-erase_other, else-not-is_blank}
 use Rattle.ee_store.proofs.moving.clear.Goals as goal
