@@ -20,6 +20,8 @@ mod marking;
 mod moving;
 mod opening;
 mod store;
+#[cfg(test)]
+mod tests;
 mod variables;
 mod writing;
 

@@ -9,5 +9,6 @@ mod images;
 >>>>>>> b7f767b940783fe0f0df74f10aec6195ec350563
 mod memory;
 mod scripts;
+mod stores;
 mod streams;
 mod trial;

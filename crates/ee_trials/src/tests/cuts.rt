@@ -6,6 +6,17 @@ use std::test::Fail;
 
 const LEFTS: [Left; 3] = [Left::Before, Left::After, Left::Torn];
 
+/// What is left of each of five words: each list of them for one number below 243.
+pub fn mix_of(number: usize) -> [Left; 5] {
+    [
+        LEFTS[number % 3],
+        LEFTS[number / 3 % 3],
+        LEFTS[number / 9 % 3],
+        LEFTS[number / 27 % 3],
+        LEFTS[number / 81 % 3],
+    ]
+}
+
 fn held(at: usize) -> Word {
     Word::Held(at as u64 % 5 + 10)
 }
@@ -69,14 +80,7 @@ fn cut_an_erase(rt: &impl Abort, memory: Global, list: &[Left; 5]) -> Result<(),
 #[test]
 fn each_outcome_of_each_word_of_a_cut_erase(rt: HostRuntime) -> Result<(), Fail> {
     for mix in 0..243usize {
-        let list = [
-            LEFTS[mix % 3],
-            LEFTS[mix / 3 % 3],
-            LEFTS[mix / 9 % 3],
-            LEFTS[mix / 27 % 3],
-            LEFTS[mix / 81 % 3],
-        ];
-        cut_an_erase(&rt, rt.alloc(), &list)?;
+        cut_an_erase(&rt, rt.alloc(), &mix_of(mix))?;
     }
     Ok(())
 }

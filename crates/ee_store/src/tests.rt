@@ -1,0 +1,9 @@
+//! The worked examples, with their images; the order of the steps; cuts at each step.
+mod cuts;
+mod each_cut;
+mod forgetting;
+mod image;
+mod moves;
+mod order;
+mod refusals;
+mod replay;
