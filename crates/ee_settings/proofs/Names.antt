@@ -1,0 +1,73 @@
+-- The names of a table's entries rise, so a name is that of one setting.
+use Rattle.std.proofs.Common.{◌≡◌, ◌≢◌, ◌∙◌, ◌<◌, ℕ, List, [], ◌∷◌, length, get_or, map, refl, ap, sym, subst, String, Global, string_bytes, Less, nat_cmp, inl, inr, arith}
+use Rattle.std.proofs.lemmas.Bool.{cases_lt}
+use Rattle.std.proofs.lemmas.Cmp.{nat_list_cmp_total}
+use Rattle.std.proofs.Math.ListN.{get_or-map}
+use Rattle.std.proofs.lemmas.List.{get_or_default, length-map}
+use Rattle.std.proofs.lemmas.Map.Keys.{Less-from_sorted}
+use Rattle.std.specs.Cmp.{tied_itself}
+use Rattle.std.specs.Cmp.Lexicographic.{slice_cmp}
+use Rattle.std.specs.List.{AllByRecursion, Contains}
+use Rattle.std.specs.List.Sorted.{IsStrictlySortedBy}
+use Rattle.std.specs.Map.{keys_of}
+use Rattle.std.specs.String.{string_cmp}
+use Rattle.toml.specs.declared.value.Value.{Value}
+use Rattle.ee_settings.proofs.Trees.{seen}
+use Rattle.ee_settings.specs.File.{AreEntriesOf, Entry}
+use Rattle.ee_settings.specs.Setting.{HaveRisingNames, Setting}
+
+below_bytes : (k : String Global) (ks : List (String Global)) → AllByRecursion (λ y. string_cmp k y ≡ Less) ks → AllByRecursion (λ y. slice_cmp nat_cmp (string_bytes k) y ≡ Less) (map string_bytes ks)
+below_bytes k [] h = tt
+below_bytes k (y ∷ ys) h = (h.0, below_bytes k ys h.1)
+
+rising_bytes : (ks : List (String Global)) → IsStrictlySortedBy string_cmp ks → IsStrictlySortedBy (slice_cmp nat_cmp) (map string_bytes ks)
+unfolding IsStrictlySortedBy
+rising_bytes [] h = tt
+rising_bytes (k ∷ ks) h = (below_bytes k ks h.0, rising_bytes ks h.1)
+
+pub names_as_entries : (entries : List Entry) (settings : List Setting) → AreEntriesOf entries settings → map (λ s. s.name) settings ≡ map (λ e. e.0) entries
+names_as_entries [] [] h = refl
+names_as_entries [] (s ∷ settings) h = absurd h
+names_as_entries (e ∷ entries) [] h = absurd h
+names_as_entries (e ∷ entries) (s ∷ settings) h = rw (h.0.name, names_as_entries entries settings h.1)
+
+entry_names : (es : List (String Global × Value)) → map (λ e. e.0) (map seen es) ≡ map string_bytes (keys_of es)
+entry_names [] = refl
+entry_names (e ∷ es) = ap (λ names. string_bytes e.0 ∷ names) (entry_names es)
+
+pub rising_names : (es : List (String Global × Value)) (settings : List Setting) → AreEntriesOf (map seen es) settings → IsStrictlySortedBy string_cmp (keys_of es) → HaveRisingNames settings
+rising_names es settings each sorted = subst (IsStrictlySortedBy (slice_cmp nat_cmp)) (sym (names_as_entries (map seen es) settings each ∙ entry_names es)) (rising_bytes (keys_of es) sorted)
+
+name_at : (settings : List Setting) (one : Setting) (i : ℕ) (d : List ℕ) → i < length settings → get_or settings i one ≡ one → get_or (map (λ (s : Setting). s.name) settings) i d ≡ one.name
+name_at settings one i d inside at =
+    let names = map (λ (s : Setting). s.name) settings in
+    let within : i < length names = rw (length-map settings (λ (s : Setting). s.name)) inside in
+    let here : get_or names i d ≡ get_or names i one.name = get_or_default names i d one.name within in
+    let mapped : get_or names i one.name ≡ (get_or settings i one).name = get_or-map (λ (s : Setting). s.name) settings i one in
+    let found : (get_or settings i one).name ≡ one.name = ap (λ (s : Setting). s.name) at in
+    here ∙ mapped ∙ found
+
+never_equal : (a b : List ℕ) → slice_cmp nat_cmp a b ≡ Less → a ≢ b
+never_equal a b less e =
+    let tie = tied_itself nat_list_cmp_total a in
+    let same : slice_cmp nat_cmp a a ≡ Less = ap (slice_cmp nat_cmp a) e ∙ less in
+    cc
+
+pub later_differs : (settings : List Setting) → HaveRisingNames settings → (one other : Setting) (i j : ℕ) → i < j → j < length settings → get_or settings i one ≡ one → get_or settings j other ≡ other → one.name ≢ other.name
+later_differs settings rising one other i j less inside at_one at_other =
+    let within : j < length (map (λ (s : Setting). s.name) settings) = rw (length-map settings (λ (s : Setting). s.name)) inside in
+    let first : i < length settings = omega arith in
+    let order = Less-from_sorted (slice_cmp nat_cmp) (map (λ (s : Setting). s.name) settings) i j [] rising less within in
+    never_equal one.name other.name (rw (name_at settings one i [] first at_one, name_at settings other j [] inside at_other) at order)
+
+pub names_apart : (settings : List Setting) → HaveRisingNames settings → (one other : Setting) → Contains settings one → Contains settings other → one.name ≡ other.name → one ≡ other
+names_apart settings rising one other first second same =
+    elim (cases_lt first.0 second.0) [
+      | inl less ↦ absurd (later_differs settings rising one other first.0 second.0 less second.1 first.2 second.2 same)
+      | inr more ↦ elim (cases_lt second.0 first.0) [
+        | inl less ↦ absurd (later_differs settings rising other one second.0 first.0 less first.1 second.2 first.2 (sym same))
+        | inr fewer ↦
+            let at : first.0 ≡ second.0 = omega arith in
+            sym first.2 ∙ get_or_default settings first.0 one other first.1 ∙ ap (λ i. get_or settings i other) at ∙ second.2
+      ]
+    ]

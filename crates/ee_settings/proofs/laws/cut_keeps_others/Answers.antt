@@ -1,0 +1,15 @@
+use Rattle.std.proofs.Common.{inl, inr, ap}
+use Rattle.ee_store.specs.State.{state_of}
+use Rattle.ee_settings.specs.Setting.{reading_in}
+use Rattle.ee_settings.proofs.Readings.{addresses_apart, cut_cases, cut_map, other_read, stored_read}
+use Rattle.ee_settings.proofs.laws.cut_keeps_others.Goals as goal
+
+pub returns : goal.returns
+returns c = λ settings schema old new formed name value w.
+    elim (cut_map (state_of old) (state_of new) old.size.pages w.0.numbers.address value (cut_cases old new w.0.numbers.address value formed w.3)) [
+      | inl e ↦ inl (λ setting inside. ap (λ map. reading_in map setting) e)
+      | inr e ↦ inr (
+        (w.0, w.1, stored_read w.0 value _ _ w.2 e),
+        λ other inside ne. other_read w.0 other value _ _ (addresses_apart settings schema.addresses name w.0 other w.1 inside ne) e,
+      )
+    ]

@@ -1,0 +1,5 @@
+use Rattle.ee_settings.proofs.Once.{never_refused}
+use Rattle.ee_settings.proofs.laws.schemas_are_accepted.Goals as goal
+
+pub returns : goal.returns
+returns c = never_refused

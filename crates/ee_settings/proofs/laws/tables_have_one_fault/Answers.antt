@@ -1,0 +1,5 @@
+use Rattle.ee_settings.proofs.First.{one_fault}
+use Rattle.ee_settings.proofs.laws.tables_have_one_fault.Goals as goal
+
+pub returns : goal.returns
+returns c = one_fault

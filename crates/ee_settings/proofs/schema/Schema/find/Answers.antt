@@ -1,0 +1,8 @@
+use Rattle.std.proofs.Common.{◌≡◌, ◌≢◌, rules}
+use Rattle.ee_settings.proofs.Entries.{none_more}
+use Rattle.ee_settings.proofs.schema.Schema.find.Goals as goal
+
+pub loop-setting-preserved : goal.loop-setting-preserved
+loop-setting-preserved g c =
+    let apart : c.setting-item.result.name ≢ c.args.name.now = search rules in
+    none_more (λ setting. setting.name ≡ c.args.name.now) c.args.self.now c.loop-setting.setting-index c.setting-item.result (search rules) apart c.loop-setting.invariant

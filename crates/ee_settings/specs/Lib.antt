@@ -1,0 +1,4 @@
+pub mod Setting
+pub mod File
+pub mod Calls
+pub mod Laws

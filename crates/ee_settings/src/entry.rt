@@ -1,0 +1,82 @@
+ghost use Rattle.std.specs.Prelude.{◌≡◌, true, false, IfOk, IfErr};
+ghost use Rattle.toml.specs.View.{table_view, view};
+ghost use Rattle.ee_settings.specs.File.{GivesSetting, IsSchemaFault, IsSchemaOf, IsTaken};
+ghost use Rattle.ee_settings.specs.File.{entries_of};
+ghost use Rattle.ee_settings.specs.Setting.{HaveRisingNames};
+
+use crate::fault::SchemaFault;
+use crate::numbers::{checked, read_fields};
+use crate::setting::{Setting, is_proper_name};
+use ee_codec::Address;
+use std::alloc::Allocator;
+use toml::{Table, Value};
+
+/// The settings that a table spells, by rising name.
+pub(crate) fn read_entries<A: Allocator + Copy>(
+    alloc: A,
+    table: &Table,
+) -> Result<Vec<Setting<A>, A>, SchemaFault>
+    ensures ok { IfOk result
+        (λ settings. IsSchemaOf (entries_of (table_view table.now)) settings.items) }
+    ensures names { IfOk result (λ settings. HaveRisingNames settings.items) }
+    ensures err { IfErr result (IsSchemaFault (entries_of (table_view table.now))) }
+{
+    let mut settings = Vec::new(alloc);
+    for (name, value) in table.iter() {
+        let number = settings.len() as u64 + 1;
+        let setting = match read_entry(alloc, &settings, number, name.as_str(), value) {
+            Ok(setting) => setting,
+            Err(fault) => return Err(fault),
+        };
+        match settings.push(setting) {
+            Ok(()) => {}
+            Err(_) => return Err(SchemaFault::Memory),
+        }
+    }
+    Ok(settings)
+}
+
+/// The setting of one entry of a table. `number` is the entry's, counted from 1, and `earlier` are
+/// the settings of those before it.
+fn read_entry<A: Allocator + Copy>(
+    alloc: A,
+    earlier: &[Setting<A>],
+    number: u64,
+    name: &str,
+    value: &Value,
+) -> Result<Setting<A>, SchemaFault>
+    ensures { GivesSetting earlier.now number (name.now, view value.now) result }
+{
+    if !is_proper_name(name) {
+        return Err(SchemaFault::BadName(number));
+    }
+    let fields = match read_fields(value) {
+        Some(fields) => fields,
+        None => return Err(SchemaFault::BadField(number)),
+    };
+    let numbers = match checked(fields) {
+        Some(numbers) => numbers,
+        None => return Err(SchemaFault::BadRange(number)),
+    };
+    if is_taken(earlier, numbers.address) {
+        return Err(SchemaFault::SameAddress(number));
+    }
+    let name = match String::from_str(alloc, name) {
+        Ok(name) => name,
+        Err(_) => return Err(SchemaFault::Memory),
+    };
+    Ok(Setting::new(name, numbers))
+}
+
+/// Whether one of the settings has the address.
+fn is_taken<A: Allocator>(earlier: &[Setting<A>], address: Address) -> bool
+    ensures taken { result ≡ true → IsTaken earlier.now address }
+    ensures free { result ≡ false → ¬ IsTaken earlier.now address }
+{
+    for other in earlier {
+        if other.numbers().address.get() == address.get() {
+            return true;
+        }
+    }
+    false
+}

@@ -1,0 +1,26 @@
+//! Settings by name: a schema, read from the tree of a settings file, gives names, ranges and
+//! defaults to the values of a store.
+//!
+//! `specs/Setting.antt` says what settings are and what they read as, `specs/File.antt` what a
+//! table of settings says and each fault of it, `specs/Calls.antt` what reading and setting answer
+//! and leave, and `specs/Laws.antt` what follows for the readings.
+//!
+//! The layers above may use: a table is read exactly by the rules, or its first fault is named; a
+//! setting is its stored value in range, else its default; what is set is then read, and no other
+//! name's reading changes.
+#![tactic(auto)]
+
+mod entry;
+mod fault;
+pub mod laws;
+mod numbers;
+mod reading;
+mod schema;
+mod setting;
+
+pub use fault::{GetFault, SchemaFault, SetFault};
+pub use reading::Reading;
+pub use schema::Schema;
+
+#[cfg(test)]
+mod tests;

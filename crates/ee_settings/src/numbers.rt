@@ -1,0 +1,112 @@
+ghost use Rattle.std.specs.Prelude.{◌≡◌, IfSome, IfNone, option_and_then};
+ghost use Rattle.toml.specs.Data.{as_integer, get_member};
+ghost use Rattle.toml.specs.View.{table_view, view};
+ghost use Rattle.ee_settings.specs.File.{HasBadField, HasFields, HaveBadRange};
+ghost use Rattle.ee_settings.specs.File.{IsTableOf, fields_of};
+ghost use Rattle.ee_settings.specs.Setting.{AreProper};
+ghost use Rattle.ee_settings.specs.declared.numbers.Fields.{Fields};
+
+use crate::reading::Reading;
+use ee_codec::Address;
+use toml::{Table, Value};
+
+/// The whole numbers of an entry.
+#[derive(Clone, Copy)]
+pub(crate) struct Fields {
+    pub(crate) address: i64,
+    pub(crate) min: i64,
+    pub(crate) max: i64,
+    pub(crate) default: i64,
+}
+
+/// The numbers of a setting.
+#[derive(Clone, Copy)]
+pub(crate) struct Numbers {
+    pub(crate) address: Address,
+    pub(crate) min: u32,
+    pub(crate) max: u32,
+    pub(crate) default: u32,
+}
+
+impl Numbers {
+    ghost use Rattle.std.specs.Prelude.{◌≡◌};
+    ghost use Rattle.ee_settings.specs.Setting.{reading_of};
+
+    /// What a setting of these numbers reads as, with this value stored.
+    pub(crate) fn reading(self, stored: Option<u32>) -> Reading
+        ensures { result ≡ reading_of self stored }
+    {
+        let Numbers {
+            min,
+            max,
+            default,
+            ..
+        } = self;
+        match stored {
+            Some(value) if min <= value && value <= max => Reading::Stored(value),
+            _ => Reading::Default(default),
+        }
+    }
+}
+
+/// The numbers of an entry, if it is a table of these four and nothing else.
+pub(crate) fn read_fields(value: &Value) -> Option<Fields>
+    ensures found { IfSome result (λ fields. IsTableOf (view value.now) fields) }
+    ensures none { IfNone result (HasBadField (view value.now)) }
+{
+    match value.as_table() {
+        Some(table) => fields_in(table),
+        None => None,
+    }
+}
+
+/// The numbers in a table, if it has these four and nothing else.
+fn fields_in(table: &Table) -> Option<Fields>
+    ensures found { IfSome result (HasFields (table_view table.now)) }
+    ensures none { IfNone result ((fields : Fields) → ¬ HasFields (table_view table.now) fields) }
+{
+    if table.len() != 4 {
+        return None;
+    }
+    let address = whole_number(table, "address")?;
+    let min = whole_number(table, "min")?;
+    let max = whole_number(table, "max")?;
+    let default = whole_number(table, "default")?;
+    Some(Fields {
+        address,
+        min,
+        max,
+        default,
+    })
+}
+
+/// The whole number under a key, if one stands there.
+fn whole_number(table: &Table, key: &str) -> Option<i64>
+    ensures { result ≡ option_and_then as_integer (get_member key.now (table_view table.now)) }
+{
+    match table.get(key) {
+        Some(value) => value.as_integer(),
+        None => None,
+    }
+}
+
+/// The same as the numbers of a setting, if they are in their ranges.
+pub(crate) fn checked(fields: Fields) -> Option<Numbers>
+    ensures found { IfSome result (λ numbers. fields ≡ fields_of numbers) }
+    ensures proper { IfSome result AreProper }
+    ensures none { IfNone result (HaveBadRange fields) }
+{
+    let address = Address::new(u16::try_from(fields.address).ok()?)?;
+    let min = u32::try_from(fields.min).ok()?;
+    let max = u32::try_from(fields.max).ok()?;
+    let default = u32::try_from(fields.default).ok()?;
+    if default < min || max < default {
+        return None;
+    }
+    Some(Numbers {
+        address,
+        min,
+        max,
+        default,
+    })
+}

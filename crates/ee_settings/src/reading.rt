@@ -1,0 +1,10 @@
+/// What a setting reads as.
+///
+/// Source: ours.
+#[derive(Clone, Copy, Debug, PartialEq, Eq)]
+pub enum Reading {
+    /// The value that its address has in the store, which is in its range.
+    Stored(u32),
+    /// Its default: its address has no value, or one that isn't in its range.
+    Default(u32),
+}

@@ -1,0 +1,129 @@
+ghost use Rattle.std.specs.Prelude.{◌≡◌};
+ghost use Rattle.toml.specs.View.{table_view};
+ghost use Rattle.ee_settings.specs.Calls.{Gets, Sets};
+ghost use Rattle.ee_settings.specs.File.{GivesSchema};
+
+use crate::entry::read_entries;
+use crate::fault::{GetFault, SchemaFault, SetFault};
+use crate::numbers::Numbers;
+use crate::reading::Reading;
+use crate::setting::Setting;
+use ee_store::{Variables, Written};
+use std::alloc::{Allocator, Global};
+use std::marker::Model;
+use toml::Table;
+
+/// The settings of a program, by name.
+///
+/// Source: ours.
+#[derive(Drop)]
+pub struct Schema<A: Allocator = Global> {
+    settings: Vec<Setting<A>, A>,
+}
+
+impl<A: Allocator> Model for Schema<A> {
+    ghost use Rattle.std.specs.Prelude.{List};
+    ghost use Rattle.ee_settings.specs.Setting.{IsSchema, Setting};
+
+    ghost Value = { List Setting };
+
+    ghost view = { λ s. s.settings.items };
+
+    ghost invariant = { λ s. IsSchema s.settings.items };
+}
+
+impl<A: Allocator> Schema<A> {
+    ghost use Rattle.std.specs.Prelude.{◌≡◌, IfSome, IfNone};
+    ghost use Rattle.ee_settings.specs.Calls.{IsNumbersOf, IsUnknown};
+
+    /// The schema that a table spells. Each entry of the table is a setting: its key is the name,
+    /// its value a table of the whole numbers `address`, `min`, `max` and `default`. A table with
+    /// no entries is a schema with no settings.
+    ///
+    /// # Errors
+    ///
+    /// The first entry with a fault, by rising name, with the first `SchemaFault` that applies to
+    /// it; `SchemaFault::Memory` can come in place of any answer.
+    ///
+    /// Source: ours.
+    pub fn from_table(alloc: A, table: &Table) -> Result<Schema<A>, SchemaFault>
+    where
+        A: Copy,
+        ensures { GivesSchema (table_view table.now) result }
+    {
+        match read_entries(alloc, table) {
+            Ok(settings) => Ok(Schema { settings }),
+            Err(fault) => Err(fault),
+        }
+    }
+
+    /// What the setting of a name reads as in a store: the value that its address has, if that is
+    /// in its range, and its default otherwise.
+    ///
+    /// # Errors
+    ///
+    /// The first `GetFault` that applies.
+    ///
+    /// Source: ours.
+    pub fn get<V: Variables>(&self, store: &V, name: &str) -> Result<Reading, GetFault>
+        ensures { Gets self.now (V.device store.now) name.now result }
+    {
+        let numbers = match self.find(name) {
+            Some(numbers) => numbers,
+            None => return Err(GetFault::UnknownName),
+        };
+        let address = numbers.address;
+        match store.read(address) {
+            Ok(stored) => Ok(numbers.reading(stored)),
+            Err(_) => Err(GetFault::Off),
+        }
+    }
+
+    /// Writes a value for the setting of a name, at its address in a store. `laws` says what is
+    /// read then.
+    ///
+    /// # Errors
+    ///
+    /// The first `SetFault` that applies. All but a cut leave the store's device as it was.
+    ///
+    /// Source: ours.
+    pub fn set<V: Variables>(
+        &self,
+        store: &mut V,
+        name: &str,
+        value: u32,
+    ) -> Result<Written, SetFault>
+        ensures { Sets self.now (V.device store.old) name.now value result (V.device store.new) }
+    {
+        let numbers = match self.find(name) {
+            Some(numbers) => numbers,
+            None => return Err(SetFault::UnknownName),
+        };
+        let Numbers {
+            address,
+            min,
+            max,
+            ..
+        } = numbers;
+        if value < min || max < value {
+            return Err(SetFault::OutOfRange { min, max });
+        }
+        match store.write(address, value) {
+            Ok(written) => Ok(written),
+            Err(fault) => Err(SetFault::Store(fault)),
+        }
+    }
+
+    /// The numbers of the setting of this name, if there is one.
+    fn find(&self, name: &str) -> Option<Numbers>
+        ensures found { IfSome result (IsNumbersOf self.now name.now) }
+        ensures none { IfNone result (IsUnknown self.now name.now) }
+    {
+        for setting in &self.settings {
+            if setting.name() == name {
+                return Some(setting.numbers());
+            }
+        }
+        None
+    }
+}
