@@ -1,3 +1,7 @@
 pub mod Causes
+pub mod Cleaning
+pub mod OneCause
+pub mod Pages
 pub mod Runs
+pub mod Stores
 pub mod Streams

@@ -1,4 +1,7 @@
+pub mod Job
 pub mod Machine
 pub mod Serving
 pub mod Replaying
+pub mod Opening
 pub mod Fault
+pub mod Images

@@ -1,15 +1,79 @@
--- Why a script can't be replayed.
-use Rattle.std.specs.Prelude.{ℕ, List}
+-- What a script leaves of an image, and why it can't be replayed.
+use Rattle.std.specs.Prelude.{◌≡◌, ◌⊎◌, ℕ, List}
+use Rattle.ee_flash.specs.Device.{Device, IsFormed}
+use Rattle.ee_flash.specs.Size.{Size}
+use Rattle.ee_pages.specs.Layout.{IsScanFault}
+use Rattle.ee_pages.specs.Legal.{IsLegal}
+use Rattle.ee_store.specs.Finished.{IsStore}
+use Rattle.ee_store.specs.State.{State, state_of}
+use Rattle.ee_image.specs.Text.{image_text}
+use Rattle.ee_image.specs.Fault.{IsTextFault}
+use Rattle.ee_image.specs.declared.fault.ImageFault.{ImageFault}
+use Rattle.ee_image.specs.declared.fault.ImageFault.TheVariants as image
 use Rattle.ee_script.specs.declared.session.ScriptFault.{ScriptFault}
 use Rattle.ee_script.specs.declared.session.ScriptFault.TheVariants as script
 use Rattle.ee_script.specs.Script.{IsFirstBadLine}
+use Rattle.ee_script.specs.Whole.{IsAnswered}
+use Rattle.ee_shell.specs.Machine.{Step}
+use Rattle.ee_shell.specs.Serving.{StaysOn}
 use Rattle.ee_shell.specs.declared.replaying.ReplayFault.{ReplayFault}
-use Rattle.ee_shell.specs.declared.replaying.ReplayFault.TheVariants.{Script, Memory}
+use Rattle.ee_shell.specs.declared.replaying.ReplayFault.TheVariants.{Image, Open, Script, Memory}
 
--- the script's first bad line, or want of memory
-abbrev pub IsReplayFault : List ℕ → ReplayFault → Type 0
-IsReplayFault text (Script n) = IsFirstBadLine text n
-IsReplayFault text Memory = Unit {0}
+-- this device's text is the text
+pub record Spells (text : List ℕ) (device : Device) : Type 0 where
+  pub formed : IsFormed device
+  pub text_is : text ≡ image_text device
+
+-- the text is an image's that a store can work on
+pub record IsStoreText (text : List ℕ) (device : Device) : Type 0 where
+  pub spelled : Spells text device
+  pub legal : IsLegal device
+
+-- The text is that of a store's device, which is on and of this size: its image is legal, and no mark is left to set.
+pub record IsStoreLeft (size : Size) (text : List ℕ) (device : Device) : Type 0 where
+  pub spelled : Spells text device
+  pub store : IsStore device
+  pub stays_on : StaysOn device
+  pub same_size : device.size ≡ size
+
+-- From this state, on a device of this size, the script was answered with this report, as the report machine answers it;
+-- and the text is that of a store with the state that the machine came to.
+pub record IsRun (size : Size) (start : State) (text new_image reported : List ℕ) : Type 0 where
+  pub last : Device
+  pub left : IsStoreLeft size new_image last
+  pub report : IsAnswered (Step size) start text (state_of last) reported
+
+-- The script was run on the store whose image the first text spells.
+pub record IsReplayed (old_image text new_image reported : List ℕ) : Type 0 where
+  pub device : Device
+  pub old : IsStoreText old_image device
+  pub run : IsRun device.size (state_of device) text new_image reported
+
+-- why no store is opened from an image's text: the text is no device's, or the device has no legal image; or memory ran
+-- out
+abbrev pub IsOpenFault : List ℕ → ReplayFault → Type 0
+IsOpenFault text (Image fault) = IsTextFault text fault
+IsOpenFault text (Open fault) = (device : Device) × Spells text device × IsScanFault device fault
+IsOpenFault text (Script n) = ⊥
+IsOpenFault text Memory = Unit {0}
+
+-- why a script isn't answered: its first bad line, or want of memory
+abbrev pub IsRunFault : List ℕ → ReplayFault → Type 0
+IsRunFault text (Image fault) = ⊥
+IsRunFault text (Open fault) = ⊥
+IsRunFault text (Script n) = IsFirstBadLine text n
+IsRunFault text Memory = Unit {0}
+
+-- why a script isn't replayed, the first cause that applies: no store is opened, or one is and the script isn't answered
+abbrev pub IsReplayFault : List ℕ → List ℕ → ReplayFault → Type 0
+IsReplayFault old_image text fault = IsOpenFault old_image fault ⊎ (((device : Device) × IsStoreText old_image device) × IsRunFault text fault)
+
+-- an image's fault, as a replay names it
+abbrev pub of_image : ImageFault → ReplayFault
+of_image image.TooLong = Image image.TooLong
+of_image (image.BadLine n) = Image (image.BadLine n)
+of_image image.BadShape = Image image.BadShape
+of_image image.Memory = Memory
 
 -- a script's fault, as a replay names it
 abbrev pub same_cause : ScriptFault → ReplayFault

@@ -1,8 +1,13 @@
-use Rattle.std.proofs.lemmas.Result.{err_from_is_err_and}
-use Rattle.ee_shell.proofs.Causes.{named_again}
+use Rattle.std.proofs.Common.{◌≡◌, ◌⊎◌}
+use Rattle.ee_image.proofs.Taken.{error_passed_on}
+use Rattle.ee_shell.specs.declared.replaying.ReplayFault.TheVariants.{Script, Memory}
+use Rattle.ee_shell.proofs.OneCause.{one_run_fault, run_is_good, script_is_some}
 use Rattle.ee_shell.proofs.replaying.try_script.Goals as goal
 
-pub returns-in_err-report-clause-bad : goal.returns-in_err-report-clause-bad
-returns-in_err-report-clause-bad g c n bad =
-    let p = err_from_is_err_and c.from_residual-in_err-report.result c.from_residual-in_err-report.ensures.1 in
-    rw p.1 (named_again _ p.0 n p.2 (c.in_err-report.ensures.bad n bad))
+pub returns-in_err-tried-clause-bad : goal.returns-in_err-tried-clause-bad
+returns-in_err-tried-clause-bad g c = λ n bad.
+    error_passed_on c.from_residual-in_err-tried.result c.in_err-tried.field-0.0 (λ done. ⊥) (λ fault. (fault ≡ Script n) ⊎ (fault ≡ Memory)) c.from_residual-in_err-tried.ensures.1
+    (one_run_fault c.args.script.now (Script n) c.in_err-tried.field-0.0 (script_is_some n) bad c.in_err-tried.ensures.fault)
+
+pub returns-clause-bad : goal.returns-clause-bad
+returns-clause-bad g c = λ n bad. run_is_good _ _ c.args.script.now _ _ (Script n) c.in_ok-tried.ensures.run (script_is_some n) bad

@@ -1,0 +1,97 @@
+-- What a store is opened from, and what it leaves, as text.
+use Rattle.std.proofs.Common.{◌≡◌, ◌∙◌, ◌+◌, ◌++◌, ℕ, zero, suc, Bool, false, List, [], length, replicate, sym, ap, subst, arith, refl, inr}
+use Rattle.std.specs.List.{filter, list_any, sum}
+use Rattle.ee_flash.specs.Device.{Device, IsFormed, blank_device}
+use Rattle.ee_flash.specs.Formed.{IsFormed-pages_of}
+use Rattle.ee_flash.specs.Memory.{device_of}
+use Rattle.ee_flash.specs.Size.{Size, page_count}
+use Rattle.ee_flash.specs.Wear.{total_wear_of}
+use Rattle.ee_flash.specs.declared.memory.MemFlash.{MemFlash}
+use Rattle.ee_flash.specs.declared.word.Word.TheVariants.{Erased}
+use Rattle.ee_pages.specs.Page.{is_written}
+use Rattle.ee_pages.specs.Sets.{pending_of}
+use Rattle.ee_store.specs.Finished.{IsStore}
+use Rattle.ee_store.specs.Openings.{IsFormatted}
+use Rattle.ee_store.specs.State.{State, state_of}
+use Rattle.ee_image.specs.Text.{image_text}
+use Rattle.ee_image.specs.declared.fault.ImageFault.TheVariants as image
+use Rattle.ee_image.proofs.Texts.{short}
+use Rattle.ee_shell.specs.Images.{AreStates, IsFormattedText, IsReadingFault, state_lines}
+use Rattle.ee_shell.specs.Opening.{IsNewStore, IsOpened}
+use Rattle.ee_shell.specs.Replaying.{IsReplayed, IsRun, Spells}
+use Rattle.ee_shell.specs.Serving.{StaysOn}
+use Rattle.ee_shell.specs.declared.fault.Fault.TheVariants.{Memory}
+
+-- a device in memory is formed
+pub formed_of : {A : Type 0} (flash : MemFlash A) → IsFormed (device_of flash)
+formed_of flash =
+    IsFormed-pages_of flash.shape flash.cells.items flash.wear.items flash.cuts flash.fuse flash.on flash.within_limits
+    (sym flash.cells.ok.0 ∙ flash.cells_length) flash.below_all_ones (sym flash.wear.ok.0 ∙ flash.wear_length) flash.wear_fits flash.cuts_fit
+
+-- a device whose power goes on
+stays : (old new : Device) → StaysOn old → new.on ≡ old.on → new.cuts_left ≡ old.cuts_left → StaysOn new
+stays old new kept on left = record { on = on ∙ kept.on; never_cut = left ∙ kept.never_cut }
+
+-- a run from what was opened is a run from what the text spells
+pub is_replayed : (old_image text image reported : List ℕ) (store : Device) → IsOpened old_image store → IsRun store.size (state_of store) text image reported
+    → IsReplayed old_image text image reported
+is_replayed old_image text image reported store opened run = record {
+  device = opened.device;
+  old = opened.old;
+  run = subst (λ (size : Size). IsRun size (state_of opened.device) text image reported) opened.same_size
+      (subst (λ (state : State). IsRun store.size state text image reported) opened.state_is run);
+}
+
+-- ---- a new device
+
+no_wear : (n : ℕ) → sum (replicate n 0) ≡ 0
+no_wear zero = refl
+no_wear (suc n) = no_wear n
+
+none_written : (n : ℕ) → list_any is_written (replicate n Erased) ≡ false
+none_written zero = refl
+none_written (suc n) = none_written n
+
+none_of : {X : Type 0} (test : X → Bool) (x : X) (n : ℕ) → test x ≡ false → length (filter test (replicate n x)) ≡ 0
+none_of test x zero e = refl
+none_of test x (suc n) e = rw e (none_of test x n e)
+
+none_pending : (size : Size) → pending_of (blank_device size).image ≡ 0
+none_pending size = none_of _ (replicate size.words Erased) (page_count size) (rw (none_written size.words) refl)
+
+pub is_new : (size : Size) (old new : Device) → old ≡ blank_device size → IsFormatted old new → IsNewStore size new
+is_new size old new blank made =
+    let kept : StaysOn old = record { on = ap (λ (d : Device). d.on) blank; never_cut = ap (λ (d : Device). d.cuts_left) blank } in
+    let none : pending_of old.image ≡ 0 = ap (λ (d : Device). pending_of d.image) blank ∙ none_pending size in
+    let fresh : total_wear_of old ≡ 0 = ap total_wear_of blank ∙ no_wear (page_count size) in
+    record {
+      stays_on = stays old new kept made.goes_on.same_power made.goes_on.same_cuts_left;
+      size_is = made.goes_on.same_size ∙ ap (λ (d : Device). d.size) blank;
+      state_is = made.state_is;
+      no_wear = λ counts. let rise = (made.wear counts).1 in omega (arith, rise, none, fresh);
+    }
+
+pub is_formatted : (size : Size) (image : List ℕ) (store flash : Device) → IsNewStore size store → IsStore store → flash ≡ store → Spells image flash → IsFormattedText size image
+is_formatted size image store flash new left same spelled = record {
+  device = store;
+  left = record { spelled = subst (Spells image) same spelled; store = left; stays_on = new.stays_on; same_size = new.size_is };
+  state_is = new.state_is;
+  no_wear = new.no_wear;
+}
+
+-- ---- states
+
+pub are_states : (text old lines : List ℕ) (device : Device) → IsFormed device → text ≡ image_text device → old ≡ [] → lines ≡ old ++ state_lines 0 device.image → AreStates text lines
+are_states text old lines device formed spelled empty written = record {
+  device = device;
+  spelled = record { formed = formed; text_is = spelled };
+  lines_are = written ∙ ap (λ l. l ++ state_lines 0 device.image) empty;
+}
+
+-- memory may run out where a device was read
+pub no_memory : (text : List ℕ) (device : Device) → IsFormed device → text ≡ image_text device → IsReadingFault text Memory
+no_memory text device formed spelled = record {
+  cause = image.Memory;
+  applies = inr (omega (arith, ap length spelled, short device formed), refl);
+  fault_is = refl;
+}

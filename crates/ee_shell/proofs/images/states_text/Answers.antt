@@ -1,0 +1,13 @@
+use Rattle.std.proofs.lemmas.Result.{err_from_is_err_and}
+use Rattle.ee_flash.specs.Memory.{device_of}
+use Rattle.ee_shell.proofs.Stores.{are_states, formed_of, no_memory}
+use Rattle.ee_shell.proofs.images.states_text.Goals as goal
+
+pub returns-in_err-push_states-clause-fault : goal.returns-in_err-push_states-clause-fault
+returns-in_err-push_states-clause-fault g c =
+    let p = err_from_is_err_and c.from_residual.result c.from_residual.ensures.1 in
+    rw p.1 (rw p.2 (no_memory c.args.image.now (device_of c.in-Ok.flash) (formed_of c.in-Ok.flash) c.in-Ok.ensures.found))
+
+pub returns-clause-states : goal.returns-clause-states
+returns-clause-states g c =
+    are_states c.args.image.now c.new-text.result.items _ (device_of c.in-Ok.flash) (formed_of c.in-Ok.flash) c.in-Ok.ensures.found c.new-text.ensures.items c.in_ok-push_states.ensures

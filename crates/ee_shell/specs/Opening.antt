@@ -1,0 +1,24 @@
+-- The stores that the commands work on.
+use Rattle.std.specs.Prelude.{◌≡◌, List, ℕ}
+use Rattle.ee_flash.specs.Device.{Device}
+use Rattle.ee_flash.specs.Size.{Size}
+use Rattle.ee_flash.specs.Wear.{total_wear_of}
+use Rattle.ee_store.specs.Finished.{IsStore}
+use Rattle.ee_store.specs.State.{CountsWear, formatted, state_of}
+use Rattle.ee_shell.specs.Replaying.{IsStoreText}
+use Rattle.ee_shell.specs.Serving.{StaysOn}
+
+-- the store of the image that the text spells, with its state
+pub record IsOpened (text : List ℕ) (new : Device) : Type 0 where
+  pub device : Device
+  pub old : IsStoreText text device
+  pub stays_on : StaysOn new
+  pub same_size : new.size ≡ device.size
+  pub state_is : state_of new ≡ state_of device
+
+-- a store with nothing in it, on a device of this size that no page of was erased
+pub record IsNewStore (size : Size) (new : Device) : Type 0 where
+  pub stays_on : StaysOn new
+  pub size_is : new.size ≡ size
+  pub state_is : state_of new ≡ formatted
+  pub no_wear : CountsWear new → total_wear_of new ≡ 0

@@ -1,0 +1,74 @@
+//! Stores of images, and images of devices, as text.
+ghost use Rattle.std.specs.Prelude.{◌≡◌, IfOk, IfErr, IfSome};
+ghost use Rattle.ee_flash.specs.Device.{IsOn};
+ghost use Rattle.ee_pages.specs.Layout.{IsScanFault};
+ghost use Rattle.ee_store.specs.Openings.{IsFormatted, Opens};
+ghost use Rattle.ee_shell.specs.Opening.{IsNewStore, IsOpened};
+ghost use Rattle.ee_shell.specs.Replaying.{IsOpenFault, Spells};
+ghost use Rattle.ee_shell.specs.Serving.{StaysOn};
+
+use super::replaying::ReplayFault;
+use ee_flash::{Flash, MemFlash, Shape};
+use ee_image::{read_image, write_image};
+use ee_pages::ScanFault;
+use ee_store::{OpenFault, Store, format, open};
+use std::alloc::{AllocError, Allocator};
+
+/// The store of the image that a text spells, in memory.
+pub(crate) fn open_image<A: Allocator + Copy>(
+    alloc: A,
+    image: &[u8],
+) -> Result<Store<MemFlash<A>>, ReplayFault>
+    ensures opened { IfOk result (IsOpened image.now) }
+    ensures fault { IfErr result (IsOpenFault image.now) }
+{
+    let flash = read_image(alloc, image)?;
+    match open_still(flash) {
+        Ok(store) => Ok(store),
+        Err(fault) => Err(ReplayFault::Open(fault)),
+    }
+}
+
+/// A store with nothing in it, on a new device in memory.
+pub(crate) fn new_store<A: Allocator + Copy>(
+    alloc: A,
+    shape: Shape,
+) -> Result<Store<MemFlash<A>>, AllocError>
+    ensures { IfOk result (IsNewStore shape) }
+{
+    let flash = MemFlash::blank(alloc, shape)?;
+    Ok(format_still(flash))
+}
+
+/// Opens a store whose power is never cut.
+fn open_still<F: Flash + Drop>(flash: F) -> Result<Store<F>, ScanFault>
+    requires { StaysOn (F.device flash) }
+    ensures opened { IfOk result (Opens (F.device flash)) }
+    ensures fault { IfErr result (IsScanFault (F.device flash)) }
+{
+    match open(flash) {
+        Ok(store) => Ok(store),
+        Err((_, OpenFault::Scan(fault))) => Err(fault),
+        Err((_, OpenFault::Cut)) => unreachable!("power is never cut"),
+    }
+}
+
+/// Formats a device whose power is never cut.
+fn format_still<F: Flash + Drop>(flash: F) -> Store<F>
+    requires { StaysOn (F.device flash) }
+    ensures { IsFormatted (F.device flash) result }
+{
+    match format(flash) {
+        Ok(store) => store,
+        Err(_) => unreachable!("power is never cut"),
+    }
+}
+
+/// The text of a device.
+pub(crate) fn text_of<A: Allocator, F: Flash>(alloc: A, flash: &F) -> Result<Vec<u8, A>, AllocError>
+    ensures { IfOk result (λ text. Spells text.items (F.device flash.now)) }
+{
+    let mut text = Vec::new(alloc);
+    write_image(flash, &mut text)?;
+    Ok(text)
+}
