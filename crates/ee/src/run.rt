@@ -1,6 +1,10 @@
 use ee_flash::Shape;
-use ee_shell::{Fault, File, fault_line, read_whole, status_of, try_script, write_whole};
-use std::io;
+use ee_shell::{
+    Fault, File, Job, clean_image, fault_line, format_image, job, read_whole, replay, states_text,
+    status_of, try_script, write_whole,
+};
+use std::rt::Files;
+use std::{fs, io};
 
 /// The status of a bad command line.
 const BAD_COMMAND_LINE: u8 = 2;
@@ -8,30 +12,119 @@ const BAD_COMMAND_LINE: u8 = 2;
 /// The status of want of memory.
 const OUT_OF_MEMORY: u8 = 5;
 
-/// Does what the words ask for, and gives the status that the program ends with. There is one command so
-/// far, with no words: a script from standard input is tried on a fresh image of one page per set and six
-/// words per page.
-pub fn run<R: Input + Print + Eprint + AllocGlobal>(rt: &R, words: &[String]) -> u8 {
-    if !words.is_empty() {
-        return bad_command_line(rt);
+/// Does what the words ask for, and gives the status that the program ends with: 0 done, 2 bad
+/// command line, 3 bad file, 4 refused, 5 want of memory.
+///
+/// Files are read whole, in the order in which they are named, before anything is decided. An image
+/// is written only after all work succeeded, and its file is closed before anything is printed.
+pub fn run<R: Files + Input + Print + Eprint + AllocGlobal>(rt: &R, words: &[String]) -> u8 {
+    let mut texts: Vec<&str> = Vec::new(rt.alloc());
+    for word in words {
+        if texts.push(word.as_str()).is_err() {
+            return out_of_memory(rt);
+        }
     }
-    match try_input(rt) {
-        Ok(()) => 0,
-        Err(fault) => tell(rt, &fault),
+    match job(texts.as_slice()) {
+        None => bad_command_line(rt),
+        Some(job) => match work(rt, job) {
+            Ok(()) => 0,
+            Err(fault) => tell(rt, &fault),
+        },
+    }
+}
+
+/// Does a job.
+fn work<R: Files + Input + Print + AllocGlobal>(rt: &R, job: Job<'_>) -> Result<(), Fault> {
+    match job {
+        Job::Try { shape } => try_input(rt, shape),
+        Job::Format { shape, image } => format_file(rt, shape, image),
+        Job::Run { image, script } => run_files(rt, image, script),
+        Job::States { image } => tell_states(rt, image),
+        Job::Clean { image } => clean_file(rt, image),
     }
 }
 
 /// Tries the script of standard input, and prints its report.
-fn try_input<R: Input + Print + AllocGlobal>(rt: &R) -> Result<(), Fault> {
-    let shape = Shape::new(1, 6).unwrap();
-    let script = read_whole(rt.alloc(), &mut rt.reader()).map_err(|fault| Fault::reading(
-        File::Script,
-        fault,
-    ))?;
+fn try_input<R: Input + Print + AllocGlobal>(rt: &R, shape: Shape) -> Result<(), Fault> {
+    let script = match read_whole(rt.alloc(), &mut rt.reader()) {
+        Ok(script) => script,
+        Err(fault) => return Err(Fault::reading(File::Script, fault)),
+    };
     let replayed = try_script(rt.alloc(), shape, script.as_slice())?;
-    write_whole(&mut io::writer(rt), replayed.report.as_slice()).map_err(
-        |_| Fault::CannotWriteOutput,
-    )
+    print(rt, replayed.report.as_slice())
+}
+
+/// Writes a new image.
+fn format_file<R: Files + Print + AllocGlobal>(
+    rt: &R,
+    shape: Shape,
+    image: &str,
+) -> Result<(), Fault> {
+    let formatted = format_image(rt.alloc(), shape)?;
+    write_image(rt, image, formatted.as_slice())?;
+    print(rt, b"formatted\n")
+}
+
+/// Answers a script on an image, writes the image that this leaves in its place, and prints the
+/// report.
+fn run_files<R: Files + Print + AllocGlobal>(
+    rt: &R,
+    image: &str,
+    script: &str,
+) -> Result<(), Fault> {
+    let before = read_file(rt, File::Image, image)?;
+    let lines = read_file(rt, File::Script, script)?;
+    let replayed = replay(rt.alloc(), before.as_slice(), lines.as_slice())?;
+    write_image(rt, image, replayed.image.as_slice())?;
+    print(rt, replayed.report.as_slice())
+}
+
+/// Prints the state of each page of an image.
+fn tell_states<R: Files + Print + AllocGlobal>(rt: &R, image: &str) -> Result<(), Fault> {
+    let before = read_file(rt, File::Image, image)?;
+    let text = states_text(rt.alloc(), before.as_slice())?;
+    print(rt, text.as_slice())
+}
+
+/// Erases the pages of an image that wait for it, writes the image in its place, and prints their
+/// number.
+fn clean_file<R: Files + Print + AllocGlobal>(rt: &R, image: &str) -> Result<(), Fault> {
+    let before = read_file(rt, File::Image, image)?;
+    let (cleaned, text) = clean_image(rt.alloc(), before.as_slice())?;
+    write_image(rt, image, cleaned.as_slice())?;
+    print(rt, text.as_slice())
+}
+
+/// All bytes of a file.
+fn read_file<R: Files + AllocGlobal>(rt: &R, file: File, path: &str) -> Result<Vec<u8>, Fault> {
+    let mut reader = match fs::open(rt, path) {
+        Ok(reader) => reader,
+        Err(_) => return Err(Fault::CannotRead(file)),
+    };
+    match read_whole(rt.alloc(), &mut reader) {
+        Ok(bytes) => Ok(bytes),
+        Err(fault) => Err(Fault::reading(file, fault)),
+    }
+}
+
+/// Writes an image in the place of its file, which is closed afterwards.
+fn write_image<R: Files>(rt: &R, path: &str, image: &[u8]) -> Result<(), Fault> {
+    let mut writer = match fs::create(rt, path) {
+        Ok(writer) => writer,
+        Err(_) => return Err(Fault::CannotWriteImage),
+    };
+    match write_whole(&mut writer, image) {
+        Ok(()) => Ok(()),
+        Err(_) => Err(Fault::CannotWriteImage),
+    }
+}
+
+/// Prints on standard output.
+fn print<R: Print>(rt: &R, text: &[u8]) -> Result<(), Fault> {
+    match write_whole(&mut io::writer(rt), text) {
+        Ok(()) => Ok(()),
+        Err(_) => Err(Fault::CannotWriteOutput),
+    }
 }
 
 /// Prints the line of a fault on standard error, and gives its status.

@@ -232,8 +232,7 @@ fn digits(rt: HostRuntime) -> Result<(), Fail> {
     assert_image(&rt, &flash, &image)
 }
 
-/// Three transfers with two pages a set, each followed by its clean steps: six erases, as many as
-/// `total` counts.
+/// Three transfers with two pages a set, each followed by its clean steps: six erases in total.
 #[test]
 fn erases_of_three_transfers(rt: HostRuntime) -> Result<(), Fail> {
     let answers = [
@@ -257,7 +256,7 @@ fn erases_of_three_transfers(rt: HostRuntime) -> Result<(), Fail> {
         ("r 1", "7"),
     ];
     let flash = replay(&rt, formatted(rt.alloc(), 2, 5)?, &answers)?;
-    // Wears of 2, 2, 1 and 1: six in total.
+    // Wears of 2, 2, 1 and 1.
     let image = [
         "2 - - - - -",
         "2 - - - - -",

@@ -26,8 +26,9 @@ fn opened<F: Flash + Drop>(mut flash: F) -> Result<Store<F>, Fail> {
     }
 }
 
-/// A device with so many pages a set and one slot a page. Address 1 was written with 1 in each slot and then with 2 in each:
-/// the second set is live and full, and the pages of the first wait to be erased.
+/// A device with so many pages a set and one slot a page. Address 1 was written with 1 in each slot
+/// and then with 2 in each: the second set is live and full, and the pages of the first wait to be
+/// erased.
 fn moved_once<'a>(
     rt: &impl Abort,
     alloc: Global,
@@ -57,7 +58,8 @@ fn numbers_of<V: Variables>(store: &V) -> Option<(u32, usize, usize)> {
     Some((store.generation(), store.fill(), store.pending()))
 }
 
-// Cuts the erase of the first set's page as the list says, in a clean step or in a write that transfers.
+// Cuts the erase of the first set's page as the list says, in a clean step or in a write that
+// transfers.
 fn cut_the_erase(rt: &impl Abort, alloc: Global, call: Call, list: &[Left; 5]) -> Result<(), Fail> {
     let one = Address::new(1).ok_or("no address")?;
     let fates = [Fate::Cut(list)];
@@ -110,8 +112,9 @@ fn each_mix_of_a_cut_erase_in_a_transfer(rt: HostRuntime) -> Result<(), Fail> {
     Ok(())
 }
 
-// Opens the store and writes 3 at the address, until a write is done or the tries are used up. Between two cuts the store
-// reads the old value, or the new one, and then no more the old one. Gives how many cuts there were.
+// Opens the store and writes 3 at the address, until a write is done or the tries are used up.
+// Between two cuts the store reads the old value, or the new one, and then no more the old one.
+// Gives how many cuts there were.
 fn write_through<F: Flash + Drop>(
     rt: &impl Abort,
     flash: F,
@@ -145,32 +148,37 @@ fn write_through<F: Flash + Drop>(
     Err(Fail::from("too many cuts"))
 }
 
-// A transfer is cut in its erase, and what follows in each later step, as three mixes of words say. Gives how many cuts
-// there were until a write was done.
+// A transfer is cut in its erase, and what follows in one later step after another,
+// each as one of three mixes of words says.
+fn fates_of<'a>(mixes: &'a [[Left; 5]; 3]) -> [Fate<'a>; 17] {
+    [
+        Fate::Cut(&mixes[0]),
+        Fate::Cut(&mixes[1]),
+        Fate::Cut(&mixes[2]),
+        Fate::Done,
+        Fate::Cut(&mixes[1]),
+        Fate::Done,
+        Fate::Done,
+        Fate::Cut(&mixes[2]),
+        Fate::Done,
+        Fate::Done,
+        Fate::Done,
+        Fate::Cut(&mixes[0]),
+        Fate::Done,
+        Fate::Done,
+        Fate::Done,
+        Fate::Done,
+        Fate::Cut(&mixes[1]),
+    ]
+}
+
+// Gives how many cuts there were until a write was done.
 fn cut_often(rt: &impl Abort, alloc: Global, pages: usize, number: usize) -> Result<u64, Fail>
     requires { number < 81 }
 {
     let one = Address::new(1).ok_or("no address")?;
-    let (first, second, third) = (mix_of(number), mix_of(number * 3), mix_of(242 - number));
-    let fates = [
-        Fate::Cut(&first),
-        Fate::Cut(&second),
-        Fate::Cut(&third),
-        Fate::Done,
-        Fate::Cut(&second),
-        Fate::Done,
-        Fate::Done,
-        Fate::Cut(&third),
-        Fate::Done,
-        Fate::Done,
-        Fate::Done,
-        Fate::Cut(&first),
-        Fate::Done,
-        Fate::Done,
-        Fate::Done,
-        Fate::Done,
-        Fate::Cut(&second),
-    ];
+    let mixes = [mix_of(number), mix_of(number * 3), mix_of(242 - number)];
+    let fates = fates_of(&mixes);
     let mut flash = moved_once(rt, alloc, pages, one)?;
     flash.set_fates(&fates);
     write_through(rt, flash, one, 12)

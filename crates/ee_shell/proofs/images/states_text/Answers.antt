@@ -1,3 +1,4 @@
+use Rattle.std.proofs.Common.{rules}
 use Rattle.std.proofs.lemmas.Result.{err_from_is_err_and}
 use Rattle.ee_flash.specs.Memory.{device_of}
 use Rattle.ee_shell.proofs.Stores.{are_states, formed_of, no_memory}
@@ -10,4 +11,5 @@ returns-in_err-push_states-clause-fault g c =
 
 pub returns-clause-states : goal.returns-clause-states
 returns-clause-states g c =
-    are_states c.args.image.now c.new-text.result.items _ (device_of c.in-Ok.flash) (formed_of c.in-Ok.flash) c.in-Ok.ensures.found c.new-text.ensures.items c.in_ok-push_states.ensures
+    let formed = formed_of c.in-Ok.flash in
+    search (rules, are_states, formed)

@@ -1,4 +1,4 @@
-use Rattle.std.proofs.Common.{◌≡◌, ◌⊎◌, inl, inr}
+use Rattle.std.proofs.Common.{◌≡◌, ◌⊎◌, inl, inr, rules}
 use Rattle.ee_image.proofs.Taken.{error_passed_on}
 use Rattle.ee_shell.specs.declared.replaying.ReplayFault.TheVariants.{Memory}
 use Rattle.ee_shell.proofs.OneCause.{one_replay_fault, replayed_is_good}
@@ -17,7 +17,7 @@ returns-in_err-replayed-clause-names g c = λ cause some applies.
     (one_replay_fault c.args.image.now c.args.script.now cause c.in_err-replayed.field-0.0 some applies (inr ((opened.device, opened.old), c.in_err-replayed.ensures.fault)))
 
 pub returns-clause-replayed : goal.returns-clause-replayed
-returns-clause-replayed g c = is_replayed _ _ _ _ c.in_ok-store.store c.in_ok-store.ensures.opened c.in_ok-replayed.ensures.run
+returns-clause-replayed g c = search (rules, is_replayed)
 
 pub returns-clause-names : goal.returns-clause-names
 returns-clause-names g c = λ cause some applies.

@@ -1,0 +1,156 @@
+//! The program over files: each status, and what stands in the files afterwards.
+use super::desk::Desk;
+use std::fs;
+use std::process::Abort;
+use std::rt::Files;
+use std::test::Fail;
+
+const FORMATTED: &[u8] = b"ee 1 6
+0 aaaaaaaa00000001 aaaaaaaaaaaaaaaa - - - -
+0 - - - - - -
+";
+
+const MOVED: &[u8] = b"ee 1 6
+0 aaaaaaaa00000001 aaaaaaaaaaaaaaaa - aaaaaaaaaaaaaaaa 0000000a00000001 0000000b00000001
+0 aaaaaaaa00000002 aaaaaaaaaaaaaaaa - - 0000000c00000001 -
+";
+
+const CLEANED: &[u8] = b"ee 1 6
+1 - - - - - -
+0 aaaaaaaa00000002 aaaaaaaaaaaaaaaa - - 0000000c00000001 -
+";
+
+/// Runs the words and compares the status, standard output and standard error.
+fn says<R: Files + AllocGlobal + Input + Abort>(
+    rt: &R,
+    words: &[&str],
+    status: u8,
+    printed: &[u8],
+    told: &[u8],
+) -> Result<(), Fail> {
+    let desk = Desk::new(rt);
+    assert_eq!(rt; desk.run(words)?, status);
+    let written = desk.written();
+    assert_eq!(rt; written.0.as_slice(), printed);
+    assert_eq!(rt; written.1.as_slice(), told);
+    Ok(())
+}
+
+/// Compares the bytes of a file.
+fn holds<R: Files + AllocGlobal + Abort>(rt: &R, path: &str, bytes: &[u8]) -> Result<(), Fail> {
+    assert_eq!(rt; fs::read(rt, path)?.as_slice(), bytes);
+    Ok(())
+}
+
+#[test]
+fn commands_write_their_image_and_print(rt: HostRuntime) -> Result<(), Fail> {
+    fs::write(&rt, "whole.script", b"w 1 10\nw 1 11\nw 1 12\n".as_slice())?;
+    says(
+        &rt,
+        &["format", "1", "6", "whole.image"],
+        0,
+        b"formatted\n",
+        b"",
+    )?;
+    holds(&rt, "whole.image", FORMATTED)?;
+    let ran: &[&str] = &["run", "whole.image", "whole.script"];
+    says(&rt, ran, 0, b"ok\nok\nmoved\n", b"")?;
+    holds(&rt, "whole.image", MOVED)?;
+    let states = b"page 0 ERASING\npage 1 ACTIVE\n";
+    says(&rt, &["states", "whole.image"], 0, states, b"")?;
+    holds(&rt, "whole.image", MOVED)?;
+    says(&rt, &["clean", "whole.image"], 0, b"cleaned 1\n", b"")?;
+    holds(&rt, "whole.image", CLEANED)?;
+    fs::remove_file(&rt, "whole.script")?;
+    fs::remove_file(&rt, "whole.image")?;
+    Ok(())
+}
+
+#[test]
+fn standard_input_is_tried(rt: HostRuntime) -> Result<(), Fail> {
+    let mut desk = Desk::new(&rt);
+    desk.input = b"w 1 10\nr 1\nr 2\n";
+    assert_eq!(rt; desk.run(&[])?, 0);
+    assert_eq!(rt; desk.written().0.as_slice(), b"ok\n10\nnone\n".as_slice());
+    let mut desk = Desk::new(&rt);
+    desk.input = b"w 1 1\nw 1 2\n";
+    assert_eq!(rt; desk.run(&["try", "1", "5"])?, 0);
+    assert_eq!(rt; desk.written().0.as_slice(), b"ok\nmoved\n".as_slice());
+    Ok(())
+}
+
+#[test]
+fn bad_words_come_before_files(rt: HostRuntime) -> Result<(), Fail> {
+    let told = b"ee: bad command line\n";
+    says(&rt, &["states"], 2, b"", told)?;
+    says(&rt, &["format", "65", "6", "never.image"], 2, b"", told)?;
+    says(&rt, &["run", "--indexed", "never.image"], 2, b"", told)?;
+    assert!(rt; !fs::exists(&rt, "never.image")?);
+    Ok(())
+}
+
+#[test]
+fn files_that_cannot_be_read(rt: HostRuntime) -> Result<(), Fail> {
+    fs::create_dir(&rt, "folder.image")?;
+    fs::write(&rt, "empty.image", b"".as_slice())?;
+    let no_image = b"ee: cannot read image\n";
+    let no_script = b"ee: cannot read script\n";
+    says(&rt, &["states", "missing.image"], 3, b"", no_image)?;
+    says(&rt, &["states", "folder.image"], 3, b"", no_image)?;
+    says(
+        &rt,
+        &["run", "missing.image", "missing.script"],
+        3,
+        b"",
+        no_image,
+    )?;
+    // A file that can't be read goes before a bad image.
+    says(
+        &rt,
+        &["run", "empty.image", "missing.script"],
+        3,
+        b"",
+        no_script,
+    )?;
+    let unwritten = b"ee: cannot write image\n";
+    says(
+        &rt,
+        &["format", "1", "6", "folder.image"],
+        3,
+        b"",
+        unwritten,
+    )?;
+    fs::remove_dir(&rt, "folder.image")?;
+    fs::remove_file(&rt, "empty.image")?;
+    Ok(())
+}
+
+#[test]
+fn faults_of_contents_leave_the_image(rt: HostRuntime) -> Result<(), Fail> {
+    let binary: &[u8] = &[0, 255, 10, 128];
+    fs::write(&rt, "kept.image", MOVED)?;
+    fs::write(&rt, "binary", binary)?;
+    let line: &[u8] = b"ee: script line 1\n";
+    says(&rt, &["run", "kept.image", "binary"], 3, b"", line)?;
+    holds(&rt, "kept.image", MOVED)?;
+    says(&rt, &["clean", "binary"], 3, b"", b"ee: image line 1\n")?;
+    holds(&rt, "binary", binary)?;
+    fs::remove_file(&rt, "kept.image")?;
+    fs::remove_file(&rt, "binary")?;
+    Ok(())
+}
+
+#[test]
+fn closed_output_comes_after_the_image(rt: HostRuntime) -> Result<(), Fail> {
+    fs::write(&rt, "closed.image", MOVED)?;
+    let mut desk = Desk::new(&rt);
+    desk.closed = true;
+    assert_eq!(rt; desk.run(&["clean", "closed.image"])?, 3);
+    assert_eq!(rt;
+        desk.written().1.as_slice(),
+        b"ee: cannot write output\n".as_slice()
+    );
+    holds(&rt, "closed.image", CLEANED)?;
+    fs::remove_file(&rt, "closed.image")?;
+    Ok(())
+}
