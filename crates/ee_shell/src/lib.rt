@@ -3,8 +3,9 @@
 //! `replay` answers a script on an image, and `try_script` on a formatted one: their contract is the
 //! report machine of `specs/Machine.antt`. For every script the report is the answers of a run of
 //! that machine, and a text that is no script is refused at its first bad line. `specs/Images.antt`
-//! says what the other commands make of an image, and `job` which words ask for what. `read_whole` and `write_whole` say what of an input and
-//! an output went through them. `specs/Fault.antt` has each fault's line and status.
+//! says what the other commands make of an image, `specs/Job.antt` which words ask for what, and
+//! `specs/Fault.antt` has each fault's line and status. `read_whole` and `write_whole` say what of an
+//! input and an output went through them.
 //!
 //! What the program above may use: these calls, and that a fault's line and status are those of the
 //! table. The program opens files and prints; it decides nothing.
