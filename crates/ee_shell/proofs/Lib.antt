@@ -1,5 +1,6 @@
 pub mod Causes
 pub mod Cleaning
+pub mod Erasing
 pub mod OneCause
 pub mod Pages
 pub mod Runs

@@ -11,16 +11,20 @@ use Rattle.ee_flash.specs.declared.word.Word.TheVariants.{Erased}
 use Rattle.ee_pages.specs.Page.{is_written}
 use Rattle.ee_pages.specs.Sets.{pending_of}
 use Rattle.ee_store.specs.Finished.{IsStore}
-use Rattle.ee_store.specs.Openings.{IsFormatted}
-use Rattle.ee_store.specs.State.{State, state_of}
-use Rattle.ee_image.specs.Text.{image_text}
+use Rattle.ee_store.specs.Openings.{IsFormatted, Opens}
+use Rattle.ee_store.specs.State.{State, formatted, state_of}
+use Rattle.ee_image.specs.Text.{at_rest, image_text}
 use Rattle.ee_image.specs.declared.fault.ImageFault.TheVariants as image
 use Rattle.ee_image.proofs.Texts.{short}
+use Rattle.ee_script.specs.Run.{Run}
+use Rattle.ee_shell.specs.Erases.{ErasesRise, erases_of_all}
 use Rattle.ee_shell.specs.Images.{AreStates, IsFormattedText, IsReadingFault, state_lines}
-use Rattle.ee_shell.specs.Opening.{IsNewStore, IsOpened}
-use Rattle.ee_shell.specs.Replaying.{IsReplayed, IsRun, Spells}
-use Rattle.ee_shell.specs.Serving.{StaysOn}
+use Rattle.ee_shell.specs.Machine.{Step}
+use Rattle.ee_shell.specs.Opening.{IsNewStore, IsOpened, IsRunOn}
+use Rattle.ee_shell.specs.Replaying.{IsReplayed, IsRun, IsStoreLeft, IsTried, Spells}
+use Rattle.ee_shell.specs.Serving.{IsServed, StaysOn}
 use Rattle.ee_shell.specs.declared.fault.Fault.TheVariants.{Memory}
+use Rattle.ee_shell.proofs.Erasing.{both, by_wear}
 
 -- a device in memory is formed
 pub formed_of : {A : Type 0} (flash : MemFlash A) → IsFormed (device_of flash)
@@ -32,14 +36,63 @@ formed_of flash =
 stays : (old new : Device) → StaysOn old → new.on ≡ old.on → new.cuts_left ≡ old.cuts_left → StaysOn new
 stays old new kept on left = record { on = on ∙ kept.on; never_cut = left ∙ kept.never_cut }
 
+pub is_opened : (text : List ℕ) (old new : Device) → old ≡ at_rest old → text ≡ image_text old → Opens old new → IsOpened text new
+is_opened text old new rest spelled opens =
+    let kept : StaysOn old = record { on = ap (λ (d : Device). d.on) rest; never_cut = ap (λ (d : Device). d.cuts_left) rest } in
+    record {
+      device = old;
+      old = record { spelled = record { formed = opens.legal.2.formed; text_is = spelled }; legal = opens.legal };
+      stays_on = stays old new kept opens.goes_on.same_power opens.goes_on.same_cuts_left;
+      same_size = opens.goes_on.same_size;
+      state_is = opens.state_is;
+      erases = by_wear old new opens.state_is opens.no_wear;
+    }
+
+pub is_run_on : (old new flash : Device) (text image reported : List ℕ) → IsServed old text new reported → IsStore new → flash ≡ new → Spells image flash → IsRunOn old text image reported
+is_run_on old new flash text image reported served store same spelled = record {
+  run = record {
+    last = new;
+    left = record { spelled = subst (Spells image) same spelled; store = store; stays_on = served.stays_on; same_size = served.same_size };
+    report = served.report;
+  };
+  erases = served.erases;
+}
+
+-- the same run, of a machine that is known by another size and state
+abbrev from_there : (size other : Size) (start from : State) (text image reported : List ℕ) → size ≡ other → start ≡ from → IsRun size start text image reported → IsRun other from text image reported
+from_there size other start from text image reported sizes starts run = record {
+  last = run.last;
+  left = subst (λ (s : Size). IsStoreLeft s image run.last) sizes run.left;
+  report = record {
+    commands = run.report.commands;
+    answers = run.report.answers;
+    is_script = run.report.is_script;
+    run = subst (λ (s : Size). Run (Step s) from run.report.commands run.report.answers (state_of run.last)) sizes
+        (subst (λ (state : State). Run (Step size) state run.report.commands run.report.answers (state_of run.last)) starts run.report.run);
+    report_is = run.report.report_is;
+  };
+}
+
 -- a run from what was opened is a run from what the text spells
-pub is_replayed : (old_image text image reported : List ℕ) (store : Device) → IsOpened old_image store → IsRun store.size (state_of store) text image reported
+pub is_replayed : (old_image text image reported : List ℕ) (store : Device) → IsOpened old_image store → IsRunOn store text image reported
     → IsReplayed old_image text image reported
-is_replayed old_image text image reported store opened run = record {
+is_replayed old_image text image reported store opened on = record {
   device = opened.device;
   old = opened.old;
-  run = subst (λ (size : Size). IsRun size (state_of opened.device) text image reported) opened.same_size
-      (subst (λ (state : State). IsRun store.size state text image reported) opened.state_is run);
+  run = from_there store.size opened.device.size (state_of store) (state_of opened.device) text image reported opened.same_size opened.state_is on.run;
+  erases = both opened.device store on.run.last 0 (erases_of_all opened.device.size on.run.report.answers) (erases_of_all opened.device.size on.run.report.answers) opened.erases
+      (subst (λ (s : Size). ErasesRise (erases_of_all s on.run.report.answers) store on.run.last) opened.same_size on.erases) (omega arith);
+}
+
+-- a run from what was formatted
+pub is_tried : (size : Size) (text image reported : List ℕ) (store : Device) → IsNewStore size store → IsRunOn store text image reported → IsTried size text image reported
+is_tried size text image reported store new on = record {
+  run = from_there store.size size (state_of store) formatted text image reported new.size_is new.state_is on.run;
+  erases = λ counts.
+      let none = new.no_wear (on.erases.counted counts) in
+      let pending : (state_of store).pending ≡ 0 = ap (λ (s : State). s.pending) new.state_is in
+      let same : erases_of_all store.size on.run.report.answers ≡ erases_of_all size on.run.report.answers = ap (λ (s : Size). erases_of_all s on.run.report.answers) new.size_is in
+      omega (arith, on.erases.rise counts, none, pending, same);
 }
 
 -- ---- a new device

@@ -1,5 +1,6 @@
 pub mod Job
 pub mod Machine
+pub mod Erases
 pub mod Serving
 pub mod Replaying
 pub mod Opening

@@ -3,9 +3,9 @@ use Rattle.std.specs.Prelude.{◌≡◌, List, ℕ}
 use Rattle.ee_flash.specs.Device.{Device}
 use Rattle.ee_flash.specs.Size.{Size}
 use Rattle.ee_flash.specs.Wear.{total_wear_of}
-use Rattle.ee_store.specs.Finished.{IsStore}
 use Rattle.ee_store.specs.State.{CountsWear, formatted, state_of}
-use Rattle.ee_shell.specs.Replaying.{IsStoreText}
+use Rattle.ee_shell.specs.Erases.{ErasesRise, erases_of_all}
+use Rattle.ee_shell.specs.Replaying.{IsRun, IsStoreText}
 use Rattle.ee_shell.specs.Serving.{StaysOn}
 
 -- the store of the image that the text spells, with its state
@@ -15,6 +15,7 @@ pub record IsOpened (text : List ℕ) (new : Device) : Type 0 where
   pub stays_on : StaysOn new
   pub same_size : new.size ≡ device.size
   pub state_is : state_of new ≡ state_of device
+  pub erases : ErasesRise 0 device new
 
 -- a store with nothing in it, on a device of this size that no page of was erased
 pub record IsNewStore (size : Size) (new : Device) : Type 0 where
@@ -22,3 +23,8 @@ pub record IsNewStore (size : Size) (new : Device) : Type 0 where
   pub size_is : new.size ≡ size
   pub state_is : state_of new ≡ formatted
   pub no_wear : CountsWear new → total_wear_of new ≡ 0
+
+-- the script was run on this store
+pub record IsRunOn (store : Device) (text new_image reported : List ℕ) : Type 0 where
+  pub run : IsRun store.size (state_of store) text new_image reported
+  pub erases : ErasesRise (erases_of_all store.size run.report.answers) store run.last

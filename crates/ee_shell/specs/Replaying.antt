@@ -5,7 +5,7 @@ use Rattle.ee_flash.specs.Size.{Size}
 use Rattle.ee_pages.specs.Layout.{IsScanFault}
 use Rattle.ee_pages.specs.Legal.{IsLegal}
 use Rattle.ee_store.specs.Finished.{IsStore}
-use Rattle.ee_store.specs.State.{State, state_of}
+use Rattle.ee_store.specs.State.{CountsWear, State, formatted, state_of}
 use Rattle.ee_image.specs.Text.{image_text}
 use Rattle.ee_image.specs.Fault.{IsTextFault}
 use Rattle.ee_image.specs.declared.fault.ImageFault.{ImageFault}
@@ -14,6 +14,7 @@ use Rattle.ee_script.specs.declared.session.ScriptFault.{ScriptFault}
 use Rattle.ee_script.specs.declared.session.ScriptFault.TheVariants as script
 use Rattle.ee_script.specs.Script.{IsFirstBadLine}
 use Rattle.ee_script.specs.Whole.{IsAnswered}
+use Rattle.ee_shell.specs.Erases.{ErasesRise, erases, erases_of_all}
 use Rattle.ee_shell.specs.Machine.{Step}
 use Rattle.ee_shell.specs.Serving.{StaysOn}
 use Rattle.ee_shell.specs.declared.replaying.ReplayFault.{ReplayFault}
@@ -43,11 +44,18 @@ pub record IsRun (size : Size) (start : State) (text new_image reported : List �
   pub left : IsStoreLeft size new_image last
   pub report : IsAnswered (Step size) start text (state_of last) reported
 
--- The script was run on the store whose image the first text spells.
+-- The script was run on the store whose image the first text spells; each move left the pages of a set to be erased, and
+-- nothing else did.
 pub record IsReplayed (old_image text new_image reported : List ℕ) : Type 0 where
   pub device : Device
   pub old : IsStoreText old_image device
   pub run : IsRun device.size (state_of device) text new_image reported
+  pub erases : ErasesRise (erases_of_all device.size run.report.answers) device run.last
+
+-- The script was run on a store with nothing in it, on a device of this size of which no page was erased.
+pub record IsTried (size : Size) (text new_image reported : List ℕ) : Type 0 where
+  pub run : IsRun size formatted text new_image reported
+  pub erases : CountsWear run.last → erases run.last ≡ erases_of_all size run.report.answers
 
 -- why no store is opened from an image's text: the text is no device's, or the device has no legal image; or memory ran
 -- out

@@ -2,7 +2,6 @@
 ghost use Rattle.std.specs.Prelude.{◌≡◌, ◌<◌, ◌-◌, ◌++◌, IfOk, IfErr, OnOk};
 ghost use Rattle.ee_text.specs.Line.{line_of};
 ghost use Rattle.ee_store.specs.State.{state_of, with_pending};
-ghost use Rattle.ee_shell.specs.Fault.{fault_of_image};
 ghost use Rattle.ee_shell.specs.Images.{AreStates, IsCleaned, IsFormattedText, IsOpeningFault, IsReadingFault, cleaned_text, state_lines, state_name, state_text};
 ghost use Rattle.ee_shell.specs.Serving.{StaysOn};
 
@@ -11,7 +10,7 @@ use super::opening::{new_store, open_image, text_of};
 use ee_flash::{Flash, Shape};
 use ee_image::read_image;
 use ee_pages::{State, state_of as state_of_page};
-use ee_store::{Variables, WriteFault};
+use ee_store::Variables;
 use ee_text::push_number;
 use std::alloc::{AllocError, Allocator};
 

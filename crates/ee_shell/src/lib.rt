@@ -1,11 +1,11 @@
 //! The commands of `ee` over bytes: what they give, and the line and the status of each fault.
 //!
-//! `replay` answers a script on an image, and `try_script` on a formatted one: their contract is the
-//! report machine of `specs/Machine.antt`. For every script the report is the answers of a run of
-//! that machine, and a text that is no script is refused at its first bad line. `specs/Images.antt`
-//! says what the other commands make of an image, `specs/Job.antt` which words ask for what, and
-//! `specs/Fault.antt` has each fault's line and status. `read_whole` and `write_whole` say what of an
-//! input and an output went through them.
+//! `replay` and `try_script` answer a script, on the image that a text spells and on a formatted one.
+//! Their contract is the report machine of `specs/Machine.antt`: the report is the answers of a run
+//! of it, and the new image has the state that the run came to (`specs/Replaying.antt`).
+//! `specs/Images.antt` says what the commands without a script give. `read_whole` and `write_whole`
+//! say what of an input and an output went through them. `specs/Fault.antt` has each fault's line
+//! and status.
 //!
 //! What the program above may use: these calls, and that a fault's line and status are those of the
 //! table. The program opens files and prints; it decides nothing.

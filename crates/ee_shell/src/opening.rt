@@ -1,6 +1,5 @@
 //! Stores of images, and images of devices, as text.
-ghost use Rattle.std.specs.Prelude.{◌≡◌, IfOk, IfErr, IfSome};
-ghost use Rattle.ee_flash.specs.Device.{IsOn};
+ghost use Rattle.std.specs.Prelude.{IfOk, IfErr};
 ghost use Rattle.ee_pages.specs.Layout.{IsScanFault};
 ghost use Rattle.ee_store.specs.Openings.{IsFormatted, Opens};
 ghost use Rattle.ee_shell.specs.Opening.{IsNewStore, IsOpened};

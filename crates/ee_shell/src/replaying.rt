@@ -1,8 +1,8 @@
 //! Scripts on images.
 ghost use Rattle.std.specs.Prelude.{◌≡◌, ◌≢◌, ◌⊎◌, ℕ, IfOk, IfErr, MatchResult};
 ghost use Rattle.ee_script.specs.Script.{IsFirstBadLine};
-ghost use Rattle.ee_store.specs.State.{formatted, state_of};
-ghost use Rattle.ee_shell.specs.Replaying.{IsReplayFault, IsReplayed, IsRun, IsRunFault, IsStoreText};
+ghost use Rattle.ee_shell.specs.Opening.{IsRunOn};
+ghost use Rattle.ee_shell.specs.Replaying.{IsReplayFault, IsReplayed, IsRunFault, IsTried};
 ghost use Rattle.ee_shell.specs.Serving.{StaysOn};
 
 use super::opening::{new_store, open_image, text_of};
@@ -124,8 +124,8 @@ pub fn try_script<A: Allocator + Copy>(
     shape: Shape,
     script: &[u8],
 ) -> Result<Replayed<A>, ReplayFault>
-    ensures run { IfOk result (λ replayed.
-        IsRun shape formatted script.now replayed.image.items replayed.report.items) }
+    ensures tried { IfOk result (λ replayed.
+        IsTried shape script.now replayed.image.items replayed.report.items) }
     ensures fault { IfErr result (IsRunFault script.now) }
     // A bad line is never passed over.
     ensures bad { (n : ℕ) → IsFirstBadLine script.now n
@@ -145,7 +145,7 @@ fn run_on<A: Allocator + Copy, F: Flash + Drop>(
 ) -> Result<Replayed<A>, ReplayFault>
     requires { StaysOn store }
     ensures run { IfOk result (λ replayed.
-        IsRun store.size (state_of store) script.now replayed.image.items replayed.report.items) }
+        IsRunOn store script.now replayed.image.items replayed.report.items) }
     ensures fault { IfErr result (IsRunFault script.now) }
 {
     let (store, report) = answer_on(alloc, store, script)?;

@@ -3,7 +3,8 @@ ghost use Rattle.std.specs.Prelude.{◌≡◌, ◌⊎◌, ℕ, IfOk, IfErr, Matc
 ghost use Rattle.ee_script.specs.Script.{IsFirstBadLine};
 ghost use Rattle.ee_script.specs.Whole.{IsScriptFault};
 ghost use Rattle.ee_script.specs.declared.command.Command.TheVariants.{Write, Read, Clean};
-ghost use Rattle.ee_shell.specs.Serving.{IsServed, Serves, StaysOn};
+ghost use Rattle.ee_shell.specs.Erases.{ErasesRise, erases_of};
+ghost use Rattle.ee_shell.specs.Serving.{Answers, IsServed, StaysOn};
 
 use ee_codec::Address;
 use ee_script::{Answer, Command, ScriptFault, Serve, answer_script};
@@ -20,8 +21,10 @@ struct Server<V: Variables + Drop> {
 impl<V: Variables + Drop> Server<V> {
     /// Writes, as a line of a script says. An error says that memory ran out.
     fn write(&mut self, address: Address, value: u32) -> Result<Answer, AllocError>
-        ensures { IfOk result (λ answer. Serves (V.device self.old.store)
+        ensures answers { IfOk result (λ answer. Answers (V.device self.old.store)
             (Write address value) answer (V.device self.new.store)) }
+        ensures erases { let old = V.device self.old.store in IfOk result
+            (λ answer. ErasesRise (erases_of old.size answer) old (V.device self.new.store)) }
     {
         match self.store.write(address, value) {
             Ok(Written::Appended) => Ok(Answer::Appended),
@@ -35,8 +38,10 @@ impl<V: Variables + Drop> Server<V> {
 
     /// Reads.
     fn read(&self, address: Address) -> Answer
-        ensures { Serves (V.device self.now.store)
+        ensures answers { Answers (V.device self.now.store)
             (Read address) result (V.device self.now.store) }
+        ensures erases { let old = V.device self.now.store in
+            ErasesRise (erases_of old.size result) old old }
     {
         match self.store.read(address) {
             Ok(Some(value)) => Answer::Value(value),
@@ -47,7 +52,9 @@ impl<V: Variables + Drop> Server<V> {
 
     /// Takes a clean step.
     fn clean(&mut self) -> Answer
-        ensures { Serves (V.device self.old.store) Clean result (V.device self.new.store) }
+        ensures answers { Answers (V.device self.old.store) Clean result (V.device self.new.store) }
+        ensures erases { let old = V.device self.old.store in
+            ErasesRise (erases_of old.size result) old (V.device self.new.store) }
     {
         match self.store.clean_step() {
             Ok(true) => Answer::Cleaned,

@@ -126,7 +126,11 @@ impl<F: Flash + Drop> Variables for Store<F> {
         if self.is_spent() {
             return Err(WriteFault::Spent);
         }
-        match make_change(&mut self.flash, &mut self.layout, Change::Put { address, value }) {
+        match make_change(
+            &mut self.flash,
+            &mut self.layout,
+            Change::Put { address, value },
+        ) {
             Ok(written) => Ok(written),
             Err(Cut) => Err(WriteFault::Cut),
         }
@@ -142,7 +146,11 @@ impl<F: Flash + Drop> Variables for Store<F> {
         if self.is_spent() {
             return Err(ForgetFault::Spent);
         }
-        match make_change(&mut self.flash, &mut self.layout, Change::Forget { address, value }) {
+        match make_change(
+            &mut self.flash,
+            &mut self.layout,
+            Change::Forget { address, value },
+        ) {
             Ok(written) => Ok(written),
             Err(Cut) => Err(ForgetFault::Cut),
         }

@@ -3,6 +3,7 @@ use super::image::{assert_image, device};
 use super::replay::{formatted, replay};
 use crate::format;
 use ee_flash::{Flash, Fuse, Tear};
+use std::process::Abort;
 use std::test::Fail;
 
 /// A transfer writes the new value first, and copies the others by rising address, whatever their
@@ -95,6 +96,34 @@ fn cut_page_opening(rt: HostRuntime) -> Result<(), Fail> {
     Ok(())
 }
 
+// Compares the image of a transfer that is cut with that of a transfer cut at its commit and in the
+// opening after it.
+fn assert_marks<R: Abort + AllocGlobal>(
+    rt: &R,
+    of_transfer: &'static str,
+    of_opening: &'static str,
+    image: &[&str],
+) -> Result<(), Fail> {
+    let transfer = [
+        ("w 1 1", "ok"),
+        ("w 2 2", "ok"),
+        (of_transfer, "armed"),
+        ("w 1 3", "cut"),
+    ];
+    let flash = replay(rt, formatted(rt.alloc(), 2, 5)?, &transfer)?;
+    assert_image(rt, &flash, image)?;
+    let opening = [
+        ("w 1 1", "ok"),
+        ("w 2 2", "ok"),
+        ("x 5 d", "armed"),
+        ("w 1 3", "cut"),
+        (of_opening, "armed"),
+        ("p", "cut"),
+    ];
+    let flash = replay(rt, formatted(rt.alloc(), 2, 5)?, &opening)?;
+    assert_image(rt, &flash, image)
+}
+
 /// After its commit a transfer marks the used pages before the last valid, then the last used one
 /// active, then the pages of the old set, by rising page. An opening after a cut at the commit does
 /// the same.
@@ -114,24 +143,7 @@ fn marks_after_the_commit(rt: HostRuntime) -> Result<(), Fail> {
         ("x 8 n", "x 3 n", [first, second, valid, active]),
         ("x 9 n", "x 4 n", [erasing, second, valid, active]),
     ] {
-        let transfer = [
-            ("w 1 1", "ok"),
-            ("w 2 2", "ok"),
-            (of_transfer, "armed"),
-            ("w 1 3", "cut"),
-        ];
-        let flash = replay(&rt, formatted(rt.alloc(), 2, 5)?, &transfer)?;
-        assert_image(&rt, &flash, &image)?;
-        let opening = [
-            ("w 1 1", "ok"),
-            ("w 2 2", "ok"),
-            ("x 5 d", "armed"),
-            ("w 1 3", "cut"),
-            (of_opening, "armed"),
-            ("p", "cut"),
-        ];
-        let flash = replay(&rt, formatted(rt.alloc(), 2, 5)?, &opening)?;
-        assert_image(&rt, &flash, &image)?;
+        assert_marks(&rt, of_transfer, of_opening, &image)?;
     }
     Ok(())
 }

@@ -1,6 +1,4 @@
 //! Stores whose erases are cut in every mix of words, one cut after another: what no fuse makes.
-ghost use Rattle.std.specs.Prelude.{◌<◌};
-
 use super::cuts::mix_of;
 use crate::{Fate, Left, ListFlash};
 use ee_codec::Address;
@@ -173,12 +171,14 @@ fn fates_of<'a>(mixes: &'a [[Left; 5]; 3]) -> [Fate<'a>; 17] {
 }
 
 // Gives how many cuts there were until a write was done.
-fn cut_often(rt: &impl Abort, alloc: Global, pages: usize, number: usize) -> Result<u64, Fail>
-    requires { number < 81 }
-{
+fn cut_often(
+    rt: &impl Abort,
+    alloc: Global,
+    pages: usize,
+    mixes: &[[Left; 5]; 3],
+) -> Result<u64, Fail> {
     let one = Address::new(1).ok_or("no address")?;
-    let mixes = [mix_of(number), mix_of(number * 3), mix_of(242 - number)];
-    let fates = fates_of(&mixes);
+    let fates = fates_of(mixes);
     let mut flash = moved_once(rt, alloc, pages, one)?;
     flash.set_fates(&fates);
     write_through(rt, flash, one, 12)
@@ -187,17 +187,11 @@ fn cut_often(rt: &impl Abort, alloc: Global, pages: usize, number: usize) -> Res
 #[test]
 fn cuts_one_after_another(rt: HostRuntime) -> Result<(), Fail> {
     for number in 0..81usize {
-        let cuts = cut_often(&rt, rt.alloc(), 1, number)?;
-        assert!(rt; cuts >= 3, "{number}: {cuts}");
-    }
-    Ok(())
-}
-
-#[test]
-fn cuts_one_after_another_with_two_pages(rt: HostRuntime) -> Result<(), Fail> {
-    for number in 0..81usize {
-        let cuts = cut_often(&rt, rt.alloc(), 2, number)?;
-        assert!(rt; cuts >= 3, "{number}: {cuts}");
+        let mixes = [mix_of(number), mix_of(number * 3), mix_of(242 - number)];
+        for pages in [1, 2] {
+            let cuts = cut_often(&rt, rt.alloc(), pages, &mixes)?;
+            assert!(rt; cuts >= 3, "{number}: {cuts}");
+        }
     }
     Ok(())
 }

@@ -14,8 +14,8 @@ returns-in_err-append-clause-cut g c =
     let layout = c.args.layout.now in
     let slots : c.slots.result ≡ capacity old = c.slots.ensures.value ∙ ap slot_count c.shape.ensures in
     always_on_err c.from_residual.result
-        (cut_in_append old new layout.side layout.generation c.requires.layout.live (meant c.args.change) c.requires.proceeds (c.in_err-append.ensures.power.cut c.requires.proceeds.on)
-        (omega (arith, slots, c.if-layout-slots.true, c.requires.layout.fill)) c.append.ensures.other c.in_err-append.ensures.cut)
+    (cut_in_append old new layout.side layout.generation c.requires.layout.live (meant c.args.change) c.requires.proceeds (c.in_err-append.ensures.power.cut c.requires.proceeds.on)
+    (omega (arith, slots, c.if-layout-slots.true, c.requires.layout.fill)) c.append.ensures.other c.in_err-append.ensures.cut)
 
 pub returns-in_err-append-clause-store : goal.returns-in_err-append-clause-store
 returns-in_err-append-clause-store g c =
@@ -55,8 +55,8 @@ returns-in_err-transfer-clause-cut g c =
     let cut = c.in_err-transfer.ensures.power.cut c.requires.proceeds.on in
     let few = few_pending new (other layout.side) (g.met.F.Flash.formed c.transfer.new.flash) in
     always_on_err c.from_residual-in_err-transfer.result
-        (cut_in_move old new layout.side layout.generation c.requires.layout.live (meant c.args.change) c.requires.proceeds cut
-        (omega (arith, slots, c.if-layout-slots.false, c.requires.layout.fill, within)) (omega (arith, few, ap (λ size. size.pages) cut.same_size)) c.in_err-transfer.ensures.cut)
+    (cut_in_move old new layout.side layout.generation c.requires.layout.live (meant c.args.change) c.requires.proceeds cut
+    (omega (arith, slots, c.if-layout-slots.false, c.requires.layout.fill, within)) (omega (arith, few, ap (λ size. size.pages) cut.same_size)) c.in_err-transfer.ensures.cut)
 
 pub returns-in_err-transfer-clause-store : goal.returns-in_err-transfer-clause-store
 returns-in_err-transfer-clause-store g c =
@@ -73,7 +73,7 @@ returns-in_ok-append-clause-appended g c = λ _.
     let layout = c.args.layout.now in
     let slots : c.slots.result ≡ capacity old = c.slots.ensures.value ∙ ap slot_count c.shape.ensures in
     appends old new layout.side layout.generation c.requires.layout.live (meant c.args.change) c.requires.proceeds c.in_ok-append.ensures.power.ok
-        (omega (arith, slots, c.if-layout-slots.true, c.requires.layout.fill)) c.in_ok-append.ensures.takes c.append.ensures.other c.append.ensures.wear
+    (omega (arith, slots, c.if-layout-slots.true, c.requires.layout.fill)) c.in_ok-append.ensures.takes c.append.ensures.other c.append.ensures.wear
 
 pub returns-in_ok-transfer-clause-moved : goal.returns-in_ok-transfer-clause-moved
 returns-in_ok-transfer-clause-moved g c = λ _.
@@ -83,4 +83,4 @@ returns-in_ok-transfer-clause-moved g c = λ _.
     let slots : c.slots.result ≡ capacity old = c.slots.ensures.value ∙ ap slot_count c.shape.ensures in
     let within = few_within old layout.side (g.met.F.Flash.formed c.args.flash.now) in
     moves old new layout.side layout.generation c.requires.layout.live (meant c.args.change) c.requires.proceeds c.in_ok-transfer.ensures.power.ok
-        (omega (arith, slots, c.if-layout-slots.false, c.requires.layout.fill, within)) c.in_ok-transfer.ensures.moved c.in_ok-transfer.ensures.wear
+    (omega (arith, slots, c.if-layout-slots.false, c.requires.layout.fill, within)) c.in_ok-transfer.ensures.moved c.in_ok-transfer.ensures.wear

@@ -12,4 +12,4 @@ returns-then-self-slots g c =
     let found = c.self.invariant.1 (ap (λ device. device.on) c.self.view_is ∙ c.requires) in
     let slots : c.slots-slots.result ≡ capacity device = c.slots-slots.ensures.value ∙ ap slot_count c.shape.ensures in
     subst (λ device. ¬ IsFull (capacity device) (state_of device) c.args.address) c.self.view_is
-        (not_full_yet device layout.side layout.generation c.args.address found.live (omega (arith, slots, found.fill, c.if-self-slots.true)))
+    (not_full_yet device layout.side layout.generation c.args.address found.live (omega (arith, slots, found.fill, c.if-self-slots.true)))
