@@ -4,11 +4,23 @@ use Rattle.ee_text.specs.Line.{line_of}
 use Rattle.ee_shell.specs.declared.fault.File.{File}
 use Rattle.ee_shell.specs.declared.fault.File.TheVariants.{Image, Before, Script, Certificate, Settings}
 use Rattle.ee_shell.specs.declared.fault.Fault.{Fault}
-use Rattle.ee_shell.specs.declared.fault.Fault.TheVariants.{CannotRead, TooLong, CannotWriteImage, CannotWriteOutput, BadLine, BadShape, Unformatted, NoLiveSet, TwoLive, Foreign, Memory}
+use Rattle.ee_shell.specs.declared.fault.Fault.TheVariants.{CannotRead, TooLong, CannotWriteImage, CannotWriteOutput, BadLine, BadShape, Unformatted, NoLiveSet, TwoLive, Foreign, SettingsText, BadName, BadField, BadRange, SameAddress, UnknownName, OutOfRange, Full, Spent, NotFitting, WrongStart, NotRising, WrongFrom, NotForced, OtherShape, Backwards, Memory}
 use Rattle.ee_image.specs.declared.fault.ImageFault.{ImageFault}
 use Rattle.ee_image.specs.declared.fault.ImageFault.TheVariants as image
 use Rattle.ee_pages.specs.declared.find.ScanFault.{ScanFault}
 use Rattle.ee_pages.specs.declared.find.ScanFault.TheVariants as scan
+use Rattle.ee_script.specs.declared.session.ScriptFault.{ScriptFault}
+use Rattle.ee_script.specs.declared.session.ScriptFault.TheVariants as script
+use Rattle.ee_check.specs.declared.reading.TextFault.{TextFault}
+use Rattle.ee_check.specs.declared.reading.TextFault.TheVariants as text
+use Rattle.ee_check.specs.declared.checking.CheckFault.{CheckFault}
+use Rattle.ee_check.specs.declared.checking.CheckFault.TheVariants as check
+use Rattle.ee_plan.specs.declared.planned.PlanFault.{PlanFault}
+use Rattle.ee_plan.specs.declared.planned.PlanFault.TheVariants as plan
+use Rattle.ee_settings.specs.declared.fault.SchemaFault.{SchemaFault}
+use Rattle.ee_settings.specs.declared.fault.SchemaFault.TheVariants as schema
+use Rattle.ee_wear.specs.declared.since.SinceFault.{SinceFault}
+use Rattle.ee_wear.specs.declared.since.SinceFault.TheVariants as since
 use Rattle.ee_shell.specs.declared.files.ReadFault.{ReadFault}
 use Rattle.ee_shell.specs.declared.files.ReadFault.TheVariants as read
 use Rattle.ee_shell.specs.declared.replaying.ReplayFault.{ReplayFault}
@@ -33,13 +45,40 @@ cause Unformatted = codes "image unformatted"
 cause NoLiveSet = codes "image no live set"
 cause TwoLive = codes "image two live sets"
 cause (Foreign page at) = codes "image foreign word " ++ decimal page ++ codes " " ++ decimal at
+cause SettingsText = codes "settings text"
+cause (BadName entry) = codes "settings entry " ++ decimal entry ++ codes " bad name"
+cause (BadField entry) = codes "settings entry " ++ decimal entry ++ codes " bad field"
+cause (BadRange entry) = codes "settings entry " ++ decimal entry ++ codes " bad range"
+cause (SameAddress entry) = codes "settings entry " ++ decimal entry ++ codes " same address"
+cause UnknownName = codes "unknown name"
+cause (OutOfRange min max) = codes "out of range " ++ decimal min ++ codes " " ++ decimal max
+cause Full = codes "full"
+cause Spent = codes "spent"
+cause (NotFitting change) = codes "not fitting " ++ decimal change
+cause WrongStart = codes "wrong start"
+cause (NotRising stretch) = codes "not rising " ++ decimal stretch
+cause (WrongFrom stretch) = codes "wrong from " ++ decimal stretch
+cause (NotForced stretch) = codes "not forced " ++ decimal stretch
+cause OtherShape = codes "other shape"
+cause (Backwards page) = codes "wear backwards " ++ decimal page
 cause Memory = codes "out of memory"
 
 abbrev pub fault_text : Fault → List ℕ
 fault_text fault = line_of (codes "ee: " ++ cause fault)
 
--- 3 for a bad file, 5 for want of memory
+-- 3 for a bad file, 4 for what is refused, 5 for want of memory
 abbrev pub status : Fault → ℕ
+status UnknownName = 4
+status (OutOfRange min max) = 4
+status Full = 4
+status Spent = 4
+status (NotFitting change) = 4
+status WrongStart = 4
+status (NotRising stretch) = 4
+status (WrongFrom stretch) = 4
+status (NotForced stretch) = 4
+status OtherShape = 4
+status (Backwards page) = 4
 status Memory = 5
 status fault = 3
 
@@ -69,3 +108,40 @@ fault_of_replay (replay.Image fault) = fault_of_image Image fault
 fault_of_replay (replay.Open fault) = fault_of_scan fault
 fault_of_replay (replay.Script line) = BadLine Script line
 fault_of_replay replay.Memory = Memory
+
+-- the fault of a text that is no script
+abbrev pub fault_of_script : ScriptFault → Fault
+fault_of_script (script.BadLine line) = BadLine Script line
+fault_of_script script.Memory = Memory
+
+-- the fault of a certificate that can't be read as one
+abbrev pub fault_of_certificate : TextFault → Fault
+fault_of_certificate (text.BadText line) = BadLine Certificate line
+fault_of_certificate text.Memory = Memory
+
+-- the fault of a table of settings that is no schema
+abbrev pub fault_of_schema : SchemaFault → Fault
+fault_of_schema (schema.BadName entry) = BadName entry
+fault_of_schema (schema.BadField entry) = BadField entry
+fault_of_schema (schema.BadRange entry) = BadRange entry
+fault_of_schema (schema.SameAddress entry) = SameAddress entry
+fault_of_schema schema.Memory = Memory
+
+-- the fault of a trace that has no plan
+abbrev pub fault_of_plan : PlanFault → Fault
+fault_of_plan (plan.NotFitting change) = NotFitting change
+fault_of_plan plan.Memory = Memory
+
+-- the fault of a certificate that the checker refuses
+abbrev pub fault_of_check : CheckFault → Fault
+fault_of_check check.WrongStart = WrongStart
+fault_of_check (check.NotRising stretch) = NotRising stretch
+fault_of_check (check.WrongFrom stretch) = WrongFrom stretch
+fault_of_check (check.NotForced stretch) = NotForced stretch
+fault_of_check check.Memory = Memory
+
+-- the fault of a ledger that is not one since the other
+abbrev pub fault_of_since : SinceFault → Fault
+fault_of_since since.OtherShape = OtherShape
+fault_of_since (since.Backwards page) = Backwards page
+fault_of_since since.Memory = Memory

@@ -4,8 +4,13 @@ ghost use Rattle.ee_shell.specs.Fault.{fault_of_image, fault_of_read, fault_text
 
 use super::files::ReadFault;
 use super::replaying::ReplayFault;
+use ee_check::{CheckFault, TextFault};
 use ee_image::ImageFault;
 use ee_pages::ScanFault;
+use ee_plan::PlanFault;
+use ee_script::ScriptFault;
+use ee_settings::SchemaFault;
+use ee_wear::SinceFault;
 use std::alloc::{AllocError, Allocator};
 use std::fmt;
 use thiserror::Error;
@@ -70,6 +75,56 @@ pub enum Fault {
     /// The first word of the live set that may not stand in its place, by its page and its place.
     #[error("image foreign word {page} {at}")]
     Foreign { page: usize, at: usize },
+    /// The settings file is no TOML.
+    #[error("settings text")]
+    SettingsText,
+    /// The name of this entry, counted from 1 by rising name, is none that a setting may have.
+    #[error("settings entry {0} bad name")]
+    BadName(u64),
+    /// This entry is no table of the four whole numbers of a setting.
+    #[error("settings entry {0} bad field")]
+    BadField(u64),
+    /// The numbers of this entry are not those of a setting.
+    #[error("settings entry {0} bad range")]
+    BadRange(u64),
+    /// An earlier entry has the address of this one.
+    #[error("settings entry {0} same address")]
+    SameAddress(u64),
+    /// No setting has the name.
+    #[error("unknown name")]
+    UnknownName,
+    /// The value is not in the range of the setting.
+    #[error("out of range {min} {max}")]
+    OutOfRange { min: u32, max: u32 },
+    /// The address has no value, and as many addresses have one as there are slots.
+    #[error("full")]
+    Full,
+    /// No slot is free, and no generation is left for a transfer.
+    #[error("spent")]
+    Spent,
+    /// This change of the trace, counted from 1, is the first that makes more addresses live than
+    /// there are slots.
+    #[error("not fitting {0}")]
+    NotFitting(u64),
+    /// The certificate's header is not that of the start and the trace.
+    #[error("wrong start")]
+    WrongStart,
+    /// This stretch of the certificate, counted from 1, does not end behind the one before it, or it
+    /// ends behind the trace.
+    #[error("not rising {0}")]
+    NotRising(u64),
+    /// This stretch states another number of used slots than there are where it begins.
+    #[error("wrong from {0}")]
+    WrongFrom(u64),
+    /// This stretch has no more changes than there are free slots.
+    #[error("not forced {0}")]
+    NotForced(u64),
+    /// The images have not as many pages.
+    #[error("other shape")]
+    OtherShape,
+    /// This page, counted from 0 and the lowest of its kind, has less wear than before.
+    #[error("wear backwards {0}")]
+    Backwards(usize),
     /// Memory ran out.
     #[error("out of memory")]
     Memory,
@@ -135,6 +190,103 @@ impl From<ReplayFault> for Fault {
     }
 }
 
+impl From<ScriptFault> for Fault {
+    ghost use Rattle.std.specs.Prelude.{◌≡◌};
+    ghost use Rattle.ee_shell.specs.Fault.{fault_of_script};
+
+    ghost from_gives = { λ script fault. fault ≡ fault_of_script script };
+
+    fn from(fault: ScriptFault) -> Fault {
+        match fault {
+            ScriptFault::BadLine(line) => Fault::BadLine {
+                file: File::Script,
+                line,
+            },
+            ScriptFault::Memory => Fault::Memory,
+        }
+    }
+}
+
+impl From<TextFault> for Fault {
+    ghost use Rattle.std.specs.Prelude.{◌≡◌};
+    ghost use Rattle.ee_shell.specs.Fault.{fault_of_certificate};
+
+    ghost from_gives = { λ text fault. fault ≡ fault_of_certificate text };
+
+    fn from(fault: TextFault) -> Fault {
+        match fault {
+            TextFault::BadText(line) => Fault::BadLine {
+                file: File::Certificate,
+                line,
+            },
+            TextFault::Memory => Fault::Memory,
+        }
+    }
+}
+
+impl From<SchemaFault> for Fault {
+    ghost use Rattle.std.specs.Prelude.{◌≡◌};
+    ghost use Rattle.ee_shell.specs.Fault.{fault_of_schema};
+
+    ghost from_gives = { λ schema fault. fault ≡ fault_of_schema schema };
+
+    fn from(fault: SchemaFault) -> Fault {
+        match fault {
+            SchemaFault::BadName(entry) => Fault::BadName(entry),
+            SchemaFault::BadField(entry) => Fault::BadField(entry),
+            SchemaFault::BadRange(entry) => Fault::BadRange(entry),
+            SchemaFault::SameAddress(entry) => Fault::SameAddress(entry),
+            SchemaFault::Memory => Fault::Memory,
+        }
+    }
+}
+
+impl From<PlanFault> for Fault {
+    ghost use Rattle.std.specs.Prelude.{◌≡◌};
+    ghost use Rattle.ee_shell.specs.Fault.{fault_of_plan};
+
+    ghost from_gives = { λ plan fault. fault ≡ fault_of_plan plan };
+
+    fn from(fault: PlanFault) -> Fault {
+        match fault {
+            PlanFault::NotFitting(change) => Fault::NotFitting(change),
+            PlanFault::Memory => Fault::Memory,
+        }
+    }
+}
+
+impl From<CheckFault> for Fault {
+    ghost use Rattle.std.specs.Prelude.{◌≡◌};
+    ghost use Rattle.ee_shell.specs.Fault.{fault_of_check};
+
+    ghost from_gives = { λ check fault. fault ≡ fault_of_check check };
+
+    fn from(fault: CheckFault) -> Fault {
+        match fault {
+            CheckFault::WrongStart => Fault::WrongStart,
+            CheckFault::NotRising(stretch) => Fault::NotRising(stretch),
+            CheckFault::WrongFrom(stretch) => Fault::WrongFrom(stretch),
+            CheckFault::NotForced(stretch) => Fault::NotForced(stretch),
+            CheckFault::Memory => Fault::Memory,
+        }
+    }
+}
+
+impl From<SinceFault> for Fault {
+    ghost use Rattle.std.specs.Prelude.{◌≡◌};
+    ghost use Rattle.ee_shell.specs.Fault.{fault_of_since};
+
+    ghost from_gives = { λ since fault. fault ≡ fault_of_since since };
+
+    fn from(fault: SinceFault) -> Fault {
+        match fault {
+            SinceFault::OtherShape => Fault::OtherShape,
+            SinceFault::Backwards(page) => Fault::Backwards(page),
+            SinceFault::Memory => Fault::Memory,
+        }
+    }
+}
+
 impl From<AllocError> for Fault {
     ghost use Rattle.std.specs.Prelude.{◌≡◌};
     ghost use Rattle.ee_shell.specs.declared.fault.Fault.TheVariants.{Memory};
@@ -161,12 +313,29 @@ pub fn fault_line<A: Allocator + Copy>(alloc: A, fault: &Fault) -> Result<Vec<u8
         Fault::NoLiveSet => format!(in alloc; "ee: image no live set\n")?,
         Fault::TwoLive => format!(in alloc; "ee: image two live sets\n")?,
         Fault::Foreign { page, at } => format!(in alloc; "ee: image foreign word {page} {at}\n")?,
+        Fault::SettingsText => format!(in alloc; "ee: settings text\n")?,
+        Fault::BadName(entry) => format!(in alloc; "ee: settings entry {entry} bad name\n")?,
+        Fault::BadField(entry) => format!(in alloc; "ee: settings entry {entry} bad field\n")?,
+        Fault::BadRange(entry) => format!(in alloc; "ee: settings entry {entry} bad range\n")?,
+        Fault::SameAddress(entry) => format!(in alloc; "ee: settings entry {entry} same address\n")?,
+        Fault::UnknownName => format!(in alloc; "ee: unknown name\n")?,
+        Fault::OutOfRange { min, max } => format!(in alloc; "ee: out of range {min} {max}\n")?,
+        Fault::Full => format!(in alloc; "ee: full\n")?,
+        Fault::Spent => format!(in alloc; "ee: spent\n")?,
+        Fault::NotFitting(change) => format!(in alloc; "ee: not fitting {change}\n")?,
+        Fault::WrongStart => format!(in alloc; "ee: wrong start\n")?,
+        Fault::NotRising(stretch) => format!(in alloc; "ee: not rising {stretch}\n")?,
+        Fault::WrongFrom(stretch) => format!(in alloc; "ee: wrong from {stretch}\n")?,
+        Fault::NotForced(stretch) => format!(in alloc; "ee: not forced {stretch}\n")?,
+        Fault::OtherShape => format!(in alloc; "ee: other shape\n")?,
+        Fault::Backwards(page) => format!(in alloc; "ee: wear backwards {page}\n")?,
         Fault::Memory => format!(in alloc; "ee: out of memory\n")?,
     };
     Ok(line.into_bytes())
 }
 
-/// The status that the program ends with at a fault: 3 for a bad file, 5 for want of memory.
+/// The status that the program ends with at a fault: 3 for a bad file, 4 for what is refused, 5 for
+/// want of memory.
 pub fn status_of(fault: &Fault) -> u8
     ensures { result ≡ status fault.now }
 {
@@ -180,7 +349,23 @@ pub fn status_of(fault: &Fault) -> u8
         | Fault::Unformatted
         | Fault::NoLiveSet
         | Fault::TwoLive
-        | Fault::Foreign { .. } => 3,
+        | Fault::Foreign { .. }
+        | Fault::SettingsText
+        | Fault::BadName(_)
+        | Fault::BadField(_)
+        | Fault::BadRange(_)
+        | Fault::SameAddress(_) => 3,
+        Fault::UnknownName
+        | Fault::OutOfRange { .. }
+        | Fault::Full
+        | Fault::Spent
+        | Fault::NotFitting(_)
+        | Fault::WrongStart
+        | Fault::NotRising(_)
+        | Fault::WrongFrom(_)
+        | Fault::NotForced(_)
+        | Fault::OtherShape
+        | Fault::Backwards(_) => 4,
         Fault::Memory => 5,
     }
 }
