@@ -1,6 +1,8 @@
 pub mod Job
 pub mod Machine
 pub mod Erases
+pub mod Trace
+pub mod Report
 pub mod Serving
 pub mod Replaying
 pub mod Opening
