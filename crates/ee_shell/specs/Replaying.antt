@@ -13,9 +13,8 @@ use Rattle.ee_image.specs.declared.fault.ImageFault.TheVariants as image
 use Rattle.ee_script.specs.declared.session.ScriptFault.{ScriptFault}
 use Rattle.ee_script.specs.declared.session.ScriptFault.TheVariants as script
 use Rattle.ee_script.specs.Script.{IsFirstBadLine}
-use Rattle.ee_script.specs.Whole.{IsAnswered}
 use Rattle.ee_shell.specs.Erases.{ErasesRise, erases, erases_of_all}
-use Rattle.ee_shell.specs.Machine.{Step}
+use Rattle.ee_shell.specs.Report.{IsReported}
 use Rattle.ee_shell.specs.Serving.{StaysOn}
 use Rattle.ee_shell.specs.declared.replaying.ReplayFault.{ReplayFault}
 use Rattle.ee_shell.specs.declared.replaying.ReplayFault.TheVariants.{Image, Open, Script, Memory}
@@ -37,12 +36,12 @@ pub record IsStoreLeft (size : Size) (text : List ℕ) (device : Device) : Type 
   pub stays_on : StaysOn device
   pub same_size : device.size ≡ size
 
--- From this state, on a device of this size, the script was answered with this report, as the report machine answers it;
--- and the text is that of a store with the state that the machine came to.
+-- From this state, on a device of this size, the script was answered with this report, as the report machine answers it,
+-- with no more moves than any store makes; and the text is that of a store with the state that the machine came to.
 pub record IsRun (size : Size) (start : State) (text new_image reported : List ℕ) : Type 0 where
   pub last : Device
   pub left : IsStoreLeft size new_image last
-  pub report : IsAnswered (Step size) start text (state_of last) reported
+  pub report : IsReported size start text (state_of last) reported
 
 -- The script was run on the store whose image the first text spells; each move left the pages of a set to be erased, and
 -- nothing else did.

@@ -1,8 +1,6 @@
 -- The report of a script: its answers, how the store stands at the end, and the certificate that the moves are the fewest.
-use Rattle.std.specs.Prelude.{◌≡◌, ◌-◌, ℕ, List, [], ◌∷◌, ◌++◌, codes, decimal}
+use Rattle.std.specs.Prelude.{◌≡◌, ◌-◌, ℕ, List, ◌++◌, codes, decimal}
 use Rattle.ee_flash.specs.Size.{Size, slot_count}
-use Rattle.ee_text.specs.Field.{joined}
-use Rattle.ee_text.specs.Line.{line_of}
 use Rattle.ee_pages.specs.Meaning.{changed_by, live_in}
 use Rattle.ee_store.specs.State.{State}
 use Rattle.ee_check.specs.Certificate.{Claim}
@@ -19,9 +17,9 @@ use Rattle.ee_shell.specs.Trace.{AreFewest, Fits, accepted, moves, puts, written
 
 -- how a store of so many slots stands, and how many answers were `moved`
 abbrev pub end_line : ℕ → State → ℕ → List ℕ
-end_line slots state transfers = line_of (joined
-    (codes "end" ∷ codes "fill" ∷ decimal state.fill ∷ codes "room" ∷ decimal (slots - state.fill) ∷ codes "live" ∷ decimal (live_in state.map)
-    ∷ codes "pending" ∷ decimal state.pending ∷ codes "transfers" ∷ decimal transfers ∷ []))
+end_line slots state transfers =
+    codes "end fill " ++ decimal state.fill ++ codes " room " ++ decimal (slots - state.fill) ++ codes " live " ++ decimal (live_in state.map)
+    ++ codes " pending " ++ decimal state.pending ++ codes " transfers " ++ decimal transfers ++ codes "\n"
 
 -- the lines of the answers, the line of the end, and the text of the certificate
 abbrev pub report_text : ℕ → List Answer → State → Claim → List ℕ

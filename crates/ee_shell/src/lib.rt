@@ -17,6 +17,7 @@ mod images;
 mod jobs;
 mod opening;
 mod replaying;
+mod reporting;
 mod serving;
 mod words;
 
@@ -25,7 +26,7 @@ pub use files::{MOST_BYTES, MOST_READS, ReadFault, Stopped, read_whole, write_wh
 pub use images::{clean_image, format_image, states_text};
 pub use jobs::Job;
 pub use replaying::{ReplayFault, Replayed, replay, try_script};
-pub use serving::answer_on;
+pub use reporting::answer_on;
 pub use words::job;
 
 #[cfg(test)]

@@ -6,7 +6,7 @@ ghost use Rattle.ee_shell.specs.Replaying.{IsReplayFault, IsReplayed, IsRunFault
 ghost use Rattle.ee_shell.specs.Serving.{StaysOn};
 
 use super::opening::{new_store, open_image, text_of};
-use super::serving::answer_on;
+use super::reporting::answer_on;
 use ee_flash::{Flash, Shape};
 use ee_image::ImageFault;
 use ee_pages::ScanFault;

@@ -1,0 +1,101 @@
+//! The whole report of a script: its answers, how the store stands at the end, and the certificate that
+//! no store could have moved its live set less often.
+ghost use Rattle.std.specs.Prelude.{◌≡◌, ◌⊎◌, ◌++◌, ℕ, IfOk, IfErr, MatchResult, OnOk, decimal};
+ghost use Rattle.ee_check.specs.Live.{KeepsWithin};
+ghost use Rattle.ee_flash.specs.Device.{IsOn};
+ghost use Rattle.ee_flash.specs.Size.{slot_count};
+ghost use Rattle.ee_plan.specs.Plan.{IsPlan};
+ghost use Rattle.ee_script.specs.Script.{IsFirstBadLine};
+ghost use Rattle.ee_script.specs.Whole.{IsScriptFault};
+ghost use Rattle.ee_store.specs.State.{state_of};
+ghost use Rattle.ee_shell.specs.Report.{end_line};
+ghost use Rattle.ee_shell.specs.Serving.{IsServed, StaysOn};
+
+use super::serving::trace_on;
+use ee_check::{Change, Start, write_certificate};
+use ee_plan::{Plan, PlanFault, plan, start_of};
+use ee_script::ScriptFault;
+use ee_store::Variables;
+use ee_text::push_number;
+use std::alloc::{AllocError, Allocator};
+
+/// Answers a script on a store whose device is on and is never cut, and gives the store and the
+/// report: a line for each line of the script, a line on how the store stands, and the certificate
+/// that no store makes the changes that were accepted with fewer moves.
+///
+/// Source: ours.
+///
+/// # Errors
+///
+/// The number of the first bad line; want of memory can come in place of any answer.
+pub fn answer_on<A: Allocator + Copy, V: Variables + Drop>(
+    alloc: A,
+    store: V,
+    script: &[u8],
+) -> Result<(V, Vec<u8, A>), ScriptFault>
+    requires { StaysOn (V.device store) }
+    ensures served { IfOk result
+        (λ done. IsServed (V.device store) script.now (V.device done.0) done.1.items) }
+    ensures fault { IfErr result (IsScriptFault script.now) }
+    // A bad line is never passed over.
+    ensures bad { (n : ℕ) → IsFirstBadLine script.now n
+        → MatchResult result (λ _. ⊥)
+        (λ fault. (fault ≡ ScriptFault.BadLine n) ⊎ (fault ≡ ScriptFault.Memory)) }
+{
+    let start = start_of(alloc, &store)?;
+    let left = trace_on(alloc, store, script)?;
+    let plan = plan_accepted(alloc, &start, left.trace.as_slice())?;
+    let mut report = left.lines;
+    push_end(&left.store, plan.transfers, &mut report)?;
+    write_certificate(&plan.certificate, &mut report)?;
+    Ok((left.store, report))
+}
+
+/// The plan of changes that a store accepted.
+fn plan_accepted<A: Allocator + Copy>(
+    alloc: A,
+    start: &Start<A>,
+    trace: &[Change],
+) -> Result<Plan<A>, AllocError>
+    requires { KeepsWithin start.now.slots start.now.live trace.now }
+    ensures { IfOk result (IsPlan start.now trace.now) }
+{
+    match plan(alloc, start, trace) {
+        Ok(plan) => Ok(plan),
+        Err(PlanFault::NotFitting(_)) => unreachable!("each change that was accepted fits"),
+        Err(PlanFault::Memory) => Err(AllocError),
+    }
+}
+
+/// Writes how a store stands, and how often it moved. After an error there may be a part of the line.
+fn push_end<A: Allocator, V: Variables>(
+    store: &V,
+    transfers: u64,
+    report: &mut Vec<u8, A>,
+) -> Result<(), AllocError>
+    requires { IsOn (V.device store.now) }
+    ensures { let device = V.device store.now in OnOk result (report.new.items ≡ report.old.items
+        ++ end_line (slot_count device.size) (state_of device) transfers) }
+{
+    let fill = store.fill();
+    let room = store.slots() - fill;
+    push_count(b"end fill ", fill as u64, report)?;
+    push_count(b" room ", room as u64, report)?;
+    push_count(b" live ", store.live_count() as u64, report)?;
+    push_count(b" pending ", store.pending() as u64, report)?;
+    push_count(b" transfers ", transfers, report)?;
+    report.extend_from_slice(b"\n")?;
+    Ok(())
+}
+
+/// Writes a count behind its name. After an error there may be a part of them.
+fn push_count<A: Allocator>(
+    name: &[u8],
+    count: u64,
+    report: &mut Vec<u8, A>,
+) -> Result<(), AllocError>
+    ensures { OnOk result (report.new.items ≡ report.old.items ++ (name.now ++ decimal count)) }
+{
+    report.extend_from_slice(name)?;
+    push_number(report, count)
+}
