@@ -11,9 +11,11 @@
 mod late_store;
 mod planned;
 mod planning;
+mod starting;
 
 pub use planned::{Plan, PlanFault};
 pub use planning::plan;
+pub use starting::start_of;
 
 #[cfg(test)]
 mod tests;
