@@ -20,6 +20,7 @@ use std::collections::BTreeSet;
 /// Memory ran out.
 ///
 /// Source: ours.
+#[tactic(auto, using(crate::proofs::Gathering::store_starts))]
 pub fn start_of<A: Allocator + Copy, V: Variables>(
     alloc: A,
     store: &V,
