@@ -3,3 +3,4 @@ pub mod Following
 pub mod Best
 pub mod Whole
 pub mod Gathering
+pub mod LiveLists

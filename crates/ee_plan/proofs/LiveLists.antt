@@ -1,0 +1,333 @@
+-- The live addresses as a list: what a change makes of it, and how many they are.
+use Rattle.std.proofs.Common.{◌≡◌, ◌≢◌, ◌⊎◌, inl, inr, ℕ, ◌+◌, ◌<◌, ◌≤◌, Option, Some, None, List, [], ◌∷◌, length, refl, sym, subst, ◌∙◌, arith, false}
+use Rattle.std.proofs.lemmas.Bool.{cases_lt, cases_eq}
+use Rattle.std.proofs.lemmas.Grind.{common_steps}
+use Rattle.std.proofs.lemmas.List.Elements.{All-from_recursion, All-contains, All-cons, All-head, All-nil, All-tail, All-weaker, Contains-append_cases, Contains-append_right, Contains-push_cases, recursion_from_All}
+use Rattle.std.proofs.lemmas.Map.Keys.{sorted_head, sorted_tail}
+use Rattle.std.proofs.lemmas.Map.Views.{All-insert_key, All-remove_key}
+use Rattle.std.specs.declared.cmp.Ordering.TheVariants.{Less, Equal, Greater}
+use Rattle.std.specs.List.{All, AllByRecursion, Contains}
+use Rattle.std.specs.List.Sorted.{IsStrictlySortedBy}
+use Rattle.std.specs.Ordering.{nat_cmp}
+use Rattle.std.specs.BTreeMap.{is_at}
+use Rattle.std.specs.BTreeSet.{insert_key}
+use Rattle.std.specs.Set.{remove_key}
+use Rattle.std.proofs.lemmas.Cmp.{ranked}
+use Rattle.ee_codec.specs.Words.{IsAddress}
+use Rattle.ee_pages.specs.Meaning.{IsNextLive, Map, Put, live_in, live_to}
+use Rattle.ee_flash.specs.Device.{Device, IsFormed}
+use Rattle.ee_pages.specs.Meaning as meaning
+use Rattle.ee_pages.specs.Sets.{live_of, set_of, slots_of}
+use Rattle.ee_pages.specs.declared.side.Side.{Side}
+use Rattle.ee_pages.proofs.LiveCounts.{live_within_fill}
+use Rattle.ee_pages.proofs.Counts.{gap_to, live_to-next, live_to-zero}
+use Rattle.ee_check.specs.declared.change.Change.TheVariants.{Forget, Write}
+use Rattle.ee_check.specs.Live.{changed}
+use Rattle.ee_check.specs.Schedule.{IsProper, Situation}
+use Rattle.ee_store.specs.State.{State, capacity, empty_state, state_in, state_of}
+use Rattle.ee_store.proofs.CopiedMaps.{live_in-nothing}
+use Rattle.ee_store.proofs.Making.{few_within}
+use Rattle.ee_plan.specs.Start.{AreLive, IsStartOf}
+
+-- ---- numbers in ascending order
+
+smaller : (a b : ℕ) → a < b → nat_cmp a b ≡ Less
+smaller a b h = grind (arith, common_steps)
+
+same : (a b : ℕ) → a ≡ b → nat_cmp a b ≡ Equal
+same a b h = grind (arith, common_steps)
+
+greater : (a b : ℕ) → b < a → nat_cmp a b ≡ Greater
+greater a b h = grind (arith, common_steps)
+
+-- a removal passes any other number
+not_at : (k x : ℕ) → (k ≡ x → ⊥) → is_at (nat_cmp k) x ≡ false
+not_at k x apart = elim (cases_lt k x) [
+  | inl before ↦ rw (smaller k x before) refl
+  | inr behind ↦ rw (greater k x (omega arith)) refl
+]
+
+from_less : (a b : ℕ) → nat_cmp a b ≡ Less → a < b
+from_less a b h = ranked a b Less (sym h)
+
+-- what is above a number is above a smaller one
+above_both : (k x : ℕ) (xs : List ℕ) → k < x → AllByRecursion (λ y. nat_cmp x y ≡ Less) xs
+    → AllByRecursion (λ y. nat_cmp k y ≡ Less) xs
+above_both k x [] h above = tt
+above_both k x (y ∷ ys) h above =
+    (smaller k y (let g : x < y = from_less x y above.0 in omega arith), above_both k x ys h above.1)
+
+insert_sorted : (xs : List ℕ) (k : ℕ) → IsStrictlySortedBy nat_cmp xs → IsStrictlySortedBy nat_cmp (insert_key nat_cmp xs k)
+unfolding IsStrictlySortedBy
+insert_sorted [] k sorted = (tt, tt)
+insert_sorted (x ∷ xs) k sorted = elim (cases_lt k x) [
+  | inl before ↦ rw (smaller k x before) ((smaller k x before, above_both k x xs before sorted.0), sorted)
+  | inr behind ↦ elim (cases_eq k x) [
+    | inl here ↦ rw (same k x here) sorted
+    | inr apart ↦
+        let later : x < k = omega arith in
+        let P = λ (y : ℕ). nat_cmp x y ≡ Less in
+        let beyond : All P xs = All-from_recursion P xs sorted.0 in
+        let above : All P (insert_key nat_cmp xs k) = All-insert_key nat_cmp k P xs beyond (smaller x k later) in
+        rw (greater k x later) (recursion_from_All P (insert_key nat_cmp xs k) above, insert_sorted xs k sorted.1)
+  ]
+]
+
+-- ---- what a list contains
+
+contains_here : (x : ℕ) (xs : List ℕ) → Contains (x ∷ xs) x
+contains_here x xs = (0, omega arith, refl)
+
+contains_behind : (x a : ℕ) (xs : List ℕ) → Contains xs a → Contains (x ∷ xs) a
+contains_behind x a xs h = Contains-append_right (x ∷ []) xs a h
+
+contains_alone : (x a : ℕ) → Contains (x ∷ []) a → x ≡ a
+contains_alone x a h = elim (Contains-push_cases [] x a h) [
+  | inl none ↦ absurd (let g : none.0 < 0 = none.1 in omega arith)
+  | inr e ↦ e
+]
+
+contains_cases : (x a : ℕ) (xs : List ℕ) → Contains (x ∷ xs) a → (x ≡ a) ⊎ Contains xs a
+contains_cases x a xs h = elim (Contains-append_cases (x ∷ []) xs a h) [
+  | inl here ↦ inl (contains_alone x a here)
+  | inr behind ↦ inr behind
+]
+
+contains_more : (x a : ℕ) (xs ys : List ℕ) → (Contains xs a → Contains ys a) → Contains (x ∷ xs) a → Contains (x ∷ ys) a
+contains_more x a xs ys more h = elim (contains_cases x a xs h) [
+  | inl here ↦ subst (λ b. Contains (x ∷ ys) b) here (contains_here x ys)
+  | inr behind ↦ contains_behind x a ys (more behind)
+]
+
+-- an insertion keeps what there is, and adds its own
+insert_keeps : (xs : List ℕ) (k a : ℕ) → Contains xs a → Contains (insert_key nat_cmp xs k) a
+insert_keeps [] k a h = absurd (let g : h.0 < 0 = h.1 in omega arith)
+insert_keeps (x ∷ xs) k a h = elim (cases_lt k x) [
+  | inl before ↦ rw (smaller k x before) (contains_behind k a (x ∷ xs) h)
+  | inr behind ↦ elim (cases_eq k x) [
+    | inl here ↦ rw (same k x here) h
+    | inr apart ↦ rw (greater k x (omega arith)) (contains_more x a xs (insert_key nat_cmp xs k) (insert_keeps xs k a) h)
+  ]
+]
+
+insert_adds : (xs : List ℕ) (k : ℕ) → Contains (insert_key nat_cmp xs k) k
+insert_adds [] k = contains_here k []
+insert_adds (x ∷ xs) k = elim (cases_lt k x) [
+  | inl before ↦ rw (smaller k x before) (contains_here k (x ∷ xs))
+  | inr behind ↦ elim (cases_eq k x) [
+    | inl here ↦ rw (same k x here) (subst (λ b. Contains (x ∷ xs) b) (sym here) (contains_here x xs))
+    | inr apart ↦ rw (greater k x (omega arith)) (contains_behind x k (insert_key nat_cmp xs k) (insert_adds xs k))
+  ]
+]
+
+-- ---- a write
+
+put_there : (map : Map) (named value address : ℕ) → named ≡ address → meaning.changed (Put named value) map address ≡ Some value
+put_there map named value address here = grind (arith, common_steps)
+
+put_elsewhere : (map : Map) (named value address : ℕ) → (named ≡ address → ⊥)
+    → meaning.changed (Put named value) map address ≡ map address
+put_elsewhere map named value address apart = grind (arith, common_steps)
+
+put_has : (map : Map) (named value address : ℕ) → named ≡ address → meaning.changed (Put named value) map address ≢ None
+put_has map named value address here = λ e. let f = put_there map named value address here in cc
+
+put_keeps : (map : Map) (named value address : ℕ) → map address ≢ None → meaning.changed (Put named value) map address ≢ None
+put_keeps map named value address some = elim (cases_eq named address) [
+  | inl here ↦ put_has map named value address here
+  | inr apart ↦ λ e. some (sym (put_elsewhere map named value address apart) ∙ e)
+]
+
+-- what is live after a value is put
+pub live_after_put : (map : Map) (live : List ℕ) (address value : ℕ) → IsAddress address → AreLive map live
+    → AreLive (meaning.changed (Put address value) map) (changed live (Write address))
+live_after_put map live address value proper are = record {
+  ascending = insert_sorted live address are.ascending;
+  proper = All-insert_key nat_cmp address IsAddress live are.proper proper;
+  have_values =
+      let P = λ (a : ℕ). meaning.changed (Put address value) map a ≢ None in
+      let all : All P live = All-weaker (λ a. map a ≢ None) P (put_keeps map address value) live are.have_values in
+      All-insert_key nat_cmp address P live all (put_has map address value address refl);
+  all = λ a some. elim (cases_eq address a) [
+    | inl here ↦ subst (λ b. Contains (insert_key nat_cmp live address) b) here (insert_adds live address)
+    | inr apart ↦ insert_keeps live address a (are.all a (λ none. some (put_elsewhere map address value a apart ∙ none)))
+  ];
+}
+
+-- ---- a forgetting
+
+not_first : (x a : ℕ) (xs : List ℕ) → (a ≡ x → ⊥) → Contains (x ∷ xs) a → Contains xs a
+not_first x a xs apart h = elim (contains_cases x a xs h) [ inl here ↦ absurd (apart (sym here)) | inr behind ↦ behind ]
+
+-- what is above a number isn't it
+none_below : (k : ℕ) (xs : List ℕ) → AllByRecursion (λ y. nat_cmp k y ≡ Less) xs → All (λ y. y ≢ k) xs
+none_below k xs above =
+    let P = λ (y : ℕ). nat_cmp k y ≡ Less in
+    All-weaker P (λ y. y ≢ k) (λ y h e. let g : k < y = from_less k y h in omega arith) xs (All-from_recursion P xs above)
+
+remove_sorted : (xs : List ℕ) (k : ℕ) → IsStrictlySortedBy nat_cmp xs
+    → IsStrictlySortedBy nat_cmp (remove_key (is_at (nat_cmp k)) xs)
+unfolding IsStrictlySortedBy
+remove_sorted [] k sorted = tt
+remove_sorted (x ∷ xs) k sorted = elim (cases_eq k x) [
+  | inl here ↦ rw (same k x here) sorted.1
+  | inr apart ↦
+      let P = λ (y : ℕ). nat_cmp x y ≡ Less in
+      let left = remove_key (is_at (nat_cmp k)) xs in
+      let above : All P left = All-remove_key (is_at (nat_cmp k)) P xs (All-from_recursion P xs sorted.0) in
+      rw (not_at k x apart) (recursion_from_All P left above, remove_sorted xs k sorted.1)
+]
+
+remove_keeps : (xs : List ℕ) (k a : ℕ) → (a ≡ k → ⊥) → Contains xs a → Contains (remove_key (is_at (nat_cmp k)) xs) a
+remove_keeps [] k a other h = h
+remove_keeps (x ∷ xs) k a other h = elim (cases_eq k x) [
+  | inl here ↦ rw (same k x here) (not_first x a xs (λ e. other (e ∙ sym here)) h)
+  | inr apart ↦ rw (not_at k x apart) (contains_more x a xs (remove_key (is_at (nat_cmp k)) xs) (remove_keeps xs k a other) h)
+]
+
+remove_takes : (xs : List ℕ) (k : ℕ) → IsStrictlySortedBy nat_cmp xs → All (λ y. y ≢ k) (remove_key (is_at (nat_cmp k)) xs)
+remove_takes [] k sorted = All-nil (λ y. y ≢ k)
+remove_takes (x ∷ xs) k sorted = elim (cases_eq k x) [
+  | inl here ↦
+      let above = subst (λ n. AllByRecursion (λ y. nat_cmp n y ≡ Less) xs) (sym here) (sorted_head nat_cmp x xs sorted) in
+      rw (same k x here) (none_below k xs above)
+  | inr apart ↦
+      let rest = remove_takes xs k (sorted_tail nat_cmp x xs sorted) in
+      rw (not_at k x apart) (All-cons (λ y. y ≢ k) x (remove_key (is_at (nat_cmp k)) xs) (λ e. apart (sym e)) rest)
+]
+
+forget_elsewhere : (map : Map) (named address : ℕ) → (named ≡ address → ⊥)
+    → meaning.changed (meaning.Forget named) map address ≡ map address
+forget_elsewhere map named address apart = grind (arith, common_steps)
+
+forget_there : (map : Map) (named address : ℕ) → named ≡ address → meaning.changed (meaning.Forget named) map address ≡ None
+forget_there map named address here = grind (arith, common_steps)
+
+-- what is live after an address is forgotten
+pub live_after_forget : (map : Map) (live : List ℕ) (address : ℕ) → AreLive map live
+    → AreLive (meaning.changed (meaning.Forget address) map) (changed live (Forget address))
+live_after_forget map live address are =
+    let test = is_at (nat_cmp address) in
+    let Q = λ (a : ℕ). map a ≢ None in
+    let apart : All (λ a. a ≢ address) (remove_key test live) = remove_takes live address are.ascending in
+    let left : All Q (remove_key test live) = All-remove_key test Q live are.have_values in
+    record {
+      ascending = remove_sorted live address are.ascending;
+      proper = All-remove_key test IsAddress live are.proper;
+      have_values = λ k d h none. left k d h (sym (forget_elsewhere map address _ (λ e. apart k d h (sym e))) ∙ none);
+      all = λ a some. elim (cases_eq address a) [
+        | inl here ↦ absurd (some (forget_there map address a here))
+        | inr other ↦
+            let had : map a ≢ None = λ none. some (forget_elsewhere map address a other ∙ none) in
+            remove_keeps live address a (λ e. other (sym e)) (are.all a had)
+      ];
+    }
+
+-- ---- how many are live
+
+value_or_none : (found : Option ℕ) → found ≢ None → (value : ℕ) × (found ≡ Some value)
+value_or_none None some = absurd (some refl)
+value_or_none (Some value) some = (value, refl)
+
+none_or_value : (found : Option ℕ) → (found ≡ None) ⊎ (found ≢ None)
+none_or_value None = inl refl
+none_or_value (Some value) = inr (λ e. cc)
+
+-- the live addresses above this one
+record AreAbove (map : Map) (above : ℕ) (live : List ℕ) : Type 0 where
+  pub ascending : IsStrictlySortedBy nat_cmp live
+  pub proper : All IsAddress live
+  pub have_values : All (λ address. map address ≢ None) live
+  pub all : (address : ℕ) → above < address → map address ≢ None → Contains live address
+  pub higher : All (λ address. above < address) live
+
+first_is_next : (map : Map) (above x value : ℕ) (xs : List ℕ) → AreAbove map above (x ∷ xs) → map x ≡ Some value
+    → IsNextLive map above (Some (x, value))
+first_is_next map above x value xs are is = (
+  All-head (λ address. above < address) x xs are.higher,
+  is,
+  λ k low high. elim (none_or_value (map k)) [
+    | inl none ↦ none
+    | inr some ↦ absurd (elim (contains_cases x k xs (are.all k low some)) [
+      | inl here ↦ omega arith
+      | inr behind ↦
+          let P = λ (y : ℕ). nat_cmp x y ≡ Less in
+          let beyond : All P xs = All-from_recursion P xs (sorted_head nat_cmp x xs are.ascending) in
+          let g : x < k = from_less x k (All-contains P xs k beyond behind) in
+          omega arith
+    ])
+  ],
+)
+
+others_above : (map : Map) (above x : ℕ) (xs : List ℕ) → AreAbove map above (x ∷ xs) → AreAbove map x xs
+others_above map above x xs are =
+    let P = λ (y : ℕ). nat_cmp x y ≡ Less in
+    let beyond : All P xs = All-from_recursion P xs (sorted_head nat_cmp x xs are.ascending) in
+    let low : above < x = All-head (λ address. above < address) x xs are.higher in
+    record {
+      ascending = sorted_tail nat_cmp x xs are.ascending;
+      proper = All-tail IsAddress x xs are.proper;
+      have_values = All-tail (λ address. map address ≢ None) x xs are.have_values;
+      all = λ a high some. elim (contains_cases x a xs (are.all a (omega arith) some)) [
+        | inl here ↦ absurd (omega arith)
+        | inr behind ↦ behind
+      ];
+      higher = All-weaker P (λ y. x < y) (from_less x) xs beyond;
+    }
+
+count_above : (map : Map) (live : List ℕ) (above : ℕ) → above < 65535 → AreAbove map above live
+    → live_to map 65534 ≡ live_to map above + length live
+count_above map [] above low are =
+    let none : (k : ℕ) → above < k → k ≤ 65534 → map k ≡ None = λ k high end. elim (none_or_value (map k)) [
+      | inl none ↦ none
+      | inr some ↦ absurd (let h = are.all k high some in let g : h.0 < 0 = h.1 in omega arith)
+    ] in
+    let e = gap_to map above 65534 (omega arith) none in
+    omega arith
+count_above map (x ∷ xs) above low are =
+    let found = value_or_none (map x) (All-head (λ address. map address ≢ None) x xs are.have_values) in
+    let one = live_to-next map above x found.0 (first_is_next map above x found.0 xs are found.1) in
+    let end : x < 65535 = (All-head IsAddress x xs are.proper).1 in
+    let rest = count_above map xs x end (others_above map above x xs are) in
+    omega arith
+
+-- as many as there are in the list
+pub live_count_is : (map : Map) (live : List ℕ) → AreLive map live → live_in map ≡ length live
+live_count_is map live are =
+    let here : AreAbove map 0 live = record {
+      ascending = are.ascending;
+      proper = are.proper;
+      have_values = are.have_values;
+      all = λ a low some. are.all a some;
+      higher = All-weaker IsAddress (λ y. 0 < y) (λ a proper. proper.0) live are.proper;
+    } in
+    let e = count_above map live 0 (omega arith) here in
+    let z = live_to-zero map in
+    omega arith
+
+-- a start in whose state the live addresses fit into the slots that are used, and these into the set
+pub start_is_proper : (slots : ℕ) (state : State) (start : Situation) → IsStartOf slots state start
+    → live_in state.map ≤ state.fill → state.fill ≤ slots
+    → IsProper start
+start_is_proper slots state start is held fits =
+    let counted = live_count_is state.map start.live is.are_live in
+    let a = is.fill_is in let b = is.slots_are in
+    record { held = omega arith; fits = omega arith }
+
+-- ---- the start of a device
+
+fits_in : (device : Device) → IsFormed device → (found : Option (Side × ℕ))
+    → (live_in (state_in device found).map ≤ (state_in device found).fill) × ((state_in device found).fill ≤ capacity device)
+fits_in device formed None = (let none = live_in-nothing empty_state.map (λ address. refl) in omega arith, omega arith)
+fits_in device formed (Some live) = (live_within_fill (slots_of (set_of live.0 device)), few_within device live.0 formed)
+
+-- no more addresses are live than slots are used, and no more of these than a set has
+pub state_fits : (device : Device) → IsFormed device
+    → (live_in (state_of device).map ≤ (state_of device).fill) × ((state_of device).fill ≤ capacity device)
+state_fits device formed = fits_in device formed (live_of device)
+
+pub device_start_is_proper : (device : Device) (start : Situation) → IsFormed device
+    → IsStartOf (capacity device) (state_of device) start
+    → IsProper start
+device_start_is_proper device start formed is =
+    let fits = state_fits device formed in start_is_proper (capacity device) (state_of device) start is fits.0 fits.1
