@@ -7,3 +7,4 @@ pub mod Runs
 pub mod Stores
 pub mod Streams
 pub mod Reported
+pub mod Late

@@ -16,12 +16,10 @@ use Rattle.ee_store.specs.State.{State, formatted, state_of}
 use Rattle.ee_image.specs.Text.{at_rest, image_text}
 use Rattle.ee_image.specs.declared.fault.ImageFault.TheVariants as image
 use Rattle.ee_image.proofs.Texts.{short}
-use Rattle.ee_script.specs.Run.{Run}
 use Rattle.ee_shell.specs.Erases.{ErasesRise, erases_of_all}
 use Rattle.ee_shell.specs.Images.{AreStates, IsFormattedText, IsReadingFault, state_lines}
-use Rattle.ee_shell.specs.Machine.{Step}
 use Rattle.ee_shell.specs.Opening.{IsNewStore, IsOpened, IsRunOn}
-use Rattle.ee_shell.specs.Replaying.{IsReplayed, IsRun, IsStoreLeft, IsTried, Spells}
+use Rattle.ee_shell.specs.Replaying.{IsReplayed, IsRun, IsTried, Spells}
 use Rattle.ee_shell.specs.Serving.{IsServed, StaysOn}
 use Rattle.ee_shell.specs.declared.fault.Fault.TheVariants.{Memory}
 use Rattle.ee_shell.proofs.Erasing.{both, by_wear}
@@ -58,42 +56,40 @@ is_run_on old new flash text image reported served store same spelled = record {
   erases = served.erases;
 }
 
+-- a run of the machine of this size from this state, on this store
+abbrev RunFrom : Size → State → List ℕ → List ℕ → List ℕ → Device → Type 0
+RunFrom size start text image reported store = (run : IsRun size start text image reported) × ErasesRise (erases_of_all size run.report.answers) store run.last
+
 -- the same run, of a machine that is known by another size and state
-abbrev from_there : (size other : Size) (start from : State) (text image reported : List ℕ) → size ≡ other → start ≡ from → IsRun size start text image reported → IsRun other from text image reported
-from_there size other start from text image reported sizes starts run = record {
-  last = run.last;
-  left = subst (λ (s : Size). IsStoreLeft s image run.last) sizes run.left;
-  report = record {
-    commands = run.report.commands;
-    answers = run.report.answers;
-    is_script = run.report.is_script;
-    run = subst (λ (s : Size). Run (Step s) from run.report.commands run.report.answers (state_of run.last)) sizes
-        (subst (λ (state : State). Run (Step size) state run.report.commands run.report.answers (state_of run.last)) starts run.report.run);
-    report_is = run.report.report_is;
-  };
-}
+from_there : (size other : Size) (start from : State) (text image reported : List ℕ) (store : Device) → size ≡ other → start ≡ from
+    → RunFrom size start text image reported store → RunFrom other from text image reported store
+from_there size other start from text image reported store sizes starts run =
+    subst (λ (s : Size). RunFrom s from text image reported store) sizes (subst (λ (state : State). RunFrom size state text image reported store) starts run)
 
 -- a run from what was opened is a run from what the text spells
 pub is_replayed : (old_image text image reported : List ℕ) (store : Device) → IsOpened old_image store → IsRunOn store text image reported
     → IsReplayed old_image text image reported
-is_replayed old_image text image reported store opened on = record {
-  device = opened.device;
-  old = opened.old;
-  run = from_there store.size opened.device.size (state_of store) (state_of opened.device) text image reported opened.same_size opened.state_is on.run;
-  erases = both opened.device store on.run.last 0 (erases_of_all opened.device.size on.run.report.answers) (erases_of_all opened.device.size on.run.report.answers) opened.erases
-      (subst (λ (s : Size). ErasesRise (erases_of_all s on.run.report.answers) store on.run.last) opened.same_size on.erases) (omega arith);
-}
+is_replayed old_image text image reported store opened on =
+    let there = from_there store.size opened.device.size (state_of store) (state_of opened.device) text image reported store opened.same_size opened.state_is (on.run, on.erases) in
+    let pages = erases_of_all opened.device.size there.0.report.answers in
+    record {
+      device = opened.device;
+      old = opened.old;
+      run = there.0;
+      erases = both opened.device store there.0.last 0 pages pages opened.erases there.1 (omega arith);
+    }
 
 -- a run from what was formatted
 pub is_tried : (size : Size) (text image reported : List ℕ) (store : Device) → IsNewStore size store → IsRunOn store text image reported → IsTried size text image reported
-is_tried size text image reported store new on = record {
-  run = from_there store.size size (state_of store) formatted text image reported new.size_is new.state_is on.run;
-  erases = λ counts.
-      let none = new.no_wear (on.erases.counted counts) in
-      let pending : (state_of store).pending ≡ 0 = ap (λ (s : State). s.pending) new.state_is in
-      let same : erases_of_all store.size on.run.report.answers ≡ erases_of_all size on.run.report.answers = ap (λ (s : Size). erases_of_all s on.run.report.answers) new.size_is in
-      omega (arith, on.erases.rise counts, none, pending, same);
-}
+is_tried size text image reported store new on =
+    let there = from_there store.size size (state_of store) formatted text image reported store new.size_is new.state_is (on.run, on.erases) in
+    let pending : (state_of store).pending ≡ 0 = ap (λ (s : State). s.pending) new.state_is in
+    record {
+      run = there.0;
+      erases = λ counts.
+          let none = new.no_wear (there.1.counted counts) in
+          omega (arith, there.1.rise counts, none, pending);
+    }
 
 -- ---- a new device
 
