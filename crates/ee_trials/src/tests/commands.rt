@@ -15,6 +15,16 @@ const MOVED: &[u8] = b"ee 1 6
 0 aaaaaaaa00000002 aaaaaaaaaaaaaaaa - - 0000000c00000001 -
 ";
 
+/// The report of the script that moves once.
+const REPORT: &[u8] = b"ok
+ok
+moved
+end fill 1 room 1 live 1 pending 1 transfers 1
+slots 2 fill 0 live 0 writes 3
+to 3 from 0
+transfers 1
+";
+
 /// The same, cleaned.
 const CLEANED: &[u8] = b"ee 1 6
 1 - - - - - -
@@ -27,7 +37,7 @@ fn a_replay(rt: HostRuntime) {
     let requests = with_each_refusal(&rt, rt.alloc(), &(true, true), |alloc| {
         match replay(alloc, FORMATTED, script) {
             Ok(replayed) => Some((
-                replayed.report.as_slice() == b"ok\nok\nmoved\n".as_slice(),
+                replayed.report.as_slice() == REPORT,
                 replayed.image.as_slice() == MOVED,
             )),
             Err(ReplayFault::Memory) => None,

@@ -5,6 +5,15 @@ use ee_shell::{Fault, File, ReplayFault, fault_line, try_script};
 use ee_text::push_number;
 use std::test::Fail;
 
+/// The report of a script that writes once and reads twice.
+const REPORT: &[u8] = b"ok
+10
+none
+end fill 1 room 1 live 1 pending 0 transfers 0
+slots 2 fill 0 live 0 writes 1
+transfers 0
+";
+
 #[test]
 fn a_number(rt: HostRuntime) {
     let requests = with_each_refusal(&rt, rt.alloc(), &true, |alloc| {
@@ -42,7 +51,7 @@ fn a_script(rt: HostRuntime) -> Result<(), Fail> {
     let shape = Shape::new(1, 6).ok_or("a shape")?;
     let requests = with_each_refusal(&rt, rt.alloc(), &true, |alloc| {
         match try_script(alloc, shape, b"w 1 10\nr 1\nr 2\n") {
-            Ok(replayed) => Some(replayed.report.as_slice() == b"ok\n10\nnone\n".as_slice()),
+            Ok(replayed) => Some(replayed.report.as_slice() == REPORT),
             Err(ReplayFault::Memory) => None,
             Err(_) => Some(false),
         }
