@@ -6,3 +6,4 @@ pub mod Pages
 pub mod Runs
 pub mod Stores
 pub mod Streams
+pub mod Late

@@ -1,0 +1,373 @@
+-- A run of the report machine is the store that transfers exactly when each slot is used.
+use Rattle.std.proofs.Common.{◌≡◌, ◌≢◌, ◌⊎◌, inl, inr, ℕ, ◌+◌, ◌<◌, ◌≤◌, Option, Some, None, List, [], ◌∷◌, length, map, refl, sym, subst, ap, ◌∙◌, arith, cond, is_some}
+use Rattle.ee_flash.specs.Size.{Size, slot_count}
+use Rattle.ee_codec.specs.Words.{IsAddress}
+use Rattle.ee_pages.specs.Meaning.{Map, Put, changed_by, live_in}
+use Rattle.ee_pages.specs.Meaning as meaning
+use Rattle.ee_pages.proofs.LiveCounts.{change_counts}
+use Rattle.ee_store.specs.State.{State, appended, moved}
+use Rattle.ee_store.specs.Changes.{IsFull}
+use Rattle.ee_check.specs.declared.change.Change.TheVariants as changes
+use Rattle.ee_check.specs.declared.certificate.Stretch.{Stretch}
+use Rattle.ee_check.specs.Certificate.{Claim, IsTight}
+use Rattle.ee_check.specs.Live.{KeepsWithin, changed}
+use Rattle.ee_check.specs.Schedule.{Append, Carry, EachMove, IsLate, IsProper, Move, Situation, after_move, after_moves, carried_at, changes_of}
+use Rattle.ee_check.proofs.Sizes.{changed-le}
+use Rattle.ee_check.proofs.Bounds.{certificates_bound_schedules_lem, late_stores_meet_it_lem, tight_are_certificates_lem, tight_is_met_lem}
+use Rattle.ee_plan.specs.Start.{AreLive, IsStartOf}
+use Rattle.ee_script.specs.Run.{Run}
+use Rattle.ee_script.specs.Script.{AreCommands}
+use Rattle.ee_script.specs.declared.answer.Answer.{Answer}
+use Rattle.ee_script.specs.declared.answer.Answer.TheVariants.{Appended, Moved, Full, Spent, Cleaned, Idle, Value, NoValue}
+use Rattle.ee_script.specs.declared.command.Command.{Command}
+use Rattle.ee_script.specs.declared.command.Command.TheVariants.{Write, Read, Clean}
+use Rattle.ee_shell.specs.Machine.{Step}
+use Rattle.ee_shell.specs.Trace.{AreFewest, Fits, accepted, moved_at, moves, puts, written}
+use Rattle.ee_plan.proofs.LiveLists.{live_after_put, live_count_is}
+
+-- ---- one step
+
+-- what leaves the map and the slots as they are leaves the start
+start_stays : (slots : ℕ) (old new : State) (start : Situation) → IsStartOf slots old start → new.map ≡ old.map
+    → new.fill ≡ old.fill
+    → IsStartOf slots new start
+start_stays slots old new start is map fill = record {
+  slots_are = is.slots_are;
+  fill_is = is.fill_is ∙ sym fill;
+  are_live = subst (λ m. AreLive m start.live) (sym map) is.are_live;
+}
+
+-- how many are live after a write
+grown : (slots : ℕ) (old : State) (start : Situation) (address value : ℕ) → IsAddress address → IsStartOf slots old start
+    → length (changed start.live (changes.Write address)) ≡ length start.live + cond (is_some (old.map address)) 0 1
+grown slots old start address value proper is =
+    let after = live_count_is _ _ (live_after_put old.map start.live address value proper is.are_live) in
+    let before = live_count_is old.map start.live is.are_live in
+    let counts = change_counts (Put address value) old.map proper in
+    omega arith
+
+option_cases : (found : Option ℕ) → (found ≡ None) ⊎ ((value : ℕ) × (found ≡ Some value))
+option_cases None = inl refl
+option_cases (Some value) = inr (value, refl)
+
+-- a write that isn't refused as full leaves no more live addresses than there are slots
+write_fits : (slots : ℕ) (old : State) (start : Situation) (address value : ℕ) → IsAddress address → IsStartOf slots old start
+    → IsProper start
+    → ¬ IsFull slots old address → length (changed start.live (changes.Write address)) ≤ start.slots
+write_fits slots old start address value proper is fits free =
+    let e = grown slots old start address value proper is in
+    let counted = live_count_is old.map start.live is.are_live in
+    let slots_are = is.slots_are in
+    let held = fits.held in
+    let within = fits.fits in
+    elim (option_cases (old.map address)) [
+      | inl none ↦
+          let apart : live_in old.map ≢ slots = λ all. free (record { new_address = none; all_live = all }) in
+          omega (arith, rw none at e)
+      | inr some ↦ omega (arith, rw some.1 at e)
+    ]
+
+-- where it fits it isn't refused
+not_full : (slots : ℕ) (old : State) (start : Situation) (address : ℕ) → IsAddress address → IsStartOf slots old start
+    → length (changed start.live (changes.Write address)) ≤ start.slots → ¬ IsFull slots old address
+not_full slots old start address proper is fits = λ full.
+    let e = grown slots old start address 0 proper is in
+    let counted = live_count_is old.map start.live is.are_live in
+    let new = full.new_address in
+    let all = full.all_live in
+    let s = is.slots_are in
+    absurd (omega (arith, rw new at e))
+
+start_appends : (slots : ℕ) (old : State) (start : Situation) (address value : ℕ) → IsAddress address → IsStartOf slots old start
+    → IsStartOf slots (appended (Put address value) old) (after_move start (Append (changes.Write address)))
+start_appends slots old start address value proper is = record {
+  slots_are = is.slots_are;
+  fill_is = ap (λ n. n + 1) is.fill_is;
+  are_live = live_after_put old.map start.live address value proper is.are_live;
+}
+
+start_moves : (slots pages : ℕ) (old : State) (start : Situation) (address value : ℕ) → IsAddress address
+    → IsStartOf slots old start
+    → IsStartOf slots (moved pages (Put address value) old) (after_move start (Carry (changes.Write address)))
+start_moves slots pages old start address value proper is =
+    let are = live_after_put old.map start.live address value proper is.are_live in
+    record { slots_are = is.slots_are; fill_is = sym (live_count_is _ _ are); are_live = are }
+
+-- ---- a run
+
+-- The run of these commands with these answers is this: the changes that are accepted, made by moves of the late store.
+pub record IsLateRun (slots : ℕ) (start : Situation) (commands : List Command) (answers : List Answer) (new : State) : Type 0 where
+  pub moves : List Move
+  pub changes_are : changes_of moves ≡ written (accepted commands answers)
+  pub late : EachMove IsLate start moves
+  pub carried : (n : ℕ) → carried_at n moves ≡ moved_at n answers
+  pub end : IsStartOf slots new (after_moves start moves)
+  pub proper : IsProper (after_moves start moves)
+  pub keeps : KeepsWithin start.slots start.live (written (accepted commands answers))
+
+-- a command that changes neither the map nor the slots goes before
+pub no_move : (slots : ℕ) (start : Situation) (commands : List Command) (answers : List Answer) (new : State) (command : Command) (answer : Answer)
+    → accepted (command ∷ commands) (answer ∷ answers) ≡ accepted commands answers
+    → ((n : ℕ) → moved_at n (answer ∷ answers) ≡ moved_at n answers)
+    → IsLateRun slots start commands answers new → IsLateRun slots start (command ∷ commands) (answer ∷ answers) new
+no_move slots start commands answers new command answer same same_moved run = record {
+  moves = run.moves;
+  changes_are = run.changes_are ∙ ap written (sym same);
+  late = run.late;
+  carried = λ n. run.carried n ∙ sym (same_moved n);
+  end = run.end;
+  proper = run.proper;
+  keeps = subst (λ l. KeepsWithin start.slots start.live (written l)) (sym same) run.keeps;
+}
+
+-- an append goes before
+pub append_first : (slots : ℕ) (start : Situation) (commands : List Command) (answers : List Answer) (new : State) (address value : ℕ)
+    → start.fill < start.slots → length (changed start.live (changes.Write address)) ≤ start.slots
+    → IsLateRun slots (after_move start (Append (changes.Write address))) commands answers new
+    → IsLateRun slots start (Write address value ∷ commands) (Appended ∷ answers) new
+append_first slots start commands answers new address value free fits run = record {
+  moves = Append (changes.Write address) ∷ run.moves;
+  changes_are = ap (λ l. changes.Write address ∷ l) run.changes_are;
+  late = (free, run.late);
+  carried = λ n. run.carried (n + 1);
+  end = run.end;
+  proper = run.proper;
+  keeps = (fits, run.keeps);
+}
+
+-- a move goes before
+pub carry_first : (slots : ℕ) (start : Situation) (commands : List Command) (answers : List Answer) (new : State) (address value : ℕ)
+    → start.fill ≡ start.slots → length (changed start.live (changes.Write address)) ≤ start.slots
+    → IsLateRun slots (after_move start (Carry (changes.Write address))) commands answers new
+    → IsLateRun slots start (Write address value ∷ commands) (Moved ∷ answers) new
+carry_first slots start commands answers new address value used fits run = record {
+  moves = Carry (changes.Write address) ∷ run.moves;
+  changes_are = ap (λ l. changes.Write address ∷ l) run.changes_are;
+  late = (used, run.late);
+  carried = λ n. ap (λ l. (n + 1) ∷ l) (run.carried (n + 1));
+  end = run.end;
+  proper = run.proper;
+  keeps = (fits, run.keeps);
+}
+
+module _ (size : Size) where
+  -- a step that changes neither the map nor the slots
+  stays : (old mid : State) (start : Situation) → mid ≡ old → IsStartOf (slot_count size) old start
+      → IsStartOf (slot_count size) mid start
+  stays old mid start same is = start_stays (slot_count size) old mid start is (ap (λ s. s.map) same) (ap (λ s. s.fill) same)
+
+  appends : (old mid : State) (start : Situation) (address value : ℕ) → IsAddress address → mid ≡ appended (Put address value) old
+      → IsStartOf (slot_count size) old start
+      → IsStartOf (slot_count size) mid (after_move start (Append (changes.Write address)))
+  appends old mid start address value proper is from =
+      subst (λ s. IsStartOf (slot_count size) s (after_move start (Append (changes.Write address)))) (sym is)
+      (start_appends (slot_count size) old start address value proper from)
+
+  moves_on : (old mid : State) (start : Situation) (address value : ℕ) → IsAddress address
+      → mid ≡ moved size.pages (Put address value) old
+      → IsStartOf (slot_count size) old start → IsStartOf (slot_count size) mid (after_move start (Carry (changes.Write address)))
+  moves_on old mid start address value proper is from =
+      subst (λ s. IsStartOf (slot_count size) s (after_move start (Carry (changes.Write address)))) (sym is)
+      (start_moves (slot_count size) size.pages old start address value proper from)
+
+  pub late_run : (commands : List Command) (answers : List Answer) (old new : State) (start : Situation) → AreCommands commands
+      → IsStartOf (slot_count size) old start → IsProper start → Run (Step size) old commands answers new
+      → IsLateRun (slot_count size) start commands answers new
+  late_run [] [] old new start are is proper run = record {
+    moves = [];
+    changes_are = refl;
+    late = tt;
+    carried = λ n. refl;
+    end = stays old new start run is;
+    proper = proper;
+    keeps = tt;
+  }
+  late_run [] (answer ∷ answers) old new start are is proper run = absurd run
+  late_run (command ∷ commands) [] old new start are is proper run = absurd run
+  late_run (Write address value ∷ commands) (Appended ∷ answers) old new start are is proper run =
+      let step = run.1 in
+      let next = after_move start (Append (changes.Write address)) in
+      let free : start.fill < start.slots = let a = is.fill_is in let b = is.slots_are in let c = step.1 in omega arith in
+      let here : IsStartOf (slot_count size) run.0 next = appends old run.0 start address value are.0.0 step.2 is in
+      let more = changed-le start.live (changes.Write address) in
+      let held = proper.held in
+      let kept : IsProper next = record { held = omega arith; fits = omega arith } in
+      append_first (slot_count size) start commands answers new address value free (omega arith)
+      (late_run commands answers run.0 new next are.1 here kept run.2)
+  late_run (Write address value ∷ commands) (Moved ∷ answers) old new start are is proper run =
+      let step = run.1 in
+      let next = after_move start (Carry (changes.Write address)) in
+      let used : start.fill ≡ start.slots = let a = is.fill_is in let b = is.slots_are in let c = step.1 in omega arith in
+      let here : IsStartOf (slot_count size) run.0 next = moves_on old run.0 start address value are.0.0 step.2 is in
+      let fits = write_fits (slot_count size) old start address value are.0.0 is proper step.0.has_place in
+      let kept : IsProper next = record { held = omega arith; fits = fits } in
+      carry_first (slot_count size) start commands answers new address value used fits
+      (late_run commands answers run.0 new next are.1 here kept run.2)
+  late_run (Write address value ∷ commands) (Full ∷ answers) old new start are is proper run =
+      no_move (slot_count size) start commands answers new (Write address value) Full refl (λ n. refl)
+      (late_run commands answers run.0 new start are.1 (stays old run.0 start run.1.1 is) proper run.2)
+  late_run (Write address value ∷ commands) (Spent ∷ answers) old new start are is proper run =
+      no_move (slot_count size) start commands answers new (Write address value) Spent refl (λ n. refl)
+      (late_run commands answers run.0 new start are.1 (stays old run.0 start run.1.2 is) proper run.2)
+  late_run (Read address ∷ commands) (Value value ∷ answers) old new start are is proper run =
+      no_move (slot_count size) start commands answers new (Read address) (Value value) refl (λ n. refl)
+      (late_run commands answers run.0 new start are.1 (stays old run.0 start run.1.1 is) proper run.2)
+  late_run (Read address ∷ commands) (NoValue ∷ answers) old new start are is proper run =
+      no_move (slot_count size) start commands answers new (Read address) NoValue refl (λ n. refl)
+      (late_run commands answers run.0 new start are.1 (stays old run.0 start run.1.1 is) proper run.2)
+  late_run (Clean ∷ commands) (Cleaned ∷ answers) old new start are is proper run =
+      let step = run.1 in
+      let here = start_stays (slot_count size) old run.0 start is (ap (λ s. s.map) step.1) (ap (λ s. s.fill) step.1) in
+      no_move (slot_count size) start commands answers new Clean Cleaned refl (λ n. refl)
+      (late_run commands answers run.0 new start are.1 here proper run.2)
+  late_run (Clean ∷ commands) (Idle ∷ answers) old new start are is proper run =
+      no_move (slot_count size) start commands answers new Clean Idle refl (λ n. refl)
+      (late_run commands answers run.0 new start are.1 (stays old run.0 start run.1.1 is) proper run.2)
+  late_run (command ∷ commands) (answer ∷ answers) old new start are is proper run = absurd run.1
+
+-- ---- the moves are the fewest
+
+length_map : (stretches : List Stretch) → length (map (λ stretch. stretch.to) stretches) ≡ length stretches
+length_map [] = refl
+length_map (stretch ∷ stretches) = omega (arith, length_map stretches)
+
+-- the moves of a late run of this trace stand where the tight certificate's stretches end
+pub fewest_moves : (slots : ℕ) (start : Situation) (commands : List Command) (answers : List Answer) (new : State) (claim : Claim)
+    → IsProper start → IsLateRun slots start commands answers new → IsTight start (written (accepted commands answers)) claim
+    → AreFewest start (written (accepted commands answers)) answers claim
+fewest_moves slots start commands answers new claim proper run tight =
+    let trace = written (accepted commands answers) in
+    let met = late_stores_meet_it_lem start trace claim run.moves proper tight run.changes_are run.late in
+    let positions : moved_at 0 answers ≡ map (λ stretch. stretch.to) claim.stretches = sym (run.carried 0) ∙ met.0 in
+    let count : moves answers ≡ length claim.stretches = ap length positions ∙ length_map claim.stretches in
+    let reached = tight_is_met_lem start trace claim proper tight in
+    record {
+      tight = tight;
+      positions = positions;
+      reached = (reached.0, reached.1, reached.2 ∙ sym count);
+      fewest = λ schedule is.
+          let certificate = tight_are_certificates_lem start trace claim tight in
+          let bound = certificates_bound_schedules_lem start trace claim schedule proper certificate is in
+          omega arith;
+    }
+
+-- ---- the values
+
+module _ (size : Size) where
+  put_first : (old mid : State) (commands : List Command) (answers : List Answer) (new : State) (change : meaning.Change)
+      → mid.map ≡ meaning.changed change old.map → new.map ≡ changed_by (puts (accepted commands answers)) mid.map
+      → new.map ≡ changed_by (puts (accepted commands answers)) (meaning.changed change old.map)
+  put_first old mid commands answers new change is rest = rest ∙ ap (λ m. changed_by (puts (accepted commands answers)) m) is
+
+  -- the map at the end has what was written last
+  pub values_are : (commands : List Command) (answers : List Answer) (old new : State) → Run (Step size) old commands answers new
+      → new.map ≡ changed_by (puts (accepted commands answers)) old.map
+  values_are [] [] old new run = ap (λ s. s.map) run
+  values_are [] (answer ∷ answers) old new run = absurd run
+  values_are (command ∷ commands) [] old new run = absurd run
+  values_are (Write address value ∷ commands) (Appended ∷ answers) old new run =
+      put_first old run.0 commands answers new (Put address value) (ap (λ s. s.map) run.1.2)
+      (values_are commands answers run.0 new run.2)
+  values_are (Write address value ∷ commands) (Moved ∷ answers) old new run =
+      put_first old run.0 commands answers new (Put address value) (ap (λ s. s.map) run.1.2)
+      (values_are commands answers run.0 new run.2)
+  values_are (Write address value ∷ commands) (Full ∷ answers) old new run =
+      values_are commands answers run.0 new run.2 ∙ ap (λ s. changed_by (puts (accepted commands answers)) s.map) run.1.1
+  values_are (Write address value ∷ commands) (Spent ∷ answers) old new run =
+      values_are commands answers run.0 new run.2 ∙ ap (λ s. changed_by (puts (accepted commands answers)) s.map) run.1.2
+  values_are (Read address ∷ commands) (Value value ∷ answers) old new run =
+      values_are commands answers run.0 new run.2 ∙ ap (λ s. changed_by (puts (accepted commands answers)) s.map) run.1.1
+  values_are (Read address ∷ commands) (NoValue ∷ answers) old new run =
+      values_are commands answers run.0 new run.2 ∙ ap (λ s. changed_by (puts (accepted commands answers)) s.map) run.1.1
+  values_are (Clean ∷ commands) (Cleaned ∷ answers) old new run =
+      values_are commands answers run.0 new run.2 ∙ ap (λ s. changed_by (puts (accepted commands answers)) s.map) run.1.1
+  values_are (Clean ∷ commands) (Idle ∷ answers) old new run =
+      values_are commands answers run.0 new run.2 ∙ ap (λ s. changed_by (puts (accepted commands answers)) s.map) run.1.1
+  values_are (command ∷ commands) (answer ∷ answers) old new run = absurd run.1
+
+  -- ---- where all writes fit
+
+  -- after a command that writes nothing and takes no generation the others fit
+  fits_on : (old mid : State) (start : Situation) (command : Command) (commands : List Command)
+      → written (command ∷ commands) ≡ written commands
+      → mid.generation ≡ old.generation → Fits start old (command ∷ commands) → Fits start mid commands
+  fits_on old mid start command commands none same fits = record {
+    keeps = subst (λ l. KeepsWithin start.slots start.live l) none fits.keeps;
+    generations = let g = fits.generations in let e = ap length none in omega arith;
+  }
+
+  -- after a write that takes one generation at most, the other writes fit
+  fits_after : (old mid : State) (start next : Situation) (address value : ℕ) (commands : List Command)
+      → mid.generation ≤ old.generation + 1
+      → next.slots ≡ start.slots → next.live ≡ changed start.live (changes.Write address)
+      → Fits start old (Write address value ∷ commands) → Fits next mid commands
+  fits_after old mid start next address value commands later slots live fits = record {
+    keeps = subst (λ l. KeepsWithin next.slots l (written commands)) (sym live)
+        (subst (λ n. KeepsWithin n (changed start.live (changes.Write address)) (written commands)) (sym slots) fits.keeps.1);
+    generations = let g = fits.generations in omega arith;
+  }
+
+  pub all_written : (commands : List Command) (answers : List Answer) (old new : State) (start : Situation) → AreCommands commands
+      → IsStartOf (slot_count size) old start → Run (Step size) old commands answers new → Fits start old commands
+      → written (accepted commands answers) ≡ written commands
+  all_written [] [] old new start are is run fits = refl
+  all_written [] (answer ∷ answers) old new start are is run fits = absurd run
+  all_written (command ∷ commands) [] old new start are is run fits = absurd run
+  all_written (Write address value ∷ commands) (Appended ∷ answers) old new start are is run fits =
+      let next = after_move start (Append (changes.Write address)) in
+      let here : IsStartOf (slot_count size) run.0 next = appends size old run.0 start address value are.0.0 run.1.2 is in
+      let same : run.0.generation ≡ old.generation = ap (λ s. s.generation) run.1.2 in
+      ap (λ l. changes.Write address ∷ l) (all_written commands answers run.0 new next are.1 here run.2
+      (fits_after old run.0 start next address value commands (omega arith) refl refl fits))
+  all_written (Write address value ∷ commands) (Moved ∷ answers) old new start are is run fits =
+      let next = after_move start (Carry (changes.Write address)) in
+      let here : IsStartOf (slot_count size) run.0 next = moves_on size old run.0 start address value are.0.0 run.1.2 is in
+      let one : run.0.generation ≡ old.generation + 1 = ap (λ s. s.generation) run.1.2 in
+      ap (λ l. changes.Write address ∷ l) (all_written commands answers run.0 new next are.1 here run.2
+      (fits_after old run.0 start next address value commands (omega arith) refl refl fits))
+  all_written (Write address value ∷ commands) (Full ∷ answers) old new start are is run fits =
+      absurd (not_full (slot_count size) old start address are.0.0 is fits.keeps.0 run.1.0)
+  all_written (Write address value ∷ commands) (Spent ∷ answers) old new start are is run fits =
+      absurd (let g = fits.generations in let last = run.1.1.last_generation in omega arith)
+  all_written (Read address ∷ commands) (Value value ∷ answers) old new start are is run fits =
+      all_written commands answers run.0 new start are.1 (stays size old run.0 start run.1.1 is) run.2
+      (fits_on old run.0 start (Read address) commands refl (ap (λ s. s.generation) run.1.1) fits)
+  all_written (Read address ∷ commands) (NoValue ∷ answers) old new start are is run fits =
+      all_written commands answers run.0 new start are.1 (stays size old run.0 start run.1.1 is) run.2
+      (fits_on old run.0 start (Read address) commands refl (ap (λ s. s.generation) run.1.1) fits)
+  all_written (Clean ∷ commands) (Cleaned ∷ answers) old new start are is run fits =
+      let here = start_stays (slot_count size) old run.0 start is (ap (λ s. s.map) run.1.1) (ap (λ s. s.fill) run.1.1) in
+      all_written commands answers run.0 new start are.1 here run.2
+      (fits_on old run.0 start Clean commands refl (ap (λ s. s.generation) run.1.1) fits)
+  all_written (Clean ∷ commands) (Idle ∷ answers) old new start are is run fits =
+      all_written commands answers run.0 new start are.1 (stays size old run.0 start run.1.1 is) run.2
+      (fits_on old run.0 start Clean commands refl (ap (λ s. s.generation) run.1.1) fits)
+  all_written (command ∷ commands) (answer ∷ answers) old new start are is run fits = absurd run.1
+
+-- ---- the run of a script, together
+
+module _ (size : Size) where
+  -- what a run's accepted writes leave live has room in the slots
+  pub run_keeps : (commands : List Command) (answers : List Answer) (old new : State) (start : Situation) → AreCommands commands
+      → IsStartOf (slot_count size) old start → IsProper start → Run (Step size) old commands answers new
+      → KeepsWithin start.slots start.live (written (accepted commands answers))
+  run_keeps commands answers old new start are is proper run = (late_run size commands answers old new start are is proper run).keeps
+
+  -- and its moves are the fewest
+  pub run_fewest : (commands : List Command) (answers : List Answer) (old new : State) (start : Situation) (claim : Claim)
+      → AreCommands commands
+      → IsStartOf (slot_count size) old start → IsProper start → Run (Step size) old commands answers new
+      → IsTight start (written (accepted commands answers)) claim
+      → AreFewest start (written (accepted commands answers)) answers claim
+  run_fewest commands answers old new start claim are is proper run tight =
+      fewest_moves (slot_count size) start commands answers new claim proper
+      (late_run size commands answers old new start are is proper run) tight
+
+  -- as many as the certificate has stretches
+  pub run_count : (commands : List Command) (answers : List Answer) (old new : State) (start : Situation) (claim : Claim)
+      → AreCommands commands
+      → IsStartOf (slot_count size) old start → IsProper start → Run (Step size) old commands answers new
+      → IsTight start (written (accepted commands answers)) claim → moves answers ≡ length claim.stretches
+  run_count commands answers old new start claim are is proper run tight =
+      let fewest = run_fewest commands answers old new start claim are is proper run tight in
+      ap length fewest.positions ∙ length_map claim.stretches
