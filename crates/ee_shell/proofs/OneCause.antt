@@ -202,7 +202,7 @@ moved_fault text device other fault spelled again h =
     let same : at_rest device ≡ at_rest other = one_device_lem device other spelled.formed again.formed (sym spelled.text_is ∙ again.text_is) in
     unrested other fault (subst (λ d. IsScanFault d fault) same (rested device fault h))
 
-is_no_text : (text : List ℕ) (device : Device) (fault : ImageFault) → Spells text device → IsTextFault text fault → ⊥
+pub is_no_text : (text : List ℕ) (device : Device) (fault : ImageFault) → Spells text device → IsTextFault text fault → ⊥
 is_no_text text device fault spelled bad = texts_are_good_lem device fault spelled.formed (subst (λ t. IsTextFault t fault) spelled.text_is bad)
 
 -- a text from which a store is opened has no cause against it

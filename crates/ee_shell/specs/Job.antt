@@ -1,23 +1,34 @@
 -- The commands of the program, and the words that spell them.
-use Rattle.std.specs.Prelude.{◌≡◌, ◌≢◌, ◌⊎◌, ℕ, List, [], ◌∷◌, map, codes, decimal}
+use Rattle.std.specs.Prelude.{◌≡◌, ◌≢◌, ◌<◌, ◌^◌, ◌⊎◌, ℕ, List, [], ◌∷◌, map, codes, decimal}
+use Rattle.std.specs.Prelude.{Option, Some, None, option_map}
 use Rattle.std.specs.Borrow.{Bor}
 use Rattle.ee_flash.specs.Size.{IsWithinLimits, Size, size_of}
 use Rattle.ee_shell.specs.declared.jobs.Job.{Job}
 use Rattle.ee_shell.specs.declared.jobs.Job.TheVariants as job
 
--- a row of the table of commands, with its size and its paths
+-- a row of the table of commands, with its size, its paths, the name and the value of a setting
 pub data Row : Type 0 where
   Try : Size → Row
   Format : Size → List ℕ → Row
   Run : List ℕ → List ℕ → Row
+  Get : List ℕ → List ℕ → List ℕ → Row
+  Set : List ℕ → List ℕ → List ℕ → ℕ → Row
+  Plan : List ℕ → List ℕ → Row
+  Check : List ℕ → List ℕ → List ℕ → Row
+  Wear : List ℕ → Option (List ℕ) → Row
   States : List ℕ → Row
   Clean : List ℕ → Row
 
--- the row of a job: its paths as texts
+-- the row of a job: its words as texts
 abbrev pub row_of : Job → Row
 row_of (job.Try size) = Try size
 row_of (job.Format size image) = Format size image.now
 row_of (job.Run image script) = Run image.now script.now
+row_of (job.Get image settings name) = Get image.now settings.now name.now
+row_of (job.Set image settings name value) = Set image.now settings.now name.now value
+row_of (job.Plan image script) = Plan image.now script.now
+row_of (job.Check image script certificate) = Check image.now script.now certificate.now
+row_of (job.Wear image before) = Wear image.now (option_map (λ path. path.now) before)
 row_of (job.States image) = States image.now
 row_of (job.Clean image) = Clean image.now
 
@@ -25,11 +36,16 @@ row_of (job.Clean image) = Clean image.now
 abbrev pub texts_of : List (Bor (List ℕ)) → List (List ℕ)
 texts_of words = map (λ word. word.now) words
 
--- its size is within the limits, and an image to run on is not named `--indexed`
+-- its size is within the limits, its value has 32 bits, and an image to run on is not named `--indexed`
 abbrev pub IsRow : Row → Type 0
 IsRow (Try size) = IsWithinLimits size
 IsRow (Format size image) = IsWithinLimits size
 IsRow (Run image script) = image ≢ codes "--indexed"
+IsRow (Get image settings name) = Unit {0}
+IsRow (Set image settings name value) = value < 2 ^ 32
+IsRow (Plan image script) = Unit {0}
+IsRow (Check image script certificate) = Unit {0}
+IsRow (Wear image before) = Unit {0}
 IsRow (States image) = Unit {0}
 IsRow (Clean image) = Unit {0}
 
@@ -39,5 +55,13 @@ AreWordsOf words (Try size) = (words ≡ codes "try" ∷ decimal size.pages ∷ 
     ⊎ ((words ≡ []) × (size ≡ size_of 1 6))
 AreWordsOf words (Format size image) = words ≡ codes "format" ∷ decimal size.pages ∷ decimal size.words ∷ image ∷ []
 AreWordsOf words (Run image script) = words ≡ codes "run" ∷ image ∷ script ∷ []
+AreWordsOf words (Get image settings name) = words ≡ codes "get" ∷ image ∷ settings ∷ name ∷ []
+AreWordsOf words (Set image settings name value) =
+    words ≡ codes "set" ∷ image ∷ settings ∷ name ∷ decimal value ∷ []
+AreWordsOf words (Plan image script) = words ≡ codes "plan" ∷ image ∷ script ∷ []
+AreWordsOf words (Check image script certificate) =
+    words ≡ codes "check" ∷ image ∷ script ∷ certificate ∷ []
+AreWordsOf words (Wear image None) = words ≡ codes "wear" ∷ image ∷ []
+AreWordsOf words (Wear image (Some before)) = words ≡ codes "wear" ∷ image ∷ before ∷ []
 AreWordsOf words (States image) = words ≡ codes "states" ∷ image ∷ []
 AreWordsOf words (Clean image) = words ≡ codes "clean" ∷ image ∷ []

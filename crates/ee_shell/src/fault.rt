@@ -1,6 +1,6 @@
 //! Every fault that the program tells, each with its one line and its status.
 ghost use Rattle.std.specs.Prelude.{◌≡◌, IfOk};
-ghost use Rattle.ee_shell.specs.Fault.{fault_of_image, fault_of_read, fault_text, status};
+ghost use Rattle.ee_shell.specs.Fault.{cause, fault_of_image, fault_of_read, fault_text, status};
 
 use super::files::ReadFault;
 use super::replaying::ReplayFault;
@@ -109,8 +109,8 @@ pub enum Fault {
     /// The certificate's header is not that of the start and the trace.
     #[error("wrong start")]
     WrongStart,
-    /// This stretch of the certificate, counted from 1, does not end behind the one before it, or it
-    /// ends behind the trace.
+    /// This stretch of the certificate, counted from 1, does not end behind the one before it, or
+    /// it ends behind the trace.
     #[error("not rising {0}")]
     NotRising(u64),
     /// This stretch states another number of used slots than there are where it begins.
@@ -181,10 +181,7 @@ impl From<ReplayFault> for Fault {
         match fault {
             ReplayFault::Image(fault) => Fault::image(File::Image, fault),
             ReplayFault::Open(fault) => Fault::from(fault),
-            ReplayFault::Script(line) => Fault::BadLine {
-                file: File::Script,
-                line,
-            },
+            ReplayFault::Script(line) => Fault::from(ScriptFault::BadLine(line)),
             ReplayFault::Memory => Fault::Memory,
         }
     }
@@ -302,36 +299,44 @@ impl From<AllocError> for Fault {
 pub fn fault_line<A: Allocator + Copy>(alloc: A, fault: &Fault) -> Result<Vec<u8, A>, AllocError>
     ensures { IfOk result (λ line. line.items ≡ fault_text fault.now) }
 {
-    let line = match fault {
-        Fault::CannotRead(file) => format!(in alloc; "ee: cannot read {file}\n")?,
-        Fault::TooLong(file) => format!(in alloc; "ee: {file} too long\n")?,
-        Fault::CannotWriteImage => format!(in alloc; "ee: cannot write image\n")?,
-        Fault::CannotWriteOutput => format!(in alloc; "ee: cannot write output\n")?,
-        Fault::BadLine { file, line } => format!(in alloc; "ee: {file} line {line}\n")?,
-        Fault::BadShape(file) => format!(in alloc; "ee: {file} shape\n")?,
-        Fault::Unformatted => format!(in alloc; "ee: image unformatted\n")?,
-        Fault::NoLiveSet => format!(in alloc; "ee: image no live set\n")?,
-        Fault::TwoLive => format!(in alloc; "ee: image two live sets\n")?,
-        Fault::Foreign { page, at } => format!(in alloc; "ee: image foreign word {page} {at}\n")?,
-        Fault::SettingsText => format!(in alloc; "ee: settings text\n")?,
-        Fault::BadName(entry) => format!(in alloc; "ee: settings entry {entry} bad name\n")?,
-        Fault::BadField(entry) => format!(in alloc; "ee: settings entry {entry} bad field\n")?,
-        Fault::BadRange(entry) => format!(in alloc; "ee: settings entry {entry} bad range\n")?,
-        Fault::SameAddress(entry) => format!(in alloc; "ee: settings entry {entry} same address\n")?,
-        Fault::UnknownName => format!(in alloc; "ee: unknown name\n")?,
-        Fault::OutOfRange { min, max } => format!(in alloc; "ee: out of range {min} {max}\n")?,
-        Fault::Full => format!(in alloc; "ee: full\n")?,
-        Fault::Spent => format!(in alloc; "ee: spent\n")?,
-        Fault::NotFitting(change) => format!(in alloc; "ee: not fitting {change}\n")?,
-        Fault::WrongStart => format!(in alloc; "ee: wrong start\n")?,
-        Fault::NotRising(stretch) => format!(in alloc; "ee: not rising {stretch}\n")?,
-        Fault::WrongFrom(stretch) => format!(in alloc; "ee: wrong from {stretch}\n")?,
-        Fault::NotForced(stretch) => format!(in alloc; "ee: not forced {stretch}\n")?,
-        Fault::OtherShape => format!(in alloc; "ee: other shape\n")?,
-        Fault::Backwards(page) => format!(in alloc; "ee: wear backwards {page}\n")?,
-        Fault::Memory => format!(in alloc; "ee: out of memory\n")?,
-    };
+    let cause = cause_text(alloc, fault)?;
+    let line = format!(in alloc; "ee: {cause}\n")?;
     Ok(line.into_bytes())
+}
+
+/// What the line of a fault says behind `ee: `.
+fn cause_text<A: Allocator + Copy>(alloc: A, fault: &Fault) -> Result<String<A>, AllocError>
+    ensures { IfOk result (λ text. text.bytes.items ≡ cause fault.now) }
+{
+    match fault {
+        Fault::CannotRead(file) => format!(in alloc; "cannot read {file}"),
+        Fault::TooLong(file) => format!(in alloc; "{file} too long"),
+        Fault::CannotWriteImage => format!(in alloc; "cannot write image"),
+        Fault::CannotWriteOutput => format!(in alloc; "cannot write output"),
+        Fault::BadLine { file, line } => format!(in alloc; "{file} line {line}"),
+        Fault::BadShape(file) => format!(in alloc; "{file} shape"),
+        Fault::Unformatted => format!(in alloc; "image unformatted"),
+        Fault::NoLiveSet => format!(in alloc; "image no live set"),
+        Fault::TwoLive => format!(in alloc; "image two live sets"),
+        Fault::Foreign { page, at } => format!(in alloc; "image foreign word {page} {at}"),
+        Fault::SettingsText => format!(in alloc; "settings text"),
+        Fault::BadName(entry) => format!(in alloc; "settings entry {entry} bad name"),
+        Fault::BadField(entry) => format!(in alloc; "settings entry {entry} bad field"),
+        Fault::BadRange(entry) => format!(in alloc; "settings entry {entry} bad range"),
+        Fault::SameAddress(entry) => format!(in alloc; "settings entry {entry} same address"),
+        Fault::UnknownName => format!(in alloc; "unknown name"),
+        Fault::OutOfRange { min, max } => format!(in alloc; "out of range {min} {max}"),
+        Fault::Full => format!(in alloc; "full"),
+        Fault::Spent => format!(in alloc; "spent"),
+        Fault::NotFitting(change) => format!(in alloc; "not fitting {change}"),
+        Fault::WrongStart => format!(in alloc; "wrong start"),
+        Fault::NotRising(stretch) => format!(in alloc; "not rising {stretch}"),
+        Fault::WrongFrom(stretch) => format!(in alloc; "wrong from {stretch}"),
+        Fault::NotForced(stretch) => format!(in alloc; "not forced {stretch}"),
+        Fault::OtherShape => format!(in alloc; "other shape"),
+        Fault::Backwards(page) => format!(in alloc; "wear backwards {page}"),
+        Fault::Memory => format!(in alloc; "out of memory"),
+    }
 }
 
 /// The status that the program ends with at a fault: 3 for a bad file, 4 for what is refused, 5 for

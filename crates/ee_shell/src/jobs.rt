@@ -2,19 +2,60 @@
 
 use ee_flash::Shape;
 
-/// What the words ask for. An image and a script are named by their paths.
+/// What the words ask for. Files are named by their paths.
 ///
 /// Source: ours.
 #[derive(Clone, Copy, Debug, PartialEq, Eq)]
 pub enum Job<'a> {
     /// No words, for one page and six words; or `try P W`: answers the script of standard input.
-    Try { shape: Shape },
+    Try {
+        shape: Shape,
+    },
     /// `format P W IMAGE`: writes the image of a formatted device.
-    Format { shape: Shape, image: &'a str },
+    Format {
+        shape: Shape,
+        image: &'a str,
+    },
     /// `run IMAGE SCRIPT`: answers the script on the image.
-    Run { image: &'a str, script: &'a str },
+    Run {
+        image: &'a str,
+        script: &'a str,
+    },
+    /// `get IMAGE SETTINGS NAME`: tells what the setting of this name has.
+    Get {
+        image: &'a str,
+        settings: &'a str,
+        name: &'a str,
+    },
+    /// `set IMAGE SETTINGS NAME VALUE`: gives the setting of this name a value.
+    Set {
+        image: &'a str,
+        settings: &'a str,
+        name: &'a str,
+        value: u32,
+    },
+    /// `plan IMAGE SCRIPT`: tells the certificate of what the script changes.
+    Plan {
+        image: &'a str,
+        script: &'a str,
+    },
+    /// `check IMAGE SCRIPT CERTIFICATE`: checks a certificate of what the script changes.
+    Check {
+        image: &'a str,
+        script: &'a str,
+        certificate: &'a str,
+    },
+    /// `wear IMAGE [BEFORE]`: tells how often the pages were erased, since an image before it.
+    Wear {
+        image: &'a str,
+        before: Option<&'a str>,
+    },
     /// `states IMAGE`: tells the state of each page.
-    States { image: &'a str },
+    States {
+        image: &'a str,
+    },
     /// `clean IMAGE`: erases the pages that wait for it.
-    Clean { image: &'a str },
+    Clean {
+        image: &'a str,
+    },
 }

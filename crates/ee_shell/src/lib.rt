@@ -19,6 +19,7 @@ mod opening;
 mod replaying;
 mod reporting;
 mod serving;
+mod wear;
 mod words;
 
 pub use fault::{Fault, File, fault_line, status_of};
@@ -27,6 +28,7 @@ pub use images::{clean_image, format_image, states_text};
 pub use jobs::Job;
 pub use replaying::{ReplayFault, Replayed, replay, try_script};
 pub use reporting::answer_on;
+pub use wear::wear_text;
 pub use words::job;
 
 #[cfg(test)]

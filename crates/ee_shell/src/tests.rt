@@ -4,6 +4,7 @@ use std::test::Fail;
 mod commands;
 mod images;
 mod reports;
+mod wear;
 mod words;
 
 #[test]

@@ -1,5 +1,6 @@
 //! The words behind the program's name, read.
-ghost use Rattle.std.specs.Prelude.{◌≡◌, ◌∷◌, Some, IfSome, codes, decimal, option_map};
+ghost use Rattle.std.specs.Prelude.{◌≡◌, ◌∷◌, ◌<◌, ◌^◌, ℕ, Some, IfSome, codes, decimal};
+ghost use Rattle.std.specs.Prelude.{option_map};
 ghost use Rattle.ee_flash.specs.Size.{IsWithinLimits, Size};
 ghost use Rattle.ee_shell.specs.Job.{IsRow, Row, AreWordsOf, row_of, texts_of};
 
@@ -7,8 +8,8 @@ use super::jobs::Job;
 use ee_flash::Shape;
 use ee_text::number_up_to;
 
-/// The job that the words ask for. None where they spell no command. Pages are 1 to 64 and words
-/// of a page 5 to 512, in decimal, with no sign and no zero in front.
+/// The job that the words ask for. None where they spell no command. Pages are 1 to 64, words of a
+/// page 5 to 512 and a value 0 to 4294967295, in decimal, with no sign and no zero in front.
 ///
 /// Source: ours.
 pub fn job<'a>(words: &[&'a str]) -> Option<Job<'a>>
@@ -38,6 +39,11 @@ fn command_job<'a>(command: &str, operands: &[&'a str]) -> Option<Job<'a>>
         "try" => try_job(operands),
         "format" => format_job(operands),
         "run" => run_job(operands),
+        "get" => get_job(operands),
+        "set" => set_job(operands),
+        "plan" => plan_job(operands),
+        "check" => check_job(operands),
+        "wear" => wear_job(operands),
         "states" => states_job(operands),
         "clean" => clean_job(operands),
         _ => None,
@@ -90,6 +96,91 @@ fn run_job<'a>(operands: &[&'a str]) -> Option<Job<'a>>
     }
 }
 
+/// The job of `get` with these operands.
+fn get_job<'a>(operands: &[&'a str]) -> Option<Job<'a>>
+    ensures found { IfSome result (λ job. IsRow (row_of job)
+        × AreWordsOf (codes "get" ∷ texts_of operands.now) (row_of job)) }
+    ensures only { (row : Row) → IsRow row → AreWordsOf (codes "get" ∷ texts_of operands.now) row
+        → option_map row_of result ≡ Some row }
+{
+    match *operands {
+        [image, settings, name] => Some(Job::Get {
+            image,
+            settings,
+            name,
+        }),
+        _ => None,
+    }
+}
+
+/// The job of `set` with these operands.
+fn set_job<'a>(operands: &[&'a str]) -> Option<Job<'a>>
+    ensures found { IfSome result (λ job. IsRow (row_of job)
+        × AreWordsOf (codes "set" ∷ texts_of operands.now) (row_of job)) }
+    ensures only { (row : Row) → IsRow row → AreWordsOf (codes "set" ∷ texts_of operands.now) row
+        → option_map row_of result ≡ Some row }
+{
+    match *operands {
+        [image, settings, name, value] => Some(Job::Set {
+            image,
+            settings,
+            name,
+            value: value_of(value)?,
+        }),
+        _ => None,
+    }
+}
+
+/// The job of `plan` with these operands.
+fn plan_job<'a>(operands: &[&'a str]) -> Option<Job<'a>>
+    ensures found { IfSome result (λ job. IsRow (row_of job)
+        × AreWordsOf (codes "plan" ∷ texts_of operands.now) (row_of job)) }
+    ensures only { (row : Row) → IsRow row → AreWordsOf (codes "plan" ∷ texts_of operands.now) row
+        → option_map row_of result ≡ Some row }
+{
+    match *operands {
+        [image, script] => Some(Job::Plan { image, script }),
+        _ => None,
+    }
+}
+
+/// The job of `check` with these operands.
+fn check_job<'a>(operands: &[&'a str]) -> Option<Job<'a>>
+    ensures found { IfSome result (λ job. IsRow (row_of job)
+        × AreWordsOf (codes "check" ∷ texts_of operands.now) (row_of job)) }
+    ensures only { (row : Row) → IsRow row → AreWordsOf (codes "check" ∷ texts_of operands.now) row
+        → option_map row_of result ≡ Some row }
+{
+    match *operands {
+        [image, script, certificate] => Some(Job::Check {
+            image,
+            script,
+            certificate,
+        }),
+        _ => None,
+    }
+}
+
+/// The job of `wear` with these operands.
+fn wear_job<'a>(operands: &[&'a str]) -> Option<Job<'a>>
+    ensures found { IfSome result (λ job. IsRow (row_of job)
+        × AreWordsOf (codes "wear" ∷ texts_of operands.now) (row_of job)) }
+    ensures only { (row : Row) → IsRow row → AreWordsOf (codes "wear" ∷ texts_of operands.now) row
+        → option_map row_of result ≡ Some row }
+{
+    match *operands {
+        [image] => Some(Job::Wear {
+            image,
+            before: None,
+        }),
+        [image, before] => Some(Job::Wear {
+            image,
+            before: Some(before),
+        }),
+        _ => None,
+    }
+}
+
 /// The job of `states` with these operands.
 fn states_job<'a>(operands: &[&'a str]) -> Option<Job<'a>>
     ensures found { IfSome result (λ job. IsRow (row_of job)
@@ -126,4 +217,13 @@ fn shape_of(pages: &str, words: &str) -> Option<Shape>
     let pages = number_up_to(pages.as_bytes(), 64)?;
     let words = number_up_to(words.as_bytes(), 512)?;
     Shape::new(pages as usize, words as usize)
+}
+
+/// The value that a word spells.
+fn value_of(word: &str) -> Option<u32>
+    ensures found { IfSome result (λ value. (value < 2 ^ 32) × (word.now ≡ decimal value)) }
+    ensures only { (value : ℕ) → value < 2 ^ 32 → word.now ≡ decimal value
+        → result ≡ Some value }
+{
+    Some(number_up_to(word.as_bytes(), u64::from(u32::MAX))? as u32)
 }

@@ -28,8 +28,62 @@ fn reads_each_row(rt: HostRuntime) {
 }
 
 #[test]
+fn reads_each_row_of_several_files(rt: HostRuntime) {
+    assert_eq!(rt;
+        job(&["get", "a", "s", "volume"]),
+        Some(Job::Get {
+            image: "a",
+            settings: "s",
+            name: "volume"
+        })
+    );
+    assert_eq!(rt;
+        job(&["set", "a", "s", "volume", "4294967295"]),
+        Some(Job::Set {
+            image: "a",
+            settings: "s",
+            name: "volume",
+            value: 4_294_967_295
+        })
+    );
+    assert_eq!(rt;
+        job(&["plan", "a", "b"]),
+        Some(Job::Plan {
+            image: "a",
+            script: "b"
+        })
+    );
+    assert_eq!(rt;
+        job(&["check", "a", "b", "c"]),
+        Some(Job::Check {
+            image: "a",
+            script: "b",
+            certificate: "c"
+        })
+    );
+}
+
+#[test]
+fn reads_wear_with_and_without_an_image_before(rt: HostRuntime) {
+    assert_eq!(rt;
+        job(&["wear", "a"]),
+        Some(Job::Wear {
+            image: "a",
+            before: None
+        })
+    );
+    assert_eq!(rt;
+        job(&["wear", "a", "b"]),
+        Some(Job::Wear {
+            image: "a",
+            before: Some("b")
+        })
+    );
+}
+
+#[test]
 fn refuses_other_words(rt: HostRuntime) {
-    let lines: [&[&str]; 12] = [
+    let lines: [&[&str]; 18] = [
         &["try"],
         &["try", "1", "6", "6"],
         &["try", "0", "6"],
@@ -42,6 +96,12 @@ fn refuses_other_words(rt: HostRuntime) {
         &["run", "--indexed", "a", "b"],
         &["states"],
         &["clean", "a", "b"],
+        &["get", "a", "s"],
+        &["set", "a", "s", "volume", "4294967296"],
+        &["set", "a", "s", "volume", "01"],
+        &["plan", "a"],
+        &["check", "a", "b"],
+        &["wear", "a", "b", "c"],
     ];
     for words in lines {
         assert_eq!(rt; job(words), None);

@@ -1,5 +1,6 @@
 use super::trial::with_each_refusal;
 use ee_flash::{Flash, MemFlash, Shape};
+use ee_shell::{Fault, wear_text};
 use ee_wear::{Ledger, SinceFault};
 use std::alloc::Global;
 use std::test::Fail;
@@ -49,4 +50,44 @@ fn a_difference_of_two_ledgers(rt: HostRuntime) -> Result<(), Fail> {
     });
     assert_eq!(rt; requests, 1);
     Ok(())
+}
+
+/// One page in each set, both erased.
+const WORN: &[u8] = b"ee 1 5
+3 - - - - -
+2 - - - - -
+";
+
+/// The same earlier.
+const LESS_WORN: &[u8] = b"ee 1 5
+1 - - - - -
+2 - - - - -
+";
+
+#[test]
+fn the_wear_of_an_image(rt: HostRuntime) {
+    let cases: [(Option<&[u8]>, &[u8], u64); 2] = [
+        (
+            None,
+            b"page 0 wear 3\npage 1 wear 2\ntotal 5 least 2 greatest 3\n",
+            4,
+        ),
+        (
+            Some(LESS_WORN),
+            b"page 0 wear 2\npage 1 wear 0\ntotal 2 least 0 greatest 2\n",
+            7,
+        ),
+    ];
+    for (before, lines, least_requests) in cases {
+        let requests = with_each_refusal(&rt, rt.alloc(), &true, |alloc| {
+            match wear_text(alloc, WORN, before) {
+                Ok(text) => Some(text.as_slice() == lines),
+                Err(fault) => {
+                    assert_eq!(rt; fault, Fault::Memory);
+                    None
+                }
+            }
+        });
+        assert!(rt; requests >= least_requests);
+    }
 }

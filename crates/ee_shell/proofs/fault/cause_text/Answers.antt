@@ -1,0 +1,11 @@
+use Rattle.std.proofs.Common.{rules, append_assoc}
+use Rattle.std.proofs.lemmas.Result.{IfOk-weaker}
+use Rattle.ee_shell.proofs.fault.cause_text.Goals as goal
+
+pub returns-in-Foreign : goal.returns-in-Foreign
+returns-in-Foreign g c = simp c.in-Foreign.is (IfOk-weaker c.format-in-Foreign.result _ _
+    (λ text here. search (rules, append_assoc)) c.format-in-Foreign.ensures.ok)
+
+pub returns-in-OutOfRange : goal.returns-in-OutOfRange
+returns-in-OutOfRange g c = simp c.in-OutOfRange.is (IfOk-weaker c.format-in-OutOfRange.result _ _
+    (λ text here. search (rules, append_assoc)) c.format-in-OutOfRange.ensures.ok)
