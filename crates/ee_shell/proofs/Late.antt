@@ -9,11 +9,11 @@ use Rattle.ee_store.specs.State.{State, appended, moved}
 use Rattle.ee_store.specs.Changes.{IsFull}
 use Rattle.ee_check.specs.declared.change.Change.TheVariants as changes
 use Rattle.ee_check.specs.declared.certificate.Stretch.{Stretch}
-use Rattle.ee_check.specs.Certificate.{Claim, IsTight}
+use Rattle.ee_check.specs.Certificate.{Claim, IsTight, used_at_end}
 use Rattle.ee_check.specs.Live.{KeepsWithin, changed}
 use Rattle.ee_check.specs.Schedule.{Append, Carry, EachMove, IsLate, IsProper, Move, Situation, after_move, after_moves, carried_at, changes_of}
 use Rattle.ee_check.proofs.Sizes.{changed-le}
-use Rattle.ee_check.proofs.Bounds.{certificates_bound_schedules_lem, late_stores_meet_it_lem, tight_are_certificates_lem, tight_is_met_lem}
+use Rattle.ee_check.proofs.Bounds.{certificates_bound_schedules_lem, certificates_dominate_lem, late_stores_meet_it_lem, tight_are_certificates_lem, tight_is_met_lem}
 use Rattle.ee_plan.specs.Start.{AreLive, IsStartOf}
 use Rattle.ee_script.specs.Run.{Run}
 use Rattle.ee_script.specs.Script.{AreCommands}
@@ -22,7 +22,7 @@ use Rattle.ee_script.specs.declared.answer.Answer.TheVariants.{Appended, Moved, 
 use Rattle.ee_script.specs.declared.command.Command.{Command}
 use Rattle.ee_script.specs.declared.command.Command.TheVariants.{Write, Read, Clean}
 use Rattle.ee_shell.specs.Machine.{Step}
-use Rattle.ee_shell.specs.Trace.{AreFewest, Fits, accepted, moved_at, moves, puts, written}
+use Rattle.ee_shell.specs.Trace.{AreFewest, Fits, NoneEndsWithMoreRoom, accepted, moved_at, moves, puts, written}
 use Rattle.ee_plan.proofs.LiveLists.{live_after_put, live_count_is}
 
 -- ---- one step
@@ -106,7 +106,7 @@ pub record IsLateRun (slots : ℕ) (start : Situation) (commands : List Command)
   pub keeps : KeepsWithin start.slots start.live (written (accepted commands answers))
 
 -- a command that changes neither the map nor the slots goes before
-pub no_move : (slots : ℕ) (start : Situation) (commands : List Command) (answers : List Answer) (new : State) (command : Command) (answer : Answer)
+no_move : (slots : ℕ) (start : Situation) (commands : List Command) (answers : List Answer) (new : State) (command : Command) (answer : Answer)
     → accepted (command ∷ commands) (answer ∷ answers) ≡ accepted commands answers
     → ((n : ℕ) → moved_at n (answer ∷ answers) ≡ moved_at n answers)
     → IsLateRun slots start commands answers new → IsLateRun slots start (command ∷ commands) (answer ∷ answers) new
@@ -121,7 +121,7 @@ no_move slots start commands answers new command answer same same_moved run = re
 }
 
 -- an append goes before
-pub append_first : (slots : ℕ) (start : Situation) (commands : List Command) (answers : List Answer) (new : State) (address value : ℕ)
+append_first : (slots : ℕ) (start : Situation) (commands : List Command) (answers : List Answer) (new : State) (address value : ℕ)
     → start.fill < start.slots → length (changed start.live (changes.Write address)) ≤ start.slots
     → IsLateRun slots (after_move start (Append (changes.Write address))) commands answers new
     → IsLateRun slots start (Write address value ∷ commands) (Appended ∷ answers) new
@@ -136,7 +136,7 @@ append_first slots start commands answers new address value free fits run = reco
 }
 
 -- a move goes before
-pub carry_first : (slots : ℕ) (start : Situation) (commands : List Command) (answers : List Answer) (new : State) (address value : ℕ)
+carry_first : (slots : ℕ) (start : Situation) (commands : List Command) (answers : List Answer) (new : State) (address value : ℕ)
     → start.fill ≡ start.slots → length (changed start.live (changes.Write address)) ≤ start.slots
     → IsLateRun slots (after_move start (Carry (changes.Write address))) commands answers new
     → IsLateRun slots start (Write address value ∷ commands) (Moved ∷ answers) new
@@ -232,7 +232,7 @@ length_map [] = refl
 length_map (stretch ∷ stretches) = omega (arith, length_map stretches)
 
 -- the moves of a late run of this trace stand where the tight certificate's stretches end
-pub fewest_moves : (slots : ℕ) (start : Situation) (commands : List Command) (answers : List Answer) (new : State) (claim : Claim)
+fewest_moves : (slots : ℕ) (start : Situation) (commands : List Command) (answers : List Answer) (new : State) (claim : Claim)
     → IsProper start → IsLateRun slots start commands answers new → IsTight start (written (accepted commands answers)) claim
     → AreFewest start (written (accepted commands answers)) answers claim
 fewest_moves slots start commands answers new claim proper run tight =
@@ -243,6 +243,7 @@ fewest_moves slots start commands answers new claim proper run tight =
     let reached = tight_is_met_lem start trace claim proper tight in
     record {
       tight = tight;
+      certificate = tight_are_certificates_lem start trace claim tight;
       positions = positions;
       reached = (reached.0, reached.1, reached.2 ∙ sym count);
       fewest = λ schedule is.
@@ -371,3 +372,30 @@ module _ (size : Size) where
   run_count commands answers old new start claim are is proper run tight =
       let fewest = run_fewest commands answers old new start claim are is proper run tight in
       ap length fewest.positions ∙ length_map claim.stretches
+
+  -- and as many slots are used at the end as the certificate says
+  pub run_fill : (commands : List Command) (answers : List Answer) (old new : State) (start : Situation) (claim : Claim)
+      → AreCommands commands
+      → IsStartOf (slot_count size) old start → IsProper start → Run (Step size) old commands answers new
+      → IsTight start (written (accepted commands answers)) claim
+      → new.fill ≡ used_at_end start (written (accepted commands answers)) claim.stretches
+  run_fill commands answers old new start claim are is proper run tight =
+      let late = late_run size commands answers old new start are is proper run in
+      let met = late_stores_meet_it_lem start (written (accepted commands answers)) claim late.moves proper tight late.changes_are late.late in
+      sym late.end.fill_is ∙ met.1
+
+  -- so each store makes more transfers, or as many, and ends with no more room
+  pub run_room : (commands : List Command) (answers : List Answer) (old new : State) (start : Situation) (claim : Claim)
+      → AreCommands commands
+      → IsStartOf (slot_count size) old start → IsProper start → Run (Step size) old commands answers new
+      → IsTight start (written (accepted commands answers)) claim
+      → NoneEndsWithMoreRoom start (written (accepted commands answers)) (moves answers) new.fill
+  run_room commands answers old new start claim are is proper run tight = λ schedule scheduled.
+      let trace = written (accepted commands answers) in
+      let count = run_count commands answers old new start claim are is proper run tight in
+      let fill = run_fill commands answers old new start claim are is proper run tight in
+      let certificate = tight_are_certificates_lem start trace claim tight in
+      elim (certificates_dominate_lem start trace claim schedule proper certificate scheduled) [
+        | inl more ↦ inl (omega arith)
+        | inr same ↦ inr (same.0 ∙ sym count, omega arith)
+      ]

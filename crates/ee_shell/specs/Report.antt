@@ -13,7 +13,7 @@ use Rattle.ee_script.specs.Script.{IsScript}
 use Rattle.ee_script.specs.declared.answer.Answer.{Answer}
 use Rattle.ee_script.specs.declared.command.Command.{Command}
 use Rattle.ee_shell.specs.Machine.{Step}
-use Rattle.ee_shell.specs.Trace.{AreFewest, Fits, accepted, moves, puts, written}
+use Rattle.ee_shell.specs.Trace.{AreFewest, Fits, NoneEndsWithMoreRoom, accepted, moves, puts, written}
 
 -- how a store of so many slots stands, and how many answers were `moved`
 abbrev pub end_line : ℕ → State → ℕ → List ℕ
@@ -26,9 +26,9 @@ abbrev pub report_text : ℕ → List Answer → State → Claim → List ℕ
 report_text slots answers state claim = report answers ++ (end_line slots state (moves answers) ++ text_of claim)
 
 -- From the old state, on a device of this size, the script was answered as the report machine answers it, and the new
--- state is what it came to. The moves are the fewest for the changes that were accepted, and the report prints the
--- certificate of it. Every address reads the value last written to it by them, or as before; and where all writes fit,
--- all are accepted.
+-- state is what it came to. The moves are the fewest for the changes that were accepted, no store that makes as few has
+-- more room at the end, and the report prints the certificate. Every address reads the value last written to it by them,
+-- or as before; and where all writes fit, all are accepted.
 pub record IsReported (size : Size) (old : State) (text : List ℕ) (new : State) (reported : List ℕ) : Type 0 where
   pub commands : List Command
   pub answers : List Answer
@@ -38,6 +38,7 @@ pub record IsReported (size : Size) (old : State) (text : List ℕ) (new : State
   pub run : Run (Step size) old commands answers new
   pub start_is : IsStartOf (slot_count size) old start
   pub fewest : AreFewest start (written (accepted commands answers)) answers claim
+  pub room : NoneEndsWithMoreRoom start (written (accepted commands answers)) (moves answers) new.fill
   pub values : new.map ≡ changed_by (puts (accepted commands answers)) old.map
   pub all_accepted : Fits start old commands → written (accepted commands answers) ≡ written commands
   pub report_is : reported ≡ report_text (slot_count size) answers new claim

@@ -1,13 +1,13 @@
 -- The changes that a script makes, as a trace, and what is shown of the moves among them: none of them could be spared.
-use Rattle.std.specs.Prelude.{◌≡◌, ◌+◌, ◌≤◌, ℕ, List, [], ◌∷◌, length, map}
+use Rattle.std.specs.Prelude.{◌≡◌, ◌⊎◌, ◌+◌, ◌<◌, ◌≤◌, ℕ, List, [], ◌∷◌, length, map}
 use Rattle.ee_pages.specs.Meaning as meaning
 use Rattle.ee_store.specs.Changes.{greatest_generation}
 use Rattle.ee_store.specs.State.{State}
 use Rattle.ee_check.specs.declared.change.Change.{Change}
 use Rattle.ee_check.specs.declared.change.Change.TheVariants as change
-use Rattle.ee_check.specs.Certificate.{Claim, IsTight}
+use Rattle.ee_check.specs.Certificate.{Claim, IsCertificate, IsTight}
 use Rattle.ee_check.specs.Live.{KeepsWithin}
-use Rattle.ee_check.specs.Schedule.{IsSchedule, Move, Situation, cost}
+use Rattle.ee_check.specs.Schedule.{IsSchedule, Move, Situation, after_moves, cost}
 use Rattle.ee_script.specs.declared.command.Command.{Command}
 use Rattle.ee_script.specs.declared.command.Command.TheVariants.{Write}
 use Rattle.ee_script.specs.declared.answer.Answer.{Answer}
@@ -50,9 +50,16 @@ pub record Fits (start : Situation) (state : State) (commands : List Command) : 
   pub generations : state.generation + length (written commands) ≤ greatest_generation
 
 -- From a start, the moves among the answers are the fewest: they stand exactly where the stretches of the trace's one
--- tight certificate end, some store that transfers when it likes makes as many transfers, and none makes fewer.
+-- tight certificate end, which the checker accepts; some store that transfers when it likes makes as many transfers, and
+-- none makes fewer.
 pub record AreFewest (start : Situation) (trace : List Change) (answers : List Answer) (claim : Claim) : Type 0 where
   pub tight : IsTight start trace claim
+  pub certificate : IsCertificate start trace claim
   pub positions : moved_at 0 answers ≡ map (λ stretch. stretch.to) claim.stretches
   pub reached : (schedule : List Move) × IsSchedule start trace schedule × (cost schedule ≡ moves answers)
   pub fewest : (schedule : List Move) → IsSchedule start trace schedule → moves answers ≤ cost schedule
+
+-- Each store makes more transfers than these, or as many, and has at least so many slots used at the end.
+abbrev pub NoneEndsWithMoreRoom : Situation → List Change → ℕ → ℕ → Type 0
+NoneEndsWithMoreRoom start trace transfers fill = (schedule : List Move) → IsSchedule start trace schedule
+    → (transfers < cost schedule) ⊎ ((cost schedule ≡ transfers) × (fill ≤ (after_moves start schedule).fill))
