@@ -9,3 +9,5 @@ pub mod Stores
 pub mod Streams
 pub mod Reported
 pub mod Late
+pub mod Traces
+pub mod OneTask

@@ -3,6 +3,7 @@ use std::test::Fail;
 
 mod commands;
 mod images;
+mod planning;
 mod reports;
 mod wear;
 mod words;
