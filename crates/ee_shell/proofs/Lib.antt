@@ -1,6 +1,7 @@
 pub mod Causes
 pub mod Cleaning
 pub mod Erasing
+pub mod Named
 pub mod OneCause
 pub mod Pages
 pub mod Runs

@@ -8,3 +8,4 @@ pub mod Replaying
 pub mod Opening
 pub mod Fault
 pub mod Images
+pub mod Settings

@@ -18,6 +18,7 @@ mod jobs;
 mod opening;
 mod replaying;
 mod serving;
+mod settings;
 mod words;
 
 pub use fault::{Fault, File, fault_line, status_of};
@@ -26,6 +27,7 @@ pub use images::{clean_image, format_image, states_text};
 pub use jobs::Job;
 pub use replaying::{ReplayFault, Replayed, replay, try_script};
 pub use serving::answer_on;
+pub use settings::{get_setting, set_setting};
 pub use words::job;
 
 #[cfg(test)]

@@ -2,6 +2,7 @@ use super::{Fault, File, fault_line, read_whole, status_of, write_whole};
 use std::test::Fail;
 
 mod commands;
+mod settings;
 mod words;
 
 #[test]
