@@ -20,6 +20,7 @@ mod planning;
 mod replaying;
 mod reporting;
 mod serving;
+mod settings;
 mod wear;
 mod words;
 
@@ -30,6 +31,7 @@ pub use jobs::Job;
 pub use planning::{check_script, plan_script};
 pub use replaying::{ReplayFault, Replayed, replay, try_script};
 pub use reporting::answer_on;
+pub use settings::{get_setting, set_setting};
 pub use wear::wear_text;
 pub use words::job;
 

@@ -5,6 +5,7 @@ mod commands;
 mod images;
 mod planning;
 mod reports;
+mod settings;
 mod wear;
 mod words;
 
