@@ -2,6 +2,7 @@ pub mod Causes
 pub mod Cleaning
 pub mod Erasing
 pub mod Ledgers
+pub mod Named
 pub mod OneCause
 pub mod Pages
 pub mod Runs

@@ -9,3 +9,4 @@ pub mod Opening
 pub mod Fault
 pub mod Images
 pub mod Wear
+pub mod Settings

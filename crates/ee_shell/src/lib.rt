@@ -19,6 +19,7 @@ mod opening;
 mod replaying;
 mod serving;
 mod wear;
+mod settings;
 mod words;
 
 pub use fault::{Fault, File, fault_line, status_of};
@@ -28,6 +29,7 @@ pub use jobs::Job;
 pub use replaying::{ReplayFault, Replayed, replay, try_script};
 pub use serving::answer_on;
 pub use wear::wear_text;
+pub use settings::{get_setting, set_setting};
 pub use words::job;
 
 #[cfg(test)]

@@ -3,6 +3,7 @@ use std::test::Fail;
 
 mod commands;
 mod wear;
+mod settings;
 mod words;
 
 #[test]

@@ -1,0 +1,36 @@
+use Rattle.std.proofs.Common.{inl, inr}
+use Rattle.ee_shell.proofs.Named.{is_refused_in, is_set, set_good, set_refused, set_unopened, set_unspelled}
+use Rattle.ee_shell.proofs.settings.set_setting.Goals as goal
+
+pub returns-in-Err-clause-names : goal.returns-in-Err-clause-names
+returns-in-Err-clause-names g c = λ cause some applies.
+    set_unopened c.args.image.now c.args.settings.now c.args.name.now c.args.value c.in-Err.fault c.from.result cause c.in-Err.ensures.fault c.from.ensures some applies
+
+pub returns-in-Err-read_schema-clause-fault : goal.returns-in-Err-read_schema-clause-fault
+returns-in-Err-read_schema-clause-fault g c =
+    let opened = c.in-Ok.ensures.opened in
+    inr (inl ((opened.device, opened.old), c.in-Err-read_schema.ensures.fault))
+
+pub returns-in-Err-read_schema-clause-names : goal.returns-in-Err-read_schema-clause-names
+returns-in-Err-read_schema-clause-names g c = λ cause some applies.
+    set_unspelled c.args.image.now c.args.settings.now c.args.name.now c.args.value _ c.in-Err-read_schema.fault cause c.in-Ok.ensures.opened c.in-Err-read_schema.ensures.names c.in-Err-read_schema.ensures.only some applies
+
+pub returns-in-Err-set_on-clause-fault : goal.returns-in-Err-set_on-clause-fault
+returns-in-Err-set_on-clause-fault g c =
+    inr (inr (is_refused_in c.args.image.now c.args.settings.now c.args.name.now c.args.value c.in-Ok.store c.in-Ok-read_schema.schema c.in-Err-set_on.fault c.in-Ok.ensures.opened c.in-Ok-read_schema.ensures.spelled
+    c.in-Err-set_on.ensures.fault))
+
+pub returns-in-Err-set_on-clause-names : goal.returns-in-Err-set_on-clause-names
+returns-in-Err-set_on-clause-names g c = λ cause some applies.
+    set_refused c.args.image.now c.args.settings.now c.args.name.now c.args.value c.in-Ok.store c.in-Ok-read_schema.schema c.in-Err-set_on.fault cause c.in-Ok.ensures.opened c.in-Ok-read_schema.ensures.spelled
+    c.in-Err-set_on.ensures.fault some applies
+
+pub returns-clause-set : goal.returns-clause-set
+returns-clause-set g c =
+    is_set c.args.image.now c.args.settings.now c.args.name.now _ _ c.args.value c.in-Ok.store _ _ c.in-Ok-read_schema.schema c.in-Ok.ensures.opened c.in-Ok-read_schema.ensures.spelled c.in-Ok-set_on.ensures.written
+    c.into_flash.ensures.store c.into_flash.ensures.device c.in_ok-written.ensures c.in_ok-text.ensures.items
+
+pub returns-clause-names : goal.returns-clause-names
+returns-clause-names g c = λ cause some applies.
+    set_good c.args.image.now c.args.settings.now c.args.name.now c.args.value c.in-Ok.store _ c.in-Ok-read_schema.schema cause c.in-Ok.ensures.opened c.in-Ok-read_schema.ensures.spelled c.in-Ok-set_on.ensures.written some
+    applies
