@@ -5,15 +5,18 @@
 //! transfer. It makes one insertion or removal for each change.
 //!
 //! The layer above calls `plan`. Its contract has the whole promise: the certificate is tight, some
-//! schedule reaches it, and no schedule does better wherever the trace is broken off.
+//! schedule reaches it, and no schedule does better wherever the trace is broken off. `start_of` gives
+//! what a store gives a trace to start from: its slots, how many are used, and the live addresses.
 #![tactic(auto)]
 
 mod late_store;
 mod planned;
 mod planning;
+mod starting;
 
 pub use planned::{Plan, PlanFault};
 pub use planning::plan;
+pub use starting::start_of;
 
 #[cfg(test)]
 mod tests;

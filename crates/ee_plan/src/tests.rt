@@ -1,4 +1,6 @@
 // Worked traces: each plan with the values that it must have, and the checker's yes.
+mod starting;
+
 use super::{Plan, PlanFault, plan};
 use ee_check::{Change, Start, Stretch, check};
 use ee_codec::Address;

@@ -8,3 +8,5 @@ pub mod Pages
 pub mod Runs
 pub mod Stores
 pub mod Streams
+pub mod Traces
+pub mod OneTask

@@ -10,3 +10,4 @@ pub mod Fault
 pub mod Images
 pub mod Wear
 pub mod Settings
+pub mod Planning

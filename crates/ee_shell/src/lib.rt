@@ -16,20 +16,22 @@ mod files;
 mod images;
 mod jobs;
 mod opening;
+mod planning;
 mod replaying;
 mod serving;
-mod wear;
 mod settings;
+mod wear;
 mod words;
 
 pub use fault::{Fault, File, fault_line, status_of};
 pub use files::{MOST_BYTES, MOST_READS, ReadFault, Stopped, read_whole, write_whole};
 pub use images::{clean_image, format_image, states_text};
 pub use jobs::Job;
+pub use planning::{check_script, plan_script};
 pub use replaying::{ReplayFault, Replayed, replay, try_script};
 pub use serving::answer_on;
-pub use wear::wear_text;
 pub use settings::{get_setting, set_setting};
+pub use wear::wear_text;
 pub use words::job;
 
 #[cfg(test)]

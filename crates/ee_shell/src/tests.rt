@@ -2,8 +2,9 @@ use super::{Fault, File, fault_line, read_whole, status_of, write_whole};
 use std::test::Fail;
 
 mod commands;
-mod wear;
+mod planning;
 mod settings;
+mod wear;
 mod words;
 
 #[test]

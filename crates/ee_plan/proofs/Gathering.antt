@@ -1,0 +1,142 @@
+-- The live addresses of a store, one after another.
+use Rattle.std.proofs.Common.{◌≡◌, ◌≢◌, inl, inr, ℕ, ◌-◌, ◌*◌, ◌<◌, ◌≤◌, Option, Some, None, List, [], ◌∷◌, ◌++◌, length, length-append, refl, sym, subst, ap, ◌∙◌, arith}
+use Rattle.std.proofs.Math.Nat.{mul-le-mul}
+use Rattle.std.proofs.lemmas.Bool.{cases_lt, cases_eq}
+use Rattle.std.proofs.lemmas.List.Elements.{All-nil, All-push, All-weaker, Contains-append_left, Contains-push, recursion_from_All}
+use Rattle.std.specs.Cmp.{nat_cmp_is}
+use Rattle.std.specs.declared.cmp.Ordering.TheVariants.{Less}
+use Rattle.std.specs.List.{All, AllByRecursion, Contains}
+use Rattle.std.specs.List.Sorted.{IsStrictlySortedBy}
+use Rattle.std.specs.Ordering.{nat_cmp}
+use Rattle.std.specs.BTreeSet.{insert_key}
+use Rattle.ee_codec.specs.Words.{IsAddress}
+use Rattle.ee_check.proofs.Walks.{insert_last}
+use Rattle.ee_pages.specs.Meaning.{IsNextLive, Map, live_in, live_to}
+use Rattle.ee_pages.proofs.Counts.{live_to-end, live_to-next, live_to-zero}
+use Rattle.ee_pages.proofs.LiveCounts.{live_within_fill}
+use Rattle.ee_pages.specs.Sets.{live_of, set_of, slots_of}
+use Rattle.ee_pages.specs.declared.side.Side.{Side}
+use Rattle.ee_flash.specs.Device.{Device}
+use Rattle.ee_flash.specs.Size.{slot_count}
+use Rattle.ee_store.specs.Finished.{IsStore}
+use Rattle.ee_store.specs.State.{State, state_in, state_of}
+use Rattle.ee_store.proofs.CopiedMaps.{meaning-zero}
+use Rattle.ee_store.proofs.Making.{few_within}
+use Rattle.ee_store.proofs.MovingFacts.{few_slots}
+use Rattle.ee_store.proofs.States.{state_is}
+use Rattle.ee_check.specs.Start.{IsStart}
+use Rattle.ee_plan.specs.Start.{AreLive}
+
+-- these are the addresses up to this one that have a value, ascending
+pub record AreLiveTo (map : Map) (above : ℕ) (live : List ℕ) : Type 0 where
+  pub below : All (λ address. address ≤ above) live
+  pub ascending : IsStrictlySortedBy nat_cmp live
+  pub proper : All IsAddress live
+  pub have_values : All (λ address. map address ≢ None) live
+  pub all : (address : ℕ) → address ≤ above → map address ≢ None → Contains live address
+  pub count : length live ≡ live_to map above
+
+less_is : (x k : ℕ) → x < k → nat_cmp x k ≡ Less
+less_is x k h = sym (nat_cmp_is x k Less h)
+
+-- one address more, above all others, stays above them
+above_each : (x k : ℕ) (xs : List ℕ) → AllByRecursion (λ y. nat_cmp x y ≡ Less) xs → x < k → AllByRecursion (λ y. nat_cmp x y ≡ Less) (xs ++ k ∷ [])
+above_each x k [] below h = (less_is x k h, tt)
+above_each x k (y ∷ xs) below h = (below.0, above_each x k xs below.1 h)
+
+sorted_push : (xs : List ℕ) (k : ℕ) → IsStrictlySortedBy nat_cmp xs → AllByRecursion (λ x. x < k) xs → IsStrictlySortedBy nat_cmp (xs ++ k ∷ [])
+unfolding IsStrictlySortedBy
+sorted_push [] k sorted below = (tt, tt)
+sorted_push (x ∷ xs) k sorted below = (above_each x k xs sorted.0 below.0, sorted_push xs k sorted.1 below.1)
+
+none_sorted : IsStrictlySortedBy nat_cmp []
+unfolding IsStrictlySortedBy
+none_sorted = tt
+
+some_value : (found : Option ℕ) (value : ℕ) → found ≡ Some value → found ≢ None
+some_value found value e = λ none. absurd (cc (sym e ∙ none))
+
+pub none_yet : (map : Map) → map 0 ≡ None → AreLiveTo map 0 []
+none_yet map none = record {
+  below = All-nil _;
+  ascending = none_sorted;
+  proper = All-nil _;
+  have_values = All-nil _;
+  all = λ address low has. absurd (has (let e : address ≡ 0 = omega arith in ap map e ∙ none));
+  count = sym (live_to-zero map);
+}
+
+-- the list with the address behind it
+pushed : (map : Map) (above address value : ℕ) (live : List ℕ) → AreLiveTo map above live → IsAddress address → IsNextLive map above (Some (address, value))
+    → AreLiveTo map address (live ++ address ∷ [])
+pushed map above address value live so_far proper next =
+    let lower : All (λ x. x < address) live = All-weaker (λ x. x ≤ above) (λ x. x < address) (λ x low. omega (arith, next.0)) live so_far.below in
+    record {
+      below = All-push (λ x. x ≤ address) live address (All-weaker (λ x. x < address) (λ x. x ≤ address) (λ x low. omega arith) live lower) (omega arith);
+      ascending = sorted_push live address so_far.ascending (recursion_from_All (λ x. x < address) live lower);
+      proper = All-push IsAddress live address so_far.proper proper;
+      have_values = All-push (λ x. map x ≢ None) live address so_far.have_values (some_value (map address) value next.1);
+      all = λ k low has. elim (cases_eq k address) [
+        | inl same ↦ subst (Contains (live ++ address ∷ [])) (sym same) (Contains-push live address)
+        | inr other ↦ elim (cases_lt above k) [
+          | inl more ↦ absurd (has (next.2 k more (omega arith)))
+          | inr less ↦ Contains-append_left live (address ∷ []) k (so_far.all k less has)
+        ]
+      ];
+      count = let e = live_to-next map above address value next in let f = so_far.count in omega (arith, length-append live (address ∷ []));
+    }
+
+pub one_more : (map : Map) (above address value : ℕ) (live : List ℕ) → AreLiveTo map above live → IsAddress address → IsNextLive map above (Some (address, value))
+    → AreLiveTo map address (insert_key nat_cmp live address)
+one_more map above address value live so_far proper next =
+    let after = pushed map above address value live so_far proper next in
+    subst (λ l. AreLiveTo map address l) (sym (insert_last live [] address after.ascending)) after
+
+pub all_live : (map : Map) (above : ℕ) (live : List ℕ) → AreLiveTo map above live → IsNextLive map above None → AreLive map live
+all_live map above live so_far none = record {
+  ascending = so_far.ascending;
+  proper = so_far.proper;
+  have_values = so_far.have_values;
+  all = λ address has. elim (cases_lt above address) [
+    | inl more ↦ absurd (has (none address more))
+    | inr less ↦ so_far.all address less has
+  ];
+}
+
+pub all_counted : (map : Map) (above : ℕ) (live : List ℕ) → above < 65535 → AreLiveTo map above live → IsNextLive map above None → length live ≡ live_in map
+all_counted map above live below so_far none = so_far.count ∙ sym (live_to-end map above below none)
+
+-- 0 is no address, and has no value in any image
+zero_in_state : (device : Device) (found : Option (Side × ℕ)) → (state_in device found).map 0 ≡ None
+zero_in_state device None = refl
+zero_in_state device (Some live) = meaning-zero (slots_of (set_of live.0 device))
+
+pub zero_has_none : (device : Device) → (state_of device).map 0 ≡ None
+zero_has_none device = zero_in_state device (live_of device)
+
+-- a set has a slot
+some_slots : (pages words : ℕ) → 1 ≤ pages → 5 ≤ words → 1 ≤ pages * (words - 4)
+some_slots pages words some long =
+    let left : 1 ≤ words - 4 = omega arith in
+    let low : 1 * 1 ≤ pages * (words - 4) = mul-le-mul some left in
+    omega arith
+
+-- what a store has is a start
+pub store_starts : (device : Device) (slots fill : ℕ) (live : List ℕ) → IsStore device → slots ≡ slot_count device.size → fill ≡ (state_of device).fill
+    → length live ≡ live_in (state_of device).map → IsStart record { slots = slots; fill = fill; live = live }
+store_starts device slots fill live store counted filled held =
+    let side = store.legal.0 in
+    let legal = store.legal.2 in
+    let state = state_is device side store.legal.1 legal in
+    let limits = legal.formed.within_limits in
+    let one = some_slots device.size.pages device.size.words limits.some_pages limits.some_words in
+    let most = few_slots device legal.formed in
+    let fits = few_within device side legal.formed in
+    let enough = live_within_fill (slots_of (set_of side device)) in
+    let fill_is = ap (λ (s : State). s.fill) state in
+    let count_is = ap (λ (s : State). live_in s.map) state in
+    record {
+      some = omega arith;
+      most = omega arith;
+      proper = record { held = omega arith; fits = omega arith };
+    }

@@ -1,0 +1,56 @@
+//! What a store gives a trace to start from.
+ghost use Rattle.std.specs.Prelude.{◌≡◌, length, IfOk};
+ghost use Rattle.ee_flash.specs.Device.{IsOn};
+ghost use Rattle.ee_flash.specs.Size.{slot_count};
+ghost use Rattle.ee_pages.specs.Meaning.{live_in};
+ghost use Rattle.ee_store.specs.State.{state_of};
+ghost use Rattle.ee_plan.specs.Start.{AreLive, IsStartOf};
+
+use ee_check::Start;
+use ee_codec::Address;
+use ee_store::Variables;
+use std::alloc::{AllocError, Allocator};
+use std::collections::BTreeSet;
+
+/// What a store that is on gives a trace to start from: the slots of a set, how many of the live
+/// set's are used, and the addresses that have a value. It goes over the live addresses once.
+///
+/// # Errors
+///
+/// Memory ran out.
+///
+/// Source: ours.
+#[tactic(auto, using(crate::proofs::Gathering::store_starts))]
+pub fn start_of<A: Allocator + Copy, V: Variables>(
+    alloc: A,
+    store: &V,
+) -> Result<Start<A>, AllocError>
+    requires { IsOn (V.device store.now) }
+    ensures { IfOk result (IsStartOf (slot_count (V.device store.now).size)
+        (state_of (V.device store.now))) }
+{
+    let live = live_addresses(alloc, store)?;
+    let Some(start) = Start::new(store.slots() as u64, store.fill() as u64, live) else {
+        unreachable!("a set has 1 to 32512 slots, and each live address takes one that is used");
+    };
+    Ok(start)
+}
+
+// The addresses that have a value.
+fn live_addresses<A: Allocator + Copy, V: Variables>(
+    alloc: A,
+    store: &V,
+) -> Result<BTreeSet<Address, A>, AllocError>
+    requires { IsOn (V.device store.now) }
+    ensures live { IfOk result (λ live. AreLive (state_of (V.device store.now)).map live.keys) }
+    ensures count { IfOk result (λ live.
+        length live.keys ≡ live_in (state_of (V.device store.now)).map) }
+{
+    let mut live = BTreeSet::new(alloc);
+    let mut after = None;
+    'live: while let Some((address, _)) = store.next_live(after) {
+        live.insert(address)?;
+        after = Some(address);
+    }
+    Ok(live)
+}

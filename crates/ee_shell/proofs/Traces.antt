@@ -1,0 +1,96 @@
+-- The trace of a script, line by line.
+use Rattle.std.proofs.Common.{◌≡◌, ◌≢◌, ℕ, ◌+◌, ◌<◌, ◌≤◌, List, [], ◌∷◌, ◌++◌, length, length-append, append_assoc, refl, sym, ap, ◌∙◌, subst, arith, true, false, ◌==◌}
+use Rattle.std.proofs.lemmas.Grind.{common_steps}
+use Rattle.std.proofs.lemmas.List.{append-nil}
+use Rattle.ee_check.specs.declared.change.Change.{Change}
+use Rattle.ee_check.specs.declared.change.Change.TheVariants as change
+use Rattle.ee_text.specs.Line.{line_of, IsLine}
+use Rattle.ee_script.specs.declared.command.Command.{Command}
+use Rattle.ee_script.specs.declared.command.Command.TheVariants.{Write, Read, Clean}
+use Rattle.ee_script.specs.Command.{IsCommand, spelling}
+use Rattle.ee_script.specs.Script.{AreCommands, IsFirstBadLine, NoLine, script}
+use Rattle.ee_script.proofs.Steps.{no_line_at_feed}
+use Rattle.ee_shell.specs.Planning.{IsTrace}
+use Rattle.ee_shell.specs.Trace.{written}
+
+-- The lines of some commands were read off the text, and so much is left; their writes are the trace so far.
+pub record HasRead (text rest : List ℕ) (trace : List Change) (lines : ℕ) : Type 0 where
+  pub commands : List Command
+  pub proper : AreCommands commands
+  pub text_is : text ≡ script commands ++ rest
+  pub trace_is : trace ≡ written commands
+  pub lines_are : lines ≡ length commands
+
+pub nothing_read : (text : List ℕ) (trace : List Change) → trace ≡ [] → HasRead text text trace 0
+nothing_read text trace empty = record { commands = []; proper = tt; text_is = refl; trace_is = empty; lines_are = refl }
+
+written_append : (commands more : List Command) → written (commands ++ more) ≡ written commands ++ written more
+written_append [] more = refl
+written_append (Write address value ∷ commands) more = ap (λ l. change.Write address ∷ l) (written_append commands more)
+written_append (Read address ∷ commands) more = written_append commands more
+written_append (Clean ∷ commands) more = written_append commands more
+
+script_append : (commands : List Command) (command : Command) (rest : List ℕ) → script commands ++ (line_of (spelling command) ++ rest) ≡ script (commands ++ command ∷ []) ++ rest
+script_append [] command rest = ap (λ l. l ++ rest) (sym (append-nil (line_of (spelling command))))
+script_append (first ∷ commands) command rest =
+    append_assoc (line_of (spelling first)) (script commands) (line_of (spelling command) ++ rest)
+    ∙ ap (λ l. line_of (spelling first) ++ l) (script_append commands command rest)
+    ∙ sym (append_assoc (line_of (spelling first)) (script (commands ++ command ∷ [])) rest)
+
+proper_append : (commands : List Command) (command : Command) → AreCommands commands → IsCommand command → AreCommands (commands ++ command ∷ [])
+proper_append [] command proper one = (one, tt)
+proper_append (first ∷ commands) command proper one = (proper.0, proper_append commands command proper.1 one)
+
+-- one line more is read
+pub one_line_more : (text rest more : List ℕ) (old new : List Change) (lines number : ℕ) (command : Command) → HasRead text rest old lines → number ≡ lines + 1
+    → IsCommand command × (rest ≡ line_of (spelling command) ++ more) → new ≡ old ++ written (command ∷ []) → HasRead text more new number
+one_line_more text rest more old new lines number command read counted found pushed = record {
+  commands = read.commands ++ command ∷ [];
+  proper = proper_append read.commands command read.proper found.0;
+  text_is = read.text_is ∙ ap (λ l. script read.commands ++ l) found.1 ∙ script_append read.commands command more;
+  trace_is = pushed ∙ ap (λ l. l ++ written (command ∷ [])) read.trace_is ∙ sym (written_append read.commands (command ∷ []));
+  lines_are = let a = read.lines_are in omega (arith, length-append read.commands (command ∷ []));
+}
+
+-- a line has its line feed at least
+pub line_is_longer : (rest more : List ℕ) (command : Command) → rest ≡ line_of (spelling command) ++ more → length more + 1 ≤ length rest
+line_is_longer rest more command e =
+    omega (arith, ap length e, length-append (line_of (spelling command)) more, length-append (spelling command) (10 ∷ []))
+
+pub bad_line : (text rest : List ℕ) (trace : List Change) (lines number : ℕ) → HasRead text rest trace lines → number ≡ lines + 1 → rest ≢ [] → NoLine rest → IsFirstBadLine text number
+bad_line text rest trace lines number read counted goes_on bad = record {
+  good = read.commands;
+  rest = rest;
+  proper = read.proper;
+  text_is = read.text_is;
+  goes_on = goes_on;
+  bad = bad;
+  number = let a = read.lines_are in omega arith;
+}
+
+pub all_read : (text rest : List ℕ) (trace : List Change) (lines : ℕ) → HasRead text rest trace lines → rest ≡ [] → IsTrace text trace
+all_read text rest trace lines read empty = record {
+  commands = read.commands;
+  is_script = record { proper = read.proper; text_is = read.text_is ∙ ap (λ l. script read.commands ++ l) empty ∙ append-nil (script read.commands) };
+  trace_is = read.trace_is;
+}
+
+-- a line that no command is spelled as
+pub other_line : (text line rest : List ℕ) → text ≡ line_of line ++ rest → IsLine line → ((command : Command) → IsCommand command → line ≢ spelling command) → NoLine text
+other_line text line rest parts is_line other = subst NoLine (sym parts) (no_line_at_feed line is_line other rest)
+
+-- what is left, as its length tells
+pub goes_on : (rest : List ℕ) → false ≡ (length rest == 0) → rest ≢ []
+goes_on [] e = absurd (cc e)
+goes_on (byte ∷ rest) e = λ empty. absurd (cc empty)
+
+pub some_left : (rest : List ℕ) → false ≡ (length rest == 0) → 0 < length rest
+some_left [] e = absurd (cc e)
+some_left (byte ∷ rest) e = omega arith
+
+is_zero : (n : ℕ) → true ≡ (n == 0) → n ≡ 0
+is_zero n e = grind (arith, common_steps)
+
+pub nothing_left : (rest : List ℕ) → true ≡ (length rest == 0) → rest ≡ []
+nothing_left [] e = refl
+nothing_left (byte ∷ rest) e = absurd (let none = is_zero (length (byte ∷ rest)) e in omega arith)
