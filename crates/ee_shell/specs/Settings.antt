@@ -61,7 +61,8 @@ reading_text (Default value) = joined (decimal value ∷ codes "default" ∷ [])
 
 -- what the setting of a name reads as in a state's map
 abbrev pub IsRead : List Setting → State → List ℕ → Reading → Type 0
-IsRead settings state name reading = (setting : Setting) × IsNamed settings name setting × (reading ≡ reading_in state.map setting)
+IsRead settings state name reading =
+    (setting : Setting) × IsNamed settings name setting × (reading ≡ reading_in state.map setting)
 
 -- The line is the reading of the name's setting in the image.
 pub record IsGot (image settings_text name line : List ℕ) : Type 0 where
@@ -75,13 +76,17 @@ pub record IsGot (image settings_text name line : List ℕ) : Type 0 where
 
 -- ---- what is set
 
+-- the write was served: appended, or moved with the map to the other set
+abbrev pub IsWriteServed : Device → ℕ → ℕ → Device → Type 0
+IsWriteServed old address value new = Serves old (Write address value) Appended new ⊎ Serves old (Write address value) Moved new
+
 -- The value is in the range of the name's setting, and it was written at the setting's address, as the report machine
--- answers a write: appended, or moved with the map to the other set.
+-- answers a write.
 pub record IsWritten (settings : List Setting) (old : Device) (name : List ℕ) (value : ℕ) (new : Device) : Type 0 where
   pub setting : Setting
   pub named : IsNamed settings name setting
   pub in_range : IsInRange setting.numbers value
-  pub written : Serves old (Write setting.numbers.address value) Appended new ⊎ Serves old (Write setting.numbers.address value) Moved new
+  pub written : IsWriteServed old setting.numbers.address value new
   pub stays_on : StaysOn new
 
 -- The image is left with the value written for the name's setting.

@@ -1,11 +1,14 @@
 //! The commands that read and set a setting by its name.
-ghost use Rattle.std.specs.Prelude.{◌≡◌, ◌≢◌, ◌⊎◌, ◌++◌, List, IfOk, IfErr, IfSome, IfNone, OnOk, MatchResult};
+ghost use Rattle.std.specs.Prelude.{◌≡◌, ◌≢◌, ◌⊎◌, ◌++◌, List};
+ghost use Rattle.std.specs.Prelude.{IfOk, IfErr, IfSome, IfNone, OnOk, MatchResult};
 ghost use Rattle.toml.specs.View.{table_view};
 ghost use Rattle.ee_text.specs.Line.{line_of};
 ghost use Rattle.ee_store.specs.State.{state_of};
 ghost use Rattle.ee_settings.specs.Calls.{IsUnknown};
 ghost use Rattle.ee_settings.specs.Setting.{Setting};
-ghost use Rattle.ee_shell.specs.Settings.{HasNoTree, HasTree, IsGetFault, IsGot, IsRead, IsRefused, IsSet, IsSetFault, IsSettingsFault, IsWritten, SpellsSettings, reading_text};
+ghost use Rattle.ee_shell.specs.Settings.{HasNoTree, HasTree, IsSettingsFault, SpellsSettings};
+ghost use Rattle.ee_shell.specs.Settings.{IsGetFault, IsGot, IsRead, reading_text};
+ghost use Rattle.ee_shell.specs.Settings.{IsRefused, IsSet, IsSetFault, IsWritten};
 ghost use Rattle.ee_shell.specs.Serving.{StaysOn};
 
 use super::fault::Fault;
@@ -16,9 +19,10 @@ use ee_text::push_number;
 use std::alloc::{AllocError, Allocator, Global};
 use toml::Table;
 
-/// What the setting of a name reads as in the image that a text spells, as there is to print: `V stored`,
-/// where its address has the value V and V is in its range, or `V default`. `settings` is the text of
-/// the settings. `heap` is for the tree of that text alone: `toml` takes no other allocator.
+/// What the setting of a name reads as in the image that a text spells, as there is to print:
+/// `V stored`, where its address has the value V and V is in its range, or `V default`. `settings`
+/// is the text of the settings. `heap` is for the tree of that text alone: `toml` takes no other
+/// allocator.
 ///
 /// Source: ours.
 ///
@@ -58,8 +62,8 @@ pub fn get_setting<A: Allocator + Copy>(
     Ok(text)
 }
 
-/// Writes a value for the setting of a name, into the image that a text spells, and gives the text of
-/// the image that this leaves, and what there is to print: `set`. `settings` is the text of the
+/// Writes a value for the setting of a name, into the image that a text spells, and gives the text
+/// of the image that this leaves, and what there is to print: `set`. `settings` is the text of the
 /// settings. `heap` is for the tree of that text alone: `toml` takes no other allocator.
 ///
 /// Source: ours.
@@ -67,8 +71,8 @@ pub fn get_setting<A: Allocator + Copy>(
 /// # Errors
 ///
 /// The first that applies: the image is no device's, or not legal; the text of the settings is no
-/// TOML, or no schema; no setting has the name; the value is not in its range; the store is full, or
-/// spent. `Memory` can come in place of any answer.
+/// TOML, or no schema; no setting has the name; the value is not in its range; the store is full,
+/// or spent. `Memory` can come in place of any answer.
 pub fn set_setting<A: Allocator + Copy>(
     alloc: A,
     heap: Global,

@@ -7,6 +7,7 @@ mod images;
 mod ledgers;
 mod memory;
 mod scripts;
+mod settings;
 mod stores;
 mod streams;
 mod trial;

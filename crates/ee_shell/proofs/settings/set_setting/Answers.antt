@@ -27,8 +27,12 @@ returns-in-Err-set_on-clause-names g c = λ cause some applies.
 
 pub returns-clause-set : goal.returns-clause-set
 returns-clause-set g c =
-    is_set c.args.image.now c.args.settings.now c.args.name.now _ _ c.args.value c.in-Ok.store _ _ c.in-Ok-read_schema.schema c.in-Ok.ensures.opened c.in-Ok-read_schema.ensures.spelled c.in-Ok-set_on.ensures.written
-    c.into_flash.ensures.store c.into_flash.ensures.device c.in_ok-written.ensures c.in_ok-text.ensures.items
+    let opened = c.in-Ok.ensures.opened in
+    let spelled = c.in-Ok-read_schema.ensures.spelled in
+    let done = c.in-Ok-set_on.ensures.written in
+    let left = c.into_flash.ensures.store in
+    let says = c.in_ok-text.ensures.items in
+    search (is_set, opened, spelled, done, left, c.into_flash.ensures.device, c.in_ok-written.ensures, says)
 
 pub returns-clause-names : goal.returns-clause-names
 returns-clause-names g c = λ cause some applies.

@@ -1,0 +1,54 @@
+use super::trial::with_each_refusal;
+use ee_shell::{Fault, get_setting, set_setting};
+
+/// Just formatted.
+const FORMATTED: &[u8] = b"ee 1 6
+0 aaaaaaaa00000001 aaaaaaaaaaaaaaaa - - - -
+0 - - - - - -
+";
+
+/// With 10 written at address 1.
+const TEN: &[u8] = b"ee 1 6
+0 aaaaaaaa00000001 aaaaaaaaaaaaaaaa - - 0000000a00000001 -
+0 - - - - - -
+";
+
+const VOLUME: &[u8] = b"[volume]
+address = 1
+min = 0
+max = 10
+default = 5
+";
+
+#[test]
+fn a_setting_that_is_read(rt: HostRuntime) {
+    let heap = rt.alloc();
+    let requests = with_each_refusal(&rt, heap, &true, |alloc| {
+        match get_setting(alloc, heap, TEN, VOLUME, "volume") {
+            Ok(text) => Some(text.as_slice() == b"10 stored\n".as_slice()),
+            Err(fault) => {
+                assert_eq!(rt; fault, Fault::Memory);
+                None
+            }
+        }
+    });
+    assert!(rt; requests > 3);
+}
+
+#[test]
+fn a_setting_that_is_set(rt: HostRuntime) {
+    let heap = rt.alloc();
+    let requests = with_each_refusal(&rt, heap, &(true, true), |alloc| {
+        match set_setting(alloc, heap, FORMATTED, VOLUME, "volume", 10) {
+            Ok((image, text)) => Some((
+                image.as_slice() == TEN,
+                text.as_slice() == b"set\n".as_slice(),
+            )),
+            Err(fault) => {
+                assert_eq!(rt; fault, Fault::Memory);
+                None
+            }
+        }
+    });
+    assert!(rt; requests > 4);
+}
