@@ -77,6 +77,7 @@ pub fn check_script<A: Allocator + Copy>(
 }
 
 /// The start that the image of a text gives, and the trace of a script.
+#[tactic(auto, using(crate::proofs::OneTask::is_task))]
 fn read_task<A: Allocator + Copy>(
     alloc: A,
     image: &[u8],

@@ -6,6 +6,7 @@ mod files;
 mod images;
 mod ledgers;
 mod memory;
+mod plans;
 mod scripts;
 mod settings;
 mod stores;

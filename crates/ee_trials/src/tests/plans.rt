@@ -1,0 +1,67 @@
+use super::trial::with_each_refusal;
+use ee_codec::Address;
+use ee_flash::{MemFlash, Shape};
+use ee_plan::start_of;
+use ee_shell::{Fault, check_script, plan_script};
+use ee_store::{Variables, format};
+use std::test::Fail;
+
+/// Just formatted.
+const FORMATTED: &[u8] = b"ee 1 6
+0 aaaaaaaa00000001 aaaaaaaaaaaaaaaa - - - -
+0 - - - - - -
+";
+
+/// A script of two moves, and its tight certificate.
+const SCRIPT: &[u8] = b"w 1 10\nw 1 11\nw 1 12\nw 2 5\nw 1 13\n";
+
+const CERTIFICATE: &[u8] =
+    b"slots 2 fill 0 live 0 writes 5\nto 3 from 0\nto 5 from 1\ntransfers 2\n";
+
+#[test]
+fn a_start(rt: HostRuntime) -> Result<(), Fail> {
+    let shape = Shape::new(1, 8).ok_or("no shape")?;
+    let mut store = format(MemFlash::blank(rt.alloc(), shape)?)
+        .ok()
+        .ok_or("no store")?;
+    for number in [9, 2, 9] {
+        let address = Address::new(number).ok_or("no address")?;
+        store.write(address, 1).ok().ok_or("not written")?;
+    }
+    let requests = with_each_refusal(&rt, rt.alloc(), &(4, 3, 2), |alloc| {
+        match start_of(alloc, &store) {
+            Ok(start) => Some((start.slots(), start.fill(), start.live().len())),
+            Err(_) => None,
+        }
+    });
+    assert!(rt; requests > 0);
+    Ok(())
+}
+
+#[test]
+fn a_plan_of_a_script(rt: HostRuntime) {
+    let requests = with_each_refusal(&rt, rt.alloc(), &true, |alloc| {
+        match plan_script(alloc, FORMATTED, SCRIPT) {
+            Ok(text) => Some(text.as_slice() == CERTIFICATE),
+            Err(fault) => {
+                assert_eq!(rt; fault, Fault::Memory);
+                None
+            }
+        }
+    });
+    assert!(rt; requests > 4);
+}
+
+#[test]
+fn a_check_of_a_script(rt: HostRuntime) {
+    let requests = with_each_refusal(&rt, rt.alloc(), &true, |alloc| {
+        match check_script(alloc, FORMATTED, SCRIPT, CERTIFICATE) {
+            Ok(text) => Some(text.as_slice() == b"proved 2\n".as_slice()),
+            Err(fault) => {
+                assert_eq!(rt; fault, Fault::Memory);
+                None
+            }
+        }
+    });
+    assert!(rt; requests > 4);
+}
