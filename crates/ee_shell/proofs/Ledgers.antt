@@ -33,7 +33,8 @@ lines_push start (count ∷ counts) (suc n) number e within =
     ∙ sym (append_assoc line (count_lines (start + 1) (take n counts)) (line_of (count_text number (slice_index counts n))))
 
 -- one page more
-pub counts_grow : (counts : List ℕ) (n : ℕ) (count : ℕ) (old out new : List ℕ) → n < length counts → out ≡ old ++ count_lines 0 (take n counts)
+pub counts_grow : (counts : List ℕ) (n : ℕ) (count : ℕ) (old out new : List ℕ) → n < length counts
+    → out ≡ old ++ count_lines 0 (take n counts)
     → count ≡ slice_index counts n → new ≡ out ++ line_of (count_text n count) → new ≡ old ++ count_lines 0 (take (n + 1) counts)
 counts_grow counts n count old out new within so_far is written =
     let line : List ℕ = line_of (count_text n count) in
@@ -51,22 +52,26 @@ no_memory_for file text device spelled = record {
   fault_is = refl;
 }
 
-memory_alone : (file : File) (text : List ℕ) (device : Device) (fault : Fault) (cause : ImageFault) → Spells text device → IsImageFault text cause → fault ≡ fault_of_image file cause
+memory_alone : (file : File) (text : List ℕ) (device : Device) (fault : Fault) (cause : ImageFault) → Spells text device
+    → IsImageFault text cause → fault ≡ fault_of_image file cause
     → fault ≡ Memory
 memory_alone file text device fault cause spelled (inl bad) is = absurd (is_no_text text device cause spelled bad)
 memory_alone file text device fault cause spelled (inr none) is = is ∙ ap (fault_of_image file) none.1
 
 -- where the text is a device's, nothing but memory was wanting
-only_memory : (file : File) (text : List ℕ) (device : Device) (fault : Fault) → Spells text device → IsFileFault file text fault → fault ≡ Memory
+only_memory : (file : File) (text : List ℕ) (device : Device) (fault : Fault) → Spells text device → IsFileFault file text fault
+    → fault ≡ Memory
 only_memory file text device fault spelled bad = memory_alone file text device fault bad.cause spelled bad.applies bad.fault_is
 
-one_of_file : (file : File) (text : List ℕ) (cause fault : Fault) (first second : ImageFault) → cause ≢ Memory → IsImageFault text first → cause ≡ fault_of_image file first
+one_of_file : (file : File) (text : List ℕ) (cause fault : Fault) (first second : ImageFault) → cause ≢ Memory
+    → IsImageFault text first → cause ≡ fault_of_image file first
     → IsImageFault text second → fault ≡ fault_of_image file second → (fault ≡ cause) ⊎ (fault ≡ Memory)
 one_of_file file text cause fault first second some (inr none) is h i = absurd (some (is ∙ ap (fault_of_image file) none.1))
 one_of_file file text cause fault first second some (inl bad) is (inr none) i = inr (i ∙ ap (fault_of_image file) none.1)
 one_of_file file text cause fault first second some (inl bad) is (inl other) i = inl (i ∙ ap (fault_of_image file) (one_fault_lem text second first other bad) ∙ sym is)
 
-one_file_fault : (file : File) (text : List ℕ) (cause fault : Fault) → cause ≢ Memory → IsFileFault file text cause → IsFileFault file text fault → (fault ≡ cause) ⊎ (fault ≡ Memory)
+one_file_fault : (file : File) (text : List ℕ) (cause fault : Fault) → cause ≢ Memory → IsFileFault file text cause
+    → IsFileFault file text fault → (fault ≡ cause) ⊎ (fault ≡ Memory)
 one_file_fault file text cause fault some h i = one_of_file file text cause fault h.cause i.cause some h.applies h.fault_is i.applies i.fault_is
 
 -- ---- the faults of a difference
@@ -78,7 +83,8 @@ one_page before now page other first second = elim (cases_order page other) [
   | inr (inr more) ↦ absurd (omega (arith, first.none_below other more, second.less))
 ]
 
-one_since_fault : (before now : List ℕ) (cause fault : SinceFault) → cause ≢ since.Memory → IsSinceFault before now cause → IsSinceFault before now fault
+one_since_fault : (before now : List ℕ) (cause fault : SinceFault) → cause ≢ since.Memory → IsSinceFault before now cause
+    → IsSinceFault before now fault
     → (fault ≡ cause) ⊎ (fault ≡ since.Memory)
 one_since_fault before now since.Memory fault some h i = absurd (some refl)
 one_since_fault before now cause since.Memory some h i = inr refl
@@ -87,7 +93,8 @@ one_since_fault before now since.OtherShape (since.Backwards page) some h i = ab
 one_since_fault before now (since.Backwards page) since.OtherShape some h i = absurd (i h.0)
 one_since_fault before now (since.Backwards page) (since.Backwards other) some h i = inl (ap since.Backwards (one_page before now page other h.1 i.1))
 
-none_fell_is_good : (before now : List ℕ) (cause : SinceFault) → NoneFell before now → cause ≢ since.Memory → IsSinceFault before now cause → ⊥
+none_fell_is_good : (before now : List ℕ) (cause : SinceFault) → NoneFell before now → cause ≢ since.Memory
+    → IsSinceFault before now cause → ⊥
 none_fell_is_good before now since.OtherShape none some h = h none.as_many
 none_fell_is_good before now (since.Backwards page) none some h = let least = none.each page h.1.within in omega (arith, least, h.1.less)
 none_fell_is_good before now since.Memory none some h = some refl
@@ -98,16 +105,19 @@ same_wear text device other spelled again =
     ap (λ (d : Device). d.wear) (one_device_lem other device again.formed spelled.formed (sym again.text_is ∙ spelled.text_is))
 
 -- what is wrong with the difference of two devices, of which the texts spell, is so of those that they spell too
-moved_cause : (image before : List ℕ) (fault : Fault) (device old : Device) (wrong : IsDifferenceFault image before fault) → Spells image device → Spells before old
+moved_cause : (image before : List ℕ) (fault : Fault) (device old : Device) (wrong : IsDifferenceFault image before fault)
+    → Spells image device → Spells before old
     → IsSinceFault old.wear device.wear wrong.cause
 moved_cause image before fault device old wrong spelled spelled_before =
     subst (λ (wear : List ℕ). IsSinceFault wear device.wear wrong.cause) (same_wear before old wrong.old spelled_before wrong.spelled_before)
     (subst (λ (wear : List ℕ). IsSinceFault wrong.old.wear wear wrong.cause) (same_wear image device wrong.device spelled wrong.spelled) wrong.applies)
 
-some_cause : (image before : List ℕ) (fault : Fault) (wrong : IsDifferenceFault image before fault) → fault ≢ Memory → wrong.cause ≢ since.Memory
+some_cause : (image before : List ℕ) (fault : Fault) (wrong : IsDifferenceFault image before fault) → fault ≢ Memory
+    → wrong.cause ≢ since.Memory
 some_cause image before fault wrong some none = some (wrong.fault_is ∙ ap fault_of_since none)
 
-one_difference : (image before : List ℕ) (cause fault : Fault) → cause ≢ Memory → IsDifferenceFault image before cause → IsDifferenceFault image before fault
+one_difference : (image before : List ℕ) (cause fault : Fault) → cause ≢ Memory → IsDifferenceFault image before cause
+    → IsDifferenceFault image before fault
     → (fault ≡ cause) ⊎ (fault ≡ Memory)
 one_difference image before cause fault some h i =
     elim (one_since_fault h.old.wear h.device.wear h.cause i.cause (some_cause image before cause h some) h.applies (moved_cause image before fault h.device h.old i h.spelled h.spelled_before)) [
@@ -117,7 +127,8 @@ one_difference image before cause fault some h i =
 
 -- ---- the faults of the wear
 
-one_wear_fault : (image : List ℕ) (before : Option (List ℕ)) (cause fault : Fault) → cause ≢ Memory → IsWearFault image before cause → IsWearFault image before fault
+one_wear_fault : (image : List ℕ) (before : Option (List ℕ)) (cause fault : Fault) → cause ≢ Memory
+    → IsWearFault image before cause → IsWearFault image before fault
     → (fault ≡ cause) ⊎ (fault ≡ Memory)
 one_wear_fault image None cause fault some h i = one_file_fault Image image cause fault some h i
 one_wear_fault image (Some before) cause fault some (inl h) (inl i) = one_file_fault Image image cause fault some h i
@@ -130,7 +141,8 @@ one_wear_fault image (Some before) cause fault some (inr (inr h)) (inl i) = inr 
 one_wear_fault image (Some before) cause fault some (inr (inr h)) (inr (inl i)) = inr (only_memory Before before h.old fault h.spelled_before i.1)
 one_wear_fault image (Some before) cause fault some (inr (inr h)) (inr (inr i)) = one_difference image before cause fault some h i
 
-told_is_good : (image : List ℕ) (before : Option (List ℕ)) (text : List ℕ) (cause : Fault) → IsWear image before text → cause ≢ Memory → IsWearFault image before cause → ⊥
+told_is_good : (image : List ℕ) (before : Option (List ℕ)) (text : List ℕ) (cause : Fault) → IsWear image before text
+    → cause ≢ Memory → IsWearFault image before cause → ⊥
 told_is_good image None text cause told some h = some (only_memory Image image told.are_counts.device cause told.are_counts.spelled h)
 told_is_good image (Some before) text cause told some (inl h) = some (only_memory Image image told.are_counts.device cause told.are_counts.spelled h)
 told_is_good image (Some before) text cause told some (inr (inl h)) = some (only_memory Before before told.are_counts.old cause told.are_counts.spelled_before h.1)
@@ -140,7 +152,9 @@ told_is_good image (Some before) text cause told some (inr (inr h)) =
     (moved_cause image before cause counts.device counts.old h counts.spelled counts.spelled_before)
 
 -- no cause is passed over
-pub wear_names : {T : Type 0} (items : T → List ℕ) (r : Result T Fault) (image : List ℕ) (before : Option (List ℕ)) → IfOk r (λ text. IsWear image before (items text))
-    → IfErr r (IsWearFault image before) → (cause : Fault) → cause ≢ Memory → IsWearFault image before cause → MatchResult r (λ _. ⊥) (λ fault. (fault ≡ cause) ⊎ (fault ≡ Memory))
+pub wear_names : {T : Type 0} (items : T → List ℕ) (r : Result T Fault) (image : List ℕ) (before : Option (List ℕ))
+    → IfOk r (λ text. IsWear image before (items text))
+    → IfErr r (IsWearFault image before) → (cause : Fault) → cause ≢ Memory → IsWearFault image before cause
+    → MatchResult r (λ _. ⊥) (λ fault. (fault ≡ cause) ⊎ (fault ≡ Memory))
 wear_names items (Ok text) image before told wrong cause some h = told_is_good image before (items text) cause told some h
 wear_names items (Err fault) image before told wrong cause some h = one_wear_fault image before cause fault some h wrong

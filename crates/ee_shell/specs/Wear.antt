@@ -26,7 +26,8 @@ count_lines number (count ∷ counts) = line_of (count_text number count) ++ cou
 -- what the last line says: all counts together, the least and the greatest
 abbrev pub total_text : List ℕ → List ℕ
 total_text counts =
-    joined (codes "total" ∷ decimal (sum counts) ∷ codes "least" ∷ decimal (least_of counts) ∷ codes "greatest" ∷ decimal (greatest_of counts) ∷ [])
+    joined (codes "total" ∷ decimal (sum counts) ∷ codes "least" ∷ decimal (least_of counts) ∷ codes "greatest"
+    ∷ decimal (greatest_of counts) ∷ [])
 
 -- a ledger's counts as text
 abbrev pub ledger_text : List ℕ → List ℕ
@@ -79,4 +80,6 @@ pub record IsDifferenceFault (image before : List ℕ) (fault : Fault) : Type 0 
 abbrev pub IsWearFault : List ℕ → Option (List ℕ) → Fault → Type 0
 IsWearFault image None fault = IsFileFault Image image fault
 IsWearFault image (Some before) fault =
-    IsFileFault Image image fault ⊎ (((device : Device) × Spells image device) × IsFileFault Before before fault) ⊎ IsDifferenceFault image before fault
+    IsFileFault Image image fault
+    ⊎ (((device : Device) × Spells image device) × IsFileFault Before before fault)
+    ⊎ IsDifferenceFault image before fault
