@@ -11,6 +11,9 @@ fn a_start_of_a_store(rt: HostRuntime) -> Result<(), Fail> {
     let shape = Shape::new(1, 8).ok_or("no shape")?;
     let flash = MemFlash::blank(rt.alloc(), shape)?;
     let mut store = format(flash).ok().ok_or("no store")?;
+    if !store.is_on() {
+        return Err("off".into());
+    }
     let empty = start_of(rt.alloc(), &store)?;
     assert_eq!(rt;
         (empty.slots(), empty.fill(), empty.live().len()),
@@ -19,6 +22,9 @@ fn a_start_of_a_store(rt: HostRuntime) -> Result<(), Fail> {
     // three writes, of which two are of one address
     for number in [9, 2, 9] {
         store.write(address(number)?, 1).ok().ok_or("not written")?;
+    }
+    if !store.is_on() {
+        return Err("off".into());
     }
     let start = start_of(rt.alloc(), &store)?;
     assert_eq!(rt;

@@ -29,6 +29,9 @@ fn a_start(rt: HostRuntime) -> Result<(), Fail> {
         store.write(address, 1).ok().ok_or("not written")?;
     }
     let requests = with_each_refusal(&rt, rt.alloc(), &(4, 3, 2), |alloc| {
+        if !store.is_on() {
+            return None;
+        }
         match start_of(alloc, &store) {
             Ok(start) => Some((start.slots(), start.fill(), start.live().len())),
             Err(_) => None,
