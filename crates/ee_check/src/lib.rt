@@ -31,6 +31,3 @@ pub use checking::{CheckFault, check};
 pub use reading::{TextFault, read_certificate};
 pub use start::Start;
 pub use writing::write_certificate;
-
-#[cfg(test)]
-mod tests;

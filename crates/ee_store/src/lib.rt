@@ -20,8 +20,6 @@ mod marking;
 mod moving;
 mod opening;
 mod store;
-#[cfg(test)]
-mod tests;
 mod variables;
 mod writing;
 

@@ -1,10 +1,11 @@
-// Worked certificates and texts, and each call once.
-use super::{
+//! Worked certificates and texts, and each call once.
+use ee_check::{
     Change, CheckFault, Start, Stretch, TextFault, check, read_certificate, write_certificate,
 };
 use ee_codec::Address;
 use std::alloc::Global;
 use std::collections::BTreeSet;
+use std::process::Abort;
 use std::test::Fail;
 
 /// The address of a number that has one.
@@ -69,50 +70,46 @@ fn starts_have_limits(rt: HostRuntime) -> Result<(), Fail> {
     Ok(())
 }
 
-#[test]
-fn two_moves(rt: HostRuntime) -> Result<(), Fail> {
+// The checker's answers on the trace of two transfers.
+fn assert_two_moves<R: Abort + AllocGlobal>(
+    rt: &R,
+    cases: &[(&[u8], Result<u64, CheckFault>)],
+) -> Result<(), Fail> {
     let start = start(rt.alloc(), 2, 0, &[])?;
     let trace = [write(1)?, write(1)?, write(1)?, write(2)?, write(1)?];
-    for (text, want) in [
-        (
-            b"slots 2 fill 0 live 0 writes 5\nto 3 from 0\nto 5 from 1\ntransfers 2\n" as &[u8],
-            Ok(2),
-        ),
-        // a certificate needs not be tight
-        (
-            b"slots 2 fill 0 live 0 writes 5\nto 4 from 0\ntransfers 1\n",
-            Ok(1),
-        ),
-        (b"slots 2 fill 0 live 0 writes 5\ntransfers 0\n", Ok(0)),
-        (
-            b"slots 2 fill 0 live 0 writes 5\nto 2 from 0\nto 5 from 1\ntransfers 2\n",
-            Err(CheckFault::NotForced(1)),
-        ),
-        (
-            b"slots 2 fill 0 live 0 writes 5\nto 3 from 0\nto 5 from 2\ntransfers 2\n",
-            Err(CheckFault::WrongFrom(2)),
-        ),
-        (
-            b"slots 2 fill 0 live 0 writes 5\nto 3 from 0\nto 3 from 1\ntransfers 2\n",
-            Err(CheckFault::NotRising(2)),
-        ),
-        (
-            b"slots 2 fill 0 live 0 writes 4\nto 3 from 0\nto 5 from 1\ntransfers 2\n",
-            Err(CheckFault::WrongStart),
-        ),
-        // the first fault is named, of a stretch too
-        (
-            b"slots 2 fill 0 live 0 writes 5\nto 3 from 1\nto 3 from 0\ntransfers 2\n",
-            Err(CheckFault::WrongFrom(1)),
-        ),
-        (
-            b"slots 2 fill 0 live 0 writes 5\nto 6 from 1\ntransfers 1\n",
-            Err(CheckFault::NotRising(1)),
-        ),
-    ] {
-        assert_eq!(rt; checked(rt.alloc(), &start, &trace, text)?, want);
+    for (text, want) in cases {
+        assert_eq!(rt; checked(rt.alloc(), &start, &trace, text)?, *want);
     }
     Ok(())
+}
+
+#[test]
+fn certificates_of_two_moves(rt: HostRuntime) -> Result<(), Fail> {
+    let tight = b"slots 2 fill 0 live 0 writes 5\nto 3 from 0\nto 5 from 1\ntransfers 2\n";
+    // a certificate needs not be tight
+    let loose = b"slots 2 fill 0 live 0 writes 5\nto 4 from 0\ntransfers 1\n";
+    let none = b"slots 2 fill 0 live 0 writes 5\ntransfers 0\n";
+    assert_two_moves(&rt, &[(tight, Ok(2)), (loose, Ok(1)), (none, Ok(0))])
+}
+
+#[test]
+fn faults_of_two_moves(rt: HostRuntime) -> Result<(), Fail> {
+    let early = b"slots 2 fill 0 live 0 writes 5\nto 2 from 0\nto 5 from 1\ntransfers 2\n";
+    let wrong = b"slots 2 fill 0 live 0 writes 5\nto 3 from 0\nto 5 from 2\ntransfers 2\n";
+    let still = b"slots 2 fill 0 live 0 writes 5\nto 3 from 0\nto 3 from 1\ntransfers 2\n";
+    let other = b"slots 2 fill 0 live 0 writes 4\nto 3 from 0\nto 5 from 1\ntransfers 2\n";
+    // the first fault is named, of a stretch too
+    let first = b"slots 2 fill 0 live 0 writes 5\nto 3 from 1\nto 3 from 0\ntransfers 2\n";
+    let beyond = b"slots 2 fill 0 live 0 writes 5\nto 6 from 1\ntransfers 1\n";
+    let cases = [
+        (early as &[u8], Err(CheckFault::NotForced(1))),
+        (wrong, Err(CheckFault::WrongFrom(2))),
+        (still, Err(CheckFault::NotRising(2))),
+        (other, Err(CheckFault::WrongStart)),
+        (first, Err(CheckFault::WrongFrom(1))),
+        (beyond, Err(CheckFault::NotRising(1))),
+    ];
+    assert_two_moves(&rt, &cases)
 }
 
 #[test]

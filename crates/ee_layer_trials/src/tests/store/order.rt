@@ -1,8 +1,8 @@
 //! The order of the steps: what a cut at a chosen step leaves, before the store is opened again.
 use super::image::{assert_image, device};
 use super::replay::{formatted, replay};
-use crate::format;
 use ee_flash::{Flash, Fuse, Tear};
+use ee_store::format;
 use std::process::Abort;
 use std::test::Fail;
 

@@ -1,7 +1,7 @@
 //! Scripts on a store, each line with its answer.
-use crate::{ForgetFault, Off, OpenFault, Store, Variables, WriteFault, Written, format, open};
 use ee_codec::Address;
 use ee_flash::{Flash, Fuse, MemFlash, Shape, Tear};
+use ee_store::{ForgetFault, Off, OpenFault, Store, Variables, WriteFault, Written, format, open};
 use std::alloc::Global;
 use std::process::Abort;
 use std::test::Fail;

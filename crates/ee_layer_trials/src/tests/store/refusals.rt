@@ -3,9 +3,9 @@
 use super::image::{assert_image, device};
 use super::moves::AFTER_TWO_MOVES;
 use super::replay::replay;
-use crate::{OpenFault, open};
 use ee_flash::Flash;
 use ee_pages::ScanFault;
+use ee_store::{OpenFault, open};
 use std::test::Fail;
 
 /// Every slot is used, and the generation is the greatest.

@@ -70,26 +70,32 @@ fn cut_each_step<R: Abort + AllocGlobal>(rt: &R, trial: &Trial) -> Result<(), Fa
     Ok(())
 }
 
+/// The store after the first of two transfers.
+const FIRST: Lines = &[
+    ("end", "generation 2 fill 2 room 0 live 2 pending 1"),
+    ("live", " 1:12 2:5"),
+    ("w 1 13", "moved"),
+    ("live", " 1:13 2:5"),
+];
+
+/// The same, with the page that was left erased.
+const CLEANED: Lines = &[
+    ("end", "generation 2 fill 2 room 0 live 2 pending 0"),
+    ("live", " 1:12 2:5"),
+    ("w 1 13", "moved"),
+    ("live", " 1:13 2:5"),
+];
+
+/// The store after the second transfer.
+const SECOND: Lines = &[
+    ("end", "generation 3 fill 2 room 0 live 2 pending 1"),
+    ("live", " 1:13 2:5"),
+    ("w 2 6", "moved"),
+    ("live", " 1:13 2:6"),
+];
+
 #[test]
 fn the_second_transfer_of_two_moves(rt: HostRuntime) -> Result<(), Fail> {
-    const OLD: Lines = &[
-        ("end", "generation 2 fill 2 room 0 live 2 pending 1"),
-        ("live", " 1:12 2:5"),
-        ("w 1 13", "moved"),
-        ("live", " 1:13 2:5"),
-    ];
-    const CLEANED: Lines = &[
-        ("end", "generation 2 fill 2 room 0 live 2 pending 0"),
-        ("live", " 1:12 2:5"),
-        ("w 1 13", "moved"),
-        ("live", " 1:13 2:5"),
-    ];
-    const NEW: Lines = &[
-        ("end", "generation 3 fill 2 room 0 live 2 pending 1"),
-        ("live", " 1:13 2:5"),
-        ("w 2 6", "moved"),
-        ("live", " 1:13 2:6"),
-    ];
     const TRIAL: Trial = Trial {
         pages: 1,
         words: 6,
@@ -103,47 +109,55 @@ fn the_second_transfer_of_two_moves(rt: HostRuntime) -> Result<(), Fail> {
         cut: &[("w 1 13", "cut"), ("p", "open")],
         outcomes: &[
             // The erase.
-            [OLD, CLEANED, OLD, OLD],
+            [FIRST, CLEANED, FIRST, FIRST],
             // The receive word.
-            [CLEANED, OLD, OLD, OLD],
+            [CLEANED, FIRST, FIRST, FIRST],
             // Two elements.
-            [OLD, OLD, OLD, OLD],
-            [OLD, OLD, OLD, OLD],
+            [FIRST, FIRST, FIRST, FIRST],
+            [FIRST, FIRST, FIRST, FIRST],
             // The active mark, which commits.
-            [OLD, NEW, OLD, OLD],
+            [FIRST, SECOND, FIRST, FIRST],
             // The erasing mark.
-            [NEW, NEW, NEW, NEW],
+            [SECOND, SECOND, SECOND, SECOND],
         ],
     };
     cut_each_step(&rt, &TRIAL)
 }
 
+/// The old set of two pages, with nothing in the other one.
+const NO_PAGE: Lines = &[
+    ("end", "generation 1 fill 2 room 0 live 2 pending 0"),
+    ("live", " 1:1 2:2"),
+    ("w 1 3", "moved"),
+    ("live", " 1:3 2:2"),
+];
+
+/// The old set, with one page of the other one written.
+const ONE_PAGE: Lines = &[
+    ("end", "generation 1 fill 2 room 0 live 2 pending 1"),
+    ("live", " 1:1 2:2"),
+    ("w 1 3", "moved"),
+    ("live", " 1:3 2:2"),
+];
+
+/// The old set, with both pages of the other one written.
+const BOTH_PAGES: Lines = &[
+    ("end", "generation 1 fill 2 room 0 live 2 pending 2"),
+    ("live", " 1:1 2:2"),
+    ("w 1 3", "moved"),
+    ("live", " 1:3 2:2"),
+];
+
+/// The new set.
+const MOVED: Lines = &[
+    ("end", "generation 2 fill 2 room 0 live 2 pending 2"),
+    ("live", " 1:3 2:2"),
+    ("w 2 4", "moved"),
+    ("live", " 1:3 2:4"),
+];
+
 #[test]
 fn the_transfer_of_nine_steps(rt: HostRuntime) -> Result<(), Fail> {
-    const UNTOUCHED: Lines = &[
-        ("end", "generation 1 fill 2 room 0 live 2 pending 0"),
-        ("live", " 1:1 2:2"),
-        ("w 1 3", "moved"),
-        ("live", " 1:3 2:2"),
-    ];
-    const ONE_PAGE: Lines = &[
-        ("end", "generation 1 fill 2 room 0 live 2 pending 1"),
-        ("live", " 1:1 2:2"),
-        ("w 1 3", "moved"),
-        ("live", " 1:3 2:2"),
-    ];
-    const BOTH_PAGES: Lines = &[
-        ("end", "generation 1 fill 2 room 0 live 2 pending 2"),
-        ("live", " 1:1 2:2"),
-        ("w 1 3", "moved"),
-        ("live", " 1:3 2:2"),
-    ];
-    const NEW: Lines = &[
-        ("end", "generation 2 fill 2 room 0 live 2 pending 2"),
-        ("live", " 1:3 2:2"),
-        ("w 2 4", "moved"),
-        ("live", " 1:3 2:4"),
-    ];
     const TRIAL: Trial = Trial {
         pages: 2,
         words: 5,
@@ -152,17 +166,17 @@ fn the_transfer_of_nine_steps(rt: HostRuntime) -> Result<(), Fail> {
         cut: &[("w 1 3", "cut"), ("p", "open")],
         outcomes: &[
             // A receive word and an element, in the first page and in the second.
-            [UNTOUCHED, ONE_PAGE, ONE_PAGE, ONE_PAGE],
+            [NO_PAGE, ONE_PAGE, ONE_PAGE, ONE_PAGE],
             [ONE_PAGE, ONE_PAGE, ONE_PAGE, ONE_PAGE],
             [ONE_PAGE, BOTH_PAGES, BOTH_PAGES, BOTH_PAGES],
             [BOTH_PAGES, BOTH_PAGES, BOTH_PAGES, BOTH_PAGES],
             // The active mark, which commits.
-            [BOTH_PAGES, NEW, BOTH_PAGES, BOTH_PAGES],
+            [BOTH_PAGES, MOVED, BOTH_PAGES, BOTH_PAGES],
             // The valid mark, the active mark of the second page, two erasing marks.
-            [NEW, NEW, NEW, NEW],
-            [NEW, NEW, NEW, NEW],
-            [NEW, NEW, NEW, NEW],
-            [NEW, NEW, NEW, NEW],
+            [MOVED, MOVED, MOVED, MOVED],
+            [MOVED, MOVED, MOVED, MOVED],
+            [MOVED, MOVED, MOVED, MOVED],
+            [MOVED, MOVED, MOVED, MOVED],
         ],
     };
     cut_each_step(&rt, &TRIAL)

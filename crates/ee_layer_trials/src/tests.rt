@@ -1,0 +1,3 @@
+//! One module for each layer.
+mod check;
+mod store;
