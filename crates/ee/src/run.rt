@@ -1,7 +1,8 @@
 use ee_flash::Shape;
 use ee_shell::{
-    Fault, File, Job, clean_image, fault_line, format_image, job, read_whole, replay, states_text,
-    status_of, try_script, write_whole,
+    Fault, File, Job, check_script, clean_image, fault_line, format_image, get_setting, job,
+    plan_script, read_whole, replay, set_setting, states_text, status_of, try_script, wear_text,
+    write_whole,
 };
 use std::rt::Files;
 use std::{fs, io};
@@ -26,7 +27,7 @@ pub fn run<R: Files + Input + Print + Eprint + AllocGlobal>(rt: &R, words: &[Str
     }
     match job(texts.as_slice()) {
         None => bad_command_line(rt),
-        Some(job) => match work(rt, job) {
+        Some(job) => match work(rt, &job) {
             Ok(()) => 0,
             Err(fault) => tell(rt, &fault),
         },
@@ -34,11 +35,29 @@ pub fn run<R: Files + Input + Print + Eprint + AllocGlobal>(rt: &R, words: &[Str
 }
 
 /// Does a job.
-fn work<R: Files + Input + Print + AllocGlobal>(rt: &R, job: Job<'_>) -> Result<(), Fault> {
-    match job {
+fn work<R: Files + Input + Print + AllocGlobal>(rt: &R, job: &Job<'_>) -> Result<(), Fault> {
+    match *job {
         Job::Try { shape } => try_input(rt, shape),
         Job::Format { shape, image } => format_file(rt, shape, image),
         Job::Run { image, script } => run_files(rt, image, script),
+        Job::Get {
+            image,
+            settings,
+            name,
+        } => tell_setting(rt, image, settings, name),
+        Job::Set {
+            image,
+            settings,
+            name,
+            value,
+        } => set_file(rt, image, settings, name, value),
+        Job::Plan { image, script } => tell_plan(rt, image, script),
+        Job::Check {
+            image,
+            script,
+            certificate,
+        } => check_files(rt, image, script, certificate),
+        Job::Wear { image, before } => tell_wear(rt, image, before),
         Job::States { image } => tell_states(rt, image),
         Job::Clean { image } => clean_file(rt, image),
     }
@@ -77,6 +96,90 @@ fn run_files<R: Files + Print + AllocGlobal>(
     let replayed = replay(rt.alloc(), before.as_slice(), lines.as_slice())?;
     write_image(rt, image, replayed.image.as_slice())?;
     print(rt, replayed.report.as_slice())
+}
+
+/// Prints what a setting reads as in an image.
+fn tell_setting<R: Files + Print + AllocGlobal>(
+    rt: &R,
+    image: &str,
+    settings: &str,
+    name: &str,
+) -> Result<(), Fault> {
+    let image = read_file(rt, File::Image, image)?;
+    let settings = read_file(rt, File::Settings, settings)?;
+    let (alloc, heap) = (rt.alloc(), rt.alloc());
+    let text = get_setting(alloc, heap, image.as_slice(), settings.as_slice(), name)?;
+    print(rt, text.as_slice())
+}
+
+/// Gives a setting of an image a value, and writes the image in its place.
+fn set_file<R: Files + Print + AllocGlobal>(
+    rt: &R,
+    image: &str,
+    settings: &str,
+    name: &str,
+    value: u32,
+) -> Result<(), Fault> {
+    let before = read_file(rt, File::Image, image)?;
+    let table = read_file(rt, File::Settings, settings)?;
+    let (alloc, heap) = (rt.alloc(), rt.alloc());
+    let (written, text) = set_setting(
+        alloc,
+        heap,
+        before.as_slice(),
+        table.as_slice(),
+        name,
+        value,
+    )?;
+    write_image(rt, image, written.as_slice())?;
+    print(rt, text.as_slice())
+}
+
+/// Prints the certificate of what a script changes on an image.
+fn tell_plan<R: Files + Print + AllocGlobal>(
+    rt: &R,
+    image: &str,
+    script: &str,
+) -> Result<(), Fault> {
+    let image = read_file(rt, File::Image, image)?;
+    let script = read_file(rt, File::Script, script)?;
+    let text = plan_script(rt.alloc(), image.as_slice(), script.as_slice())?;
+    print(rt, text.as_slice())
+}
+
+/// Checks a certificate of what a script changes on an image, and prints what it proves.
+fn check_files<R: Files + Print + AllocGlobal>(
+    rt: &R,
+    image: &str,
+    script: &str,
+    certificate: &str,
+) -> Result<(), Fault> {
+    let image = read_file(rt, File::Image, image)?;
+    let script = read_file(rt, File::Script, script)?;
+    let certificate = read_file(rt, File::Certificate, certificate)?;
+    let text = check_script(
+        rt.alloc(),
+        image.as_slice(),
+        script.as_slice(),
+        certificate.as_slice(),
+    )?;
+    print(rt, text.as_slice())
+}
+
+/// Prints how often the pages of an image were erased, since an image before it where one is named.
+fn tell_wear<R: Files + Print + AllocGlobal>(
+    rt: &R,
+    image: &str,
+    before: Option<&str>,
+) -> Result<(), Fault> {
+    let now = read_file(rt, File::Image, image)?;
+    let Some(before) = before else {
+        let text = wear_text(rt.alloc(), now.as_slice(), None)?;
+        return print(rt, text.as_slice());
+    };
+    let then = read_file(rt, File::Before, before)?;
+    let text = wear_text(rt.alloc(), now.as_slice(), Some(then.as_slice()))?;
+    print(rt, text.as_slice())
 }
 
 /// Prints the state of each page of an image.

@@ -19,21 +19,55 @@ fn sized<'a>(alloc: Global, name: &'a str) -> Result<Command<'a>, Fail> {
     )
 }
 
+/// A command on an image.
+fn on_image<'a>(alloc: Global, name: &'a str) -> Result<Command<'a>, Fail> {
+    Ok(Command::new(alloc, name).arg(word(alloc, "IMAGE"))?)
+}
+
+/// A command on an image, a file of settings and the name of a setting.
+fn on_setting<'a>(alloc: Global, name: &'a str) -> Result<Command<'a>, Fail> {
+    Ok(
+        on_image(alloc, name)?
+            .arg(word(alloc, "SETTINGS"))?
+            .arg(word(alloc, "NAME"))?,
+    )
+}
+
+/// Adds the commands on a setting.
+fn with_settings<'a>(alloc: Global, table: Command<'a>) -> Result<Command<'a>, Fail> {
+    let value = word(alloc, "VALUE").value_parser(value_parser!(u64).range(0..=4_294_967_295));
+    Ok(
+        table
+            .subcommand(on_setting(alloc, "get")?)?
+            .subcommand(on_setting(alloc, "set")?.arg(value)?)?,
+    )
+}
+
+/// Adds the commands on a script.
+fn with_script<'a>(alloc: Global, table: Command<'a>) -> Result<Command<'a>, Fail> {
+    let script = || word(alloc, "SCRIPT");
+    Ok(
+        table
+            .subcommand(on_image(alloc, "run")?.arg(script())?)?
+            .subcommand(on_image(alloc, "plan")?.arg(script())?)?
+            .subcommand(
+                on_image(alloc, "check")?
+                    .arg(script())?
+                    .arg(word(alloc, "CERTIFICATE"))?,
+            )?,
+    )
+}
+
 /// The commands with words.
 fn table<'a>(alloc: Global) -> Result<Command<'a>, Fail> {
-    let image = || word(alloc, "IMAGE");
-    Ok(
-        Command::new(alloc, "ee")
-            .subcommand(sized(alloc, "try")?)?
-            .subcommand(sized(alloc, "format")?.arg(image())?)?
-            .subcommand(
-                Command::new(alloc, "run")
-                    .arg(image())?
-                    .arg(word(alloc, "SCRIPT"))?,
-            )?
-            .subcommand(Command::new(alloc, "states").arg(image())?)?
-            .subcommand(Command::new(alloc, "clean").arg(image())?)?,
-    )
+    let before = Arg::new(alloc, "BEFORE").action(ArgAction::Set);
+    let table = Command::new(alloc, "ee")
+        .subcommand(sized(alloc, "try")?)?
+        .subcommand(sized(alloc, "format")?.arg(word(alloc, "IMAGE"))?)?
+        .subcommand(on_image(alloc, "wear")?.arg(before)?)?
+        .subcommand(on_image(alloc, "states")?)?
+        .subcommand(on_image(alloc, "clean")?)?;
+    with_script(alloc, with_settings(alloc, table)?)
 }
 
 /// The shape that was found.
@@ -45,23 +79,56 @@ fn shape(found: &ArgMatches<'_>) -> Option<Shape> {
 
 /// The job that was found.
 fn job_of<'a>(name: &str, found: &ArgMatches<'a>) -> Option<Job<'a>> {
-    match name {
-        "try" => Some(Job::Try {
+    if name == "try" {
+        return Some(Job::Try {
             shape: shape(found)?,
-        }),
+        });
+    }
+    job_on(name, found.get_str("IMAGE")?, found)
+}
+
+/// The job on an image that was found.
+fn job_on<'a>(name: &str, image: &'a str, found: &ArgMatches<'a>) -> Option<Job<'a>> {
+    match name {
         "format" => Some(Job::Format {
             shape: shape(found)?,
-            image: found.get_str("IMAGE")?,
+            image,
         }),
-        "run" => Some(Job::Run {
-            image: found.get_str("IMAGE")?,
-            script: found.get_str("SCRIPT")?,
+        "get" => Some(Job::Get {
+            image,
+            settings: found.get_str("SETTINGS")?,
+            name: found.get_str("NAME")?,
         }),
-        "states" => Some(Job::States {
-            image: found.get_str("IMAGE")?,
+        "set" => Some(Job::Set {
+            image,
+            settings: found.get_str("SETTINGS")?,
+            name: found.get_str("NAME")?,
+            value: u32::try_from(found.get_one::<u64>("VALUE")?).ok()?,
         }),
-        "clean" => Some(Job::Clean {
-            image: found.get_str("IMAGE")?,
+        "wear" => Some(Job::Wear {
+            image,
+            before: found.get_str("BEFORE"),
+        }),
+        "states" => Some(Job::States { image }),
+        "clean" => Some(Job::Clean { image }),
+        _ => job_with_script(name, image, found.get_str("SCRIPT")?, found),
+    }
+}
+
+/// The job on an image and a script that was found.
+fn job_with_script<'a>(
+    name: &str,
+    image: &'a str,
+    script: &'a str,
+    found: &ArgMatches<'a>,
+) -> Option<Job<'a>> {
+    match name {
+        "run" => Some(Job::Run { image, script }),
+        "plan" => Some(Job::Plan { image, script }),
+        "check" => Some(Job::Check {
+            image,
+            script,
+            certificate: found.get_str("CERTIFICATE")?,
         }),
         _ => None,
     }
@@ -69,10 +136,16 @@ fn job_of<'a>(name: &str, found: &ArgMatches<'a>) -> Option<Job<'a>> {
 
 #[test]
 fn clap_finds_the_same_jobs(rt: HostRuntime) -> Result<(), Fail> {
-    let lines: [&[&str]; 5] = [
+    let lines: [&[&str]; 11] = [
         &["ee", "try", "2", "5"],
         &["ee", "format", "64", "512", "a.image"],
         &["ee", "run", "a.image", "a.script"],
+        &["ee", "get", "a.image", "a.settings", "volume"],
+        &["ee", "set", "a.image", "a.settings", "volume", "4294967295"],
+        &["ee", "plan", "a.image", "a.script"],
+        &["ee", "check", "a.image", "a.script", "a.certificate"],
+        &["ee", "wear", "a.image"],
+        &["ee", "wear", "a.image", "b.image"],
         &["ee", "states", "a.image"],
         &["ee", "clean", "a.image"],
     ];

@@ -20,6 +20,29 @@ const CLEANED: &[u8] = b"ee 1 6
 0 aaaaaaaa00000002 aaaaaaaaaaaaaaaa - - 0000000c00000001 -
 ";
 
+const TWO_MOVES: &[u8] = b"ee 1 6
+1 aaaaaaaa00000003 aaaaaaaaaaaaaaaa - - 0000000d00000001 0000000500000002
+0 aaaaaaaa00000002 aaaaaaaaaaaaaaaa - aaaaaaaaaaaaaaaa 0000000c00000001 0000000500000002
+";
+
+const ALL_LIVE: &[u8] = b"ee 1 6
+1 aaaaaaaa00000003 aaaaaaaaaaaaaaaa - aaaaaaaaaaaaaaaa 0000000d00000001 0000000500000002
+1 aaaaaaaa00000004 aaaaaaaaaaaaaaaa - - 0000000600000002 0000000d00000001
+";
+
+const CERTIFICATE: &[u8] = b"slots 2 fill 0 live 0 writes 5
+to 3 from 0
+to 5 from 1
+transfers 2
+";
+
+const SETTINGS: &[u8] = b"[volume]
+address = 1
+min = 0
+max = 10
+default = 5
+";
+
 /// Runs the words and compares the status, standard output and standard error.
 fn says<R: Files + AllocGlobal + Input + Abort>(
     rt: &R,
@@ -152,5 +175,80 @@ fn closed_output_comes_after_the_image(rt: HostRuntime) -> Result<(), Fail> {
     );
     holds(&rt, "closed.image", CLEANED)?;
     fs::remove_file(&rt, "closed.image")?;
+    Ok(())
+}
+
+#[test]
+fn settings_are_read_and_set(rt: HostRuntime) -> Result<(), Fail> {
+    fs::write(&rt, "set.image", FORMATTED)?;
+    fs::write(&rt, "set.toml", SETTINGS)?;
+    let get: &[&str] = &["get", "set.image", "set.toml", "volume"];
+    says(&rt, get, 0, b"5 default\n", b"")?;
+    let above: &[&str] = &["set", "set.image", "set.toml", "volume", "11"];
+    says(&rt, above, 4, b"", b"ee: out of range 0 10\n")?;
+    holds(&rt, "set.image", FORMATTED)?;
+    let set: &[&str] = &["set", "set.image", "set.toml", "volume", "10"];
+    says(&rt, set, 0, b"set\n", b"")?;
+    says(&rt, get, 0, b"10 stored\n", b"")?;
+    let other: &[&str] = &["get", "set.image", "set.toml", "tone"];
+    says(&rt, other, 4, b"", b"ee: unknown name\n")?;
+    fs::remove_file(&rt, "set.image")?;
+    fs::remove_file(&rt, "set.toml")?;
+    Ok(())
+}
+
+#[test]
+fn plans_are_told_and_checked(rt: HostRuntime) -> Result<(), Fail> {
+    let script = b"w 1 10\nw 1 11\nw 1 12\nw 2 5\nw 1 13\n".as_slice();
+    let early = b"slots 2 fill 0 live 0 writes 5\nto 2 from 0\nto 5 from 1\ntransfers 2\n";
+    fs::write(&rt, "plan.image", FORMATTED)?;
+    fs::write(&rt, "plan.script", script)?;
+    fs::write(&rt, "plan.certificate", CERTIFICATE)?;
+    fs::write(&rt, "early.certificate", early.as_slice())?;
+    let plan: &[&str] = &["plan", "plan.image", "plan.script"];
+    says(&rt, plan, 0, CERTIFICATE, b"")?;
+    let check: &[&str] = &["check", "plan.image", "plan.script", "plan.certificate"];
+    says(&rt, check, 0, b"proved 2\n", b"")?;
+    let refused: &[&str] = &["check", "plan.image", "plan.script", "early.certificate"];
+    says(&rt, refused, 4, b"", b"ee: not forced 1\n")?;
+    holds(&rt, "plan.image", FORMATTED)?;
+    fs::remove_file(&rt, "plan.image")?;
+    fs::remove_file(&rt, "plan.script")?;
+    fs::remove_file(&rt, "plan.certificate")?;
+    fs::remove_file(&rt, "early.certificate")?;
+    Ok(())
+}
+
+#[test]
+fn wear_is_told_since_an_image_before(rt: HostRuntime) -> Result<(), Fail> {
+    fs::write(&rt, "worn.image", ALL_LIVE)?;
+    fs::write(&rt, "before.image", TWO_MOVES)?;
+    let all = b"page 0 wear 1\npage 1 wear 1\ntotal 2 least 1 greatest 1\n";
+    says(&rt, &["wear", "worn.image"], 0, all, b"")?;
+    let since = b"page 0 wear 0\npage 1 wear 1\ntotal 1 least 0 greatest 1\n";
+    let words: &[&str] = &["wear", "worn.image", "before.image"];
+    says(&rt, words, 0, since, b"")?;
+    let words: &[&str] = &["wear", "before.image", "worn.image"];
+    says(&rt, words, 4, b"", b"ee: wear backwards 1\n")?;
+    fs::remove_file(&rt, "worn.image")?;
+    fs::remove_file(&rt, "before.image")?;
+    Ok(())
+}
+
+#[test]
+fn files_are_read_in_their_order(rt: HostRuntime) -> Result<(), Fail> {
+    fs::write(&rt, "void.image", b"".as_slice())?;
+    let no_settings = b"ee: cannot read settings\n";
+    let get: &[&str] = &["get", "void.image", "missing.toml", "volume"];
+    says(&rt, get, 3, b"", no_settings)?;
+    let set: &[&str] = &["set", "void.image", "missing.toml", "volume", "1"];
+    says(&rt, set, 3, b"", no_settings)?;
+    let plan: &[&str] = &["plan", "void.image", "missing.script"];
+    says(&rt, plan, 3, b"", b"ee: cannot read script\n")?;
+    let check: &[&str] = &["check", "void.image", "void.image", "missing.certificate"];
+    says(&rt, check, 3, b"", b"ee: cannot read certificate\n")?;
+    let wear: &[&str] = &["wear", "void.image", "missing.image"];
+    says(&rt, wear, 3, b"", b"ee: cannot read before\n")?;
+    fs::remove_file(&rt, "void.image")?;
     Ok(())
 }

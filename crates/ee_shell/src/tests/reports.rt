@@ -10,6 +10,7 @@ use std::test::Fail;
 
 /// A script on an image: the report's lines before the certificate, the certificate, and the image
 /// afterwards.
+#[derive(Clone, Copy)]
 struct Worked<'a> {
     image: &'a [u8],
     script: &'a [u8],

@@ -71,12 +71,9 @@ fn each_move_wears_a_set(rt: HostRuntime) -> Result<(), Fail> {
     let tried = try_script(rt.alloc(), shape, script)
         .ok()
         .ok_or("not tried")?;
-    assert!(rt;
-        tried
-            .report
-            .as_slice()
-            .ends_with(b"ok\nmoved\nclean\nclean\nidle\n")
-    );
+    let moves =
+        b"ok\nok\nmoved\nclean\nclean\nok\nmoved\nclean\nclean\nok\nmoved\nclean\nclean\nidle\n";
+    assert!(rt; tried.report.as_slice().starts_with(moves));
     let lines = b"page 0 wear 2
 page 1 wear 2
 page 2 wear 1
