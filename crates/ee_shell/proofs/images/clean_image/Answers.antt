@@ -8,7 +8,7 @@ returns-clause-cleaned g c = search (rules, is_cleaned)
 
 pub returns-in-Err-clause-names : goal.returns-in-Err-clause-names
 returns-in-Err-clause-names g c = λ cause some applies.
-    opening_named c.args.image.now c.in-Err.fault c.from.result cause c.in-Err.ensures.fault c.from.ensures some applies
+    opening_named c.args.image.now c.in-Err.fault _ cause c.in-Err.ensures.fault (search rules) some applies
 
 pub returns-clause-names : goal.returns-clause-names
 returns-clause-names g c = λ cause some applies.

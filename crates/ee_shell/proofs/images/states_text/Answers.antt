@@ -16,8 +16,7 @@ returns-clause-states g c =
     search (rules, are_states, formed)
 
 pub returns-in-Err-clause-names : goal.returns-in-Err-clause-names
-returns-in-Err-clause-names g c = λ cause some applies.
-    reading_named c.args.image.now c.in-Err.fault c.image.result cause c.in-Err.ensures.fault c.image.ensures some applies
+returns-in-Err-clause-names g c = search (rules, reading_named)
 
 pub returns-clause-names : goal.returns-clause-names
 returns-clause-names g c = λ cause some applies.
