@@ -1,6 +1,7 @@
 -- The text of a ledger grows by a page at a time; and there is one cause at most for which no wear is told.
-use Rattle.std.proofs.Common.{◌≡◌, ◌≢◌, ◌∙◌, ◌⊎◌, ◌+◌, ◌<◌, ℕ, zero, suc, Option, Some, None, List, [], ◌∷◌, ◌++◌, length, take}
-use Rattle.std.proofs.Common.{inl, inr, refl, sym, ap, subst, arith, add-one, append_assoc, Result, Ok, Err, IfErr, IfOk, MatchResult}
+use Rattle.std.proofs.Common.{◌≡◌, ◌≢◌, ◌∙◌, ◌⊎◌, ◌+◌, ◌<◌, ℕ, zero, suc, Option, Some, None, List, [], ◌∷◌, ◌++◌}
+use Rattle.std.proofs.Common.{length, take, inl, inr, refl, sym, ap, subst, arith, add-one, append_assoc}
+use Rattle.std.proofs.Common.{Result, Ok, Err, IfErr, IfOk, MatchResult}
 use Rattle.std.specs.Prelude.{slice_index}
 use Rattle.std.proofs.lemmas.Bool.{cases_order}
 use Rattle.std.proofs.lemmas.List.{append-nil}

@@ -66,7 +66,7 @@ module _ (old new : Device) (text lines : List ℕ) (trace kept : List Change) (
       → reported ≡ ended ++ text_of claim → reported ≡ report_text (slot_count old.size) run.answered.answers (state_of new) claim
   report_is ended reported transfers claim count end all =
       let sized : end_line (slot_count new.size) (state_of new) transfers ≡ end_line (slot_count old.size) (state_of new) (moves run.answered.answers) =
-          ap (λ (size : Size). end_line (slot_count size) (state_of new) transfers) run.same_size ∙ ap (λ n. end_line (slot_count old.size) (state_of new) n) count in
+      ap (λ (size : Size). end_line (slot_count size) (state_of new) transfers) run.same_size ∙ ap (λ n. end_line (slot_count old.size) (state_of new) n) count in
       all ∙ ap (λ l. l ++ text_of claim) (end ∙ ap (λ l. l ++ end_line (slot_count new.size) (state_of new) transfers) run.answered.report_is ∙ ap (λ l. report run.answered.answers ++ l) sized)
       ∙ append_assoc (report run.answered.answers) (end_line (slot_count old.size) (state_of new) (moves run.answered.answers)) (text_of claim)
 
