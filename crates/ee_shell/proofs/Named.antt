@@ -128,7 +128,8 @@ memory_or_not (replay.Open fault) = inr (λ e. cc e)
 memory_or_not (replay.Script n) = inr (λ e. cc e)
 memory_or_not replay.Memory = inl refl
 
-opening_named : (image : List ℕ) (why : ReplayFault) (fault cause : Fault) → IsOpenFault image why → fault ≡ fault_of_replay why → cause ≢ Memory → IsOpeningFault image cause → (fault ≡ cause) ⊎ (fault ≡ Memory)
+pub opening_named : (image : List ℕ) (why : ReplayFault) (fault cause : Fault) → IsOpenFault image why
+    → fault ≡ fault_of_replay why → cause ≢ Memory → IsOpeningFault image cause → (fault ≡ cause) ⊎ (fault ≡ Memory)
 opening_named image why fault cause unopened told some h = elim (one_open_fault image h.cause why (λ e. some (h.fault_is ∙ ap fault_of_replay e)) h.applies unopened) [
   | inl same ↦ inl (told ∙ ap fault_of_replay same ∙ sym h.fault_is)
   | inr none ↦ inr (told ∙ ap fault_of_replay none)
@@ -140,7 +141,8 @@ not_opened image why fault unopened told store = elim (memory_or_not why) [
   | inr other ↦ absurd (store_is_good image store.0 why store.1 other unopened)
 ]
 
-opening_good : (image : List ℕ) (device : Device) (cause : Fault) → IsStoreText image device → cause ≢ Memory → IsOpeningFault image cause → ⊥
+pub opening_good : (image : List ℕ) (device : Device) (cause : Fault) → IsStoreText image device → cause ≢ Memory
+    → IsOpeningFault image cause → ⊥
 opening_good image device cause store some h = store_is_good image device h.cause store (λ e. some (h.fault_is ∙ ap fault_of_replay e)) h.applies
 
 -- ---- reading

@@ -1,5 +1,5 @@
 //! The commands without a script.
-ghost use Rattle.std.specs.Prelude.{◌≡◌, ◌<◌, ◌-◌, ◌++◌, IfOk, IfErr, OnOk};
+ghost use Rattle.std.specs.Prelude.{◌≡◌, ◌≢◌, ◌⊎◌, ◌<◌, ◌-◌, ◌++◌, IfOk, IfErr, MatchResult, OnOk};
 ghost use Rattle.ee_text.specs.Line.{line_of};
 ghost use Rattle.ee_store.specs.State.{state_of, with_pending};
 ghost use Rattle.ee_shell.specs.Images.{AreStates, IsCleaned, IsFormattedText, IsOpeningFault, IsReadingFault, cleaned_text, state_lines, state_name, state_text};
@@ -44,6 +44,9 @@ pub fn clean_image<A: Allocator + Copy>(
 ) -> Result<(Vec<u8, A>, Vec<u8, A>), Fault>
     ensures cleaned { IfOk result (λ given. IsCleaned image.now given.0.items given.1.items) }
     ensures fault { IfErr result (IsOpeningFault image.now) }
+    // No cause is passed over.
+    ensures names { (cause : Fault) → cause ≢ Fault.Memory → IsOpeningFault image.now cause
+        → MatchResult result (λ _. ⊥) (λ fault. (fault ≡ cause) ⊎ (fault ≡ Fault.Memory)) }
 {
     let mut store = match open_image(alloc, image) {
         Ok(store) => store,
@@ -68,6 +71,9 @@ pub fn clean_image<A: Allocator + Copy>(
 pub fn states_text<A: Allocator + Copy>(alloc: A, image: &[u8]) -> Result<Vec<u8, A>, Fault>
     ensures states { IfOk result (λ text. AreStates image.now text.items) }
     ensures fault { IfErr result (IsReadingFault image.now) }
+    // No cause is passed over.
+    ensures names { (cause : Fault) → cause ≢ Fault.Memory → IsReadingFault image.now cause
+        → MatchResult result (λ _. ⊥) (λ fault. (fault ≡ cause) ⊎ (fault ≡ Fault.Memory)) }
 {
     let flash = match read_image(alloc, image) {
         Ok(flash) => flash,

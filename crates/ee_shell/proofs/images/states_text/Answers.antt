@@ -1,6 +1,7 @@
 use Rattle.std.proofs.Common.{rules}
 use Rattle.std.proofs.lemmas.Result.{err_from_is_err_and}
 use Rattle.ee_flash.specs.Memory.{device_of}
+use Rattle.ee_shell.proofs.Ledgers.{reading_good, reading_named}
 use Rattle.ee_shell.proofs.Stores.{are_states, formed_of, no_memory}
 use Rattle.ee_shell.proofs.images.states_text.Goals as goal
 
@@ -13,3 +14,12 @@ pub returns-clause-states : goal.returns-clause-states
 returns-clause-states g c =
     let formed = formed_of c.in-Ok.flash in
     search (rules, are_states, formed)
+
+pub returns-in-Err-clause-names : goal.returns-in-Err-clause-names
+returns-in-Err-clause-names g c = search (rules, reading_named)
+
+pub returns-clause-names : goal.returns-clause-names
+returns-clause-names g c = λ cause some applies.
+    let formed = formed_of c.in-Ok.flash in
+    reading_good c.args.image.now (device_of c.in-Ok.flash) cause
+    (record { formed = formed; text_is = c.in-Ok.ensures.found }) some applies
