@@ -1,14 +1,11 @@
 -- What each call adds to the pages that were erased or wait to be.
-use Rattle.std.proofs.Common.{◌≡◌, ◌∙◌, ◌+◌, ◌-◌, ◌<◌, ℕ, List, [], ◌∷◌, sym, ap, subst, arith, refl}
+use Rattle.std.proofs.Common.{◌≡◌, ◌+◌, ◌-◌, ℕ, ap, subst, arith}
 use Rattle.ee_flash.specs.Device.{Device}
-use Rattle.ee_flash.specs.Size.{Size}
-use Rattle.ee_flash.specs.Wear.{total_wear_of}
 use Rattle.ee_pages.specs.Meaning.{Change}
 use Rattle.ee_store.specs.Calls.{ErasesOne}
 use Rattle.ee_store.specs.Changes.{Appends, Moves}
 use Rattle.ee_store.specs.State.{CountsWear, State, WearRises, state_of}
-use Rattle.ee_script.specs.declared.answer.Answer.{Answer}
-use Rattle.ee_shell.specs.Erases.{ErasesRise, erases, erases_of, erases_of_all}
+use Rattle.ee_shell.specs.Erases.{ErasesRise, erases}
 
 pub as_before : (old new : Device) → new ≡ old → ErasesRise 0 old new
 as_before old new same = record { counted = subst CountsWear same; rise = λ counts. let e = ap erases same in omega (arith, e) }

@@ -1,5 +1,5 @@
 -- An image has one cause at most for which no store is opened, and a script one for which it isn't replayed.
-use Rattle.std.proofs.Common.{◌≡◌, ◌≢◌, ◌⊎◌, inl, inr, ℕ, ◌+◌, ◌-◌, ◌<◌, ◌≤◌, Bool, true, false, not, nat_lt, Option, Some, None, List, [], length, get_or, take, drop, refl, sym, ap, ◌∙◌, subst, arith, Result, Ok, Err, IfErr, IfOk, MatchResult}
+use Rattle.std.proofs.Common.{◌≡◌, ◌≢◌, ◌⊎◌, inl, inr, ℕ, ◌-◌, ◌≤◌, Bool, true, false, not, nat_lt, Option, Some, None, List, [], length, get_or, refl, sym, ap, ◌∙◌, subst, arith}
 use Rattle.std.specs.List.{All, list_any}
 use Rattle.std.proofs.lemmas.Bool.{cases_lt, cases_order}
 use Rattle.std.proofs.lemmas.Grind.{common_steps}
@@ -10,11 +10,10 @@ use Rattle.ee_flash.specs.Device.{Device}
 use Rattle.ee_flash.specs.Size.{Size}
 use Rattle.ee_flash.specs.declared.word.Word.{Word}
 use Rattle.ee_flash.specs.declared.word.Word.TheVariants.{Erased, Held, Torn}
-use Rattle.ee_codec.specs.Reading.{mark_of, receive_of}
-use Rattle.ee_pages.specs.Layout.{IsFirstForeign, IsScanFault, IsUnformatted}
+use Rattle.ee_pages.specs.Layout.{IsFirstForeign, IsScanFault}
 use Rattle.ee_pages.specs.Legal.{IsLegal, is_allowed_at}
 use Rattle.ee_pages.specs.Page.{is_blank, is_written, word_in}
-use Rattle.ee_pages.specs.Sets.{committed, first_page, greater, is_mark, live_of, set_of, word_of}
+use Rattle.ee_pages.specs.Sets.{committed, first_page, greater, live_of, set_of, word_of}
 use Rattle.ee_pages.specs.declared.find.ScanFault.{ScanFault}
 use Rattle.ee_pages.specs.declared.find.ScanFault.TheVariants.{Unformatted, NoLiveSet, TwoLive, Foreign}
 use Rattle.ee_pages.specs.declared.side.Side.{Side}

@@ -1,5 +1,5 @@
 -- What a report says in the end.
-use Rattle.std.proofs.Common.{◌≡◌, ◌∙◌, ◌-◌, ◌≤◌, ◌++◌, ℕ, List, [], ◌∷◌, ap, append_assoc, arith, codes, decimal, subst, sym}
+use Rattle.std.proofs.Common.{◌≡◌, ◌∙◌, ◌-◌, ◌≤◌, ◌++◌, ℕ, List, [], ap, append_assoc, codes, decimal, subst, sym}
 use Rattle.ee_flash.specs.Device.{Device}
 use Rattle.ee_flash.specs.Size.{Size, slot_count}
 use Rattle.ee_check.specs.declared.change.Change.{Change}
@@ -15,7 +15,7 @@ use Rattle.ee_script.specs.Script.{IsFirstBadLine}
 use Rattle.ee_script.proofs.Reading.{scripts_are_good_lem}
 use Rattle.ee_pages.specs.Meaning.{live_in}
 use Rattle.ee_store.specs.Finished.{IsStore}
-use Rattle.ee_store.specs.State.{State, capacity, state_of}
+use Rattle.ee_store.specs.State.{State, state_of}
 use Rattle.ee_store.proofs.Making.{few_within}
 use Rattle.ee_store.proofs.States.{state_is}
 use Rattle.ee_shell.specs.Report.{end_line, report_text}

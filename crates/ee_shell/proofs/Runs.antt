@@ -1,7 +1,6 @@
 -- A run of what serves a script is a run of the report machine.
 use Rattle.std.proofs.Common.{◌≡◌, ◌∙◌, ◌++◌, ℕ, List, [], ◌∷◌, ap, append_assoc, append-nil, refl, subst, sym}
 use Rattle.std.proofs.lemmas.List.Sums.{sum_by-cons}
-use Rattle.ee_flash.specs.Device.{Device}
 use Rattle.ee_flash.specs.Size.{Size}
 use Rattle.ee_store.specs.State.{state_of}
 use Rattle.ee_check.specs.declared.change.Change.{Change}

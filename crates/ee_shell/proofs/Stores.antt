@@ -1,5 +1,5 @@
 -- What a store is opened from, and what it leaves, as text.
-use Rattle.std.proofs.Common.{◌≡◌, ◌∙◌, ◌+◌, ◌++◌, ℕ, zero, suc, Bool, false, List, [], length, replicate, sym, ap, subst, arith, refl, inr}
+use Rattle.std.proofs.Common.{◌≡◌, ◌∙◌, ◌++◌, ℕ, zero, suc, Bool, false, List, [], length, replicate, sym, ap, subst, arith, refl, inr}
 use Rattle.std.specs.List.{filter, list_any, sum}
 use Rattle.ee_flash.specs.Device.{Device, IsFormed, blank_device}
 use Rattle.ee_flash.specs.Formed.{IsFormed-pages_of}

@@ -1,9 +1,9 @@
 -- What programming a change into the first free slot of the live set leaves.
-use Rattle.std.proofs.Common.{◌≡◌, ◌≢◌, ◌⊎◌, inl, inr, ℕ, ◌+◌, ◌-◌, ◌<◌, ◌≤◌, ◌/◌, ◌%◌, true, false, Result, Ok, Err, List, [], length, get_or, set, refl, sym, subst, ap, ◌∙◌, arith}
+use Rattle.std.proofs.Common.{◌≡◌, ◌≢◌, ◌⊎◌, inl, inr, ℕ, ◌+◌, ◌-◌, ◌<◌, ◌/◌, ◌%◌, false, Result, Ok, Err, List, [], length, get_or, set, refl, sym, subst, ap, ◌∙◌, arith}
 use Rattle.std.specs.Result.{OnErr}
 use Rattle.std.proofs.lemmas.Bool.{cases_eq}
 use Rattle.std.proofs.lemmas.List.{get_or-set_other, get_or-set_same}
-use Rattle.ee_flash.specs.Device.{Device, IsFormed, IsOn, all_ones, page_at, word_at}
+use Rattle.ee_flash.specs.Device.{Device, IsOn, all_ones, word_at}
 use Rattle.ee_flash.specs.Laws.{CanTake, IsStep}
 use Rattle.ee_flash.specs.Size.{slot_count}
 use Rattle.ee_flash.specs.Step.{Step, Program, IsCutIn, IsUntouched, MayFollow, MayLeave, completed}

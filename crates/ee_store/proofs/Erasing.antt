@@ -1,5 +1,5 @@
 -- What erasing a page of the set that is not live leaves.
-use Rattle.std.proofs.Common.{◌≡◌, ◌≢◌, ◌⊎◌, inl, inr, ℕ, ◌+◌, ◌<◌, ◌≤◌, false, true, List, length, get_or, set, min, refl, sym, subst, ap, ◌∙◌, arith}
+use Rattle.std.proofs.Common.{◌≡◌, ◌⊎◌, inl, inr, ℕ, ◌+◌, ◌<◌, false, true, List, length, get_or, set, min, sym, subst, ap, ◌∙◌, arith}
 use Rattle.std.specs.List.{All, sum}
 use Rattle.std.proofs.lemmas.Bool.{cases_eq}
 use Rattle.std.proofs.lemmas.List.{get_or-set_other, get_or-set_same, length-set}
@@ -15,7 +15,7 @@ use Rattle.ee_pages.specs.Sets.{other, pending_of, set_of}
 use Rattle.ee_pages.specs.declared.side.Side.{Side}
 use Rattle.ee_pages.proofs.OtherSet.{other_set_keeps_live}
 use Rattle.ee_store.specs.Parts.{IsSameSet}
-use Rattle.ee_store.specs.State.{CountsWear, WearRises}
+use Rattle.ee_store.specs.State.{WearRises}
 use Rattle.ee_pages.proofs.BlankPages.{erase_lowers_pending, whole_erase_lowers_pending}
 use Rattle.ee_store.proofs.SetPages.{page_of_device}
 

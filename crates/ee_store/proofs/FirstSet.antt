@@ -1,10 +1,10 @@
 -- How a blank device gets its first set.
-use Rattle.std.proofs.Common.{◌≡◌, ◌<◌, inl, inr, ℕ, ◌+◌, ◌-◌, ◌/◌, true, false, None, List, [], ◌∷◌, length, set, refl, sym, subst, ap, ◌∙◌, arith, suc}
+use Rattle.std.proofs.Common.{◌≡◌, ◌<◌, inl, inr, ℕ, ◌+◌, ◌-◌, ◌/◌, true, false, None, List, [], ◌∷◌, length, refl, sym, subst, ap, ◌∙◌, arith, suc}
 use Rattle.std.specs.List.{All}
 use Rattle.std.specs.Prelude.{not}
 use Rattle.std.proofs.Math.Nat.{zero-div}
 use Rattle.std.proofs.lemmas.Bool.{cases_Bool, cases_lt, true≢false}
-use Rattle.std.proofs.lemmas.List.{get_or-set_same, get_or_past}
+use Rattle.std.proofs.lemmas.List.{get_or_past}
 use Rattle.std.proofs.lemmas.List.Elements.{All-drop, All-get_or, All-take}
 use Rattle.std.proofs.lemmas.List.Folds.{list_any_at}
 use Rattle.ee_flash.specs.Device.{Device, IsFormed, IsOn, page_at, word_at}

@@ -16,17 +16,17 @@ use Rattle.ee_pages.specs.Meaning.{Change, Map, Put, Forget, changed, live_in, m
 use Rattle.ee_pages.specs.Page.{is_blank, is_written}
 use Rattle.ee_pages.specs.Pending.{address_of}
 use Rattle.ee_pages.specs.Pushing.{Takes}
-use Rattle.ee_pages.specs.Sets.{committed, fill_of, first_page, is_mark, live_of, other, page_of_slot, pending_of, set_of, slots_of, word_of}
+use Rattle.ee_pages.specs.Sets.{fill_of, first_page, is_mark, other, page_of_slot, pending_of, set_of, slots_of, word_of}
 use Rattle.ee_pages.specs.declared.find.Layout.{Layout}
 use Rattle.ee_pages.specs.declared.side.Side.{Side}
-use Rattle.ee_pages.specs.declared.side.Side.TheVariants.{First, Second}
+use Rattle.ee_pages.specs.declared.side.Side.TheVariants.{First}
 use Rattle.ee_pages.proofs.Commits.{live_commits}
 use Rattle.ee_pages.proofs.LiveCounts.{change_counts, live_within_fill}
 use Rattle.ee_pages.proofs.Slots.{length-set_of, length-slots}
-use Rattle.ee_store.specs.Changes.{Appends, HasNoPlace, IsAccepted, IsCutAppend, IsCutChange, IsCutMove, IsFull, IsSpent, Moves, Proceeds, greatest_generation}
+use Rattle.ee_store.specs.Changes.{Appends, IsAccepted, IsCutAppend, IsCutChange, IsCutMove, IsFull, IsSpent, Moves, Proceeds, greatest_generation}
 use Rattle.ee_store.specs.Finished.{IsMarked, IsStore}
 use Rattle.ee_store.specs.Parts.{HasMoved, IsSameSet}
-use Rattle.ee_store.specs.State.{State, WearRises, appended, capacity, moved, spoiled, state_of, with_pending}
+use Rattle.ee_store.specs.State.{State, WearRises, appended, capacity, spoiled, state_of}
 use Rattle.ee_store.proofs.States.{same_states, state_is, state_kept, state_moved}
 use Rattle.ee_store.proofs.Wears.{no_wear}
 

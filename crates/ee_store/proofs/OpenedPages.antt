@@ -9,9 +9,8 @@ use Rattle.ee_pages.specs.Laws.{IsPageOf}
 use Rattle.ee_pages.specs.Layout.{IsLayout}
 use Rattle.ee_pages.specs.Page.{is_marked}
 use Rattle.ee_pages.specs.Pushing.{IsMarkBehind}
-use Rattle.ee_pages.specs.Sets.{fill_of, first_page, other, page_of_slot, set_of, slots_of}
+use Rattle.ee_pages.specs.Sets.{first_page, other, page_of_slot}
 use Rattle.ee_pages.specs.declared.find.Layout.{Layout}
-use Rattle.ee_pages.specs.declared.side.Side.{Side}
 use Rattle.ee_pages.specs.declared.state.Mark.TheVariants.{Active, Valid}
 use Rattle.ee_pages.proofs.Slots.{page_in_range, slot_below}
 use Rattle.ee_store.specs.Finished.{IsLiveMarked, last_used}

@@ -7,7 +7,7 @@ use Rattle.std.proofs.lemmas.List.{get_or-drop, get_or-take, get_or_past}
 use Rattle.std.proofs.lemmas.List.Elements.{All-get_or}
 use Rattle.std.proofs.lemmas.List.Folds.{list_any_at}
 use Rattle.std.proofs.Math.Nat.{div-mul-le_self}
-use Rattle.ee_codec.specs.Words.{IsGeneration, receive}
+use Rattle.ee_codec.specs.Words.{IsGeneration}
 use Rattle.ee_flash.specs.Device.{Device, IsFormed, IsOn, all_ones, word_at}
 use Rattle.ee_flash.specs.Laws.{IsStep}
 use Rattle.ee_flash.specs.Size.{page_count, slot_count}

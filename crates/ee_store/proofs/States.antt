@@ -1,16 +1,16 @@
 -- What a live set says is the state of its device.
-use Rattle.std.proofs.Common.{◌≡◌, ℕ, ◌+◌, ◌≤◌, Some, refl, sym, ap, ◌∙◌}
+use Rattle.std.proofs.Common.{◌≡◌, ℕ, ◌+◌, refl, sym, ap, ◌∙◌}
 use Rattle.std.proofs.Math.Path.{fun_ext}
 use Rattle.ee_flash.specs.Device.{Device}
 use Rattle.ee_pages.specs.Laws.{Keeps}
 use Rattle.ee_pages.specs.Legal.{IsLive}
-use Rattle.ee_pages.specs.Meaning.{Change, Map, changed, live_in, meaning}
+use Rattle.ee_pages.specs.Meaning.{Change, Map}
 use Rattle.ee_pages.specs.Pushing.{Takes}
-use Rattle.ee_pages.specs.Sets.{fill_of, other, pending_of, set_of, slots_of}
+use Rattle.ee_pages.specs.Sets.{other, pending_of, set_of}
 use Rattle.ee_pages.specs.declared.side.Side.{Side}
 use Rattle.ee_pages.specs.declared.side.Side.TheVariants.{First, Second}
 use Rattle.ee_store.specs.Parts.{HasMoved, Stays}
-use Rattle.ee_store.specs.State.{State, appended, moved, spoiled, state_in, state_of, state_with, with_pending}
+use Rattle.ee_store.specs.State.{State, moved, state_in, state_of, state_with, with_pending}
 
 pub state_is : (device : Device) (side : Side) (generation : ℕ) → IsLive device side generation → state_of device ≡ state_with device side generation
 state_is device side generation live = ap (state_in device) live.live

@@ -1,8 +1,7 @@
 -- How wear rises over several steps.
-use Rattle.std.proofs.Common.{◌≡◌, ℕ, ◌+◌, sym, subst, ap, ◌∙◌, refl, arith}
-use Rattle.std.specs.List.{sum}
+use Rattle.std.proofs.Common.{◌≡◌, ℕ, ◌+◌, sym, arith}
 use Rattle.ee_flash.specs.Device.{Device}
-use Rattle.ee_store.specs.State.{CountsWear, WearRises}
+use Rattle.ee_store.specs.State.{WearRises}
 
 pub no_wear : (old new : Device) → new.wear ≡ old.wear → WearRises 0 old new
 no_wear old new same counts = rw (sym same) (counts, omega arith)

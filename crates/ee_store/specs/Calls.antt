@@ -1,6 +1,6 @@
 -- What each call of a store answers, and what it leaves: one relation for each, by cases on the answer. Every store keeps
 -- them.
-use Rattle.std.specs.Prelude.{◌≡◌, ◌≢◌, ◌<◌, ◌⊎◌, ℕ, ◌+◌, ◌-◌, Option, None, Result, Ok, Err, Bool, true, false}
+use Rattle.std.specs.Prelude.{◌≡◌, ◌≢◌, ◌<◌, ◌⊎◌, ℕ, ◌-◌, Option, None, Result, Ok, Err, Bool, true, false}
 use Rattle.ee_flash.specs.Device.{Device, IsOff, IsOn}
 use Rattle.ee_flash.specs.Power.{GoesOn, IsCut}
 use Rattle.ee_pages.specs.Meaning.{Put, Forget}

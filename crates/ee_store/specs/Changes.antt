@@ -1,5 +1,5 @@
 -- What a change of a store's map leaves, and when none is made.
-use Rattle.std.specs.Prelude.{◌≡◌, ◌<◌, ◌≤◌, ◌⊎◌, ℕ, None, length}
+use Rattle.std.specs.Prelude.{◌≡◌, ◌<◌, ◌≤◌, ◌⊎◌, ℕ, None}
 use Rattle.ee_flash.specs.Device.{Device, IsOn}
 use Rattle.ee_flash.specs.Power.{GoesOn, IsCut}
 use Rattle.ee_pages.specs.Meaning.{Change, Put, Forget, live_in}

@@ -1,12 +1,10 @@
 -- What the parts of a call leave: a call is one after another of them.
-use Rattle.std.specs.Prelude.{◌≡◌, ◌≢◌, ◌<◌, ◌≤◌, ◌⊎◌, ℕ, ◌+◌, ◌-◌, ◌%◌, ◌*◌, ◌==◌, nat_le, if◌then◌else◌, true, Option, Some, None}
-use Rattle.std.specs.List.{All}
+use Rattle.std.specs.Prelude.{◌≡◌, ◌≢◌, ◌<◌, ℕ, ◌+◌, ◌==◌, nat_le, if◌then◌else◌, true, None}
 use Rattle.ee_flash.specs.Device.{Device, page_at}
 use Rattle.ee_pages.specs.Laws.{Keeps}
 use Rattle.ee_pages.specs.Legal.{IsLive}
 use Rattle.ee_pages.specs.Meaning.{Change, Map, Put, Forget, changed, live_in, meaning}
-use Rattle.ee_pages.specs.Page.{is_blank, is_marked}
-use Rattle.ee_pages.specs.Pushing.{Takes}
+use Rattle.ee_pages.specs.Page.{is_marked}
 use Rattle.ee_pages.specs.Sets.{fill_of, first_page, other, page_of_slot, pending_of, set_of, slots_of}
 use Rattle.ee_pages.specs.declared.side.Side.{Side}
 use Rattle.ee_pages.specs.declared.state.Mark.{Mark}

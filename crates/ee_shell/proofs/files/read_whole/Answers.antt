@@ -1,4 +1,4 @@
-use Rattle.std.proofs.Common.{◌≡◌, [], ap, arith, take, sym, ◌∙◌, length, length-take}
+use Rattle.std.proofs.Common.{◌≡◌, [], ap, arith, take, length-take}
 use Rattle.std.proofs.lemmas.Grind.{common_steps}
 use Rattle.ee_shell.proofs.Streams.{read_all, read_too_long, took_more, took_none}
 use Rattle.ee_shell.proofs.files.read_whole.Goals as goal

@@ -1,7 +1,6 @@
-use Rattle.std.proofs.Common.{◌≡◌, ◌<◌, ◌≤◌, ap, ◌∙◌, arith, sym}
+use Rattle.std.proofs.Common.{◌≡◌, ap, ◌∙◌, arith}
 use Rattle.ee_flash.specs.Size.{slot_count}
-use Rattle.ee_pages.specs.Pending.{address_of}
-use Rattle.ee_pages.specs.Sets.{fill_of, other, set_of, slots_of}
+use Rattle.ee_pages.specs.Sets.{other}
 use Rattle.ee_store.specs.Parts.{meant}
 use Rattle.ee_store.specs.State.{capacity}
 use Rattle.ee_store.proofs.Making.{always_on_err, appends, change_fits, cut_in_append, cut_in_move, few_pending, few_within, generation_left, live_after_append, moves, off_store, store_after_move}

@@ -1,4 +1,4 @@
-use Rattle.std.proofs.Common.{◌≡◌, inr, rules, ◌<◌, length, ap, sym, ◌∙◌, arith}
+use Rattle.std.proofs.Common.{inr, rules, arith}
 use Rattle.ee_store.proofs.Erasing.{cut_keeps, cut_lowers, cut_same_set, done_keeps, done_lowers, done_same_set, erase_wears}
 use Rattle.ee_store.proofs.SetPages.{page_of_device}
 use Rattle.ee_pages.specs.Sets.{other as other_of}

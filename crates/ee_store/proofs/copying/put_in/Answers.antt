@@ -1,5 +1,5 @@
-use Rattle.std.proofs.Common.{inl, inr, ◌-◌}
-use Rattle.ee_pages.specs.Sets.{first_page, other as other_of}
+use Rattle.std.proofs.Common.{inl, inr}
+use Rattle.ee_pages.specs.Sets.{other as other_of}
 use Rattle.ee_store.specs.Parts.{meant}
 use Rattle.ee_store.proofs.OtherSteps.{free_slot, put_cut, put_done}
 use Rattle.ee_store.proofs.copying.put_in.Goals as goal

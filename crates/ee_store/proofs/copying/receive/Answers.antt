@@ -1,4 +1,4 @@
-use Rattle.std.proofs.Common.{◌-◌, refl}
+use Rattle.std.proofs.Common.{refl}
 use Rattle.ee_store.proofs.OtherSteps.{receive_cut, receive_done}
 use Rattle.ee_store.proofs.copying.receive.Goals as goal
 

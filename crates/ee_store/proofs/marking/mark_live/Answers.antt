@@ -1,4 +1,4 @@
-use Rattle.std.proofs.Common.{◌<◌, ◌-◌}
+use Rattle.std.proofs.Common.{◌<◌}
 use Rattle.ee_flash.specs.Size.{page_count}
 use Rattle.ee_store.proofs.Marks.{live_mark_stays, mark_keeps_marks, marked_after, marks, page_in_device, proper_live}
 use Rattle.ee_store.proofs.marking.mark_live.Goals as goal

@@ -1,4 +1,4 @@
-use Rattle.std.proofs.Common.{◌≡◌, ◌≤◌, ◌-◌, true, ap, arith, ◌∙◌}
+use Rattle.std.proofs.Common.{◌≡◌, ◌≤◌, true, ap, arith, ◌∙◌}
 use Rattle.ee_pages.specs.Page.{is_marked}
 use Rattle.ee_pages.specs.Sets.{first_page}
 use Rattle.ee_pages.specs.declared.state.Mark.TheVariants.{Valid}

@@ -1,4 +1,4 @@
-use Rattle.std.proofs.Common.{◌<◌, ◌-◌, arith}
+use Rattle.std.proofs.Common.{◌<◌, arith}
 use Rattle.ee_flash.specs.Size.{page_count}
 use Rattle.ee_pages.specs.Sets.{other}
 use Rattle.ee_pages.specs.declared.state.Mark.TheVariants.{Erasing}

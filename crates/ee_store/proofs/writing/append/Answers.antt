@@ -1,4 +1,4 @@
-use Rattle.std.proofs.Common.{◌≡◌, ◌+◌, sym, ap, ◌∙◌}
+use Rattle.std.proofs.Common.{◌+◌, sym, ap, ◌∙◌}
 use Rattle.ee_store.proofs.KeptMarks.{appended_marked}
 use Rattle.ee_store.proofs.writing.append.Goals as goal
 

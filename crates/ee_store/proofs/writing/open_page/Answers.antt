@@ -1,4 +1,4 @@
-use Rattle.std.proofs.Common.{inl, inr, ap, ◌∙◌, ◌≡◌, ◌<◌, arith}
+use Rattle.std.proofs.Common.{inl, inr, ap, ◌∙◌, ◌<◌, arith}
 use Rattle.ee_flash.specs.Size.{Size}
 use Rattle.ee_store.proofs.OpenedPages.{first_other, next_behind, ready_already, ready_now, second_other}
 use Rattle.ee_store.proofs.writing.open_page.Goals.{then-layout-eq0-via-then-layout-eq0, then-layout-eq0-via-else-layout-eq0+then-layout-slots-ne0}

@@ -1,4 +1,4 @@
-use Rattle.std.proofs.Common.{ap, ◌∙◌, ◌≡◌}
+use Rattle.std.proofs.Common.{ap, ◌∙◌}
 use Rattle.ee_flash.specs.Size.{Size}
 use Rattle.ee_store.specs.Parts.{meant}
 use Rattle.ee_store.proofs.Appending.{cut_push_leaves, cut_push_marks, cut_push_other, free_slot_erased, on_err, push_is_taken, push_marks, push_other}

@@ -1,4 +1,4 @@
-use Rattle.std.proofs.Common.{◌≡◌, ◌<◌, ap, ◌∙◌, arith, subst}
+use Rattle.std.proofs.Common.{◌≡◌, ap, ◌∙◌, arith, subst}
 use Rattle.ee_flash.specs.Size.{slot_count}
 use Rattle.ee_store.specs.Changes.{IsFull}
 use Rattle.ee_store.specs.State.{capacity, state_of}
