@@ -152,7 +152,8 @@ fn clap_finds_the_same_jobs(rt: HostRuntime) -> Result<(), Fail> {
     for words in lines {
         let matches = table(rt.alloc())?.try_get_matches_from(words)?;
         let (name, found) = matches.subcommand().ok_or("no command")?;
-        let wanted = job(&words[1..]);
+        let (_, operands) = words.split_first().ok_or("no words")?;
+        let wanted = job(operands);
         assert!(rt; wanted.is_some());
         assert_eq!(rt; job_of(name, found), wanted);
     }
