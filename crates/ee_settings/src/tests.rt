@@ -29,10 +29,21 @@ fn schemas(rt: HostRuntime) -> Result<(), Fail> {
     Ok(())
 }
 
+// Each text has the fault beside it.
+fn assert_faults<R: Abort>(
+    rt: &R,
+    alloc: Global,
+    cases: &[(&str, SchemaFault)],
+) -> Result<(), Fail> {
+    for (text, fault) in cases {
+        assert_eq!(rt; fault_of(alloc, text)?, Some(*fault));
+    }
+    Ok(())
+}
+
 #[test]
-fn faults(rt: HostRuntime) -> Result<(), Fail> {
+fn faults_of_names(rt: HostRuntime) -> Result<(), Fail> {
     let cases = [
-        // names
         ("Volume = 1\n", SchemaFault::BadName(1)),
         ("\"\" = 1\n", SchemaFault::BadName(1)),
         ("1st = 1\n", SchemaFault::BadName(1)),
@@ -41,7 +52,13 @@ fn faults(rt: HostRuntime) -> Result<(), Fail> {
             "a_name_of_thirty_three_characters = { address = 1, min = 0, max = 0, default = 0 }\n",
             SchemaFault::BadName(1),
         ),
-        // fields
+    ];
+    assert_faults(&rt, rt.alloc(), &cases)
+}
+
+#[test]
+fn faults_of_fields(rt: HostRuntime) -> Result<(), Fail> {
+    let cases = [
         ("volume = 1\n", SchemaFault::BadField(1)),
         ("volume = [1]\n", SchemaFault::BadField(1)),
         (
@@ -64,7 +81,13 @@ fn faults(rt: HostRuntime) -> Result<(), Fail> {
             "[volume]\naddress = 1\nmin = 0\nmax = 10\n[volume.default]\nx = 5\n",
             SchemaFault::BadField(1),
         ),
-        // ranges
+    ];
+    assert_faults(&rt, rt.alloc(), &cases)
+}
+
+#[test]
+fn faults_of_ranges(rt: HostRuntime) -> Result<(), Fail> {
+    let cases = [
         (
             "volume = { address = 0, min = 0, max = 10, default = 5 }\n",
             SchemaFault::BadRange(1),
@@ -93,12 +116,19 @@ fn faults(rt: HostRuntime) -> Result<(), Fail> {
             "volume = { address = 1, min = 10, max = 0, default = 5 }\n",
             SchemaFault::BadRange(1),
         ),
-        // addresses; entries are counted by rising name, however the text has them
+    ];
+    assert_faults(&rt, rt.alloc(), &cases)
+}
+
+#[test]
+fn faults_among_entries(rt: HostRuntime) -> Result<(), Fail> {
+    let cases = [
+        // Entries are counted by rising name, however the text has them.
         (
             "volume = { address = 1, min = 0, max = 10, default = 5 }\ntone = { address = 1, min = 0, max = 10, default = 5 }\n",
             SchemaFault::SameAddress(2),
         ),
-        // the first entry with a fault, and its first fault
+        // The first entry with a fault is named, and its first fault.
         (
             "b = 1\na = { address = 1, min = 0, max = 10, default = 5 }\nC = 1\n",
             SchemaFault::BadName(1),
@@ -112,10 +142,7 @@ fn faults(rt: HostRuntime) -> Result<(), Fail> {
             SchemaFault::BadRange(2),
         ),
     ];
-    for (text, fault) in cases {
-        assert_eq!(rt; fault_of(rt.alloc(), text)?, Some(fault));
-    }
-    Ok(())
+    assert_faults(&rt, rt.alloc(), &cases)
 }
 
 #[test]
