@@ -59,6 +59,34 @@ fn says<R: Files + AllocGlobal + Input + Abort>(
     Ok(())
 }
 
+/// The report of three writes at one address, the third of which moves.
+const ONE_MOVE: &[u8] = b"ok
+ok
+moved
+end fill 1 room 1 live 1 pending 1 transfers 1
+slots 2 fill 0 live 0 writes 3
+to 3 from 0
+transfers 1
+";
+
+/// The report of a write and two reads.
+const FIRST_RUN: &[u8] = b"ok
+10
+none
+end fill 1 room 1 live 1 pending 0 transfers 0
+slots 2 fill 0 live 0 writes 1
+transfers 0
+";
+
+/// The report of two writes at one address, with one slot.
+const ONE_SLOT: &[u8] = b"ok
+moved
+end fill 1 room 0 live 1 pending 1 transfers 1
+slots 1 fill 0 live 0 writes 2
+to 2 from 0
+transfers 1
+";
+
 /// Compares the bytes of a file.
 fn holds<R: Files + AllocGlobal + Abort>(rt: &R, path: &str, bytes: &[u8]) -> Result<(), Fail> {
     assert_eq!(rt; fs::read(rt, path)?.as_slice(), bytes);
@@ -77,7 +105,7 @@ fn commands_write_their_image_and_print(rt: HostRuntime) -> Result<(), Fail> {
     )?;
     holds(&rt, "whole.image", FORMATTED)?;
     let ran: &[&str] = &["run", "whole.image", "whole.script"];
-    says(&rt, ran, 0, b"ok\nok\nmoved\n", b"")?;
+    says(&rt, ran, 0, ONE_MOVE, b"")?;
     holds(&rt, "whole.image", MOVED)?;
     let states = b"page 0 ERASING\npage 1 ACTIVE\n";
     says(&rt, &["states", "whole.image"], 0, states, b"")?;
@@ -94,11 +122,11 @@ fn standard_input_is_tried(rt: HostRuntime) -> Result<(), Fail> {
     let mut desk = Desk::new(&rt);
     desk.input = b"w 1 10\nr 1\nr 2\n";
     assert_eq!(rt; desk.run(&[])?, 0);
-    assert_eq!(rt; desk.written().0.as_slice(), b"ok\n10\nnone\n".as_slice());
+    assert_eq!(rt; desk.written().0.as_slice(), FIRST_RUN);
     let mut desk = Desk::new(&rt);
     desk.input = b"w 1 1\nw 1 2\n";
     assert_eq!(rt; desk.run(&["try", "1", "5"])?, 0);
-    assert_eq!(rt; desk.written().0.as_slice(), b"ok\nmoved\n".as_slice());
+    assert_eq!(rt; desk.written().0.as_slice(), ONE_SLOT);
     Ok(())
 }
 
