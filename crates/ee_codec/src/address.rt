@@ -43,3 +43,14 @@ impl Address {
         self.number
     }
 }
+
+impl Default for Address {
+    ghost use Rattle.std.specs.Prelude.{◌≡◌};
+
+    ghost is_default = { λ address. address ≡ 1 };
+
+    /// The least address, 1.
+    fn default() -> Address {
+        Address { number: 1 }
+    }
+}

@@ -10,6 +10,7 @@
 //! every outcome of a step keeps. Nothing here takes memory.
 #![tactic(auto)]
 
+mod batch;
 mod find;
 pub mod laws;
 mod marking;
@@ -20,6 +21,7 @@ mod table;
 #[cfg(test)]
 mod tests;
 
+pub use batch::{LiveBatch, next_batch};
 pub use find::{Layout, ScanFault, scan};
 pub use marking::mark;
 pub use read::{latest, live_count, next_live, slot_word};
