@@ -17,3 +17,4 @@ pub mod LiveSteps
 pub mod FillingSteps
 pub mod BlankPages
 pub mod LiveCounts
+pub mod Nearest

@@ -7,3 +7,4 @@ pub mod Laws
 pub mod Pushing
 pub mod Filling
 pub mod Pending
+pub mod Nearest

@@ -1,0 +1,52 @@
+-- The addresses of which slots say something, gathered slot by slot into a list by rising address.
+use Rattle.std.specs.Prelude.{◌≡◌, ◌<◌, ◌≤◌, ◌==◌, ℕ, nat_lt, if◌then◌else◌, Option, Some, None, List, [], ◌∷◌, zero, suc}
+use Rattle.ee_flash.specs.declared.word.Word.{Word}
+use Rattle.ee_codec.specs.Reading.{slot_of}
+use Rattle.ee_codec.specs.declared.slot.Slot.{Slot}
+use Rattle.ee_codec.specs.declared.slot.Slot.TheVariants.{Free, Spoiled, Element, Forgotten, Foreign}
+
+-- an address, with what a slot says of it: that it has a value, or none
+abbrev pub Named : Type 0
+Named = ℕ × Option ℕ
+
+-- the address of which a slot says something
+abbrev pub slot_names : Slot → Option Named
+slot_names (Element address value) = Some (address, Some value)
+slot_names (Forgotten address value) = Some (address, None)
+slot_names Free = None
+slot_names Spoiled = None
+slot_names Foreign = None
+
+-- each address is above the one before it
+abbrev pub IsRising : ℕ → List Named → Type 0
+IsRising above [] = Unit {0}
+IsRising above (first ∷ rest) = (above < first.0) × IsRising first.0 rest
+
+-- so many addresses of the list are below this one, and the next one isn't
+abbrev pub IsPlace : ℕ → List Named → ℕ → Type 0
+IsPlace address [] place = place ≡ 0
+IsPlace address (first ∷ rest) zero = address ≤ first.0
+IsPlace address (first ∷ rest) (suc place) = (first.0 < address) × IsPlace address rest place
+
+-- the list with what is said of an address, in the place of what it had of it
+abbrev pub noted : Named → List Named → List Named
+noted new [] = new ∷ []
+noted new (first ∷ rest) =
+    if nat_lt new.0 first.0 then new ∷ first ∷ rest
+    else (if new.0 == first.0 then new ∷ rest else first ∷ noted new rest)
+
+-- the same, if it is said of an address above this one
+abbrev pub noted_above : ℕ → Option Named → List Named → List Named
+noted_above above None list = list
+noted_above above (Some new) list = if nat_lt above new.0 then noted new list else list
+
+-- the list with what each of these words says of an address above this one, in their order
+abbrev pub gathered : ℕ → List Word → List Named → List Named
+gathered above [] list = list
+gathered above (word ∷ words) list = gathered above words (noted_above above (slot_names (slot_of word)) list)
+
+-- those that have a value
+abbrev pub living : List Named → List (ℕ × ℕ)
+living [] = []
+living ((address, Some value) ∷ rest) = (address, value) ∷ living rest
+living ((address, None) ∷ rest) = living rest
