@@ -1,4 +1,4 @@
-ghost use Rattle.std.specs.Prelude.{◌≡◌, ◌<◌, IfSome, slice_index_or};
+ghost use Rattle.std.specs.Prelude.{◌≡◌, ◌<◌, ◌+◌, ◌-◌, ◌*◌, IfSome, slice_index_or};
 ghost use Rattle.ee_codec.specs.Words.{IsGeneration};
 ghost use Rattle.ee_flash.specs.Size.{slot_count};
 ghost use Rattle.ee_pages.specs.Sets.{committed as commits, first_page as first, other as other_of, set_of, slots_of, word_of};
@@ -50,13 +50,23 @@ pub(crate) fn set_word<F: Flash>(flash: &F, side: Side, page: usize, at: usize) 
     flash.word(first_page(flash, side) + page, at)
 }
 
+// The slot of this number of a page of a set, both counted from 0.
+pub(crate) fn page_slot<F: Flash>(flash: &F, side: Side, page: usize, slot: usize) -> Word
+    requires page_in_range { page < (F.device flash.now).size.pages }
+    requires slot_in_range { slot < (F.device flash.now).size.words - 4 }
+    ensures { let slots = slots_of (set_of side (F.device flash.now)) in
+        result ≡ slice_index_or slots (page * ((F.device flash.now).size.words - 4) + slot) Word.Erased }
+{
+    set_word(flash, side, page, 4 + slot)
+}
+
 // The slot of this number of a set, counted from 0.
 pub(crate) fn set_slot<F: Flash>(flash: &F, side: Side, slot: usize) -> Word
     requires { slot < slot_count (F.device flash.now).size }
     ensures { result ≡ slice_index_or (slots_of (set_of side (F.device flash.now))) slot Word.Erased }
 {
     let slots = flash.shape().words() - 4;
-    set_word(flash, side, slot / slots, 4 + slot % slots)
+    page_slot(flash, side, slot / slots, slot % slots)
 }
 
 // The generation with which a set is committed.
