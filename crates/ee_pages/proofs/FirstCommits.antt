@@ -17,7 +17,7 @@ use Rattle.ee_pages.specs.Sets.{committed, first_page, live_of, other, set_of, s
 use Rattle.ee_pages.specs.declared.side.Side.{Side}
 use Rattle.ee_pages.specs.declared.side.Side.TheVariants.{First, Second}
 use Rattle.ee_pages.specs.declared.state.Mark.TheVariants.{Active}
-use Rattle.ee_pages.proofs.Commits.{first_in_range, in_other_set, mark_allowed, marked, marked_commits, set_marked}
+use Rattle.ee_pages.proofs.Commits.{in_other_set, mark_allowed, marked, marked_commits, set_marked}
 use Rattle.ee_pages.proofs.OtherSet.{same_set}
 use Rattle.ee_pages.proofs.OwnSet.{header_word, page_of_set}
 use Rattle.ee_pages.proofs.Slots.{length-page_at, length-set_of}

@@ -1,13 +1,18 @@
 -- Lists of named addresses, and the live ones among them.
-use Rattle.std.proofs.Common.{◌≡◌, inl, inr, ℕ, ◌+◌, ◌-◌, ◌<◌, ◌≤◌, true, false, Bool, Option, Some, None, List, [], ◌∷◌, ◌++◌, length, take, drop, get_or, cond, ◌⊎◌, refl, sym, subst, ap, ◌∙◌, arith, suc, zero}
-use Rattle.std.specs.Prelude.{◌==◌, nat_lt}
+use Rattle.std.proofs.Common.{◌≡◌, inl, inr, ℕ, ◌+◌, ◌-◌, ◌*◌, ◌<◌, ◌≤◌, true, false, Bool, Option, Some, None, List, [], ◌∷◌, ◌++◌, length, take, drop, get_or, set, cond, ◌⊎◌, refl, sym, subst, ap, ◌∙◌, arith, suc, zero}
+use Rattle.std.proofs.Math.Nat.{min-le_left, mul-le-mul_right}
+use Rattle.std.proofs.Math.Seq.{take-append_seam}
+use Rattle.std.proofs.lemmas.List.{length-set, length-take, take_all, take_more}
+use Rattle.std.specs.List.{insert, refill}
+use Rattle.std.specs.Prelude.{◌==◌, IfNone, IfSome, nat_lt, slice_set}
 use Rattle.std.proofs.lemmas.Bool.{cases_lt, cases_eq, eq-eqb, ne_eqb, lt-ltb, le-ltb}
 use Rattle.ee_codec.specs.Reading.{slot_of}
 use Rattle.ee_codec.specs.declared.slot.Slot.{Slot}
 use Rattle.ee_codec.specs.declared.slot.Slot.TheVariants.{Free, Spoiled, Element, Forgotten, Foreign}
 use Rattle.ee_flash.specs.declared.word.Word.{Word}
-use Rattle.ee_pages.specs.Meaning.{AreNextLive, IsNextLive, IsNoneLive, last_of, later, latest_in, meaning, says, slot_says, value_said}
-use Rattle.ee_pages.specs.Nearest.{IsPlace, IsRising, Named, gathered, living, noted, noted_above, slot_names}
+use Rattle.ee_flash.specs.declared.word.Word.TheVariants.{Erased}
+use Rattle.ee_pages.specs.Meaning.{AreLiveThrough, AreNextLive, IsNoneLive, last_of, later, latest_in, meaning, says, slot_says, value_said}
+use Rattle.ee_pages.specs.Nearest.{IsPlace, IsRising, Named, gathered, last_named, living, noted, noted_above, slot_names}
 
 -- what a list says of an address
 abbrev pub said_in : List Named → ℕ → Option (Option ℕ)
@@ -159,11 +164,6 @@ nothing_below above [] address rising h = refl
 nothing_below above (first ∷ rest) address rising h =
     said-rest first rest address (λ e. omega (arith, rising.0)) ∙ nothing_below first.0 rest address rising.1 (omega (arith, rising.0))
 
--- the last address of a list, or this one where there is none
-abbrev pub last_named : ℕ → List Named → ℕ
-last_named above [] = above
-last_named above (first ∷ rest) = last_named first.0 rest
-
 last_named-above : (n above : ℕ) (list : List Named) → IsRising above list → above ≤ last_named above (take n list)
 last_named-above zero above list rising = omega arith
 last_named-above (suc n) above [] rising = omega arith
@@ -199,9 +199,9 @@ module _ (words : List Word) where
     | inr less ↦ none address low less
     | inl more ↦
         ap value_said (
-          sym (held address more)
-          ∙ said-rest first rest address (λ e. omega (arith, e))
-          ∙ nothing_below first.0 rest address rising.1 (omega arith)
+        sym (held address more)
+        ∙ said-rest first rest address (λ e. omega (arith, e))
+        ∙ nothing_below first.0 rest address rising.1 (omega arith)
         )
   ]
 
@@ -241,3 +241,138 @@ module _ (words : List Word) where
         rest = after.rest;
         all = λ h. after.all (omega (arith, h));
       }
+
+first_below : (first : Named) (rest : List Named) (address place : ℕ) (default : Named) → IsRising first.0 rest → place ≤ length rest → (get_or (first ∷ rest) place default).0 < address → first.0 < address
+first_below first rest address zero default rising within last = last
+first_below first (second ∷ rest) address (suc place) default rising within last =
+    let more = first_below second rest address place default rising.1 (omega arith) last in
+    omega (arith, rising.0)
+first_below first [] address (suc place) default rising within last = absurd (omega (arith, within))
+
+nothing : (n : ℕ) (new : Named) → insert (take n []) 0 new ≡ take (suc n) (new ∷ [])
+nothing zero new = refl
+nothing (suc n) new = refl
+
+-- the address in its place
+pub place_is : (list : List Named) (above address place : ℕ) (default : Named) → IsRising above list → place ≤ length list → (place < length list → address ≤ (get_or list place default).0) → (0 < place → (get_or list (place - 1) default).0 < address) → IsPlace address list place
+place_is [] above address place default rising within high low = omega (arith, within)
+place_is (first ∷ rest) above address zero default rising within high low = high (omega arith)
+place_is (first ∷ rest) above address (suc place) default rising within high low =
+    let one_less : suc place - 1 ≡ place = omega arith in
+    let last : (get_or (first ∷ rest) place default).0 < address = subst (λ k. (get_or (first ∷ rest) k default).0 < address) one_less (low (omega arith)) in (
+      first_below first rest address place default rising.1 (omega arith) last,
+      place_is rest first.0 address place default rising.1 (omega arith) (λ h. high (omega arith)) (λ some. let e : place ≡ suc (place - 1) = omega arith in subst (λ k. (get_or (first ∷ rest) k default).0 < address) e last),
+    )
+
+-- over what was noted of it
+pub put_same : (list : List Named) (new : Named) (place : ℕ) (default : Named) → IsPlace new.0 list place → place < length list → (get_or list place default).0 ≡ new.0 → set list place new ≡ noted new list
+put_same [] new place default at within same = absurd (omega (arith, within))
+put_same (first ∷ rest) new zero default at within same = sym (here new first rest (sym same))
+put_same (first ∷ rest) new (suc place) default at within same = rw (behind new first rest at.0) (ap (λ (l : List Named). first ∷ l) (put_same rest new place default at.1 (omega arith) same))
+
+-- where nothing was noted of it
+pub put_new : (n : ℕ) (list : List Named) (new : Named) (place : ℕ) (default : Named) → IsPlace new.0 list place → place ≤ n → (place < length list → (get_or list place default).0 ≡ new.0 → ⊥) → insert (take n list) place new ≡ take (suc n) (noted new list)
+put_new n [] new place default at within other = rw at (nothing n new)
+put_new n (first ∷ rest) new zero default at within other =
+    let apart : new.0 ≡ first.0 → ⊥ = λ e. other (omega arith) (sym e) in
+    rw (before new first rest (omega (arith, at, apart))) refl
+put_new zero (first ∷ rest) new (suc place) default at within other = absurd (omega (arith, within))
+put_new (suc n) (first ∷ rest) new (suc place) default at within other =
+    rw (behind new first rest at.0) (ap (λ (l : List Named). first ∷ l) (put_new n rest new place default at.1 (omega arith) (λ h. other (omega arith))))
+
+-- where all are below it
+pub put_behind : (list : List Named) (new : Named) → IsPlace new.0 list (length list) → take (length list) (noted new list) ≡ list
+put_behind [] new at = refl
+put_behind (first ∷ rest) new at = rw (behind new first rest at.0) (ap (λ (l : List Named). first ∷ l) (put_behind rest new at.1))
+
+pub rising-take : (n above : ℕ) (list : List Named) → IsRising above list → IsRising above (take n list)
+rising-take zero above list rising = tt
+rising-take (suc n) above [] rising = tt
+rising-take (suc n) above (first ∷ rest) rising = (rising.0, rising-take n first.0 rest rising.1)
+
+-- one address more
+pub living-append : (list : List Named) (address : ℕ) (said : Option ℕ) → living (list ++ (address, said) ∷ []) ≡ living list ++ living ((address, said) ∷ [])
+living-append [] address said = refl
+living-append ((first, Some value) ∷ rest) address said = ap (λ (l : List (ℕ × ℕ)). (first, value) ∷ l) (living-append rest address said)
+living-append ((first, None) ∷ rest) address said = living-append rest address said
+
+-- the same, as the two ways to put it leave a list of 64 at most
+pub put_over : (list : List Named) (new : Named) (place : ℕ) (default : Named) → IsPlace new.0 list place → place < length list → (get_or list place default).0 ≡ new.0 → length list ≤ 64 → refill (length list) list (slice_set list place new) ≡ take 64 (noted new list)
+put_over list new place default at within same few =
+    let over = put_same list new place default at within same in
+    let long : length (set list place new) ≡ length list = length-set list place new in
+    let short : length (noted new list) ≤ 64 = subst (λ (l : List Named). length l ≤ 64) over (omega (arith, long)) in
+    ap (λ n. take n (set list place new ++ drop (length (set list place new)) list)) (sym long)
+    ∙ take-append_seam (set list place new) (drop (length (set list place new)) list)
+    ∙ over
+    ∙ sym (take_all 64 (noted new list) short)
+
+-- nothing is noted
+pub kept_none : (above : ℕ) (named : Option Named) (list : List Named) → length list ≤ 64 → named ≡ None → list ≡ take 64 (noted_above above named list)
+kept_none above named list few none = rw none (sym (take_all 64 list few))
+
+pub kept_below : (above : ℕ) (new : Named) (list : List Named) → length list ≤ 64 → new.0 ≤ above → list ≡ take 64 (noted_above above (Some new) list)
+kept_below above new list few low = rw (le-ltb above new.0 low) (sym (take_all 64 list few))
+
+-- where there is no room behind the others
+pub kept_full : (above : ℕ) (new : Named) (list : List Named) (place : ℕ) → length list ≤ 64 → above < new.0 → IsPlace new.0 list place → place ≤ length list → 64 ≤ place → list ≡ take 64 (noted_above above (Some new) list)
+kept_full above new list place few high at within full =
+    let same : place ≡ length list = omega arith in
+    let all : length list ≡ 64 = omega arith in
+    rw (lt-ltb above new.0 high) (sym (ap (λ n. take n (noted new list)) (sym all) ∙ put_behind list new (subst (λ n. IsPlace new.0 list n) same at)))
+
+pub put_above : (above : ℕ) (new : Named) (list after : List Named) → above < new.0 → after ≡ take 64 (noted new list) → after ≡ take 64 (noted_above above (Some new) list)
+put_above above new list after high put = rw (lt-ltb above new.0 high) put
+
+-- what is gathered rises, and is no more than 64
+pub rising_of : (above : ℕ) (words : List Word) (list : List Named) → list ≡ take 64 (gathered above words []) → IsRising above list
+rising_of above words list e = subst (λ (l : List Named). IsRising above l) (sym e) (rising-take 64 above (gathered above words []) (rising-gathered above words [] tt))
+
+pub few_of : (above : ℕ) (words : List Word) (list : List Named) → list ≡ take 64 (gathered above words []) → length list ≤ 64
+few_of above words list e = let long = length-take 64 (gathered above words []) in omega (arith, ap length e, min-le_left 64 (length (gathered above words [])))
+
+-- one slot more
+pub one_slot : (above : ℕ) (slots : List Word) (slot : ℕ) (word : Word) (named : Option Named) (list after : List Named) → slot < length slots → word ≡ get_or slots slot Erased → named ≡ slot_names (slot_of word) → list ≡ take 64 (gathered above (take slot slots) []) → after ≡ take 64 (noted_above above named list) → after ≡ take 64 (gathered above (take (slot + 1) slots) [])
+one_slot above slots slot word named list after within is names before noted =
+    let start = gathered above (take slot slots) [] in
+    let said = slot_names (slot_of (get_or slots slot Erased)) in
+    noted
+    ∙ ap (λ (new : Option Named). take 64 (noted_above above new list)) (names ∙ ap (λ (w : Word). slot_names (slot_of w)) is)
+    ∙ ap (λ (l : List Named). take 64 (noted_above above said l)) before
+    ∙ few-noted_above 64 above said start
+    ∙ ap (take 64) (sym (gathered-append above (take slot slots) (get_or slots slot Erased ∷ []) []))
+    ∙ ap (λ (words : List Word). take 64 (gathered above words [])) (sym (take_more slots slot Erased within))
+
+-- a slot of a page of a set is one of the set's
+pub in_set : (page pages slots slot : ℕ) → page < pages → slot < slots → page * slots + slot < pages * slots
+in_set page pages slots slot below few =
+    let most : suc page * slots ≤ pages * slots = mul-le-mul_right {m = suc page} {n = pages} slots (omega arith) in
+    omega (arith, most)
+
+-- the last of a list that has some
+pub last_is : (list : List Named) (above : ℕ) (default : Named) → 0 < length list → (get_or list (length list - 1) default).0 ≡ last_named above list
+last_is [] above default some = absurd (omega (arith, some))
+last_is (first ∷ []) above default some = refl
+last_is (first ∷ second ∷ rest) above default some =
+    let one_less : length (first ∷ second ∷ rest) - 1 ≡ suc (length (second ∷ rest) - 1) = omega arith in
+    ap (λ k. (get_or (first ∷ second ∷ rest) k default).0) one_less ∙ last_is (second ∷ rest) first.0 default (omega arith)
+
+later-none : (said : Option (Option ℕ)) → later None said ≡ said
+later-none None = refl
+later-none (Some said) = refl
+
+through_is : (slots : List Word) (above : ℕ) (all : List Named) (through : Option ℕ) → IsRising above all → AreNext slots above above 64 all → IfNone through (length (take 64 all) < 64) → IfSome through (λ last. length (take 64 all) ≡ 64) → IfSome through (λ last. last ≡ last_named above (take 64 all)) → AreLiveThrough (meaning slots) above (living (take 64 all)) through
+through_is slots above all None rising next none full last = record { next = next.next; rest = next.all none; further = full }
+through_is slots above all (Some through) rising next none full last = record {
+  next = next.next;
+  rest = subst (λ n. IsNoneLive (meaning slots) (last_of above (living (take 64 all))) (Some n)) (sym last) next.rest;
+  further = let far = last_named-further 64 above all rising (omega (arith, full)) in omega (arith, last);
+}
+
+-- so the living ones of the first 64 gathered are the next live addresses
+pub batch_is : (slots : List Word) (above : ℕ) (list : List Named) (through : Option ℕ) → list ≡ take 64 (gathered above slots []) → IfNone through (length list < 64) → IfSome through (λ last. length list ≡ 64) → IfSome through (λ last. last ≡ last_named above list) → AreLiveThrough (meaning slots) above (living list) through
+batch_is slots above list through e none full last =
+    let all = gathered above slots [] in
+    let rising = rising-gathered above slots [] tt in
+    let next = are_next slots above above 64 all (omega arith) (λ k more less. absurd (omega arith)) (λ k more. said_in-gathered above slots [] k more ∙ later-none (latest_in slots k)) rising in
+    rw e (through_is slots above all through rising next (rw e at none) (rw e at full) (rw e at last))

@@ -50,3 +50,8 @@ abbrev pub living : List Named → List (ℕ × ℕ)
 living [] = []
 living ((address, Some value) ∷ rest) = (address, value) ∷ living rest
 living ((address, None) ∷ rest) = living rest
+
+-- the last address of a list, or this one where there is none
+abbrev pub last_named : ℕ → List Named → ℕ
+last_named above [] = above
+last_named above (first ∷ rest) = last_named first.0 rest

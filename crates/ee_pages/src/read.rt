@@ -1,8 +1,10 @@
 ghost use Rattle.std.specs.Prelude.{◌≡◌, ◌<◌, ◌∷◌, ℕ, IfSome, List, slice_index_or};
+ghost use Rattle.ee_codec.specs.Reading.{slot_of};
 ghost use Rattle.ee_codec.specs.Words.{IsAddress};
 ghost use Rattle.ee_flash.specs.Size.{slot_count};
 ghost use Rattle.ee_pages.specs.Layout.{IsLayout};
 ghost use Rattle.ee_pages.specs.Meaning.{IsNextLive, IsNextNamed, Names, above_of, live_in, meaning, says as word_says};
+ghost use Rattle.ee_pages.specs.Nearest.{slot_names};
 ghost use Rattle.ee_pages.specs.Sets.{set_of, slots_of};
 
 use crate::find::Layout;
@@ -103,8 +105,9 @@ fn next_named<F: Flash>(flash: &F, layout: &Layout, above: u16) -> Option<(Addre
 }
 
 // The address of which a word says something, with what it says.
-fn named(word: Word) -> Option<(Address, Option<u32>)>
-    ensures { Names word result }
+pub(crate) fn named(word: Word) -> Option<(Address, Option<u32>)>
+    ensures names { Names word result }
+    ensures exact { result ≡ slot_names (slot_of word) }
 {
     match read_slot(word) {
         Slot::Element { address, value } => Some((address, Some(value))),

@@ -27,5 +27,5 @@ slots-preserved g c =
     slots_from device c.args.layout.now c.requires slot below ∙ ap (λ n. get_or slots slot Erased ∷ drop n slots) same ∙ ap (λ (word : Word). word ∷ drop c.slots.slot slots) (sym c.slot_word.ensures) in
     record {
       within = omega arith;
-      next = subst (λ (words : List Word). IsNextNamed words c.args.above c.nearer-next.result) (sym words) (c.nearer-next.ensures c.slot_word.result (drop c.slots.slot slots) c.named.ensures c.slots.invariant.next);
+      next = subst (λ (words : List Word). IsNextNamed words c.args.above c.nearer-next.result) (sym words) (c.nearer-next.ensures c.slot_word.result (drop c.slots.slot slots) c.named.ensures.names c.slots.invariant.next);
     }
