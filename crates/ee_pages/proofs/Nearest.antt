@@ -370,9 +370,20 @@ through_is slots above all (Some through) rising next none full last = record {
 }
 
 -- so the living ones of the first 64 gathered are the next live addresses
-pub batch_is : (slots : List Word) (above : ℕ) (list : List Named) (through : Option ℕ) → list ≡ take 64 (gathered above slots []) → IfNone through (length list < 64) → IfSome through (λ last. length list ≡ 64) → IfSome through (λ last. last ≡ last_named above list) → AreLiveThrough (meaning slots) above (living list) through
+batch_is : (slots : List Word) (above : ℕ) (list : List Named) (through : Option ℕ) → list ≡ take 64 (gathered above slots []) → IfNone through (length list < 64) → IfSome through (λ last. length list ≡ 64) → IfSome through (λ last. last ≡ last_named above list) → AreLiveThrough (meaning slots) above (living list) through
 batch_is slots above list through e none full last =
     let all = gathered above slots [] in
     let rising = rising-gathered above slots [] tt in
     let next = are_next slots above above 64 all (omega arith) (λ k more less. absurd (omega arith)) (λ k more. said_in-gathered above slots [] k more ∙ later-none (latest_in slots k)) rising in
     rw e (through_is slots above all through rising next (rw e at none) (rw e at full) (rw e at last))
+
+-- behind the last page there is no slot
+pub all_gathered : (above : ℕ) (slots : List Word) (page pages size : ℕ) (list : List Named) → list ≡ take 64 (gathered above (take (page * size) slots) []) → page ≡ pages → length slots ≡ pages * size → list ≡ take 64 (gathered above slots [])
+all_gathered above slots page pages size list gathers end long =
+    let all : take (page * size) slots ≡ slots = ap (λ n. take (n * size) slots) end ∙ take_all (pages * size) slots (omega (arith, long)) in
+    gathers ∙ ap (λ (words : List Word). take 64 (gathered above words [])) all
+
+-- the same, as the parts of a batch are made
+pub batch_from : (slots : List Word) (above start : ℕ) (list items : List Named) (through : Option ℕ) → list ≡ items → items ≡ take 64 (gathered start slots []) → start ≡ above → IfNone through (length list < 64) → IfSome through (λ last. length list ≡ 64) → IfSome through (λ last. last ≡ last_named above list) → AreLiveThrough (meaning slots) above (living list) through
+batch_from slots above start list items through same gathers begins none full last =
+    batch_is slots above list through (same ∙ gathers ∙ ap (λ n. take 64 (gathered n slots [])) begins) none full last
