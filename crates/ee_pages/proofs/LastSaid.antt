@@ -1,7 +1,9 @@
 -- What the last slots say.
-use Rattle.std.proofs.Common.{◌≡◌, ℕ, ◌+◌, ◌<◌, ◌≤◌, Option, Some, None, false, List, [], ◌∷◌, length, drop, get_or, refl, sym, ap, ◌∙◌, arith, suc, zero}
+use Rattle.std.proofs.Common.{◌≡◌, ℕ, ◌+◌, ◌-◌, ◌*◌, ◌%◌, ◌<◌, ◌≤◌, Option, Some, None, false, List, [], ◌∷◌, length, take, drop, ◌++◌, get_or, refl, sym, ap, ◌∙◌, arith, suc, zero}
+use Rattle.std.proofs.Math.Nat.{div-mul-le_self}
 use Rattle.std.proofs.Math.Seq.{drop-cons}
-use Rattle.std.proofs.lemmas.List.{get_or-drop}
+use Rattle.std.proofs.lemmas.List.{drop_all, get_or-drop, get_or-take, length-drop, length-take, length-take-le}
+use Rattle.std.proofs.lemmas.Simd.{chunk-drop}
 use Rattle.std.proofs.lemmas.List.Sums.{prefix_len-le-length}
 use Rattle.ee_flash.specs.Device.{Device}
 use Rattle.ee_flash.specs.Size.{slot_count}
@@ -10,10 +12,10 @@ use Rattle.ee_flash.specs.declared.word.Word.TheVariants.{Erased, Held, Torn}
 use Rattle.ee_pages.specs.Layout.{IsLayout}
 use Rattle.ee_pages.specs.Meaning.{later, latest_in, says}
 use Rattle.ee_pages.specs.Page.{is_written}
-use Rattle.ee_pages.specs.Sets.{front, set_of, slots_of}
+use Rattle.ee_pages.specs.Sets.{first_page, front, page_of_slot, set_of, slots_of}
 use Rattle.ee_pages.specs.declared.find.Layout.{Layout}
 use Rattle.ee_pages.proofs.Legal.{fill-front, slots_behind}
-use Rattle.ee_pages.proofs.Slots.{length-slots}
+use Rattle.ee_pages.proofs.Slots.{length-slots, page_in_range, slot_below, split_by}
 
 -- an erased word says nothing
 says-erased : (word : Word) (address : ℕ) → is_written word ≡ false → says word address ≡ None
@@ -36,6 +38,54 @@ pub latest_in-step : (slot : ℕ) (words : List Word) (address : ℕ) → slot <
 latest_in-step slot words address h =
     let e : slot + 1 ≡ suc slot = omega arith in
     rw (e, drop-cons words slot Erased h) refl
+
+-- what is said of an address in two parts, one behind the other
+later-none : (said : Option (Option ℕ)) → later None said ≡ said
+later-none None = refl
+later-none (Some said) = refl
+
+later-later : (first second third : Option (Option ℕ)) → later first (later second third) ≡ later (later first second) third
+later-later first second None = refl
+later-later first second (Some said) = refl
+
+pub latest_in-append : (words more : List Word) (address : ℕ) → latest_in (words ++ more) address ≡ later (latest_in words address) (latest_in more address)
+latest_in-append [] more address = sym (later-none (latest_in more address))
+latest_in-append (word ∷ words) more address =
+    ap (later (says word address)) (latest_in-append words more address)
+    ∙ later-later (says word address) (latest_in words address) (latest_in more address)
+
+-- behind the first words nothing of them is left
+pub latest_in-behind : (count : ℕ) (words : List Word) (address : ℕ) → latest_in (drop count (take count words)) address ≡ None
+latest_in-behind count words address = ap (λ words. latest_in words address) (drop_all count (take count words) (simp length-take (omega arith)))
+
+-- some words in a row, where those behind them say nothing
+pub latest_in-row : (start end : ℕ) (words : List Word) (address : ℕ) → start ≤ end → latest_in (drop end words) address ≡ None → latest_in (drop start words) address ≡ latest_in (take (end - start) (drop start words)) address
+latest_in-row start end words address h silent =
+    let e : start + (end - start) ≡ end = omega arith in
+    ap (λ words. latest_in words address) (chunk-drop start (end - start) words)
+    ∙ latest_in-append (take (end - start) (drop start words)) (drop (start + (end - start)) words) address
+    ∙ ap (λ n. later (latest_in (take (end - start) (drop start words)) address) (latest_in (drop n words) address)) e
+    ∙ ap (later (latest_in (take (end - start) (drop start words)) address)) silent
+
+module _ (start count : ℕ) (words : List Word) (address : ℕ) (within : start + count ≤ length words) where
+  length-row : length (take count (drop start words)) ≡ count
+  length-row = length-take-le count (drop start words) (simp length-drop (omega arith))
+
+  get_or-row : (slot : ℕ) → slot < count → get_or (take count (drop start words)) slot Erased ≡ get_or words (start + slot) Erased
+  get_or-row slot h = get_or-take count (drop start words) slot Erased h ∙ get_or-drop start words slot Erased
+
+  -- one word of the row more, where `left` were not yet looked at
+  pub one_lower : (left : ℕ) → 0 < left → left ≤ count → latest_in (drop left (take count (drop start words))) address ≡ None → latest_in (drop (left - 1) (take count (drop start words))) address ≡ says (get_or words (start + (left - 1)) Erased) address
+  one_lower left some h silent =
+      let e : left - 1 + 1 ≡ left = omega arith in
+      latest_in-step (left - 1) (take count (drop start words)) address (omega (arith, length-row))
+      ∙ ap (λ n. later (says (get_or (take count (drop start words)) (left - 1) Erased) address) (latest_in (drop n (take count (drop start words))) address)) e
+      ∙ ap (later (says (get_or (take count (drop start words)) (left - 1) Erased) address)) silent
+      ∙ ap (λ (word : Word). says word address) (get_or-row (left - 1) (omega arith))
+
+  -- what the last word of the row that says something says
+  pub newest : (left : ℕ) (said : Option ℕ) → 0 < left → left ≤ count → latest_in (drop left (take count (drop start words))) address ≡ None → says (get_or words (start + (left - 1)) Erased) address ≡ Some said → latest_in (take count (drop start words)) address ≡ Some said
+  newest left said some h silent e = latest_in-drop (left - 1) (take count (drop start words)) address said (one_lower left some h silent ∙ e)
 
 module _ (device : Device) (layout : Layout) (found : IsLayout device layout) where
   -- the layout's fill is how many slots stand before the first erased one
@@ -61,12 +111,18 @@ module _ (device : Device) (layout : Layout) (found : IsLayout device layout) wh
       let e : slot + 1 ≡ suc slot = omega arith in
       rw e (drop-cons slots slot Erased within)
 
-  -- one slot more, from the last one down
-  pub one_lower : (slot address : ℕ) → slot < layout.fill → latest_in (drop (slot + 1) (slots_of (set_of layout.side device))) address ≡ None → latest_in (drop slot (slots_of (set_of layout.side device))) address ≡ says (get_or (slots_of (set_of layout.side device)) slot Erased) address
-  one_lower slot address h silent =
-      latest_in-step slot (slots_of (set_of layout.side device)) address (omega (arith, fill_within, length-slots layout.side device found.live.formed))
-      ∙ ap (later (says (get_or (slots_of (set_of layout.side device)) slot Erased) address)) silent
+  -- the page of the last written slot, within its set
+  pub last_page : (first : ℕ) → first ≡ first_page device.size layout.side → layout.current - first ≡ page_of_slot device.size (layout.fill - 1)
+  last_page first e = omega (arith, found.current)
 
-  -- what the last slot that says something says
-  pub newest : (slot address : ℕ) (said : Option ℕ) → slot < layout.fill → latest_in (drop (slot + 1) (slots_of (set_of layout.side device))) address ≡ None → says (get_or (slots_of (set_of layout.side device)) slot Erased) address ≡ Some said → latest_in (slots_of (set_of layout.side device)) address ≡ Some said
-  newest slot address said h silent e = latest_in-drop slot (slots_of (set_of layout.side device)) address said (one_lower slot address h silent ∙ e)
+  pub last_in_range : page_of_slot device.size (layout.fill - 1) < device.size.pages
+  last_in_range = page_in_range device (layout.fill - 1) (slot_below device layout.fill found.live.formed fill_within)
+
+  pub last_from : page_of_slot device.size (layout.fill - 1) * (device.size.words - 4) ≤ layout.fill
+  last_from = omega (arith, div-mul-le_self (layout.fill - 1) (device.size.words - 4))
+
+  pub last_to : layout.fill ≤ (page_of_slot device.size (layout.fill - 1) + 1) * (device.size.words - 4)
+  last_to =
+      let some : 0 < device.size.words - 4 = omega (arith, found.live.formed.within_limits.some_words) in
+      let within : (layout.fill - 1) % (device.size.words - 4) < device.size.words - 4 = omega (arith, some) in
+      omega (arith, within, split_by (layout.fill - 1) (device.size.words - 4))

@@ -5,7 +5,7 @@ use Rattle.std.proofs.lemmas.List.{length-take-le, length-drop, length-append, g
 use Rattle.std.proofs.lemmas.List.Concat.{get_or-flat_map}
 use Rattle.std.proofs.lemmas.List.Elements.{All-take, All-drop, All-get_or}
 use Rattle.std.proofs.lemmas.Nat.{row-Below}
-use Rattle.std.proofs.Math.Nat.{div-add-mod, mul-le-mul_left}
+use Rattle.std.proofs.Math.Nat.{div-add-mod, mul-le-mul_left, mul-le-mul_right}
 use Rattle.std.proofs.lemmas.List.Elements.{All-from_get_or}
 use Rattle.std.proofs.lemmas.List.Folds.{list_any_none}
 use Rattle.std.specs.Prelude.{not, true, false}
@@ -83,6 +83,12 @@ length-page_at device page formed h = All-get_or (λ page. length page ≡ devic
 
 pub length-slots : (side : Side) (device : Device) → IsFormed device → length (slots_of (set_of side device)) ≡ slot_count device.size
 length-slots side device formed = length-slots_of device.size.words (set_of side device) (pages-set_of side device formed) ∙ ap (λ n. n * (device.size.words - 4)) (length-set_of side device formed)
+
+-- the first slots of a page are slots of the set
+pub row_within : (side : Side) (device : Device) (page used : ℕ) → IsFormed device → page < device.size.pages → used ≤ device.size.words - 4 → page * (device.size.words - 4) + used ≤ length (slots_of (set_of side device))
+row_within side device page used formed h few =
+    let rows : (page + 1) * (device.size.words - 4) ≤ device.size.pages * (device.size.words - 4) = mul-le-mul_right (device.size.words - 4) (omega arith) in
+    omega (arith, rows, length-slots side device formed)
 
 pub blank_page : (words : List Word) (n : ℕ) → length words ≡ n → ((k : ℕ) → k < n → is_written (word_in words k) ≡ false) → is_blank words ≡ true
 blank_page words n long each = ap not (list_any_none is_written words (All-from_get_or (λ word. is_written word ≡ false) words Erased (λ k h. each k (omega arith))))

@@ -1,14 +1,14 @@
-ghost use Rattle.std.specs.Prelude.{◌≡◌, ◌<◌, ◌∷◌, ℕ, IfSome, List, slice_index_or};
+ghost use Rattle.std.specs.Prelude.{◌≡◌, ◌<◌, ◌≤◌, ◌-◌, ◌*◌, ◌∷◌, ℕ, IfSome, List, drop, slice_index_or, take};
 ghost use Rattle.ee_codec.specs.Reading.{slot_of};
 ghost use Rattle.ee_codec.specs.Words.{IsAddress};
 ghost use Rattle.ee_flash.specs.Size.{slot_count};
 ghost use Rattle.ee_pages.specs.Layout.{IsLayout};
-ghost use Rattle.ee_pages.specs.Meaning.{IsNextLive, IsNextNamed, Names, above_of, live_in, meaning, says as word_says};
+ghost use Rattle.ee_pages.specs.Meaning.{IsNextLive, IsNextNamed, Names, above_of, latest_in, live_in, meaning, says as word_says};
 ghost use Rattle.ee_pages.specs.Nearest.{slot_names};
 ghost use Rattle.ee_pages.specs.Sets.{set_of, slots_of};
 
 use crate::find::Layout;
-use crate::side::set_slot;
+use crate::side::{Side, first_page, page_slot, set_slot};
 use ee_codec::{Address, Slot, read_slot};
 use ee_flash::{Flash, Word};
 
@@ -34,12 +34,16 @@ pub fn latest<F: Flash>(flash: &F, layout: &Layout, address: Address) -> Option<
     ensures { let slots = slots_of (set_of layout.now.side (F.device flash.now)) in
         result ≡ meaning slots address }
 {
-    let mut slot = layout.fill;
-    'slots: while slot > 0 {
-        slot -= 1;
-        if let Some(said) = says(slot_word(flash, layout, slot), address) {
+    // Page by page, since finding a slot by its number takes a division.
+    let slots = flash.shape().words() - 4;
+    let last = layout.current - first_page(flash, layout.side);
+    let mut left = layout.fill;
+    for page in (0..last + 1).rev() {
+        let before = page * slots;
+        if let Some(said) = said_in_page(flash, layout.side, page, left - before, address) {
             return said;
         }
+        left = before;
     }
     None
 }
@@ -137,6 +141,29 @@ fn nearer(
         }
     }
     Some((address, said))
+}
+
+// What the first `used` slots of a page of a set say of an address: the newest that says something
+// counts.
+fn said_in_page<F: Flash>(
+    flash: &F,
+    side: Side,
+    page: usize,
+    used: usize,
+    address: Address,
+) -> Option<Option<u32>>
+    requires page_in_range { page < (F.device flash.now).size.pages }
+    requires used_in_range { used ≤ (F.device flash.now).size.words - 4 }
+    ensures { let before = page * ((F.device flash.now).size.words - 4) in
+        let slots = slots_of (set_of side (F.device flash.now)) in
+        result ≡ latest_in (take used (drop before slots)) address }
+{
+    for slot in (0..used).rev() {
+        if let Some(said) = says(page_slot(flash, side, page, slot), address) {
+            return Some(said);
+        }
+    }
+    None
 }
 
 // What a word says of an address: nothing, or that it has a value or none from here on.

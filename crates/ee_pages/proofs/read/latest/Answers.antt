@@ -1,27 +1,51 @@
-use Rattle.std.proofs.Common.{ap, sym, subst, arith, ◌≡◌, ◌+◌, ◌-◌, ◌<◌, Some, None, drop, get_or}
-use Rattle.ee_flash.specs.declared.word.Word.TheVariants.{Erased}
-use Rattle.ee_pages.specs.Meaning.{latest_in, says, value_said}
-use Rattle.ee_pages.specs.Sets.{set_of, slots_of}
-use Rattle.ee_pages.proofs.LastSaid.{fill_within, newest, silent_behind}
+use Rattle.std.proofs.Common.{ap, arith, sym, ◌∙◌, ◌≡◌, ◌≤◌, ◌+◌, ◌-◌, ◌*◌, Some, None, drop, take}
+use Rattle.std.proofs.Math.Nat.{mul-le-mul_right}
+use Rattle.ee_pages.specs.Meaning.{latest_in, value_said}
+use Rattle.ee_pages.specs.Sets.{page_of_slot, set_of, slots_of}
+use Rattle.ee_pages.proofs.LastSaid.{last_from, last_in_range, last_page, last_to, latest_in-drop, latest_in-row, silent_behind}
 use Rattle.ee_pages.proofs.read.latest.Goals as goal
 
-pub slots-init : goal.slots-init
-slots-init g c = record {
-  within = omega arith;
-  silent = silent_behind (g.F.Flash.device c.args.flash.now) c.args.layout.now c.requires c.args.address;
-}
+pub loop-page-init : goal.loop-page-init
+loop-page-init g c =
+    let device = g.F.Flash.device c.args.flash.now in
+    let layout = c.args.layout.now in
+    let last = last_page device layout c.requires c.first_page.result c.first_page.ensures in
+    let before_last : layout.current - c.first_page.result + 1 - 1 ≡ page_of_slot device.size (layout.fill - 1) = omega (arith, last) in
+    record {
+      from = rw before_last (last_from device layout c.requires);
+      to = rw last (last_to device layout c.requires);
+      silent = silent_behind device layout c.requires c.args.address;
+    }
 
-pub slot_word-requires-clause-slot_in_range : goal.slot_word-requires-clause-slot_in_range
-slot_word-requires-clause-slot_in_range g c =
-    omega (arith, fill_within (g.F.Flash.device c.args.flash.now) c.args.layout.now c.requires)
+pub said_in_page-requires-clause-page_in_range : goal.said_in_page-requires-clause-page_in_range
+said_in_page-requires-clause-page_in_range g c =
+    let device = g.F.Flash.device c.args.flash.now in
+    let last = last_page device c.args.layout.now c.requires c.first_page.result c.first_page.ensures in
+    omega (arith, last, last_in_range device c.args.layout.now c.requires)
 
 pub returns-in-Some : goal.returns-in-Some
 returns-in-Some g c =
     let device = g.F.Flash.device c.args.flash.now in
     let slots = slots_of (set_of c.args.layout.now.side device) in
-    let slot = c.slots.slot - 1 in
-    let below : slot < c.args.layout.now.fill = omega arith in
-    let same : c.slots.slot ≡ slot + 1 = omega arith in
-    let silent = subst (λ n. latest_in (drop n slots) c.args.address ≡ None) same c.slots.invariant.silent in
-    let said : says (get_or slots slot Erased) c.args.address ≡ Some c.in-Some.said = cc (c.slot_word.ensures, c.says.ensures, c.in-Some.is) in
-    ap value_said (sym (newest device c.args.layout.now c.requires slot c.args.address c.in-Some.said below silent said))
+    let page = c.loop-page.page - 1 in
+    let before = page * (device.size.words - 4) in
+    let same : page * (c.words-slots.result - 4) ≡ before = cc (c.words-slots.ensures.value, c.shape.ensures) in
+    let said : latest_in (take (c.loop-page.left - before) (drop before slots)) c.args.address ≡ Some c.in-Some.said = cc (same, c.said_in_page.ensures, c.in-Some.is) in
+    let row = latest_in-row before c.loop-page.left slots c.args.address c.loop-page.invariant.from c.loop-page.invariant.silent in
+    ap value_said (sym (latest_in-drop before slots c.args.address c.in-Some.said (row ∙ said)))
+
+pub loop-page-preserved : goal.loop-page-preserved
+loop-page-preserved g c =
+    let device = g.F.Flash.device c.args.flash.now in
+    let slots = slots_of (set_of c.args.layout.now.side device) in
+    let page = c.loop-page.page - 1 in
+    let before = page * (device.size.words - 4) in
+    let same : page * (c.words-slots.result - 4) ≡ before = cc (c.words-slots.ensures.value, c.shape.ensures) in
+    let said : latest_in (take (c.loop-page.left - before) (drop before slots)) c.args.address ≡ None = cc (same, c.said_in_page.ensures, c.in_default.is) in
+    let row = latest_in-row before c.loop-page.left slots c.args.address c.loop-page.invariant.from c.loop-page.invariant.silent in
+    let lower : (page - 1) * (device.size.words - 4) ≤ before = mul-le-mul_right (device.size.words - 4) (omega arith) in
+    record {
+      from = rw same lower;
+      to = omega (arith, same);
+      silent = rw same (row ∙ said);
+    }
