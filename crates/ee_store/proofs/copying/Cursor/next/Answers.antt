@@ -30,13 +30,13 @@ taken g c =
     one_taken _ _ _ c.as_slice-found.result.now _ c.if-self-len.self-inside.given _ c.as_slice-found.ensures.value c.if-self-found.false c.index-found-self.is (ahead g c)
 
 pub returns-clause-next : goal.returns-clause-next
-returns-clause-next g c = (taken g c).next
+returns-clause-next g c = search ((taken g c).next)
 
 pub returns-clause-proper : goal.returns-clause-proper
-returns-clause-proper g c = (taken g c).proper
+returns-clause-proper g c = search ((taken g c).proper)
 
 pub returns-clause-moved : goal.returns-clause-moved
-returns-clause-moved g c = (taken g c).moved
+returns-clause-moved g c = search ((taken g c).moved)
 
 pub returns-clause-over : goal.returns-clause-over
-returns-clause-over g c = (taken g c).over
+returns-clause-over g c = search ((taken g c).over)
