@@ -2,7 +2,7 @@
 use Rattle.std.proofs.Common.{◌≡◌, ◌≢◌, inl, inr, ℕ, ◌-◌, ◌*◌, ◌<◌, ◌≤◌, Option, Some, None, List, [], ◌∷◌, ◌++◌, length, length-append, refl, sym, subst, ap, ◌∙◌, arith}
 use Rattle.std.proofs.Math.Nat.{mul-le-mul}
 use Rattle.std.proofs.lemmas.Bool.{cases_lt, cases_eq}
-use Rattle.std.proofs.lemmas.List.Elements.{All-nil, All-push, All-weaker, Contains-append_left, Contains-push, recursion_from_All}
+use Rattle.std.proofs.lemmas.List.Elements.{All-head, All-nil, All-push, All-tail, All-weaker, Contains-append_left, Contains-push, recursion_from_All}
 use Rattle.std.specs.Cmp.{nat_cmp_is}
 use Rattle.std.specs.declared.cmp.Ordering.TheVariants.{Less}
 use Rattle.std.specs.List.{All, AllByRecursion, Contains}
@@ -11,8 +11,8 @@ use Rattle.std.specs.Ordering.{nat_cmp}
 use Rattle.std.specs.BTreeSet.{insert_key}
 use Rattle.ee_codec.specs.Words.{IsAddress}
 use Rattle.ee_check.proofs.Walks.{insert_last}
-use Rattle.ee_pages.specs.Meaning.{IsNextLive, Map, live_in, live_to}
-use Rattle.ee_pages.proofs.Counts.{live_to-end, live_to-next, live_to-zero}
+use Rattle.ee_pages.specs.Meaning.{AreLiveThrough, AreNextLive, IsNextLive, IsNoneLive, Map, last_of, live_in, live_to}
+use Rattle.ee_pages.proofs.Counts.{gap_to, live_to-end, live_to-next, live_to-zero}
 use Rattle.ee_pages.proofs.LiveCounts.{live_within_fill}
 use Rattle.ee_pages.specs.Sets.{live_of, set_of, slots_of}
 use Rattle.ee_pages.specs.declared.side.Side.{Side}
@@ -25,7 +25,7 @@ use Rattle.ee_store.proofs.Making.{few_within}
 use Rattle.ee_store.proofs.MovingFacts.{few_slots}
 use Rattle.ee_store.proofs.States.{state_is}
 use Rattle.ee_check.specs.Start.{IsStart}
-use Rattle.ee_plan.specs.Start.{AreLive}
+use Rattle.ee_plan.specs.Start.{AreLive, with_addresses}
 
 -- these are the addresses up to this one that have a value, ascending
 pub record AreLiveTo (map : Map) (above : ℕ) (live : List ℕ) : Type 0 where
@@ -92,7 +92,40 @@ one_more map above address value live so_far proper next =
     let after = pushed map above address value live so_far proper next in
     subst (λ l. AreLiveTo map address l) (sym (insert_last live [] address after.ascending)) after
 
-pub all_live : (map : Map) (above : ℕ) (live : List ℕ) → AreLiveTo map above live → IsNextLive map above None → AreLive map live
+-- the addresses of a batch, one after another
+batch_more : (map : Map) (found : List (ℕ × ℕ)) (above : ℕ) (live : List ℕ) → AreLiveTo map above live → All (λ (one : ℕ × ℕ). IsAddress one.0) found → AreNextLive map above found
+    → AreLiveTo map (last_of above found) (with_addresses live found)
+batch_more map [] above live so_far proper next = so_far
+batch_more map (first ∷ more) above live so_far proper next =
+    let after = one_more map above first.0 first.1 live so_far (All-head (λ (one : ℕ × ℕ). IsAddress one.0) first more proper) next.0 in
+    batch_more map more first.0 (insert_key nat_cmp live first.0) after (All-tail (λ (one : ℕ × ℕ). IsAddress one.0) first more proper) next.1
+
+last_below : (found : List (ℕ × ℕ)) (above : ℕ) → above < 65535 → All (λ (one : ℕ × ℕ). IsAddress one.0) found → last_of above found < 65535
+last_below [] above below proper = below
+last_below (first ∷ more) above below proper =
+    last_below more first.0 (All-head (λ (one : ℕ × ℕ). IsAddress one.0) first more proper).1 (All-tail (λ (one : ℕ × ℕ). IsAddress one.0) first more proper)
+
+-- no more of them up to a further address
+none_more : (map : Map) (above to : ℕ) (live : List ℕ) → AreLiveTo map above live → IsNoneLive map above (Some to) → AreLiveTo map to live
+none_more map above to live so_far none = record {
+  below = All-weaker (λ x. x ≤ above) (λ x. x ≤ to) (λ x low. omega (arith, none.0)) live so_far.below;
+  ascending = so_far.ascending;
+  proper = so_far.proper;
+  have_values = so_far.have_values;
+  all = λ k low has. elim (cases_lt above k) [
+    | inl more ↦ absurd (has (none.1 k more low))
+    | inr less ↦ so_far.all k less has
+  ];
+  count = so_far.count ∙ sym (gap_to map above to none.0 none.1);
+}
+
+-- a whole batch
+pub through_batch : (map : Map) (found : List (ℕ × ℕ)) (above to : ℕ) (live : List ℕ) → AreLiveTo map above live → All (λ (one : ℕ × ℕ). IsAddress one.0) found → AreLiveThrough map above found (Some to)
+    → AreLiveTo map to (with_addresses live found)
+through_batch map found above to live so_far proper batch =
+    none_more map (last_of above found) to (with_addresses live found) (batch_more map found above live so_far proper batch.next) batch.rest
+
+all_live : (map : Map) (above : ℕ) (live : List ℕ) → AreLiveTo map above live → IsNextLive map above None → AreLive map live
 all_live map above live so_far none = record {
   ascending = so_far.ascending;
   proper = so_far.proper;
@@ -103,8 +136,18 @@ all_live map above live so_far none = record {
   ];
 }
 
-pub all_counted : (map : Map) (above : ℕ) (live : List ℕ) → above < 65535 → AreLiveTo map above live → IsNextLive map above None → length live ≡ live_in map
+all_counted : (map : Map) (above : ℕ) (live : List ℕ) → above < 65535 → AreLiveTo map above live → IsNextLive map above None → length live ≡ live_in map
 all_counted map above live below so_far none = so_far.count ∙ sym (live_to-end map above below none)
+
+-- the last batch
+pub last_live : (map : Map) (found : List (ℕ × ℕ)) (above : ℕ) (live : List ℕ) → AreLiveTo map above live → All (λ (one : ℕ × ℕ). IsAddress one.0) found → AreLiveThrough map above found None
+    → AreLive map (with_addresses live found)
+last_live map found above live so_far proper batch = all_live map (last_of above found) (with_addresses live found) (batch_more map found above live so_far proper batch.next) batch.rest
+
+pub last_counted : (map : Map) (found : List (ℕ × ℕ)) (above : ℕ) (live : List ℕ) → above < 65535 → AreLiveTo map above live → All (λ (one : ℕ × ℕ). IsAddress one.0) found → AreLiveThrough map above found None
+    → length (with_addresses live found) ≡ live_in map
+last_counted map found above live below so_far proper batch =
+    all_counted map (last_of above found) (with_addresses live found) (last_below found above below proper) (batch_more map found above live so_far proper batch.next) batch.rest
 
 -- 0 is no address, and has no value in any image
 zero_in_state : (device : Device) (found : Option (Side × ℕ)) → (state_in device found).map 0 ≡ None

@@ -1,10 +1,10 @@
 //! What a store gives a trace to start from.
-ghost use Rattle.std.specs.Prelude.{◌≡◌, length, IfOk};
+ghost use Rattle.std.specs.Prelude.{◌≡◌, length, IfOk, OnOk};
 ghost use Rattle.ee_flash.specs.Device.{IsOn};
 ghost use Rattle.ee_flash.specs.Size.{slot_count};
 ghost use Rattle.ee_pages.specs.Meaning.{live_in};
 ghost use Rattle.ee_store.specs.State.{state_of};
-ghost use Rattle.ee_plan.specs.Start.{AreLive, IsStartOf};
+ghost use Rattle.ee_plan.specs.Start.{AreLive, IsStartOf, with_addresses};
 
 use ee_check::Start;
 use ee_codec::Address;
@@ -48,9 +48,25 @@ fn live_addresses<A: Allocator + Copy, V: Variables>(
 {
     let mut live = BTreeSet::new(alloc);
     let mut after = None;
-    'live: while let Some((address, _)) = store.next_live(after) {
-        live.insert(address)?;
-        after = Some(address);
+    'live: loop {
+        let batch = store.next_batch(after);
+        insert_each(&mut live, batch.found.as_slice())?;
+        let Some(through) = batch.through else {
+            return Ok(live);
+        };
+        after = Some(through);
     }
-    Ok(live)
+}
+
+// Inserts these addresses, which come with values.
+fn insert_each<A: Allocator + Copy>(
+    live: &mut BTreeSet<Address, A>,
+    found: &[(Address, u32)],
+) -> Result<(), AllocError>
+    ensures { OnOk result (live.new.keys ≡ with_addresses live.old.keys found.now) }
+{
+    for pair in found {
+        live.insert(pair.0)?;
+    }
+    Ok(())
 }

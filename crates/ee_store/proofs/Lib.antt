@@ -13,6 +13,7 @@ pub mod KeptMarks
 pub mod Appending
 pub mod OpenedPages
 pub mod CopiedMaps
+pub mod Courses
 pub mod MovingFacts
 pub mod OtherSteps
 pub mod Making

@@ -4,4 +4,5 @@ pub mod Changes
 pub mod Calls
 pub mod Openings
 pub mod Parts
+pub mod Course
 pub mod Runs

@@ -1,4 +1,5 @@
-ghost use Rattle.std.specs.Prelude.{◌≡◌, ◌≢◌, ◌<◌, ◌≤◌, ℕ, ◌+◌, IfOk, IfSome, None, Ok, OnOk, slice_set};
+ghost use Rattle.std.specs.Prelude.{◌≡◌, ◌≢◌, ◌<◌, ◌≤◌, ℕ, ◌+◌, IfOk, IfSome, [], None, Ok, OnOk, OnSome, slice_set};
+ghost use Rattle.std.specs.List.{All};
 ghost use Rattle.ee_codec.specs.Words.{IsAddress, IsGeneration};
 ghost use Rattle.ee_flash.specs.Power.{Ends};
 ghost use Rattle.ee_flash.specs.Size.{slot_count};
@@ -6,52 +7,99 @@ ghost use Rattle.ee_flash.specs.declared.word.Word.TheVariants.{Held};
 ghost use Rattle.ee_pages.specs.Filling.{IsFilling};
 ghost use Rattle.ee_pages.specs.Laws.{Keeps};
 ghost use Rattle.ee_pages.specs.Layout.{IsLayout};
-ghost use Rattle.ee_pages.specs.Meaning.{IsNextLive, Put, Spells, above_of, changed, live_in, meaning};
+ghost use Rattle.ee_pages.specs.Meaning.{AreLiveThrough, IsNextLive, Put, Spells, changed, live_in};
 ghost use Rattle.ee_pages.specs.Sets.{other as other_of, set_of, slots_of};
+ghost use Rattle.ee_store.specs.Course.{GoesOver};
 ghost use Rattle.ee_store.specs.Parts.{map_in, meant, replaced};
 
 use crate::change::Change;
 use ee_codec::Address;
 use ee_flash::{Cut, Flash};
-use ee_pages::{Layout, Mark, first_page, mark, next_live};
+use ee_pages::{Layout, LiveBatch, Mark, first_page, mark, next_batch};
 use std::marker::Model;
 
-/// Goes over the live addresses of a set, by rising address.
+/// Goes over the live addresses of a set, by rising address. It looks through the slots once for each
+/// batch.
 #[derive(Drop)]
 pub(crate) struct Cursor {
-    after: Option<Address>,
+    batch: LiveBatch,
+    /// How many of the batch it gave.
+    given: usize,
 }
 
 impl Model for Cursor {
-    ghost use Rattle.std.specs.Prelude.{ℕ};
-    ghost use Rattle.ee_pages.specs.Meaning.{above_of};
+    ghost use Rattle.std.specs.Prelude.{drop, take};
+    ghost use Rattle.ee_pages.specs.Meaning.{last_of};
+    ghost use Rattle.ee_store.specs.Course.{Course};
 
-    // The address behind which it goes on, 0 at first.
-    ghost Value = { ℕ };
+    ghost Value = { Course };
 
-    ghost view = { λ cursor. above_of cursor.after };
+    ghost view = { λ cursor. record {
+      after = last_of 0 (take cursor.given cursor.batch.found.items);
+      ready = drop cursor.given cursor.batch.found.items;
+      through = cursor.batch.through;
+    } };
 }
 
 impl Cursor {
     /// Before the first.
-    pub(crate) fn new() -> Cursor
-        ensures { result ≡ 0 }
+    pub(crate) fn new<F: Flash>(flash: &F, layout: &Layout) -> Cursor
+        requires { IsLayout (F.device flash.now) layout.now }
+        ensures first { result.after ≡ 0 }
+        ensures over { GoesOver (map_in layout.now.side (F.device flash.now)) result }
     {
-        Cursor { after: None }
+        Cursor {
+            batch: next_batch(flash, layout, None),
+            given: 0,
+        }
     }
 
     /// The next live address, with its value. `None` if there is none.
     pub(crate) fn next<F: Flash>(&mut self, flash: &F, layout: &Layout) -> Option<(Address, u32)>
-        requires { IsLayout (F.device flash.now) layout.now }
-        ensures next { IsNextLive (map_in layout.now.side (F.device flash.now)) self.old result }
+        requires layout { IsLayout (F.device flash.now) layout.now }
+        requires over { GoesOver (map_in layout.now.side (F.device flash.now)) self.old }
+        ensures next { IsNextLive (map_in layout.now.side (F.device flash.now)) self.old.after
+            result }
         ensures proper { IfSome result (λ found. IsAddress found.0) }
-        ensures moved { IfSome result (λ found. self.new ≡ found.0) }
+        ensures moved { IfSome result (λ found. self.new.after ≡ found.0) }
+        ensures over { OnSome result
+            (GoesOver (map_in layout.now.side (F.device flash.now)) self.new) }
     {
-        let Some((address, value)) = next_live(flash, layout, self.after) else {
+        if self.given >= self.batch.found.len() {
+            let Some(through) = self.batch.through else {
+                return None;
+            };
+            self.batch = batch_behind(flash, layout, through);
+            self.given = 0;
+        }
+        let found = self.batch.found.as_slice();
+        if self.given >= found.len() {
             return None;
+        }
+        let live = found[self.given];
+        self.given += 1;
+        Some(live)
+    }
+}
+
+// The next live addresses above this one. The batch is empty only if there are none.
+fn batch_behind<F: Flash>(flash: &F, layout: &Layout, after: Address) -> LiveBatch
+    requires { IsLayout (F.device flash.now) layout.now }
+    ensures live { AreLiveThrough (map_in layout.now.side (F.device flash.now)) after
+        result.found.items result.through }
+    ensures proper { All (λ found. IsAddress found.0) result.found.items }
+    ensures last { result.found.items ≡ [] → result.through ≡ None }
+{
+    let mut above = after;
+    'empty: loop {
+        let batch = next_batch(flash, layout, Some(above));
+        if !batch.found.is_empty() {
+            return batch;
+        }
+        let Some(through) = batch.through else {
+            return batch;
         };
-        self.after = Some(address);
-        Some((address, value))
+        above = through;
     }
 }
 
@@ -149,7 +197,7 @@ fn copy_others<F: Flash>(
     ensures power { Ends result (F.device flash.old) (F.device flash.new) }
 {
     let mut count = count;
-    let mut cursor = Cursor::new();
+    let mut cursor = Cursor::new(flash, layout);
     'live: while let Some((address, value)) = cursor.next(flash, layout) {
         count = copy_one(flash, layout, except, count, address, value)?;
     }

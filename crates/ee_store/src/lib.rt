@@ -23,6 +23,7 @@ mod store;
 mod variables;
 mod writing;
 
+pub use ee_pages::LiveBatch;
 pub use opening::{OpenFault, format, open};
 pub use store::Store;
 pub use variables::{ForgetFault, Off, Variables, WriteFault, Written};

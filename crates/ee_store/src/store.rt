@@ -16,7 +16,7 @@ use crate::cleaning::{clean, count_pending};
 use crate::variables::{ForgetFault, Off, Variables, WriteFault, Written};
 use ee_codec::Address;
 use ee_flash::{Cut, Flash};
-use ee_pages::{Layout, latest, live_count, next_live};
+use ee_pages::{Layout, LiveBatch, latest, live_count, next_batch, next_live};
 use std::marker::Model;
 
 /// The greatest generation of a set.
@@ -184,5 +184,9 @@ impl<F: Flash + Drop> Variables for Store<F> {
 
     fn next_live(&self, after: Option<Address>) -> Option<(Address, u32)> {
         next_live(&self.flash, &self.layout, after)
+    }
+
+    fn next_batch(&self, after: Option<Address>) -> LiveBatch {
+        next_batch(&self.flash, &self.layout, after)
     }
 }

@@ -1,13 +1,15 @@
 ghost use Rattle.std.specs.Prelude.{◌≡◌, IfSome};
+ghost use Rattle.std.specs.List.{All};
 ghost use Rattle.ee_codec.specs.Words.{IsAddress};
 ghost use Rattle.ee_flash.specs.Device.{Device, IsOn};
 ghost use Rattle.ee_flash.specs.Size.{slot_count};
-ghost use Rattle.ee_pages.specs.Meaning.{IsNextLive, above_of, live_in};
+ghost use Rattle.ee_pages.specs.Meaning.{AreLiveThrough, IsNextLive, above_of, live_in};
 ghost use Rattle.ee_store.specs.Calls.{Cleans, Forgets, Reads, Writes};
 ghost use Rattle.ee_store.specs.Finished.{IsStore};
 ghost use Rattle.ee_store.specs.State.{state_of};
 
 use ee_codec::Address;
+use ee_pages::LiveBatch;
 
 /// The device is off.
 ///
@@ -139,4 +141,12 @@ pub trait Variables {
         requires { IsOn (device self.now) }
         ensures next { IsNextLive (state_of (device self.now)).map (above_of after) result }
         ensures proper { IfSome result (λ found. IsAddress found.0) };
+
+    /// The next addresses above `after`, or the first of all if `after` is `None`, that have a value,
+    /// with their values: as many as one look through the slots gives.
+    fn next_batch(&self, after: Option<Address>) -> LiveBatch
+        requires { IsOn (device self.now) }
+        ensures live { AreLiveThrough (state_of (device self.now)).map (above_of after)
+            result.found.items result.through }
+        ensures proper { All (λ found. IsAddress found.0) result.found.items };
 }

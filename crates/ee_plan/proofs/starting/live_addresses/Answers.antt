@@ -1,7 +1,7 @@
-use Rattle.std.proofs.Common.{arith}
-use Rattle.ee_pages.specs.Meaning.{above_of}
+use Rattle.std.proofs.Common.{Option, subst, arith, ℕ}
+use Rattle.ee_pages.specs.Meaning.{AreLiveThrough, above_of}
 use Rattle.ee_store.specs.State.{state_of}
-use Rattle.ee_plan.proofs.Gathering.{all_counted, all_live, none_yet, one_more, zero_has_none}
+use Rattle.ee_plan.proofs.Gathering.{last_counted, last_live, none_yet, through_batch, zero_has_none}
 use Rattle.ee_plan.proofs.starting.live_addresses.Goals as goal
 
 pub live-init : goal.live-init
@@ -12,15 +12,23 @@ live-init g c =
 pub live-preserved : goal.live-preserved
 live-preserved g c =
     let map = (state_of (g.V.Variables.device c.args.store.now)).map in
+    let found = c.next_batch-batch.result.found.items in
+    let batch = subst (λ (through : Option ℕ). AreLiveThrough map (above_of c.live.after) found through) c.in-Some.is c.next_batch-batch.ensures.live in
     record {
-      below = c.in-Some.ensures.proper.1;
-      so_far = rw c.in_ok-insert.ensures.keys (one_more map (above_of c.live.after) _ _ c.live.live.keys c.live.invariant.so_far c.in-Some.ensures.proper c.in-Some.ensures.next);
+      below = search arith;
+      so_far = rw (c.in_ok-insert_each.ensures, c.as_slice.ensures.value) (through_batch map found (above_of c.live.after) _ c.live.live.keys c.live.invariant.so_far c.next_batch-batch.ensures.proper batch);
     }
 
-pub returns-clause-live : goal.returns-clause-live
-returns-clause-live g c =
-    all_live (state_of (g.V.Variables.device c.args.store.now)).map (above_of c.live.after) c.live.live.keys c.live.invariant.so_far c.in_default.ensures.next
+pub returns-in_default-clause-live : goal.returns-in_default-clause-live
+returns-in_default-clause-live g c =
+    let map = (state_of (g.V.Variables.device c.args.store.now)).map in
+    let found = c.next_batch-batch.result.found.items in
+    let batch = subst (λ (through : Option ℕ). AreLiveThrough map (above_of c.live.after) found through) c.in_default.is c.next_batch-batch.ensures.live in
+    rw (c.in_ok-insert_each.ensures, c.as_slice.ensures.value) (last_live map found (above_of c.live.after) c.live.live.keys c.live.invariant.so_far c.next_batch-batch.ensures.proper batch)
 
-pub returns-clause-count : goal.returns-clause-count
-returns-clause-count g c =
-    all_counted (state_of (g.V.Variables.device c.args.store.now)).map (above_of c.live.after) c.live.live.keys c.live.invariant.below c.live.invariant.so_far c.in_default.ensures.next
+pub returns-in_default-clause-count : goal.returns-in_default-clause-count
+returns-in_default-clause-count g c =
+    let map = (state_of (g.V.Variables.device c.args.store.now)).map in
+    let found = c.next_batch-batch.result.found.items in
+    let batch = subst (λ (through : Option ℕ). AreLiveThrough map (above_of c.live.after) found through) c.in_default.is c.next_batch-batch.ensures.live in
+    rw (c.in_ok-insert_each.ensures, c.as_slice.ensures.value) (last_counted map found (above_of c.live.after) c.live.live.keys c.live.invariant.below c.live.invariant.so_far c.next_batch-batch.ensures.proper batch)
