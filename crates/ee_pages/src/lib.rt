@@ -17,8 +17,6 @@ mod read;
 mod side;
 mod state;
 mod table;
-#[cfg(test)]
-mod tests;
 
 pub use find::{Layout, ScanFault, scan};
 pub use marking::mark;
