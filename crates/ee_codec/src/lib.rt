@@ -16,6 +16,3 @@ mod slot;
 pub use address::Address;
 pub use header::{MARK, MarkRead, read_mark, read_receive, receive_word};
 pub use slot::{Slot, element_word, forget_word, read_slot};
-
-#[cfg(test)]
-mod tests;

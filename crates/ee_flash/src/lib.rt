@@ -16,8 +16,6 @@ mod fuse;
 pub mod laws;
 mod memory;
 mod shape;
-#[cfg(test)]
-mod tests;
 mod word;
 
 pub use device::{Cut, Flash};

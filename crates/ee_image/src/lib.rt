@@ -16,6 +16,3 @@ mod writing;
 pub use fault::ImageFault;
 pub use reading::read_image;
 pub use writing::write_image;
-
-#[cfg(test)]
-mod tests;

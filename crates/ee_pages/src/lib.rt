@@ -18,8 +18,6 @@ mod read;
 mod side;
 mod state;
 mod table;
-#[cfg(test)]
-mod tests;
 
 pub use batch::{LiveBatch, next_batch};
 pub use find::{Layout, ScanFault, scan};

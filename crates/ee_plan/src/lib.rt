@@ -17,6 +17,3 @@ mod starting;
 pub use planned::{Plan, PlanFault};
 pub use planning::plan;
 pub use starting::start_of;
-
-#[cfg(test)]
-mod tests;

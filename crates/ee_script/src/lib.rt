@@ -24,6 +24,3 @@ pub use command::Command;
 pub use parse::read_command;
 pub use session::{LONGEST_LINE, ScriptFault, Serve, Session};
 pub use whole::answer_script;
-
-#[cfg(test)]
-mod tests;

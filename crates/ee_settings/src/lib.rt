@@ -21,6 +21,3 @@ mod setting;
 pub use fault::{GetFault, SchemaFault, SetFault};
 pub use reading::Reading;
 pub use schema::Schema;
-
-#[cfg(test)]
-mod tests;

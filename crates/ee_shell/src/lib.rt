@@ -36,6 +36,3 @@ pub use reporting::answer_on;
 pub use settings::{get_setting, set_setting};
 pub use wear::wear_text;
 pub use words::job;
-
-#[cfg(test)]
-mod tests;

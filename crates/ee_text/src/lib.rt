@@ -19,6 +19,3 @@ mod numbers;
 pub use fields::{Fields, next_field};
 pub use lines::next_line;
 pub use numbers::{number, number_up_to, push_number};
-
-#[cfg(test)]
-mod tests;

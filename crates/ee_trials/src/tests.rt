@@ -1,4 +1,5 @@
-//! The trials: each call with its requests for memory refused in turn, with streams that fail, and with cuts of every kind.
+//! The trials: each call with its requests for memory refused in turn, with streams that fail, and with cuts of every kind;
+//! and in `shell` the worked examples of the commands.
 mod certificates;
 mod commands;
 mod cuts;
@@ -9,6 +10,7 @@ mod memory;
 mod plans;
 mod scripts;
 mod settings;
+mod shell;
 mod stores;
 mod streams;
 mod trial;

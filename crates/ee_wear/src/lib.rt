@@ -9,8 +9,6 @@
 pub mod laws;
 mod ledger;
 mod since;
-#[cfg(test)]
-mod tests;
 
 pub use ledger::Ledger;
 pub use since::SinceFault;

@@ -1,6 +1,6 @@
-// Worked texts and faults, and each call once.
-use super::*;
+//! Worked texts and faults, and each call once.
 use ee_flash::{Flash, MemFlash, Shape, Word};
+use ee_image::{ImageFault, read_image, write_image};
 use std::alloc::Global;
 use std::test::Fail;
 

@@ -1,10 +1,10 @@
 //! The worked examples of scans, and each call once.
-use super::{
+use ee_codec::Address;
+use ee_flash::{Flash, MemFlash, Shape, Word};
+use ee_pages::{
     Layout, Mark, ScanFault, Side, State, is_blank, latest, live_count, mark, next_live, scan,
     slot_word, state_of,
 };
-use ee_codec::Address;
-use ee_flash::{Flash, MemFlash, Shape, Word};
 use std::alloc::Global;
 use std::test::Fail;
 

@@ -1,6 +1,6 @@
-// The worked wear, the greatest numbers, and erases between two ledgers.
-use super::{Ledger, SinceFault};
+//! The worked wear, the greatest numbers, and erases between two ledgers.
 use ee_flash::{Flash, Fuse, MemFlash, Shape, Tear, Word};
+use ee_wear::{Ledger, SinceFault};
 use std::alloc::Global;
 use std::process::Abort;
 use std::test::Fail;

@@ -1,6 +1,6 @@
 //! Settings by name, on images.
 use super::images::{FORMATTED, SPENT};
-use crate::{Fault, get_setting, replay, set_setting};
+use ee_shell::{Fault, get_setting, replay, set_setting};
 use std::alloc::Global;
 use std::process::Abort;
 use std::test::Fail;

@@ -2,8 +2,8 @@
 use super::images::{
     ALL_LIVE, CLEANED, FORMATTED, LAST_SLOT_FREE, ONE_MOVE, SPENT, TWO_MOVES, TWO_PAGES,
 };
-use crate::{check_script, format_image, plan_script, replay, try_script};
 use ee_flash::Shape;
+use ee_shell::{check_script, format_image, plan_script, replay, try_script};
 use std::alloc::Global;
 use std::process::Abort;
 use std::test::Fail;

@@ -1,5 +1,5 @@
-// Worked texts, and each call once.
-use super::*;
+//! Worked texts, and each call once.
+use ee_text::{Fields, next_field, next_line, number, number_up_to, push_number};
 use std::alloc::AllocError;
 
 #[test]

@@ -1,9 +1,11 @@
 //! The worked examples of the commands, and each fault of an image and of a script.
 use super::images::{CLEANED, FORMATTED, ONE_MOVE, TWO_PAGES};
-use crate::{Fault, File, ReplayFault, clean_image, format_image, replay, states_text, try_script};
 use ee_flash::Shape;
 use ee_image::ImageFault;
 use ee_pages::ScanFault;
+use ee_shell::{
+    Fault, File, ReplayFault, clean_image, format_image, replay, states_text, try_script,
+};
 use std::test::Fail;
 
 #[test]

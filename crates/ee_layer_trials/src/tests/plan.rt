@@ -1,9 +1,9 @@
-// Worked traces: each plan with the values that it must have, and the checker's yes.
+//! Worked traces: each plan with the values that it must have, and the checker's yes.
 mod starting;
 
-use super::{Plan, PlanFault, plan};
 use ee_check::{Change, Start, Stretch, check};
 use ee_codec::Address;
+use ee_plan::{Plan, PlanFault, plan};
 use std::alloc::Global;
 use std::collections::BTreeSet;
 use std::process::Abort;

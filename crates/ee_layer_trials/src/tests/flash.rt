@@ -1,5 +1,5 @@
 //! The worked examples of cuts, and each call once.
-use super::*;
+use ee_flash::{CellFault, Cut, Flash, Fuse, MemFlash, Shape, Tear, Word};
 use std::alloc::Global;
 use std::test::Fail;
 

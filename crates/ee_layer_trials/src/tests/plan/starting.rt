@@ -1,7 +1,7 @@
-// What stores give a trace to start from.
+//! What stores give a trace to start from.
 use super::address;
-use crate::start_of;
 use ee_flash::{MemFlash, Shape};
+use ee_plan::start_of;
 use ee_store::{Variables, format};
 use std::process::Abort;
 use std::test::Fail;

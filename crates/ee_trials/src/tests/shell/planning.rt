@@ -1,6 +1,6 @@
 //! Plans and certificates, as texts.
 use super::images::FORMATTED;
-use crate::{Fault, File, check_script, plan_script};
+use ee_shell::{Fault, File, check_script, plan_script};
 use std::alloc::Global;
 use std::test::Fail;
 

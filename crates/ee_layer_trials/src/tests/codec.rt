@@ -1,4 +1,5 @@
-use super::{
+//! Worked words, and the numbers that are none.
+use ee_codec::{
     Address, MARK, MarkRead, Slot, element_word, forget_word, read_mark, read_receive, read_slot,
     receive_word,
 };

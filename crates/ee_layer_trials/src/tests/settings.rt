@@ -1,5 +1,5 @@
-// Worked texts, through `toml`'s reader: which are schemas, and the first fault of each other one.
-use super::{Schema, SchemaFault};
+//! Worked texts, through `toml`'s reader: which are schemas, and the first fault of each other one.
+use ee_settings::{Schema, SchemaFault};
 use std::alloc::Global;
 use std::process::Abort;
 use std::test::Fail;

@@ -1,7 +1,8 @@
-use super::{
+//! Worked lines and scripts, whole and in pieces.
+use ee_codec::Address;
+use ee_script::{
     Answer, Command, ScriptFault, Serve, Session, answer_script, push_answer, read_command,
 };
-use ee_codec::Address;
 use std::alloc::{AllocError, Global};
 use std::test::Fail;
 
