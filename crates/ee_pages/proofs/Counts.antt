@@ -1,8 +1,11 @@
 -- Addresses in their order: the next live one, and how many there are.
-use Rattle.std.proofs.Common.{◌≡◌, inl, inr, ℕ, ◌+◌, ◌-◌, ◌<◌, ◌≤◌, Some, None, List, is_some, cond, refl, subst, ap, ◌∙◌, arith, suc, zero}
+use Rattle.std.proofs.Common.{◌≡◌, inl, inr, ℕ, ◌+◌, ◌-◌, ◌<◌, ◌≤◌, Some, None, List, [], ◌∷◌, length, is_some, cond, refl, subst, ap, ◌∙◌, arith, suc, zero}
 use Rattle.std.proofs.lemmas.Bool.{cases_lt, cases_eq}
+use Rattle.std.proofs.lemmas.List.Elements.{All-head, All-tail}
+use Rattle.std.specs.List.{All}
+use Rattle.ee_codec.specs.Words.{IsAddress}
 use Rattle.ee_flash.specs.declared.word.Word.{Word}
-use Rattle.ee_pages.specs.Meaning.{IsNextLive, IsNextNamed, Map, live_to, meaning, value_said}
+use Rattle.ee_pages.specs.Meaning.{AreLiveThrough, AreNextLive, IsNextLive, IsNextNamed, Map, last_of, live_to, meaning, value_said}
 
 pub live_to-zero : (map : Map) → live_to map 0 ≡ 0
 unfolding live_to
@@ -35,6 +38,39 @@ live_to-next map above address value next =
 
 pub live_to-end : (map : Map) (above : ℕ) → above < 65535 → IsNextLive map above None → live_to map 65534 ≡ live_to map above
 live_to-end map above h none = gap_to map above 65534 (omega arith) (λ k low high. none k low)
+
+-- a batch of live addresses: as many more have a value, each address is at least one further, and the last one is proper
+pub live_to-batch : (map : Map) (found : List (ℕ × ℕ)) (above : ℕ) → AreNextLive map above found → live_to map (last_of above found) ≡ live_to map above + length found
+live_to-batch map [] above next = omega arith
+live_to-batch map (first ∷ more) above next =
+    let one = live_to-next map above first.0 first.1 next.0 in
+    let rest = live_to-batch map more first.0 next.1 in
+    omega (arith, one, rest)
+
+pub last_rises : (map : Map) (found : List (ℕ × ℕ)) (above : ℕ) → AreNextLive map above found → above + length found ≤ last_of above found
+last_rises map [] above next = omega arith
+last_rises map (first ∷ more) above next =
+    let rest = last_rises map more first.0 next.1 in
+    omega (arith, next.0.0, rest)
+
+pub last_below : (found : List (ℕ × ℕ)) (above : ℕ) → above < 65535 → All (λ (one : ℕ × ℕ). IsAddress one.0) found → last_of above found < 65535
+last_below [] above below proper = below
+last_below (first ∷ more) above below proper =
+    last_below more first.0 (All-head (λ (one : ℕ × ℕ). IsAddress one.0) first more proper).1 (All-tail (λ (one : ℕ × ℕ). IsAddress one.0) first more proper)
+
+-- what a count that goes over batches is after one
+module _ (map : Map) (found : List (ℕ × ℕ)) (above count : ℕ) (counted : count ≡ live_to map above) where
+  pub counted_through : (to : ℕ) → AreLiveThrough map above found (Some to) → count + length found ≡ live_to map to
+  counted_through to batch =
+      let more = live_to-batch map found above batch.next in
+      let rest = gap_to map (last_of above found) to batch.rest.0 batch.rest.1 in
+      omega (arith, counted, more, rest)
+
+  pub counted_all : above < 65535 → All (λ (one : ℕ × ℕ). IsAddress one.0) found → AreLiveThrough map above found None → count + length found ≡ live_to map 65534
+  counted_all below proper batch =
+      let more = live_to-batch map found above batch.next in
+      let rest = live_to-end map (last_of above found) (last_below found above below proper) batch.rest in
+      omega (arith, counted, more, rest)
 
 module _ (slots : List Word) (from above : ℕ) (behind : from ≤ above) (none : (address : ℕ) → from < address → address ≤ above → meaning slots address ≡ None) where
   -- the next address of which something is said has a value

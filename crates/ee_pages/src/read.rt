@@ -7,6 +7,7 @@ ghost use Rattle.ee_pages.specs.Meaning.{IsNextLive, IsNextNamed, Names, above_o
 ghost use Rattle.ee_pages.specs.Nearest.{slot_names};
 ghost use Rattle.ee_pages.specs.Sets.{set_of, slots_of};
 
+use crate::batch::next_batch;
 use crate::find::Layout;
 use crate::side::{Side, first_page, page_slot, set_slot};
 use ee_codec::{Address, Slot, read_slot};
@@ -76,7 +77,8 @@ pub fn next_live<F: Flash>(
     None
 }
 
-/// How many addresses have a value, 0 to the capacity. The layout is the image's.
+/// How many addresses have a value, 0 to the capacity. It looks through the slots once for each batch
+/// of live addresses. The layout is the image's.
 ///
 /// Source: ours.
 pub fn live_count<F: Flash>(flash: &F, layout: &Layout) -> usize
@@ -86,11 +88,14 @@ pub fn live_count<F: Flash>(flash: &F, layout: &Layout) -> usize
 {
     let mut count = 0;
     let mut after = None;
-    'live: while let Some((address, _)) = next_live(flash, layout, after) {
-        count += 1;
-        after = Some(address);
+    'live: loop {
+        let batch = next_batch(flash, layout, after);
+        count += batch.found.len();
+        let Some(through) = batch.through else {
+            return count;
+        };
+        after = Some(through);
     }
-    count
 }
 
 // The next address above this one of which a slot says something, with what the last one says.

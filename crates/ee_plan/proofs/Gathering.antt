@@ -12,7 +12,7 @@ use Rattle.std.specs.BTreeSet.{insert_key}
 use Rattle.ee_codec.specs.Words.{IsAddress}
 use Rattle.ee_check.proofs.Walks.{insert_last}
 use Rattle.ee_pages.specs.Meaning.{AreLiveThrough, AreNextLive, IsNextLive, IsNoneLive, Map, last_of, live_in, live_to}
-use Rattle.ee_pages.proofs.Counts.{gap_to, live_to-end, live_to-next, live_to-zero}
+use Rattle.ee_pages.proofs.Counts.{gap_to, last_below, live_to-end, live_to-next, live_to-zero}
 use Rattle.ee_pages.proofs.LiveCounts.{live_within_fill}
 use Rattle.ee_pages.specs.Sets.{live_of, set_of, slots_of}
 use Rattle.ee_pages.specs.declared.side.Side.{Side}
@@ -99,11 +99,6 @@ batch_more map [] above live so_far proper next = so_far
 batch_more map (first ∷ more) above live so_far proper next =
     let after = one_more map above first.0 first.1 live so_far (All-head (λ (one : ℕ × ℕ). IsAddress one.0) first more proper) next.0 in
     batch_more map more first.0 (insert_key nat_cmp live first.0) after (All-tail (λ (one : ℕ × ℕ). IsAddress one.0) first more proper) next.1
-
-last_below : (found : List (ℕ × ℕ)) (above : ℕ) → above < 65535 → All (λ (one : ℕ × ℕ). IsAddress one.0) found → last_of above found < 65535
-last_below [] above below proper = below
-last_below (first ∷ more) above below proper =
-    last_below more first.0 (All-head (λ (one : ℕ × ℕ). IsAddress one.0) first more proper).1 (All-tail (λ (one : ℕ × ℕ). IsAddress one.0) first more proper)
 
 -- no more of them up to a further address
 none_more : (map : Map) (above to : ℕ) (live : List ℕ) → AreLiveTo map above live → IsNoneLive map above (Some to) → AreLiveTo map to live

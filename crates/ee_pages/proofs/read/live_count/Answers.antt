@@ -1,7 +1,7 @@
-use Rattle.std.proofs.Common.{◌+◌, sym, ap, ◌∙◌, arith}
-use Rattle.ee_pages.specs.Meaning.{above_of, meaning}
+use Rattle.std.proofs.Common.{Option, subst, sym, ℕ, arith}
+use Rattle.ee_pages.specs.Meaning.{AreLiveThrough, above_of, meaning}
 use Rattle.ee_pages.specs.Sets.{set_of, slots_of}
-use Rattle.ee_pages.proofs.Counts.{live_to-end, live_to-next, live_to-zero}
+use Rattle.ee_pages.proofs.Counts.{counted_all, counted_through, last_rises, live_to-zero}
 use Rattle.ee_pages.proofs.read.live_count.Goals as goal
 
 pub live-init : goal.live-init
@@ -16,16 +16,21 @@ live-init g c =
 pub live-preserved : goal.live-preserved
 live-preserved g c =
     let map = meaning (slots_of (set_of c.args.layout.now.side (g.F.Flash.device c.args.flash.now))) in
-    let next = c.in-Some.ensures.next in
-    let proper = c.in-Some.ensures.proper in
-    let one_more = live_to-next map (above_of c.live.after) _ _ next in
+    let found = c.next_batch-batch.result.found.items in
+    let above = above_of c.live.after in
+    let batch = subst (λ (through : Option ℕ). AreLiveThrough map above found through) c.in-Some.is c.next_batch-batch.ensures.live in
+    let counted = counted_through map found above c.live.count c.live.invariant.count c.in-Some.through batch in
     record {
-      below = proper.1;
-      few = omega (arith, next.0, c.live.invariant.few);
-      count = ap (λ n. n + 1) c.live.invariant.count ∙ sym one_more;
+      below = search arith;
+      few = omega (arith, last_rises map found above batch.next, batch.rest.0, c.live.invariant.few);
+      count = omega (arith, counted);
     }
 
-pub returns : goal.returns
-returns g c =
+pub returns-in_default : goal.returns-in_default
+returns-in_default g c =
     let map = meaning (slots_of (set_of c.args.layout.now.side (g.F.Flash.device c.args.flash.now))) in
-    c.live.invariant.count ∙ sym (live_to-end map (above_of c.live.after) c.live.invariant.below c.in_default.ensures.next)
+    let found = c.next_batch-batch.result.found.items in
+    let above = above_of c.live.after in
+    let batch = subst (λ (through : Option ℕ). AreLiveThrough map above found through) c.in_default.is c.next_batch-batch.ensures.live in
+    let counted = counted_all map found above c.live.count c.live.invariant.count c.live.invariant.below c.next_batch-batch.ensures.proper batch in
+    omega (arith, counted)
