@@ -11,7 +11,7 @@ use Rattle.ee_store.specs.Course.{GoesOver}
 
 module _ (map : Map) (from above : ℕ) (none : IsNoneLive map from (Some above)) where
   -- what comes next behind a stretch in which none has a value comes next before it
-  pub next_behind : (found : Option (ℕ × ℕ)) → IsNextLive map above found → IsNextLive map from found
+  next_behind : (found : Option (ℕ × ℕ)) → IsNextLive map above found → IsNextLive map from found
   next_behind None next = λ k low. elim (cases_lt above k) [
     | inl more ↦ next k more
     | inr less ↦ none.1 k low less
@@ -61,12 +61,10 @@ last_taken (first ∷ more) (suc n) above d h = last_taken more n first.0 d (ome
 first_ready : (map : Map) (above : ℕ) (first : ℕ × ℕ) (more ready : List (ℕ × ℕ)) (through : Option ℕ) → ready ≡ first ∷ more → GoesOver map record { after = above; ready = ready; through = through }
     → IsNextLive map above (Some first) × IsAddress first.0 × GoesOver map record { after = first.0; ready = more; through = through }
 first_ready map above first more ready through is over =
-    let all : GoesOver map record { after = above; ready = first ∷ more; through = through } = subst (λ l. GoesOver map record { after = above; ready = l; through = through }) is over in
-    let proper = all.proper in
-    (
+    let all : GoesOver map record { after = above; ready = first ∷ more; through = through } = subst (λ l. GoesOver map record { after = above; ready = l; through = through }) is over in (
       all.next.0,
-      All-head (λ (found : ℕ × ℕ). IsAddress found.0) first more proper,
-      record { next = all.next.1; rest = all.rest; proper = All-tail (λ (found : ℕ × ℕ). IsAddress found.0) first more proper },
+      All-head (λ (found : ℕ × ℕ). IsAddress found.0) first more all.proper,
+      record { next = all.next.1; rest = all.rest; proper = All-tail (λ (found : ℕ × ℕ). IsAddress found.0) first more all.proper },
     )
 
 -- what taking the next address that is ready gives and leaves
