@@ -1,5 +1,5 @@
 -- What a word says, by its place: as a slot, as a receive word, as a mark.
-use Rattle.std.specs.Prelude.{◌≡◌, ◌≢◌, ℕ, ◌-◌, ◌/◌, ◌%◌, ◌^◌, ◌==◌, ◌&&◌, Bool, nat_lt, if◌then◌else◌, Option, Some, None}
+use Rattle.std.specs.Prelude.{◌≡◌, ◌≢◌, ℕ, ◌-◌, ◌/◌, ◌%◌, ◌^◌, ◌==◌, ◌&&◌, Bool, false, nat_lt, if◌then◌else◌, Option, Some, None}
 use Rattle.ee_flash.specs.declared.word.Word.{Word}
 use Rattle.ee_flash.specs.declared.word.Word.TheVariants.{Erased, Held, Torn}
 use Rattle.ee_codec.specs.declared.header.TheConstants.{MARK}
@@ -45,6 +45,12 @@ abbrev pub slot_of : Word → Slot
 slot_of Erased = Free
 slot_of Torn = Spoiled
 slot_of (Held number) = slot_of_parts (number / 2 ^ 32) (number / 2 ^ 16 % 2 ^ 16) (number % 2 ^ 16)
+
+-- in an element and in a forgetting the address stands in the low 16 bits
+abbrev pub ends_in : Word → ℕ → Bool
+ends_in Erased address = false
+ends_in Torn address = false
+ends_in (Held number) address = number % 2 ^ 16 == address
 
 -- the generation, where the word is a receive word
 abbrev pub receive_of : Word → Option ℕ

@@ -15,4 +15,4 @@ mod slot;
 
 pub use address::Address;
 pub use header::{MARK, MarkRead, read_mark, read_receive, receive_word};
-pub use slot::{Slot, element_word, forget_word, read_slot};
+pub use slot::{Slot, element_word, ends_in, forget_word, read_slot};

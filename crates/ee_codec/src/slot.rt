@@ -1,6 +1,6 @@
 ghost use Rattle.std.specs.Prelude.{◌≡◌};
 ghost use Rattle.ee_codec.specs.Words.{IsAddress, element, forgetting};
-ghost use Rattle.ee_codec.specs.Reading.{slot_of, SaysSlot};
+ghost use Rattle.ee_codec.specs.Reading.{ends_in as word_ends_in, slot_of, SaysSlot};
 
 use super::address::Address;
 use ee_flash::Word;
@@ -48,6 +48,17 @@ pub fn read_slot(word: Word) -> Slot
         Word::Erased => Slot::Free,
         Word::Torn => Slot::Spoiled,
         Word::Held(number) => read_held(number),
+    }
+}
+
+/// Whether a word ends in this address. Where it doesn't, it is neither an element nor a forgetting
+/// of the address, and need not be read as a slot.
+pub fn ends_in(word: Word, address: Address) -> bool
+    ensures { result ≡ word_ends_in word address }
+{
+    match word {
+        Word::Held(number) => number & 0xffff == u64::from(address.get()),
+        _ => false,
     }
 }
 

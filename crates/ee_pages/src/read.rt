@@ -10,7 +10,7 @@ ghost use Rattle.ee_pages.specs.Sets.{set_of, slots_of};
 use crate::batch::next_batch;
 use crate::find::Layout;
 use crate::side::{Side, first_page, page_slot, set_slot};
-use ee_codec::{Address, Slot, read_slot};
+use ee_codec::{Address, Slot, ends_in, read_slot};
 use ee_flash::{Flash, Word};
 
 /// The word in a slot of the live set, by the slot's number, counted from 0 and below the capacity.
@@ -175,12 +175,13 @@ fn said_in_page<F: Flash>(
 fn says(word: Word, address: Address) -> Option<Option<u32>>
     ensures { result ≡ word_says word address }
 {
+    // Asked first, since most words are of another address.
+    if !ends_in(word, address) {
+        return None;
+    }
     match read_slot(word) {
-        Slot::Element {
-            address: named,
-            value,
-        } if named.get() == address.get() => Some(Some(value)),
-        Slot::Forgotten { address: named, .. } if named.get() == address.get() => Some(None),
+        Slot::Element { value, .. } => Some(Some(value)),
+        Slot::Forgotten { .. } => Some(None),
         _ => None,
     }
 }

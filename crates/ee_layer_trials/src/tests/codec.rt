@@ -1,7 +1,7 @@
 //! Worked words, and the numbers that are none.
 use ee_codec::{
-    Address, MARK, MarkRead, Slot, element_word, forget_word, read_mark, read_receive, read_slot,
-    receive_word,
+    Address, MARK, MarkRead, Slot, element_word, ends_in, forget_word, read_mark, read_receive,
+    read_slot, receive_word,
 };
 use ee_flash::Word;
 use std::test::Fail;
@@ -48,6 +48,21 @@ fn forgettings_are_spelled(rt: HostRuntime) -> Result<(), Fail> {
     assert_eq!(rt; forget_word(address, 10), 0x0000_000a_0001_0001);
     let read = read_slot(Word::Held(0x0000_000a_0001_0001));
     assert_eq!(rt; read, Slot::Forgotten { address, value: 10 });
+    Ok(())
+}
+
+#[test]
+fn words_end_in_an_address(rt: HostRuntime) -> Result<(), Fail> {
+    let address = address(2)?;
+    for (word, ends) in [
+        (Word::Held(0x0000_0005_0000_0002), true),
+        (Word::Held(0x0000_0005_0001_0002), true),
+        (Word::Held(0x0000_0002_0002_0001), false),
+        (Word::Erased, false),
+        (Word::Torn, false),
+    ] {
+        assert_eq!(rt; ends_in(word, address), ends);
+    }
     Ok(())
 }
 
