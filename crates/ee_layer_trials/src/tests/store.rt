@@ -1,4 +1,5 @@
 //! The worked examples, with their images; the order of the steps; cuts at each step.
+mod batches;
 mod cuts;
 mod each_cut;
 mod forgetting;

@@ -1,0 +1,81 @@
+//! Batches of live addresses: an empty one that goes on, and a transfer over several.
+use super::replay::formatted;
+use ee_codec::Address;
+use ee_flash::MemFlash;
+use ee_store::{LiveBatch, Store, Variables, Written, open};
+use std::process::Abort;
+use std::test::Fail;
+
+fn address(number: u16) -> Result<Address, Fail> {
+    Ok(Address::new(number).ok_or("no address")?)
+}
+
+// A store with 196 slots: 130 elements, and then forgettings of the first 66 of them.
+fn half_forgotten<R: Abort + AllocGlobal>(rt: &R) -> Result<Store<MemFlash>, Fail> {
+    let flash = formatted(rt.alloc(), 1, 200)?;
+    let mut store = open(flash).ok().ok_or("no store")?;
+    for number in 1..131 {
+        store
+            .write(address(number)?, u32::from(number) + 1000)
+            .ok()
+            .ok_or("not written")?;
+    }
+    for number in 1..67 {
+        store.forget(address(number)?).ok().ok_or("not forgotten")?;
+    }
+    Ok(store)
+}
+
+// The next batch is this long, begins with this live address and goes through this one.
+fn assert_batch<R: Abort>(
+    rt: &R,
+    store: &Store<MemFlash>,
+    after: Option<Address>,
+    length: usize,
+    first: Option<u16>,
+    through: Option<u16>,
+) -> Result<(), Fail> {
+    if !store.is_on() {
+        return Err("off".into());
+    }
+    let batch = store.next_batch(after);
+    let found = batch.found.as_slice();
+    assert_eq!(rt; found.len(), length);
+    assert_eq!(rt; found.first().map(|live| live.0.get()), first);
+    assert_eq!(rt; batch.through.map(|last| last.get()), through);
+    Ok(())
+}
+
+#[test]
+fn batches_over_forgotten_addresses(rt: HostRuntime) -> Result<(), Fail> {
+    let store = half_forgotten(&rt)?;
+    assert_batch(&rt, &store, None, 0, None, Some(64))?;
+    assert_batch(&rt, &store, Some(address(64)?), 62, Some(67), Some(128))?;
+    assert_batch(&rt, &store, Some(address(128)?), 2, Some(129), None)?;
+    if !store.is_on() {
+        return Err("off".into());
+    }
+    assert_eq!(rt; (store.fill(), store.live_count()), (196, 64));
+    Ok(())
+}
+
+/// The 64 live addresses stand behind an empty batch, and the transfer takes all of them along.
+#[test]
+fn a_transfer_over_batches(rt: HostRuntime) -> Result<(), Fail> {
+    let mut store = half_forgotten(&rt)?;
+    let written = store.write(address(70)?, 5);
+    assert_eq!(rt; written.ok(), Some(Written::Moved));
+    if !store.is_on() {
+        return Err("off".into());
+    }
+    assert_eq!(rt; (store.fill(), store.live_count()), (64, 64));
+    for number in 1..131 {
+        let value = match number {
+            1..=66 => None,
+            70 => Some(5),
+            _ => Some(u32::from(number) + 1000),
+        };
+        assert_eq!(rt; store.read(address(number)?).ok(), Some(value));
+    }
+    Ok(())
+}
