@@ -1,8 +1,7 @@
 //! Batches of live addresses: an empty one that goes on, and a transfer over several.
-use super::replay::formatted;
 use ee_codec::Address;
-use ee_flash::MemFlash;
-use ee_store::{LiveBatch, Store, Variables, Written, open};
+use ee_flash::{MemFlash, Shape};
+use ee_store::{Store, Variables, Written, format};
 use std::process::Abort;
 use std::test::Fail;
 
@@ -12,8 +11,9 @@ fn address(number: u16) -> Result<Address, Fail> {
 
 // A store with 196 slots: 130 elements, and then forgettings of the first 66 of them.
 fn half_forgotten<R: Abort + AllocGlobal>(rt: &R) -> Result<Store<MemFlash>, Fail> {
-    let flash = formatted(rt.alloc(), 1, 200)?;
-    let mut store = open(flash).ok().ok_or("no store")?;
+    let shape = Shape::new(1, 200).ok_or("no shape")?;
+    let flash = MemFlash::blank(rt.alloc(), shape)?;
+    let mut store = format(flash).ok().ok_or("no store")?;
     for number in 1..131 {
         store
             .write(address(number)?, u32::from(number) + 1000)
