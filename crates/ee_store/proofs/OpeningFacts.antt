@@ -4,16 +4,16 @@ use Rattle.ee_flash.specs.Device.{Device}
 use Rattle.ee_flash.specs.Power.{GoesOn, IsCut}
 use Rattle.ee_pages.specs.Layout.{IsLayout}
 use Rattle.ee_pages.specs.Legal.{IsLive}
-use Rattle.ee_pages.specs.Sets.{pending_of}
+use Rattle.ee_pages.specs.Sets.{live_of, pending_of}
 use Rattle.ee_pages.specs.declared.find.Layout.{Layout}
 use Rattle.ee_pages.specs.declared.side.Side.{Side}
 use Rattle.ee_pages.specs.declared.side.Side.TheVariants.{First}
-use Rattle.ee_store.proofs.States.{state_stays}
+use Rattle.ee_store.proofs.States.{state_is, state_stays}
 use Rattle.ee_store.proofs.Wears.{no_wear}
 use Rattle.ee_store.specs.Finished.{IsFinished, IsMarked}
 use Rattle.ee_store.specs.Openings.{IsCutOpening, IsFormatted, Opens}
 use Rattle.ee_store.specs.Parts.{Stays}
-use Rattle.ee_store.specs.State.{WearRises, formatted, state_of}
+use Rattle.ee_store.specs.State.{State, WearRises, formatted, state_of}
 
 abbrev side_in : Option (Side × ℕ) → Side
 side_in None = First
@@ -48,12 +48,19 @@ module _ (layout : Layout) (old new : Device) (is : IsLayout old layout) (stays 
     state_is = state_stays old new layout.side layout.generation is.live stays;
   }
 
+-- a new store whose live set is the first has it with generation 1
+live_first : (layout : Layout) (new : Device) → IsLayout new layout → layout.side ≡ First → state_of new ≡ formatted → live_of new ≡ Some (First, 1)
+live_first layout new is first state =
+    let generation : layout.generation ≡ 1 = ap (λ (s : State). s.generation) (sym (state_is new layout.side layout.generation is.live) ∙ state) in
+    is.live.live ∙ ap (λ side. Some (side, layout.generation)) first ∙ ap (λ number. Some (First, number)) generation
+
 pub formats : (layout : Layout) (old new : Device) → IsLayout new layout → layout.side ≡ First → IsMarked new First → state_of new ≡ formatted → WearRises (pending_of old.image) old new → GoesOn old new → IsFormatted old new
 formats layout old new is first marked state wear on = record {
   store = record {
     legal = (layout.side, layout.generation, is.live);
     finished = λ power. finished_from new layout.side layout.generation is.live (subst (λ set. IsMarked new set) (sym first) marked);
   };
+  live_is = live_first layout new is first state;
   goes_on = on;
   state_is = state;
   wear = wear;

@@ -1,10 +1,11 @@
 -- How a store comes to be: by opening a legal image, or by formatting.
-use Rattle.std.specs.Prelude.{◌≡◌}
+use Rattle.std.specs.Prelude.{◌≡◌, Some}
 use Rattle.ee_flash.specs.Device.{Device}
 use Rattle.ee_flash.specs.Power.{GoesOn, IsCut}
 use Rattle.ee_pages.specs.Layout.{IsScanFault}
 use Rattle.ee_pages.specs.Legal.{IsLegal}
-use Rattle.ee_pages.specs.Sets.{pending_of}
+use Rattle.ee_pages.specs.Sets.{live_of, pending_of}
+use Rattle.ee_pages.specs.declared.side.Side.TheVariants.{First}
 use Rattle.ee_store.specs.Finished.{IsFinished, IsStore}
 use Rattle.ee_store.specs.State.{WearRises, formatted, state_of}
 use Rattle.ee_store.specs.declared.opening.OpenFault.{OpenFault}
@@ -32,9 +33,10 @@ abbrev pub OpenFails : Device → OpenFault → Device → Type 0
 OpenFails old (Scan fault) new = IsScanFault old fault × (new ≡ old)
 OpenFails old Cut new = IsCutOpening old new
 
--- a store with nothing in it; each page that was not blank was erased
+-- a store with nothing in it, whose live set is the first, with generation 1; each page that was not blank was erased
 pub record IsFormatted (old new : Device) : Type 0 where
   pub store : IsStore new
+  pub live_is : live_of new ≡ Some (First, 1)
   pub goes_on : GoesOn old new
   pub state_is : state_of new ≡ formatted
   pub wear : WearRises (pending_of old.image) old new
