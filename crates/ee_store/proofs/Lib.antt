@@ -8,6 +8,7 @@ pub mod Marks
 pub mod OpeningFacts
 pub mod SetPages
 pub mod PendingCounts
+pub mod LowestPending
 pub mod Erasing
 pub mod KeptMarks
 pub mod Appending

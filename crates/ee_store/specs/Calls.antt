@@ -1,10 +1,15 @@
 -- What each call of a store answers, and what it leaves: one relation for each, by cases on the answer. Every store keeps
 -- them.
-use Rattle.std.specs.Prelude.{◌≡◌, ◌≢◌, ◌<◌, ◌⊎◌, ℕ, ◌-◌, Option, None, Result, Ok, Err, Bool, true, false}
-use Rattle.ee_flash.specs.Device.{Device, IsOff, IsOn}
+use Rattle.std.specs.Prelude.{◌≡◌, ◌≢◌, ◌<◌, ◌⊎◌, ℕ, ◌-◌, Option, Some, None, Result, Ok, Err, Bool, true, false}
+use Rattle.ee_flash.specs.Device.{Device, IsOff, IsOn, page_at}
 use Rattle.ee_flash.specs.Power.{GoesOn, IsCut}
+use Rattle.ee_pages.specs.Laws.{IsPageOf}
 use Rattle.ee_pages.specs.Meaning.{Put, Forget}
+use Rattle.ee_pages.specs.Page.{is_blank}
+use Rattle.ee_pages.specs.Sets.{live_of, other}
+use Rattle.ee_pages.specs.declared.side.Side.{Side}
 use Rattle.ee_store.specs.Changes.{Appends, IsCutChange, IsFull, IsSpent, Moves, Proceeds}
+use Rattle.ee_store.specs.Parts.{IsSameBut}
 use Rattle.ee_store.specs.State.{WearRises, capacity, state_of, with_pending}
 use Rattle.ee_store.specs.declared.variables.Written.{Written}
 use Rattle.ee_store.specs.declared.variables.Written.TheVariants.{Appended, Moved}
@@ -38,21 +43,49 @@ Forgets old address (Err forget.Absent) new = IsOn old × ((state_of old).map ad
 Forgets old address (Err forget.Spent) new = IsOn old × ((state_of old).map address ≢ None) × IsSpent (capacity old) (state_of old) × (new ≡ old)
 Forgets old address (Err forget.Cut) new = IsCutChange old (Forget address) new
 
--- a page that waited was erased
+-- the page waits to be erased: it is one of the set that is not live, and it is not blank
+pub record IsPending (device : Device) (page : ℕ) : Type 0 where
+  pub side : Side
+  pub generation : ℕ
+  pub live : live_of device ≡ Some (side, generation)
+  pub in_other : IsPageOf device.size (other side) page
+  pub not_blank : is_blank (page_at device page) ≡ false
+
+-- it waits, and no page below it does
+pub record IsLowestPending (device : Device) (page : ℕ) : Type 0 where
+  pub waits : IsPending device page
+  pub none_lower : (lower : ℕ) → lower < page → ¬ IsPending device lower
+
+-- the lowest page that waited is blank, and each other page is as before
+pub record ErasesLowest (old new : Device) : Type 0 where
+  pub page : ℕ
+  pub lowest : IsLowestPending old page
+  pub blank : is_blank (page_at new page) ≡ true
+  pub others : IsSameBut page old new
+
+-- each page but the lowest that waited is as before
+pub record KeepsAllButLowest (old new : Device) : Type 0 where
+  pub page : ℕ
+  pub lowest : IsLowestPending old page
+  pub others : IsSameBut page old new
+
+-- the lowest page that waited was erased
 pub record ErasesOne (old new : Device) : Type 0 where
   pub was_on : IsOn old
   pub goes_on : GoesOn old new
   pub some : 0 < (state_of old).pending
   pub state_is : state_of new ≡ with_pending ((state_of old).pending - 1) (state_of old)
+  pub lowest : ErasesLowest old new
   pub wear : WearRises 1 old new
 
--- power was cut in erasing one: as many pages wait, or one less
+-- power was cut in erasing it: as many pages wait, or one less
 pub record IsCutClean (old new : Device) : Type 0 where
   pub cut : IsCut old new
   pub some : 0 < (state_of old).pending
   pub state_is : (state_of new ≡ state_of old) ⊎ (state_of new ≡ with_pending ((state_of old).pending - 1) (state_of old))
+  pub lowest : KeepsAllButLowest old new
 
--- a clean step erases one page of those that wait, if there is one
+-- a clean step erases the lowest page of those that wait, if there is one
 abbrev pub Cleans : Device → Result Bool WriteFault → Device → Type 0
 Cleans old (Ok true) new = ErasesOne old new
 Cleans old (Ok false) new = IsOn old × ((state_of old).pending ≡ 0) × (new ≡ old)

@@ -6,6 +6,7 @@ ghost use Rattle.ee_pages.specs.Layout.{IsLayout};
 ghost use Rattle.ee_pages.specs.Legal.{IsLive};
 ghost use Rattle.ee_pages.specs.Page.{is_blank};
 ghost use Rattle.ee_pages.specs.Sets.{first_page as first_of, other as other_of, pending_of, set_of};
+ghost use Rattle.ee_store.specs.Calls.{ErasesLowest, KeepsAllButLowest};
 ghost use Rattle.ee_store.specs.Finished.{IsMarked};
 ghost use Rattle.ee_store.specs.Parts.{IsSameBut, IsSameSet};
 ghost use Rattle.ee_store.specs.State.{WearRises};
@@ -25,6 +26,7 @@ pub(crate) fn clean<F: Flash>(flash: &mut F, layout: &Layout) -> Result<bool, Cu
         → (pending_of (set_of (other_of layout.now.side) (F.device flash.new)) + 1
         ≡ pending_of (set_of (other_of layout.now.side) (F.device flash.old)))
         × WearRises 1 (F.device flash.old) (F.device flash.new) }
+    ensures lowest { result ≡ Ok true → ErasesLowest (F.device flash.old) (F.device flash.new) }
     ensures marked { IsMarked (F.device flash.old) layout.now.side
         → OnOk result (IsMarked (F.device flash.new) layout.now.side) }
     ensures some { OnErr result
@@ -34,6 +36,7 @@ pub(crate) fn clean<F: Flash>(flash: &mut F, layout: &Layout) -> Result<bool, Cu
         ≡ pending_of (set_of (other_of layout.now.side) (F.device flash.old)))
         ⊎ (pending_of (set_of (other_of layout.now.side) (F.device flash.new)) + 1
         ≡ pending_of (set_of (other_of layout.now.side) (F.device flash.old)))) }
+    ensures others { OnErr result (KeepsAllButLowest (F.device flash.old) (F.device flash.new)) }
     ensures power { Ends result (F.device flash.old) (F.device flash.new) }
 {
     let Some(page) = first_pending(flash, layout.side.other()) else {
