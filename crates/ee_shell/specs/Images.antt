@@ -12,6 +12,7 @@ use Rattle.ee_pages.specs.declared.state.State.TheVariants.{Erased, Receive, Act
 use Rattle.ee_store.specs.State.{CountsWear, formatted, state_of, with_pending}
 use Rattle.ee_image.specs.Fault.{IsImageFault}
 use Rattle.ee_image.specs.declared.fault.ImageFault.{ImageFault}
+use Rattle.ee_shell.specs.Erases.{ErasesRise}
 use Rattle.ee_shell.specs.Fault.{fault_of_image, fault_of_replay}
 use Rattle.ee_shell.specs.Replaying.{IsOpenFault, IsStoreLeft, IsStoreText, Spells}
 use Rattle.ee_shell.specs.declared.fault.Fault.{Fault}
@@ -30,13 +31,14 @@ abbrev pub cleaned_text : ℕ → List ℕ
 cleaned_text pages = line_of (joined (codes "cleaned" ∷ decimal pages ∷ []))
 
 -- The image is left with each value, as much used and of the same generation, and no page waits to be erased any more; as
--- many were erased as waited.
+-- many were erased as waited, so that all erases and the pages that wait are together as many as before.
 pub record IsCleaned (old_image new_image text : List ℕ) : Type 0 where
   pub device : Device
   pub last : Device
   pub old : IsStoreText old_image device
   pub left : IsStoreLeft device.size new_image last
   pub state_is : state_of last ≡ with_pending 0 (state_of device)
+  pub erases : ErasesRise 0 device last
   pub text_is : text ≡ cleaned_text (state_of device).pending
 
 abbrev pub state_name : page.State → List ℕ

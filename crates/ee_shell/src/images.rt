@@ -2,6 +2,7 @@
 ghost use Rattle.std.specs.Prelude.{◌≡◌, ◌≢◌, ◌⊎◌, ◌<◌, ◌-◌, ◌++◌, IfOk, IfErr, MatchResult, OnOk};
 ghost use Rattle.ee_text.specs.Line.{line_of};
 ghost use Rattle.ee_store.specs.State.{state_of, with_pending};
+ghost use Rattle.ee_shell.specs.Erases.{ErasesRise};
 ghost use Rattle.ee_shell.specs.Images.{AreStates, IsCleaned, IsFormattedText, IsOpeningFault, IsReadingFault, cleaned_text, state_lines, state_name, state_text};
 ghost use Rattle.ee_shell.specs.Serving.{StaysOn};
 
@@ -31,7 +32,8 @@ pub fn format_image<A: Allocator + Copy>(alloc: A, shape: Shape) -> Result<Vec<u
 }
 
 /// Erases each page that waits for it in the image that a text spells, and gives the text of the image
-/// that this leaves, and what there is to print: `cleaned N`, N the number of pages erased.
+/// that this leaves, and what there is to print: `cleaned N`, N the number of pages erased. Total wear
+/// is N more, where no page's wear in the image that is left is `u64::MAX`, at which counts stop.
 ///
 /// Source: ours.
 ///
@@ -85,6 +87,7 @@ pub fn states_text<A: Allocator + Copy>(alloc: A, image: &[u8]) -> Result<Vec<u8
 }
 
 /// Erases each page that waits for it, and gives their number.
+#[tactic(auto, using(crate::proofs::Erasing::both))]
 fn clean_all<V: Variables>(store: &mut V) -> usize
     requires { StaysOn (V.device store.old) }
     ensures count { result ≡ (state_of (V.device store.old)).pending }
@@ -92,6 +95,7 @@ fn clean_all<V: Variables>(store: &mut V) -> usize
     ensures same_size { (V.device store.new).size ≡ (V.device store.old).size }
     ensures state { state_of (V.device store.new)
         ≡ with_pending 0 (state_of (V.device store.old)) }
+    ensures erases { ErasesRise 0 (V.device store.old) (V.device store.new) }
 {
     let waiting = store.pending();
     let mut erased = 0;
@@ -110,6 +114,7 @@ fn clean_one<V: Variables>(store: &mut V)
     ensures same_size { (V.device store.new).size ≡ (V.device store.old).size }
     ensures state { let old = state_of (V.device store.old) in
         state_of (V.device store.new) ≡ with_pending (old.pending - 1) old }
+    ensures erases { ErasesRise 0 (V.device store.old) (V.device store.new) }
 {
     match store.clean_step() {
         Ok(true) => {}
