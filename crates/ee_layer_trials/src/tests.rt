@@ -1,4 +1,4 @@
-//! One module for each layer.
+//! One module for each layer, and what several of them make their values with.
 mod check;
 mod codec;
 mod flash;
@@ -10,3 +10,22 @@ mod settings;
 mod store;
 mod text;
 mod wear;
+
+use ee_check::Change;
+use ee_codec::Address;
+use std::test::Fail;
+
+/// The address of a number that has one.
+fn address(number: u16) -> Result<Address, Fail> {
+    Ok(Address::new(number).ok_or("no address")?)
+}
+
+/// A write of the address.
+fn write(number: u16) -> Result<Change, Fail> {
+    Ok(Change::Write(address(number)?))
+}
+
+/// A forgetting of the address.
+fn forget(number: u16) -> Result<Change, Fail> {
+    Ok(Change::Forget(address(number)?))
+}

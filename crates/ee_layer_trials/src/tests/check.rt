@@ -2,26 +2,12 @@
 use ee_check::{
     Change, CheckFault, Start, Stretch, TextFault, check, read_certificate, write_certificate,
 };
+use crate::tests::{address, forget, write};
 use ee_codec::Address;
 use std::alloc::Global;
 use std::collections::BTreeSet;
 use std::process::Abort;
 use std::test::Fail;
-
-/// The address of a number that has one.
-fn address(number: u16) -> Result<Address, Fail> {
-    Ok(Address::new(number).ok_or("no address")?)
-}
-
-/// A write of the address.
-fn write(number: u16) -> Result<Change, Fail> {
-    Ok(Change::Write(address(number)?))
-}
-
-/// A forgetting of the address.
-fn forget(number: u16) -> Result<Change, Fail> {
-    Ok(Change::Forget(address(number)?))
-}
 
 /// The addresses of these numbers.
 fn addresses(alloc: Global, numbers: &[u16]) -> Result<BTreeSet<Address>, Fail> {

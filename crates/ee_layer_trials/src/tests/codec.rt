@@ -1,15 +1,11 @@
 //! Worked words, and the numbers that are none.
+use crate::tests::address;
 use ee_codec::{
     Address, MARK, MarkRead, Slot, element_word, ends_in, forget_word, read_mark, read_receive,
     read_slot, receive_word,
 };
 use ee_flash::Word;
 use std::test::Fail;
-
-/// The address of a number that has one.
-fn address(number: u16) -> Result<Address, Fail> {
-    Ok(Address::new(number).ok_or("no address")?)
-}
 
 #[test]
 fn addresses_are_1_to_65534(rt: HostRuntime) -> Result<(), Fail> {

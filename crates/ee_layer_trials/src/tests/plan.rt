@@ -1,28 +1,13 @@
 //! Worked traces: each plan with the values that it must have, and the checker's yes.
 mod starting;
 
+use crate::tests::{address, forget, write};
 use ee_check::{Change, Start, Stretch, check};
-use ee_codec::Address;
 use ee_plan::{Plan, PlanFault, plan};
 use std::alloc::Global;
 use std::collections::BTreeSet;
 use std::process::Abort;
 use std::test::Fail;
-
-/// The address of a number that has one.
-fn address(number: u16) -> Result<Address, Fail> {
-    Ok(Address::new(number).ok_or("no address")?)
-}
-
-/// A write of the address.
-fn write(number: u16) -> Result<Change, Fail> {
-    Ok(Change::Write(address(number)?))
-}
-
-/// A forgetting of the address.
-fn forget(number: u16) -> Result<Change, Fail> {
-    Ok(Change::Forget(address(number)?))
-}
 
 /// A start with these addresses live.
 fn start(alloc: Global, slots: u64, fill: u64, numbers: &[u16]) -> Result<Start, Fail> {

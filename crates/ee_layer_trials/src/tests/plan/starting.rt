@@ -1,5 +1,5 @@
 //! What stores give a trace to start from.
-use super::address;
+use crate::tests::address;
 use ee_flash::{MemFlash, Shape};
 use ee_plan::start_of;
 use ee_store::{Variables, format};

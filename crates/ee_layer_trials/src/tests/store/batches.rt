@@ -1,13 +1,10 @@
 //! Batches of live addresses: an empty one that goes on, and a transfer over several.
+use crate::tests::address;
 use ee_codec::Address;
 use ee_flash::{MemFlash, Shape};
 use ee_store::{Store, Variables, Written, format};
 use std::process::Abort;
 use std::test::Fail;
-
-fn address(number: u16) -> Result<Address, Fail> {
-    Ok(Address::new(number).ok_or("no address")?)
-}
 
 // A store with 196 slots: 130 elements, and then forgettings of the first 66 of them.
 fn half_forgotten<R: Abort + AllocGlobal>(rt: &R) -> Result<Store<MemFlash>, Fail> {
