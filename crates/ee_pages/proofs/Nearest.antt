@@ -296,52 +296,52 @@ living-append [] address said = refl
 living-append ((first, Some value) ∷ rest) address said = ap (λ (l : List (ℕ × ℕ)). (first, value) ∷ l) (living-append rest address said)
 living-append ((first, None) ∷ rest) address said = living-append rest address said
 
--- the same, as the two ways to put it leave a list of 256 at most
-pub put_over : (list : List Named) (new : Named) (place : ℕ) (default : Named) → IsPlace new.0 list place → place < length list → (get_or list place default).0 ≡ new.0 → length list ≤ 256 → refill (length list) list (slice_set list place new) ≡ take 256 (noted new list)
+-- the same, as the two ways to put it leave a list of 64 at most
+pub put_over : (list : List Named) (new : Named) (place : ℕ) (default : Named) → IsPlace new.0 list place → place < length list → (get_or list place default).0 ≡ new.0 → length list ≤ 64 → refill (length list) list (slice_set list place new) ≡ take 64 (noted new list)
 put_over list new place default at within same few =
     let over = put_same list new place default at within same in
     let long : length (set list place new) ≡ length list = length-set list place new in
-    let short : length (noted new list) ≤ 256 = subst (λ (l : List Named). length l ≤ 256) over (omega (arith, long)) in
+    let short : length (noted new list) ≤ 64 = subst (λ (l : List Named). length l ≤ 64) over (omega (arith, long)) in
     ap (λ n. take n (set list place new ++ drop (length (set list place new)) list)) (sym long)
     ∙ take-append_seam (set list place new) (drop (length (set list place new)) list)
     ∙ over
-    ∙ sym (take_all 256 (noted new list) short)
+    ∙ sym (take_all 64 (noted new list) short)
 
 -- nothing is noted
-pub kept_none : (above : ℕ) (named : Option Named) (list : List Named) → length list ≤ 256 → named ≡ None → list ≡ take 256 (noted_above above named list)
-kept_none above named list few none = rw none (sym (take_all 256 list few))
+pub kept_none : (above : ℕ) (named : Option Named) (list : List Named) → length list ≤ 64 → named ≡ None → list ≡ take 64 (noted_above above named list)
+kept_none above named list few none = rw none (sym (take_all 64 list few))
 
-pub kept_below : (above : ℕ) (new : Named) (list : List Named) → length list ≤ 256 → new.0 ≤ above → list ≡ take 256 (noted_above above (Some new) list)
-kept_below above new list few low = rw (le-ltb above new.0 low) (sym (take_all 256 list few))
+pub kept_below : (above : ℕ) (new : Named) (list : List Named) → length list ≤ 64 → new.0 ≤ above → list ≡ take 64 (noted_above above (Some new) list)
+kept_below above new list few low = rw (le-ltb above new.0 low) (sym (take_all 64 list few))
 
 -- where there is no room behind the others
-pub kept_full : (above : ℕ) (new : Named) (list : List Named) (place : ℕ) → length list ≤ 256 → above < new.0 → IsPlace new.0 list place → place ≤ length list → 256 ≤ place → list ≡ take 256 (noted_above above (Some new) list)
+pub kept_full : (above : ℕ) (new : Named) (list : List Named) (place : ℕ) → length list ≤ 64 → above < new.0 → IsPlace new.0 list place → place ≤ length list → 64 ≤ place → list ≡ take 64 (noted_above above (Some new) list)
 kept_full above new list place few high at within full =
     let same : place ≡ length list = omega arith in
-    let all : length list ≡ 256 = omega arith in
+    let all : length list ≡ 64 = omega arith in
     rw (lt-ltb above new.0 high) (sym (ap (λ n. take n (noted new list)) (sym all) ∙ put_behind list new (subst (λ n. IsPlace new.0 list n) same at)))
 
-pub put_above : (above : ℕ) (new : Named) (list after : List Named) → above < new.0 → after ≡ take 256 (noted new list) → after ≡ take 256 (noted_above above (Some new) list)
+pub put_above : (above : ℕ) (new : Named) (list after : List Named) → above < new.0 → after ≡ take 64 (noted new list) → after ≡ take 64 (noted_above above (Some new) list)
 put_above above new list after high put = rw (lt-ltb above new.0 high) put
 
--- what is gathered rises, and is no more than 256
-pub rising_of : (above : ℕ) (words : List Word) (list : List Named) → list ≡ take 256 (gathered above words []) → IsRising above list
-rising_of above words list e = subst (λ (l : List Named). IsRising above l) (sym e) (rising-take 256 above (gathered above words []) (rising-gathered above words [] tt))
+-- what is gathered rises, and is no more than 64
+pub rising_of : (above : ℕ) (words : List Word) (list : List Named) → list ≡ take 64 (gathered above words []) → IsRising above list
+rising_of above words list e = subst (λ (l : List Named). IsRising above l) (sym e) (rising-take 64 above (gathered above words []) (rising-gathered above words [] tt))
 
-pub few_of : (above : ℕ) (words : List Word) (list : List Named) → list ≡ take 256 (gathered above words []) → length list ≤ 256
-few_of above words list e = let long = length-take 256 (gathered above words []) in omega (arith, ap length e, min-le_left 256 (length (gathered above words [])))
+pub few_of : (above : ℕ) (words : List Word) (list : List Named) → list ≡ take 64 (gathered above words []) → length list ≤ 64
+few_of above words list e = let long = length-take 64 (gathered above words []) in omega (arith, ap length e, min-le_left 64 (length (gathered above words [])))
 
 -- one slot more
-pub one_slot : (above : ℕ) (slots : List Word) (slot : ℕ) (word : Word) (named : Option Named) (list after : List Named) → slot < length slots → word ≡ get_or slots slot Erased → named ≡ slot_names (slot_of word) → list ≡ take 256 (gathered above (take slot slots) []) → after ≡ take 256 (noted_above above named list) → after ≡ take 256 (gathered above (take (slot + 1) slots) [])
+pub one_slot : (above : ℕ) (slots : List Word) (slot : ℕ) (word : Word) (named : Option Named) (list after : List Named) → slot < length slots → word ≡ get_or slots slot Erased → named ≡ slot_names (slot_of word) → list ≡ take 64 (gathered above (take slot slots) []) → after ≡ take 64 (noted_above above named list) → after ≡ take 64 (gathered above (take (slot + 1) slots) [])
 one_slot above slots slot word named list after within is names before noted =
     let start = gathered above (take slot slots) [] in
     let said = slot_names (slot_of (get_or slots slot Erased)) in
     noted
-    ∙ ap (λ (new : Option Named). take 256 (noted_above above new list)) (names ∙ ap (λ (w : Word). slot_names (slot_of w)) is)
-    ∙ ap (λ (l : List Named). take 256 (noted_above above said l)) before
-    ∙ few-noted_above 256 above said start
-    ∙ ap (take 256) (sym (gathered-append above (take slot slots) (get_or slots slot Erased ∷ []) []))
-    ∙ ap (λ (words : List Word). take 256 (gathered above words [])) (sym (take_more slots slot Erased within))
+    ∙ ap (λ (new : Option Named). take 64 (noted_above above new list)) (names ∙ ap (λ (w : Word). slot_names (slot_of w)) is)
+    ∙ ap (λ (l : List Named). take 64 (noted_above above said l)) before
+    ∙ few-noted_above 64 above said start
+    ∙ ap (take 64) (sym (gathered-append above (take slot slots) (get_or slots slot Erased ∷ []) []))
+    ∙ ap (λ (words : List Word). take 64 (gathered above words [])) (sym (take_more slots slot Erased within))
 
 -- a slot of a page of a set is one of the set's
 pub in_set : (page pages slots slot : ℕ) → page < pages → slot < slots → page * slots + slot < pages * slots
@@ -361,29 +361,29 @@ later-none : (said : Option (Option ℕ)) → later None said ≡ said
 later-none None = refl
 later-none (Some said) = refl
 
-through_is : (slots : List Word) (above : ℕ) (all : List Named) (through : Option ℕ) → IsRising above all → AreNext slots above above 256 all → IfNone through (length (take 256 all) < 256) → IfSome through (λ last. length (take 256 all) ≡ 256) → IfSome through (λ last. last ≡ last_named above (take 256 all)) → AreLiveThrough (meaning slots) above (living (take 256 all)) through
+through_is : (slots : List Word) (above : ℕ) (all : List Named) (through : Option ℕ) → IsRising above all → AreNext slots above above 64 all → IfNone through (length (take 64 all) < 64) → IfSome through (λ last. length (take 64 all) ≡ 64) → IfSome through (λ last. last ≡ last_named above (take 64 all)) → AreLiveThrough (meaning slots) above (living (take 64 all)) through
 through_is slots above all None rising next none full last = record { next = next.next; rest = next.all none; further = full }
 through_is slots above all (Some through) rising next none full last = record {
   next = next.next;
-  rest = subst (λ n. IsNoneLive (meaning slots) (last_of above (living (take 256 all))) (Some n)) (sym last) next.rest;
-  further = let far = last_named-further 256 above all rising (omega (arith, full)) in omega (arith, last);
+  rest = subst (λ n. IsNoneLive (meaning slots) (last_of above (living (take 64 all))) (Some n)) (sym last) next.rest;
+  further = let far = last_named-further 64 above all rising (omega (arith, full)) in omega (arith, last);
 }
 
--- so the living ones of the first 256 gathered are the next live addresses
-batch_is : (slots : List Word) (above : ℕ) (list : List Named) (through : Option ℕ) → list ≡ take 256 (gathered above slots []) → IfNone through (length list < 256) → IfSome through (λ last. length list ≡ 256) → IfSome through (λ last. last ≡ last_named above list) → AreLiveThrough (meaning slots) above (living list) through
+-- so the living ones of the first 64 gathered are the next live addresses
+batch_is : (slots : List Word) (above : ℕ) (list : List Named) (through : Option ℕ) → list ≡ take 64 (gathered above slots []) → IfNone through (length list < 64) → IfSome through (λ last. length list ≡ 64) → IfSome through (λ last. last ≡ last_named above list) → AreLiveThrough (meaning slots) above (living list) through
 batch_is slots above list through e none full last =
     let all = gathered above slots [] in
     let rising = rising-gathered above slots [] tt in
-    let next = are_next slots above above 256 all (omega arith) (λ k more less. absurd (omega arith)) (λ k more. said_in-gathered above slots [] k more ∙ later-none (latest_in slots k)) rising in
+    let next = are_next slots above above 64 all (omega arith) (λ k more less. absurd (omega arith)) (λ k more. said_in-gathered above slots [] k more ∙ later-none (latest_in slots k)) rising in
     rw e (through_is slots above all through rising next (rw e at none) (rw e at full) (rw e at last))
 
 -- behind the last page there is no slot
-pub all_gathered : (above : ℕ) (slots : List Word) (page pages size : ℕ) (list : List Named) → list ≡ take 256 (gathered above (take (page * size) slots) []) → page ≡ pages → length slots ≡ pages * size → list ≡ take 256 (gathered above slots [])
+pub all_gathered : (above : ℕ) (slots : List Word) (page pages size : ℕ) (list : List Named) → list ≡ take 64 (gathered above (take (page * size) slots) []) → page ≡ pages → length slots ≡ pages * size → list ≡ take 64 (gathered above slots [])
 all_gathered above slots page pages size list gathers end long =
     let all : take (page * size) slots ≡ slots = ap (λ n. take (n * size) slots) end ∙ take_all (pages * size) slots (omega (arith, long)) in
-    gathers ∙ ap (λ (words : List Word). take 256 (gathered above words [])) all
+    gathers ∙ ap (λ (words : List Word). take 64 (gathered above words [])) all
 
 -- the same, as the parts of a batch are made
-pub batch_from : (slots : List Word) (above start : ℕ) (list items : List Named) (through : Option ℕ) → list ≡ items → items ≡ take 256 (gathered start slots []) → start ≡ above → IfNone through (length list < 256) → IfSome through (λ last. length list ≡ 256) → IfSome through (λ last. last ≡ last_named above list) → AreLiveThrough (meaning slots) above (living list) through
+pub batch_from : (slots : List Word) (above start : ℕ) (list items : List Named) (through : Option ℕ) → list ≡ items → items ≡ take 64 (gathered start slots []) → start ≡ above → IfNone through (length list < 64) → IfSome through (λ last. length list ≡ 64) → IfSome through (λ last. last ≡ last_named above list) → AreLiveThrough (meaning slots) above (living list) through
 batch_from slots above start list items through same gathers begins none full last =
-    batch_is slots above list through (same ∙ gathers ∙ ap (λ n. take 256 (gathered n slots [])) begins) none full last
+    batch_is slots above list through (same ∙ gathers ∙ ap (λ n. take 64 (gathered n slots [])) begins) none full last

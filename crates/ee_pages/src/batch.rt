@@ -14,7 +14,7 @@ use ee_codec::{Address, Slot, read_slot};
 use ee_flash::{Flash, Word};
 
 /// How many addresses are gathered in one look through the slots.
-const BATCH: usize = 256;
+const BATCH: usize = 64;
 
 /// The live addresses of a stretch of addresses, with their values: as many as are found in one look
 /// through the slots.
@@ -29,7 +29,7 @@ pub struct LiveBatch {
 }
 
 /// The next live addresses above `after`, or the first of all if `after` is `None`, with their
-/// values: up to 256, from one look through the slots. There may be none, and more behind
+/// values: up to 64, from one look through the slots. There may be none, and more behind
 /// `through`, where addresses were forgotten. The layout is the image's.
 ///
 /// Source: ours.
@@ -65,7 +65,7 @@ fn nearest_named<F: Flash>(
     above: u16,
 ) -> ArrayVec<(Address, Option<u32>), BATCH>
     ensures { let slots = slots_of (set_of side (F.device flash.now)) in
-        result.items ≡ take 256 (gathered above slots []) }
+        result.items ≡ take 64 (gathered above slots []) }
 {
     let mut nearest = ArrayVec::new();
     for page in 0..flash.shape().pages() {
@@ -84,10 +84,10 @@ fn gather_page<F: Flash>(
 )
     requires page_in_range { page < (F.device flash.now).size.pages }
     requires before { let device = F.device flash.now in nearest.old.items
-        ≡ take 256 (gathered above
+        ≡ take 64 (gathered above
         (take (page * (device.size.words - 4)) (slots_of (set_of side device))) []) }
     ensures { let device = F.device flash.now in nearest.new.items
-        ≡ take 256 (gathered above
+        ≡ take 64 (gathered above
         (take ((page + 1) * (device.size.words - 4)) (slots_of (set_of side device))) []) }
 {
     for slot in 0..flash.shape().words() - 4 {
@@ -113,8 +113,8 @@ fn note(
     nearest: &mut ArrayVec<(Address, Option<u32>), BATCH>,
 )
     requires rising { IsRising above nearest.old.items }
-    requires few { length nearest.old.items ≤ 256 }
-    ensures { nearest.new.items ≡ take 256 (noted_above above named nearest.old.items) }
+    requires few { length nearest.old.items ≤ 64 }
+    ensures { nearest.new.items ≡ take 64 (noted_above above named nearest.old.items) }
 {
     if let Some((address, said)) = named {
         note_said(above, address, said, nearest);
@@ -129,9 +129,9 @@ fn note_said(
     nearest: &mut ArrayVec<(Address, Option<u32>), BATCH>,
 )
     requires rising { IsRising above nearest.old.items }
-    requires few { length nearest.old.items ≤ 256 }
+    requires few { length nearest.old.items ≤ 64 }
     ensures { nearest.new.items
-        ≡ take 256 (noted_above above (Some (address, said)) nearest.old.items) }
+        ≡ take 64 (noted_above above (Some (address, said)) nearest.old.items) }
 {
     if address.get() <= above {
         return;
@@ -165,9 +165,9 @@ fn put(
 )
     requires place { IsPlace new.0 nearest.old.items place }
     requires within { place ≤ length nearest.old.items }
-    requires few { length nearest.old.items ≤ 256 }
-    requires room { place < 256 }
-    ensures { nearest.new.items ≡ take 256 (noted new nearest.old.items) }
+    requires few { length nearest.old.items ≤ 64 }
+    requires room { place < 64 }
+    ensures { nearest.new.items ≡ take 64 (noted new nearest.old.items) }
 {
     if place < nearest.len() && nearest.as_slice()[place].0.get() == new.0.get() {
         let items = nearest.as_mut_slice();
@@ -180,7 +180,7 @@ fn put(
 
 // Those that have a value.
 fn living(named: &[(Address, Option<u32>)]) -> ArrayVec<(Address, u32), BATCH>
-    requires { length named.now ≤ 256 }
+    requires { length named.now ≤ 64 }
     ensures items { result.items ≡ living_of named.now }
     ensures proper { All (λ found. IsAddress found.0) result.items }
 {
@@ -193,7 +193,7 @@ fn living(named: &[(Address, Option<u32>)]) -> ArrayVec<(Address, u32), BATCH>
 
 // Puts an address behind others, if it has a value.
 fn push_living(address: Address, said: Option<u32>, found: &mut ArrayVec<(Address, u32), BATCH>)
-    requires room { length found.old.items < 256 }
+    requires room { length found.old.items < 64 }
     requires proper { All (λ one. IsAddress one.0) found.old.items }
     ensures items { found.new.items ≡ found.old.items ++ living_of ((address, said) ∷ []) }
     ensures one { length found.new.items ≤ length found.old.items + 1 }
@@ -206,9 +206,9 @@ fn push_living(address: Address, said: Option<u32>, found: &mut ArrayVec<(Addres
 
 // The last address, where there is no room for more.
 fn last_if_full(nearest: &[(Address, Option<u32>)]) -> Option<Address>
-    requires { length nearest.now ≤ 256 }
-    ensures none { IfNone result (length nearest.now < 256) }
-    ensures full { IfSome result (λ last. length nearest.now ≡ 256) }
+    requires { length nearest.now ≤ 64 }
+    ensures none { IfNone result (length nearest.now < 64) }
+    ensures full { IfSome result (λ last. length nearest.now ≡ 64) }
     ensures last { (above : ℕ) → IfSome result (λ last. last ≡ last_named above nearest.now) }
 {
     if nearest.len() < BATCH {

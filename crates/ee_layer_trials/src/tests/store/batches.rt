@@ -9,18 +9,18 @@ fn address(number: u16) -> Result<Address, Fail> {
     Ok(Address::new(number).ok_or("no address")?)
 }
 
-// A store with 772 slots: 514 elements, and then forgettings of the first 258 of them.
+// A store with 196 slots: 130 elements, and then forgettings of the first 66 of them.
 fn half_forgotten<R: Abort + AllocGlobal>(rt: &R) -> Result<Store<MemFlash>, Fail> {
-    let shape = Shape::new(2, 390).ok_or("no shape")?;
+    let shape = Shape::new(1, 200).ok_or("no shape")?;
     let flash = MemFlash::blank(rt.alloc(), shape)?;
     let mut store = format(flash).ok().ok_or("no store")?;
-    for number in 1..515 {
+    for number in 1..131 {
         store
             .write(address(number)?, u32::from(number) + 1000)
             .ok()
             .ok_or("not written")?;
     }
-    for number in 1..259 {
+    for number in 1..67 {
         store.forget(address(number)?).ok().ok_or("not forgotten")?;
     }
     Ok(store)
@@ -49,30 +49,30 @@ fn assert_batch<R: Abort>(
 #[test]
 fn batches_over_forgotten_addresses(rt: HostRuntime) -> Result<(), Fail> {
     let store = half_forgotten(&rt)?;
-    assert_batch(&rt, &store, None, 0, None, Some(256))?;
-    assert_batch(&rt, &store, Some(address(256)?), 254, Some(259), Some(512))?;
-    assert_batch(&rt, &store, Some(address(512)?), 2, Some(513), None)?;
+    assert_batch(&rt, &store, None, 0, None, Some(64))?;
+    assert_batch(&rt, &store, Some(address(64)?), 62, Some(67), Some(128))?;
+    assert_batch(&rt, &store, Some(address(128)?), 2, Some(129), None)?;
     if !store.is_on() {
         return Err("off".into());
     }
-    assert_eq!(rt; (store.fill(), store.live_count()), (772, 256));
+    assert_eq!(rt; (store.fill(), store.live_count()), (196, 64));
     Ok(())
 }
 
-/// The 256 live addresses stand behind an empty batch, and the transfer takes all of them along.
+/// The 64 live addresses stand behind an empty batch, and the transfer takes all of them along.
 #[test]
 fn a_transfer_over_batches(rt: HostRuntime) -> Result<(), Fail> {
     let mut store = half_forgotten(&rt)?;
-    let written = store.write(address(300)?, 5);
+    let written = store.write(address(70)?, 5);
     assert_eq!(rt; written.ok(), Some(Written::Moved));
     if !store.is_on() {
         return Err("off".into());
     }
-    assert_eq!(rt; (store.fill(), store.live_count()), (256, 256));
-    for number in 1..515 {
+    assert_eq!(rt; (store.fill(), store.live_count()), (64, 64));
+    for number in 1..131 {
         let value = match number {
-            1..=258 => None,
-            300 => Some(5),
+            1..=66 => None,
+            70 => Some(5),
             _ => Some(u32::from(number) + 1000),
         };
         assert_eq!(rt; store.read(address(number)?).ok(), Some(value));

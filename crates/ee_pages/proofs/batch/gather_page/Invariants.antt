@@ -6,4 +6,4 @@ use Rattle.ee_pages.proofs.batch.gather_page.Given as goal
 abbrev pub invariant-loop-slot : goal.invariant-loop-slot
 invariant-loop-slot g l =
     let device = g.F.Flash.device l.flash in
-    l.nearest.items ≡ take 256 (gathered l.above (take (l.page * (device.size.words - 4) + l.slot) (slots_of (set_of l.side device))) [])
+    l.nearest.items ≡ take 64 (gathered l.above (take (l.page * (device.size.words - 4) + l.slot) (slots_of (set_of l.side device))) [])

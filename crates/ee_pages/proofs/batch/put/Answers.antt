@@ -13,9 +13,9 @@ pub returns : goal.returns
 returns c =
     rw (c.insert.ensures.items, c.truncate.ensures.items) (elim c.else-place-len.branch [
       | else-place-len-via-then-place-len+else-get w ↦
-          put_new 255 c.args.nearest.now.items c.args.new c.args.place w.index-as_slice-place.result c.requires.place (omega (arith, c.requires.room))
+          put_new 63 c.args.nearest.now.items c.args.new c.args.place w.index-as_slice-place.result c.requires.place (omega (arith, c.requires.room))
           (λ _ same. w.if-get.false (let e = w.as_slice.ensures.value in cc (w.get.ensures.number, w.get-then-place-len.ensures.number)))
       | else-place-len-via-else-place-len w ↦
-          put_new 255 c.args.nearest.now.items c.args.new c.args.place c.args.new c.requires.place (omega (arith, c.requires.room))
+          put_new 63 c.args.nearest.now.items c.args.new c.args.place c.args.new c.requires.place (omega (arith, c.requires.room))
           (λ within same. absurd (omega (arith, within, w.if-place-len.false, c.len.ensures.value)))
     ])
