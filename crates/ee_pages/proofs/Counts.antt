@@ -1,11 +1,9 @@
 -- Addresses in their order: the next live one, and how many there are.
-use Rattle.std.proofs.Common.{◌≡◌, inl, inr, ℕ, ◌+◌, ◌-◌, ◌<◌, ◌≤◌, Some, None, List, [], ◌∷◌, length, is_some, cond, refl, subst, ap, ◌∙◌, arith, suc, zero}
-use Rattle.std.proofs.lemmas.Bool.{cases_lt, cases_eq}
+use Rattle.std.proofs.Common.{◌≡◌, ℕ, ◌+◌, ◌-◌, ◌<◌, ◌≤◌, Some, None, List, [], ◌∷◌, length, is_some, cond, refl, subst, ap, ◌∙◌, arith, suc, zero}
 use Rattle.std.proofs.lemmas.List.Elements.{All-head, All-tail}
 use Rattle.std.specs.List.{All}
 use Rattle.ee_codec.specs.Words.{IsAddress}
-use Rattle.ee_flash.specs.declared.word.Word.{Word}
-use Rattle.ee_pages.specs.Meaning.{AreLiveThrough, AreNextLive, IsNextLive, IsNextNamed, Map, last_of, live_to, meaning, value_said}
+use Rattle.ee_pages.specs.Meaning.{AreLiveThrough, AreNextLive, IsNextLive, Map, last_of, live_to}
 
 pub live_to-zero : (map : Map) → live_to map 0 ≡ 0
 unfolding live_to
@@ -71,32 +69,3 @@ module _ (map : Map) (found : List (ℕ × ℕ)) (above count : ℕ) (counted : 
       let more = live_to-batch map found above batch.next in
       let rest = live_to-end map (last_of above found) (last_below found above below proper) batch.rest in
       omega (arith, counted, more, rest)
-
-module _ (slots : List Word) (from above : ℕ) (behind : from ≤ above) (none : (address : ℕ) → from < address → address ≤ above → meaning slots address ≡ None) where
-  -- the next address of which something is said has a value
-  pub next_has : (address value : ℕ) → IsNextNamed slots above (Some (address, Some value)) → IsNextLive (meaning slots) from (Some (address, value))
-  next_has address value next = (
-    omega (arith, next.0),
-    ap value_said next.1,
-    λ k low high. elim (cases_lt above k) [
-      | inl more ↦ ap value_said (next.2 k more high)
-      | inr less ↦ none k low less
-    ],
-  )
-
-  -- the next address of which something is said was forgotten
-  pub next_forgotten : (address : ℕ) → IsNextNamed slots above (Some (address, None)) → (k : ℕ) → from < k → k ≤ address → meaning slots k ≡ None
-  next_forgotten address next k low high = elim (cases_lt above k) [
-    | inr less ↦ none k low less
-    | inl more ↦ elim (cases_eq k address) [
-      | inl same ↦ ap (meaning slots) same ∙ ap value_said next.1
-      | inr other ↦ ap value_said (next.2 k more (omega arith))
-    ]
-  ]
-
-  -- nothing more is said
-  pub none_next : IsNextNamed slots above None → IsNextLive (meaning slots) from None
-  none_next next k low = elim (cases_lt above k) [
-    | inl more ↦ ap value_said (next k more)
-    | inr less ↦ none k low less
-  ]

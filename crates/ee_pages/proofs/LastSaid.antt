@@ -92,7 +92,7 @@ module _ (device : Device) (layout : Layout) (found : IsLayout device layout) wh
   pub fill_is : layout.fill ≡ front (slots_of (set_of layout.side device))
   fill_is = found.fill ∙ sym (fill-front layout.side device layout.generation found.live.formed found.live.allowed)
 
-  pub fill_within : layout.fill ≤ slot_count device.size
+  fill_within : layout.fill ≤ slot_count device.size
   fill_within =
       let most = prefix_len-le-length is_written (slots_of (set_of layout.side device)) in
       omega (arith, fill_is, most, length-slots layout.side device found.live.formed)
@@ -102,14 +102,6 @@ module _ (device : Device) (layout : Layout) (found : IsLayout device layout) wh
   silent_behind address = latest_in-erased _ address (λ k.
       ap is_written (get_or-drop layout.fill (slots_of (set_of layout.side device)) k Erased)
       ∙ slots_behind layout.side device layout.generation found.live.formed found.live.allowed (layout.fill + k) (omega (arith, fill_is)))
-
-  -- the slots from one on, and the word in it
-  pub slots_from : (slot : ℕ) → slot < layout.fill → drop slot (slots_of (set_of layout.side device)) ≡ get_or (slots_of (set_of layout.side device)) slot Erased ∷ drop (slot + 1) (slots_of (set_of layout.side device))
-  slots_from slot h =
-      let slots = slots_of (set_of layout.side device) in
-      let within : slot < length slots = omega (arith, fill_within, length-slots layout.side device found.live.formed) in
-      let e : slot + 1 ≡ suc slot = omega arith in
-      rw e (drop-cons slots slot Erased within)
 
   -- the page of the last written slot, within its set
   pub last_page : (first : ℕ) → first ≡ first_page device.size layout.side → layout.current - first ≡ page_of_slot device.size (layout.fill - 1)

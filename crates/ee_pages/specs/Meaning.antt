@@ -83,19 +83,6 @@ abbrev pub above_of : Option ℕ → ℕ
 above_of None = 0
 above_of (Some address) = address
 
--- the next address above this one of which a slot says something, with what the last one says, or that there is none
-abbrev pub IsNextNamed : List Word → ℕ → Option (ℕ × Option ℕ) → Type 0
-IsNextNamed slots above None = (address : ℕ) → above < address → latest_in slots address ≡ None
-IsNextNamed slots above (Some found) =
-    (above < found.0) × (latest_in slots found.0 ≡ Some found.1)
-    × ((address : ℕ) → above < address → address < found.0 → latest_in slots address ≡ None)
-
--- the address of which a word says something, with what it says, or that it says nothing of any
-abbrev pub Names : Word → Option (ℕ × Option ℕ) → Type 0
-Names word None = (address : ℕ) → says word address ≡ None
-Names word (Some named) =
-    (says word named.0 ≡ Some named.1) × ((address : ℕ) → (address ≡ named.0 → ⊥) → says word address ≡ None)
-
 -- a change of the map: an address gets a value, or has none from here on
 pub data Change : Type 0 where
   Put : (address value : ℕ) → Change

@@ -1,17 +1,17 @@
 ghost use Rattle.std.specs.Prelude.{◌≡◌, ◌≤◌, ◌<◌, ◌+◌, ◌-◌, ◌*◌, ◌∷◌, ◌++◌, ℕ, [], IfNone, IfSome, None, Some, length, take};
 ghost use Rattle.std.specs.List.{All};
+ghost use Rattle.ee_codec.specs.Reading.{slot_of};
 ghost use Rattle.ee_codec.specs.Words.{IsAddress};
 ghost use Rattle.ee_pages.specs.Layout.{IsLayout};
 ghost use Rattle.ee_pages.specs.Meaning.{AreLiveThrough, above_of, meaning};
-ghost use Rattle.ee_pages.specs.Nearest.{IsPlace, IsRising, gathered, last_named, living as living_of, noted, noted_above};
+ghost use Rattle.ee_pages.specs.Nearest.{IsPlace, IsRising, gathered, last_named, living as living_of, noted, noted_above, slot_names};
 ghost use Rattle.ee_pages.specs.Sets.{set_of, slots_of};
 
 use crate::find::Layout;
-use crate::read::named;
 use crate::side::{Side, page_slot};
 use arrayvec::ArrayVec;
-use ee_codec::Address;
-use ee_flash::Flash;
+use ee_codec::{Address, Slot, read_slot};
+use ee_flash::{Flash, Word};
 
 /// How many addresses are gathered in one look through the slots.
 const BATCH: usize = 64;
@@ -92,6 +92,17 @@ fn gather_page<F: Flash>(
 {
     for slot in 0..flash.shape().words() - 4 {
         note(above, named(page_slot(flash, side, page, slot)), nearest);
+    }
+}
+
+// The address of which a word says something, with what it says.
+fn named(word: Word) -> Option<(Address, Option<u32>)>
+    ensures { result ≡ slot_names (slot_of word) }
+{
+    match read_slot(word) {
+        Slot::Element { address, value } => Some((address, Some(value))),
+        Slot::Forgotten { address, .. } => Some((address, None)),
+        _ => None,
     }
 }
 

@@ -1,10 +1,8 @@
-ghost use Rattle.std.specs.Prelude.{◌≡◌, ◌<◌, ◌≤◌, ◌-◌, ◌*◌, ◌∷◌, ℕ, IfSome, List, drop, slice_index_or, take};
-ghost use Rattle.ee_codec.specs.Reading.{slot_of};
+ghost use Rattle.std.specs.Prelude.{◌≡◌, ◌<◌, ◌≤◌, ◌-◌, ◌*◌, ℕ, IfSome, drop, slice_index_or, take};
 ghost use Rattle.ee_codec.specs.Words.{IsAddress};
 ghost use Rattle.ee_flash.specs.Size.{slot_count};
 ghost use Rattle.ee_pages.specs.Layout.{IsLayout};
-ghost use Rattle.ee_pages.specs.Meaning.{IsNextLive, IsNextNamed, Names, above_of, latest_in, live_in, meaning, says as word_says};
-ghost use Rattle.ee_pages.specs.Nearest.{slot_names};
+ghost use Rattle.ee_pages.specs.Meaning.{IsNextLive, above_of, latest_in, live_in, meaning, says as word_says};
 ghost use Rattle.ee_pages.specs.Sets.{set_of, slots_of};
 
 use crate::batch::next_batch;
@@ -50,8 +48,8 @@ pub fn latest<F: Flash>(flash: &F, layout: &Layout, address: Address) -> Option<
 }
 
 /// The next live address above `after`, or of all if `after` is `None`, with its value. `None` if
-/// there is none. It is one scan of the slots, and one more for each forgotten address that it
-/// passes over. The layout is the image's.
+/// there is none. It looks through the slots once, and once more for each batch of addresses that
+/// were all forgotten. The layout is the image's.
 ///
 /// Source: ours.
 pub fn next_live<F: Flash>(
@@ -64,17 +62,17 @@ pub fn next_live<F: Flash>(
         IsNextLive (meaning slots) (above_of after) result }
     ensures proper { IfSome result (λ found. IsAddress found.0) }
 {
-    let mut above = match after {
-        None => 0,
-        Some(address) => address.get(),
-    };
-    'named: while let Some((address, said)) = next_named(flash, layout, above) {
-        if let Some(value) = said {
-            return Some((address, value));
+    let mut behind = after;
+    'batches: loop {
+        let batch = next_batch(flash, layout, behind);
+        if let Some(found) = batch.found.first() {
+            return Some(*found);
         }
-        above = address.get();
+        let Some(through) = batch.through else {
+            return None;
+        };
+        behind = Some(through);
     }
-    None
 }
 
 /// How many addresses have a value, 0 to the capacity. It looks through the slots once for each batch
@@ -96,56 +94,6 @@ pub fn live_count<F: Flash>(flash: &F, layout: &Layout) -> usize
         };
         after = Some(through);
     }
-}
-
-// The next address above this one of which a slot says something, with what the last one says.
-fn next_named<F: Flash>(flash: &F, layout: &Layout, above: u16) -> Option<(Address, Option<u32>)>
-    requires { IsLayout (F.device flash.now) layout.now }
-    ensures { let slots = slots_of (set_of layout.now.side (F.device flash.now)) in
-        IsNextNamed slots above result }
-{
-    let mut next = None;
-    let mut slot = layout.fill;
-    'slots: while slot > 0 {
-        slot -= 1;
-        next = nearer(above, named(slot_word(flash, layout, slot)), next);
-    }
-    next
-}
-
-// The address of which a word says something, with what it says.
-pub(crate) fn named(word: Word) -> Option<(Address, Option<u32>)>
-    ensures names { Names word result }
-    ensures exact { result ≡ slot_names (slot_of word) }
-{
-    match read_slot(word) {
-        Slot::Element { address, value } => Some((address, Some(value))),
-        Slot::Forgotten { address, .. } => Some((address, None)),
-        _ => None,
-    }
-}
-
-// What comes next above an address once one slot more is read, before those that were read.
-fn nearer(
-    above: u16,
-    named: Option<(Address, Option<u32>)>,
-    next: Option<(Address, Option<u32>)>,
-) -> Option<(Address, Option<u32>)>
-    ensures { (word : Word) → (slots : List Word) → Names word named
-        → IsNextNamed slots above next → IsNextNamed (word ∷ slots) above result }
-{
-    let Some((address, said)) = named else {
-        return next;
-    };
-    if address.get() <= above {
-        return next;
-    }
-    if let Some((least, known)) = next {
-        if least.get() <= address.get() {
-            return Some((least, known));
-        }
-    }
-    Some((address, said))
 }
 
 // What the first `used` slots of a page of a set say of an address: the newest that says something

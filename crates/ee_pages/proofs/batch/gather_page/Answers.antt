@@ -26,4 +26,4 @@ loop-slot-preserved g c =
     let few : c.loop-slot.slot < device.size.words - 4 = omega (arith, c.loop-slot-test.true, c.words-slot-end.ensures.value, ap (λ (size : Size). size.words) c.shape.ensures) in
     let within : place < length slots = omega (arith, length-slots c.args.side device formed, in_set c.args.page device.size.pages (device.size.words - 4) c.loop-slot.slot c.requires.page_in_range few) in
     subst (λ n. c.note.new.nearest.items ≡ take 64 (gathered c.args.above (take n slots) [])) more
-    (one_slot c.args.above slots place c.page_slot.result c.named.result c.loop-slot.nearest.items c.note.new.nearest.items within c.page_slot.ensures c.named.ensures.exact c.loop-slot.invariant c.note.ensures)
+    (one_slot c.args.above slots place c.page_slot.result c.named.result c.loop-slot.nearest.items c.note.new.nearest.items within c.page_slot.ensures c.named.ensures c.loop-slot.invariant c.note.ensures)

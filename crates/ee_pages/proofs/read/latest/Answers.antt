@@ -1,4 +1,4 @@
-use Rattle.std.proofs.Common.{ap, arith, sym, ◌∙◌, ◌≡◌, ◌≤◌, ◌+◌, ◌-◌, ◌*◌, Some, None, drop, take}
+use Rattle.std.proofs.Common.{ap, arith, rules, sym, ◌∙◌, ◌≡◌, ◌≤◌, ◌+◌, ◌-◌, ◌*◌, Some, None, drop, take}
 use Rattle.std.proofs.Math.Nat.{mul-le-mul_right}
 use Rattle.ee_pages.specs.Meaning.{latest_in, value_said}
 use Rattle.ee_pages.specs.Sets.{page_of_slot, set_of, slots_of}
@@ -30,7 +30,7 @@ returns-in-Some g c =
     let page = c.loop-page.page - 1 in
     let before = page * (device.size.words - 4) in
     let same : page * (c.words-slots.result - 4) ≡ before = cc (c.words-slots.ensures.value, c.shape.ensures) in
-    let said : latest_in (take (c.loop-page.left - before) (drop before slots)) c.args.address ≡ Some c.in-Some.said = cc (same, c.said_in_page.ensures, c.in-Some.is) in
+    let said : latest_in (take (c.loop-page.left - before) (drop before slots)) c.args.address ≡ Some c.in-Some.said = search (rules, same, c.said_in_page.ensures) in
     let row = latest_in-row before c.loop-page.left slots c.args.address c.loop-page.invariant.from c.loop-page.invariant.silent in
     ap value_said (sym (latest_in-drop before slots c.args.address c.in-Some.said (row ∙ said)))
 
@@ -41,7 +41,7 @@ loop-page-preserved g c =
     let page = c.loop-page.page - 1 in
     let before = page * (device.size.words - 4) in
     let same : page * (c.words-slots.result - 4) ≡ before = cc (c.words-slots.ensures.value, c.shape.ensures) in
-    let said : latest_in (take (c.loop-page.left - before) (drop before slots)) c.args.address ≡ None = cc (same, c.said_in_page.ensures, c.in_default.is) in
+    let said : latest_in (take (c.loop-page.left - before) (drop before slots)) c.args.address ≡ None = search (rules, same, c.said_in_page.ensures) in
     let row = latest_in-row before c.loop-page.left slots c.args.address c.loop-page.invariant.from c.loop-page.invariant.silent in
     let lower : (page - 1) * (device.size.words - 4) ≤ before = mul-le-mul_right (device.size.words - 4) (omega arith) in
     record {

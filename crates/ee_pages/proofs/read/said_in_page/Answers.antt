@@ -1,4 +1,4 @@
-use Rattle.std.proofs.Common.{arith, sym, subst, ◌∙◌, ◌≡◌, ◌-◌, ◌*◌, None, drop, take}
+use Rattle.std.proofs.Common.{arith, rules, sym, subst, ◌∙◌, ◌≡◌, ◌-◌, ◌*◌, None, drop, take}
 use Rattle.ee_pages.specs.Meaning.{latest_in}
 use Rattle.ee_pages.specs.Sets.{set_of, slots_of}
 use Rattle.ee_pages.proofs.LastSaid.{latest_in-behind, newest, one_lower}
@@ -16,7 +16,7 @@ returns-in-Some g c =
     let slots = slots_of (set_of c.args.side device) in
     let before = c.args.page * (device.size.words - 4) in
     let within = row_within c.args.side device c.args.page c.args.used (g.met.F.Flash.formed c.args.flash.now) c.requires.page_in_range c.requires.used_in_range in
-    sym (newest before c.args.used slots c.args.address within c.loop-slot.slot c.in-Some.said c.loop-slot-test.true (omega arith) c.loop-slot.invariant (cc (c.page_slot.ensures, c.says.ensures, c.in-Some.is)))
+    sym (newest before c.args.used slots c.args.address within c.loop-slot.slot c.in-Some.said c.loop-slot-test.true (omega arith) c.loop-slot.invariant (search (rules, c.page_slot.ensures, c.says.ensures)))
 
 pub loop-slot-preserved : goal.loop-slot-preserved
 loop-slot-preserved g c =
@@ -25,7 +25,7 @@ loop-slot-preserved g c =
     let before = c.args.page * (device.size.words - 4) in
     let within = row_within c.args.side device c.args.page c.args.used (g.met.F.Flash.formed c.args.flash.now) c.requires.page_in_range c.requires.used_in_range in
     one_lower before c.args.used slots c.args.address within c.loop-slot.slot c.loop-slot-test.true (omega arith) c.loop-slot.invariant
-    ∙ cc (c.page_slot.ensures, c.says.ensures, c.in_default.is)
+    ∙ search (rules, c.page_slot.ensures, c.says.ensures)
 
 pub returns : goal.returns
 returns g c =
