@@ -1,9 +1,9 @@
 use ee_flash::Shape;
 use ee_shell::{
-    Fault, File, Job, check_script, clean_image, fault_line, format_image, get_setting, job,
-    plan_script, read_whole, replay, set_setting, states_text, status_of, try_script, wear_text,
-    write_whole,
+    check_script, clean_image, format_image, get_setting, plan_script, replay, set_setting,
+    states_text, try_script, wear_text,
 };
+use ee_words::{Fault, File, Job, fault_line, job, read_whole, status_of, write_whole};
 use std::rt::Files;
 use std::{fs, io};
 

@@ -6,9 +6,10 @@ use Rattle.ee_image.specs.declared.fault.ImageFault.TheVariants as image
 use Rattle.ee_script.specs.Whole.{IsScriptFault}
 use Rattle.ee_script.specs.declared.session.ScriptFault.{ScriptFault}
 use Rattle.ee_script.specs.declared.session.ScriptFault.TheVariants as script
-use Rattle.ee_shell.specs.declared.replaying.ReplayFault.{ReplayFault}
-use Rattle.ee_shell.specs.declared.replaying.ReplayFault.TheVariants.{Script, Memory}
-use Rattle.ee_shell.specs.Replaying.{IsOpenFault, IsRunFault, of_image, same_cause}
+use Rattle.ee_words.specs.declared.replay_fault.ReplayFault.{ReplayFault}
+use Rattle.ee_words.specs.declared.replay_fault.ReplayFault.TheVariants.{Script, Memory}
+use Rattle.ee_words.specs.ReplayFault.{of_image, same_cause}
+use Rattle.ee_shell.specs.Replaying.{IsOpenFault, IsRunFault}
 
 pub named_again : (fault : ScriptFault) (replay : ReplayFault) (n : ℕ) → replay ≡ same_cause fault → (fault ≡ script.BadLine n) ⊎ (fault ≡ script.Memory)
     → (replay ≡ Script n) ⊎ (replay ≡ Memory)

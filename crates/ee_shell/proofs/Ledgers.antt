@@ -14,14 +14,14 @@ use Rattle.ee_image.proofs.Texts.{one_device_lem, one_fault_lem, short}
 use Rattle.ee_wear.specs.Since.{IsFirstFallen, IsSinceFault, NoneFell}
 use Rattle.ee_wear.specs.declared.since.SinceFault.{SinceFault}
 use Rattle.ee_wear.specs.declared.since.SinceFault.TheVariants as since
-use Rattle.ee_shell.specs.Fault.{fault_of_image, fault_of_since}
+use Rattle.ee_words.specs.Fault.{fault_of_image, fault_of_since}
+use Rattle.ee_words.specs.declared.fault.Fault.{Fault}
+use Rattle.ee_words.specs.declared.fault.Fault.TheVariants.{Memory}
+use Rattle.ee_words.specs.declared.fault.File.{File}
+use Rattle.ee_words.specs.declared.fault.File.TheVariants.{Image, Before}
 use Rattle.ee_shell.specs.Images.{IsReadingFault}
 use Rattle.ee_shell.specs.Replaying.{Spells}
 use Rattle.ee_shell.specs.Wear.{IsDifferenceFault, IsFileFault, IsWear, IsWearFault, count_lines, count_text}
-use Rattle.ee_shell.specs.declared.fault.Fault.{Fault}
-use Rattle.ee_shell.specs.declared.fault.Fault.TheVariants.{Memory}
-use Rattle.ee_shell.specs.declared.fault.File.{File}
-use Rattle.ee_shell.specs.declared.fault.File.TheVariants.{Image, Before}
 use Rattle.ee_shell.proofs.OneCause.{is_no_text}
 
 lines_push : (start : ℕ) (counts : List ℕ) (n number : ℕ) → number ≡ start + n → n < length counts

@@ -7,7 +7,6 @@ pub mod OneCause
 pub mod Pages
 pub mod Runs
 pub mod Stores
-pub mod Streams
 pub mod Reported
 pub mod Late
 pub mod Traces

@@ -36,20 +36,20 @@ use Rattle.ee_script.specs.declared.answer.Answer.{Answer}
 use Rattle.ee_script.specs.declared.answer.Answer.TheVariants.{Appended, Moved}
 use Rattle.ee_script.specs.declared.command.Command.{Command}
 use Rattle.ee_script.specs.declared.command.Command.TheVariants.{Write}
+use Rattle.ee_words.specs.Fault.{fault_of_replay, fault_of_schema}
+use Rattle.ee_words.specs.declared.fault.Fault.{Fault}
+use Rattle.ee_words.specs.declared.fault.Fault.TheVariants.{UnknownName, Memory}
+use Rattle.ee_words.specs.declared.replay_fault.ReplayFault.{ReplayFault}
+use Rattle.ee_words.specs.declared.replay_fault.ReplayFault.TheVariants as replay
 use Rattle.ee_shell.proofs.Erasing.{both, by_append, by_move}
 use Rattle.ee_shell.proofs.OneCause.{one_open_fault, store_is_good}
 use Rattle.ee_shell.specs.Erases.{ErasesRise, erases_of}
-use Rattle.ee_shell.specs.Fault.{fault_of_replay, fault_of_schema}
 use Rattle.ee_shell.specs.Images.{IsOpeningFault}
 use Rattle.ee_shell.specs.Machine.{Step}
 use Rattle.ee_shell.specs.Opening.{IsOpened}
 use Rattle.ee_shell.specs.Replaying.{IsOpenFault, IsStoreText, Spells}
 use Rattle.ee_shell.specs.Serving.{Serves, StaysOn}
 use Rattle.ee_shell.specs.Settings.{HasStore, HasTree, IsGetFault, IsRead, IsRefused, IsRefusedIn, IsSet, IsSetFault, IsSettingsFault, IsValueRefusal, IsWriteRefusal, IsWritten, SpellsSettings}
-use Rattle.ee_shell.specs.declared.fault.Fault.{Fault}
-use Rattle.ee_shell.specs.declared.fault.Fault.TheVariants.{UnknownName, Memory}
-use Rattle.ee_shell.specs.declared.replaying.ReplayFault.{ReplayFault}
-use Rattle.ee_shell.specs.declared.replaying.ReplayFault.TheVariants as replay
 
 -- ---- the text of the settings
 

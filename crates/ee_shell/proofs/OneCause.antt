@@ -24,9 +24,9 @@ use Rattle.ee_image.specs.Fault.{IsTextFault}
 use Rattle.ee_image.specs.declared.fault.ImageFault.{ImageFault}
 use Rattle.ee_image.proofs.Texts.{one_device_lem, one_fault_lem, texts_are_good_lem}
 use Rattle.ee_script.proofs.Reading.{one_first_bad_line_lem, scripts_are_good_lem}
+use Rattle.ee_words.specs.declared.replay_fault.ReplayFault.{ReplayFault}
+use Rattle.ee_words.specs.declared.replay_fault.ReplayFault.TheVariants.{Image, Open, Script, Memory}
 use Rattle.ee_shell.specs.Replaying.{IsOpenFault, IsReplayFault, IsReplayed, IsRun, IsRunFault, IsStoreText, Spells}
-use Rattle.ee_shell.specs.declared.replaying.ReplayFault.{ReplayFault}
-use Rattle.ee_shell.specs.declared.replaying.ReplayFault.TheVariants.{Image, Open, Script, Memory}
 
 -- ---- a device with no live set
 

@@ -34,15 +34,15 @@ use Rattle.ee_plan.specs.Plan.{IsFirstNotFitting, IsPlanFault}
 use Rattle.ee_plan.specs.Start.{AreLive, IsStartOf}
 use Rattle.ee_plan.specs.declared.planned.PlanFault.{PlanFault}
 use Rattle.ee_plan.specs.declared.planned.PlanFault.TheVariants as plan
-use Rattle.ee_shell.specs.Fault.{fault_of_certificate, fault_of_check, fault_of_plan, fault_of_replay, fault_of_script}
+use Rattle.ee_words.specs.Fault.{fault_of_certificate, fault_of_check, fault_of_plan, fault_of_replay, fault_of_script}
+use Rattle.ee_words.specs.declared.fault.Fault.{Fault}
+use Rattle.ee_words.specs.declared.fault.Fault.TheVariants.{Memory, NotFitting}
+use Rattle.ee_words.specs.declared.replay_fault.ReplayFault.{ReplayFault}
+use Rattle.ee_words.specs.declared.replay_fault.ReplayFault.TheVariants as replay
 use Rattle.ee_shell.specs.Opening.{IsOpened}
 use Rattle.ee_shell.specs.Planning.{IsCertificateFault, IsCheckingFault, IsImageStart, IsPlanningFault, IsRefusal, IsTask, IsTaskFault, IsTrace}
 use Rattle.ee_shell.specs.Replaying.{IsOpenFault, IsStoreText, Spells}
 use Rattle.ee_shell.specs.Trace.{written}
-use Rattle.ee_shell.specs.declared.fault.Fault.{Fault}
-use Rattle.ee_shell.specs.declared.fault.Fault.TheVariants.{Memory, NotFitting}
-use Rattle.ee_shell.specs.declared.replaying.ReplayFault.{ReplayFault}
-use Rattle.ee_shell.specs.declared.replaying.ReplayFault.TheVariants as replay
 use Rattle.ee_shell.proofs.OneCause.{one_open_fault, store_is_good}
 
 -- ---- one start

@@ -16,12 +16,12 @@ use Rattle.ee_store.specs.State.{State, formatted, state_of}
 use Rattle.ee_image.specs.Text.{at_rest, image_text}
 use Rattle.ee_image.specs.declared.fault.ImageFault.TheVariants as image
 use Rattle.ee_image.proofs.Texts.{short}
+use Rattle.ee_words.specs.declared.fault.Fault.TheVariants.{Memory}
 use Rattle.ee_shell.specs.Erases.{ErasesRise, erases_of_all}
 use Rattle.ee_shell.specs.Images.{AreStates, IsFormattedText, IsReadingFault, state_lines}
 use Rattle.ee_shell.specs.Opening.{IsNewStore, IsOpened, IsRunOn}
 use Rattle.ee_shell.specs.Replaying.{IsReplayed, IsRun, IsTried, Spells}
 use Rattle.ee_shell.specs.Serving.{IsServed, StaysOn}
-use Rattle.ee_shell.specs.declared.fault.Fault.TheVariants.{Memory}
 use Rattle.ee_shell.proofs.Erasing.{both, by_wear}
 
 -- a device in memory is formed

@@ -13,11 +13,11 @@ use Rattle.ee_store.specs.State.{CountsWear, formatted, state_of, with_pending}
 use Rattle.ee_image.specs.Fault.{IsImageFault}
 use Rattle.ee_image.specs.declared.fault.ImageFault.{ImageFault}
 use Rattle.ee_shell.specs.Erases.{ErasesRise}
-use Rattle.ee_shell.specs.Fault.{fault_of_image, fault_of_replay}
+use Rattle.ee_words.specs.Fault.{fault_of_image, fault_of_replay}
 use Rattle.ee_shell.specs.Replaying.{IsOpenFault, IsStoreLeft, IsStoreText, Spells}
-use Rattle.ee_shell.specs.declared.fault.Fault.{Fault}
-use Rattle.ee_shell.specs.declared.fault.File.TheVariants.{Image}
-use Rattle.ee_shell.specs.declared.replaying.ReplayFault.{ReplayFault}
+use Rattle.ee_words.specs.declared.fault.Fault.{Fault}
+use Rattle.ee_words.specs.declared.fault.File.TheVariants.{Image}
+use Rattle.ee_words.specs.declared.replay_fault.ReplayFault.{ReplayFault}
 
 -- the text of a store with nothing in it, on a device of this size that no page of was erased
 pub record IsFormattedText (size : Size) (text : List ℕ) : Type 0 where

@@ -1,4 +1,3 @@
-pub mod Job
 pub mod Machine
 pub mod Erases
 pub mod Trace
@@ -6,7 +5,6 @@ pub mod Report
 pub mod Serving
 pub mod Replaying
 pub mod Opening
-pub mod Fault
 pub mod Images
 pub mod Wear
 pub mod Planning

@@ -17,11 +17,11 @@ use Rattle.ee_plan.specs.Start.{IsStartOf}
 use Rattle.ee_script.specs.declared.command.Command.{Command}
 use Rattle.ee_script.specs.Script.{IsScript}
 use Rattle.ee_script.specs.Whole.{IsScriptFault}
-use Rattle.ee_shell.specs.Fault.{fault_of_certificate, fault_of_check, fault_of_plan, fault_of_script}
+use Rattle.ee_words.specs.Fault.{fault_of_certificate, fault_of_check, fault_of_plan, fault_of_script}
+use Rattle.ee_words.specs.declared.fault.Fault.{Fault}
 use Rattle.ee_shell.specs.Images.{IsOpeningFault}
 use Rattle.ee_shell.specs.Replaying.{IsStoreText}
 use Rattle.ee_shell.specs.Trace.{written}
-use Rattle.ee_shell.specs.declared.fault.Fault.{Fault}
 
 -- this is what the store of the image that the text spells gives a trace to start from
 pub record IsImageStart (image : List ℕ) (start : Situation) : Type 0 where

@@ -8,16 +8,12 @@ use Rattle.ee_store.specs.Finished.{IsStore}
 use Rattle.ee_store.specs.State.{CountsWear, State, formatted, state_of}
 use Rattle.ee_image.specs.Text.{image_text}
 use Rattle.ee_image.specs.Fault.{IsTextFault}
-use Rattle.ee_image.specs.declared.fault.ImageFault.{ImageFault}
-use Rattle.ee_image.specs.declared.fault.ImageFault.TheVariants as image
-use Rattle.ee_script.specs.declared.session.ScriptFault.{ScriptFault}
-use Rattle.ee_script.specs.declared.session.ScriptFault.TheVariants as script
 use Rattle.ee_script.specs.Script.{IsFirstBadLine}
+use Rattle.ee_words.specs.declared.replay_fault.ReplayFault.{ReplayFault}
+use Rattle.ee_words.specs.declared.replay_fault.ReplayFault.TheVariants.{Image, Open, Script, Memory}
 use Rattle.ee_shell.specs.Erases.{ErasesRise, erases, erases_of_all}
 use Rattle.ee_shell.specs.Report.{IsReported}
 use Rattle.ee_shell.specs.Serving.{StaysOn}
-use Rattle.ee_shell.specs.declared.replaying.ReplayFault.{ReplayFault}
-use Rattle.ee_shell.specs.declared.replaying.ReplayFault.TheVariants.{Image, Open, Script, Memory}
 
 -- this device's text is the text
 pub record Spells (text : List ℕ) (device : Device) : Type 0 where
@@ -74,15 +70,3 @@ IsRunFault text Memory = Unit {0}
 -- why a script isn't replayed, the first cause that applies: no store is opened, or one is and the script isn't answered
 abbrev pub IsReplayFault : List ℕ → List ℕ → ReplayFault → Type 0
 IsReplayFault old_image text fault = IsOpenFault old_image fault ⊎ (((device : Device) × IsStoreText old_image device) × IsRunFault text fault)
-
--- an image's fault, as a replay names it
-abbrev pub of_image : ImageFault → ReplayFault
-of_image image.TooLong = Image image.TooLong
-of_image (image.BadLine n) = Image (image.BadLine n)
-of_image image.BadShape = Image image.BadShape
-of_image image.Memory = Memory
-
--- a script's fault, as a replay names it
-abbrev pub same_cause : ScriptFault → ReplayFault
-same_cause (script.BadLine n) = Script n
-same_cause script.Memory = Memory

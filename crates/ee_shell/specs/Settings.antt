@@ -17,12 +17,12 @@ use Rattle.ee_settings.specs.declared.reading.Reading.{Reading}
 use Rattle.ee_settings.specs.declared.reading.Reading.TheVariants.{Stored, Default}
 use Rattle.ee_script.specs.declared.answer.Answer.TheVariants.{Appended, Moved}
 use Rattle.ee_script.specs.declared.command.Command.TheVariants.{Write}
-use Rattle.ee_shell.specs.Fault.{fault_of_schema}
+use Rattle.ee_words.specs.Fault.{fault_of_schema}
+use Rattle.ee_words.specs.declared.fault.Fault.{Fault}
+use Rattle.ee_words.specs.declared.fault.Fault.TheVariants.{SettingsText, UnknownName, OutOfRange, Full, Spent, Memory}
 use Rattle.ee_shell.specs.Images.{IsOpeningFault}
 use Rattle.ee_shell.specs.Replaying.{IsStoreLeft, IsStoreText}
 use Rattle.ee_shell.specs.Serving.{Serves, StaysOn}
-use Rattle.ee_shell.specs.declared.fault.Fault.{Fault}
-use Rattle.ee_shell.specs.declared.fault.Fault.TheVariants.{SettingsText, UnknownName, OutOfRange, Full, Spent, Memory}
 
 -- ---- the text of the settings
 

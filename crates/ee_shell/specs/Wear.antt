@@ -8,11 +8,11 @@ use Rattle.ee_image.specs.declared.fault.ImageFault.{ImageFault}
 use Rattle.ee_wear.specs.Counts.{greatest_of, least_of}
 use Rattle.ee_wear.specs.Since.{IsSinceFault, NoneFell, differences}
 use Rattle.ee_wear.specs.declared.since.SinceFault.{SinceFault}
-use Rattle.ee_shell.specs.Fault.{fault_of_image, fault_of_since}
+use Rattle.ee_words.specs.Fault.{fault_of_image, fault_of_since}
+use Rattle.ee_words.specs.declared.fault.Fault.{Fault}
+use Rattle.ee_words.specs.declared.fault.File.{File}
+use Rattle.ee_words.specs.declared.fault.File.TheVariants.{Image, Before}
 use Rattle.ee_shell.specs.Replaying.{Spells}
-use Rattle.ee_shell.specs.declared.fault.Fault.{Fault}
-use Rattle.ee_shell.specs.declared.fault.File.{File}
-use Rattle.ee_shell.specs.declared.fault.File.TheVariants.{Image, Before}
 
 -- what the line of a page says: its number and how often it was erased
 abbrev pub count_text : ℕ → ℕ → List ℕ

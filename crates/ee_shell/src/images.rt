@@ -6,13 +6,13 @@ ghost use Rattle.ee_shell.specs.Erases.{ErasesRise};
 ghost use Rattle.ee_shell.specs.Images.{AreStates, IsCleaned, IsFormattedText, IsOpeningFault, IsReadingFault, cleaned_text, state_lines, state_name, state_text};
 ghost use Rattle.ee_shell.specs.Serving.{StaysOn};
 
-use super::fault::{Fault, File};
 use super::opening::{new_store, open_image, text_of};
 use ee_flash::{Flash, Shape};
 use ee_image::read_image;
 use ee_pages::{State, state_of as state_of_page};
 use ee_store::Variables;
 use ee_text::push_number;
+use ee_words::{Fault, File};
 use std::alloc::{AllocError, Allocator};
 
 /// The text of the image of a new device of this shape, formatted.

@@ -6,11 +6,11 @@ ghost use Rattle.ee_shell.specs.Opening.{IsNewStore, IsOpened};
 ghost use Rattle.ee_shell.specs.Replaying.{IsOpenFault, Spells};
 ghost use Rattle.ee_shell.specs.Serving.{StaysOn};
 
-use super::replaying::ReplayFault;
 use ee_flash::{Flash, MemFlash, Shape};
 use ee_image::{read_image, write_image};
 use ee_pages::ScanFault;
 use ee_store::{OpenFault, Store, format, open};
+use ee_words::ReplayFault;
 use std::alloc::{AllocError, Allocator};
 
 /// The store of the image that a text spells, in memory.

@@ -7,12 +7,12 @@ ghost use Rattle.ee_script.specs.Whole.{IsScriptFault};
 ghost use Rattle.ee_shell.specs.Planning.{IsCheckingFault, IsPlanned, IsPlanningFault, IsProved, IsTask, IsTaskFault, IsTrace, proved_text};
 ghost use Rattle.ee_shell.specs.Trace.{written};
 
-use super::fault::Fault;
 use super::opening::open_image;
 use ee_check::{Change, Start, check, read_certificate, write_certificate};
 use ee_plan::{plan, start_of};
 use ee_script::{Command, ScriptFault, read_command};
 use ee_text::{next_line, push_number};
+use ee_words::Fault;
 use std::alloc::{AllocError, Allocator};
 
 /// The text of the tight certificate of a script on the image that a text spells: the fewest transfers

@@ -8,12 +8,9 @@ ghost use Rattle.ee_shell.specs.Serving.{StaysOn};
 use super::opening::{new_store, open_image, text_of};
 use super::reporting::answer_on;
 use ee_flash::{Flash, Shape};
-use ee_image::ImageFault;
-use ee_pages::ScanFault;
-use ee_script::ScriptFault;
 use ee_store::Store;
-use std::alloc::{AllocError, Allocator, Global};
-use thiserror::Error;
+use ee_words::ReplayFault;
+use std::alloc::{Allocator, Global};
 
 /// What a script leaves: the image as text, and the report.
 ///
@@ -24,64 +21,6 @@ pub struct Replayed<A: Allocator = Global> {
     pub image: Vec<u8, A>,
     /// One line for each line of the script.
     pub report: Vec<u8, A>,
-}
-
-/// Why a script can't be replayed, the first cause that applies.
-///
-/// Source: ours.
-#[derive(Clone, Copy, Debug, PartialEq, Eq, Error)]
-pub enum ReplayFault {
-    /// The image's text is no device's. Want of memory is `Memory`.
-    #[error("no image")]
-    Image(ImageFault),
-    /// The image is not legal.
-    #[error("no legal image")]
-    Open(ScanFault),
-    /// The number of the script's first bad line, from 1.
-    #[error("script line {0}")]
-    Script(u64),
-    /// Memory ran out.
-    #[error("out of memory")]
-    Memory,
-}
-
-impl From<AllocError> for ReplayFault {
-    ghost use Rattle.std.specs.Prelude.{◌≡◌};
-    ghost use Rattle.ee_shell.specs.declared.replaying.ReplayFault.TheVariants.{Memory};
-
-    ghost from_gives = { λ _ fault. fault ≡ Memory };
-
-    fn from(_error: AllocError) -> ReplayFault {
-        ReplayFault::Memory
-    }
-}
-
-impl From<ImageFault> for ReplayFault {
-    ghost use Rattle.std.specs.Prelude.{◌≡◌};
-    ghost use Rattle.ee_shell.specs.Replaying.{of_image};
-
-    ghost from_gives = { λ image fault. fault ≡ of_image image };
-
-    fn from(fault: ImageFault) -> ReplayFault {
-        match fault {
-            ImageFault::Memory => ReplayFault::Memory,
-            fault => ReplayFault::Image(fault),
-        }
-    }
-}
-
-impl From<ScriptFault> for ReplayFault {
-    ghost use Rattle.std.specs.Prelude.{◌≡◌};
-    ghost use Rattle.ee_shell.specs.Replaying.{same_cause};
-
-    ghost from_gives = { λ script fault. fault ≡ same_cause script };
-
-    fn from(fault: ScriptFault) -> ReplayFault {
-        match fault {
-            ScriptFault::BadLine(line) => ReplayFault::Script(line),
-            ScriptFault::Memory => ReplayFault::Memory,
-        }
-    }
 }
 
 /// Answers a script on the store whose image a text spells, and gives the image that this leaves and

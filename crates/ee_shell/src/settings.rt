@@ -11,11 +11,11 @@ ghost use Rattle.ee_shell.specs.Settings.{IsGetFault, IsGot, IsRead, reading_tex
 ghost use Rattle.ee_shell.specs.Settings.{IsRefused, IsSet, IsSetFault, IsWritten};
 ghost use Rattle.ee_shell.specs.Serving.{StaysOn};
 
-use super::fault::Fault;
 use super::opening::{open_image, text_of};
 use ee_settings::{GetFault, Reading, Schema, SetFault};
 use ee_store::{Variables, WriteFault};
 use ee_text::push_number;
+use ee_words::Fault;
 use std::alloc::{AllocError, Allocator, Global};
 use toml::Table;
 

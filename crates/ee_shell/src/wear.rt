@@ -4,10 +4,10 @@ ghost use Rattle.std.specs.Option.{option_map};
 ghost use Rattle.ee_text.specs.Line.{line_of};
 ghost use Rattle.ee_shell.specs.Wear.{AreCountsOf, AreCountsSince, IsFileFault, IsWear, IsWearFault, count_lines, count_text, ledger_text, total_text};
 
-use super::fault::{Fault, File};
 use ee_image::read_image;
 use ee_text::push_number;
 use ee_wear::Ledger;
+use ee_words::{Fault, File};
 use std::alloc::{AllocError, Allocator};
 
 /// How often each page of the image that a text spells was erased, a line for each page by rising

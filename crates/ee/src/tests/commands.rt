@@ -1,7 +1,7 @@
 //! The table of commands, built with `clap`, which finds what `job` finds.
 use clap::{Arg, ArgAction, ArgMatches, Command, value_parser};
 use ee_flash::Shape;
-use ee_shell::{Job, job};
+use ee_words::{Job, job};
 use std::alloc::Global;
 use std::test::Fail;
 

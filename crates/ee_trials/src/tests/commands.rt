@@ -1,6 +1,7 @@
 use super::trial::with_each_refusal;
 use ee_flash::Shape;
-use ee_shell::{Fault, ReplayFault, clean_image, format_image, replay, states_text};
+use ee_shell::{clean_image, format_image, replay, states_text};
+use ee_words::{Fault, ReplayFault};
 use std::test::Fail;
 
 /// Just formatted.

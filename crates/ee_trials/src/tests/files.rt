@@ -2,7 +2,7 @@ ghost use Rattle.std.specs.Prelude.{◌<◌};
 
 use super::trial::with_each_refusal;
 use crate::{FailingReader, FailingWriter, Stop};
-use ee_shell::{MOST_BYTES, MOST_READS, ReadFault, Stopped, read_whole, write_whole};
+use ee_words::{MOST_BYTES, MOST_READS, ReadFault, Stopped, read_whole, write_whole};
 use std::alloc::Global;
 use std::io;
 use std::io::{ErrorKind, Read};

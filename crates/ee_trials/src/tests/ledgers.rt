@@ -1,7 +1,8 @@
 use super::trial::with_each_refusal;
 use ee_flash::{Flash, MemFlash, Shape};
-use ee_shell::{Fault, wear_text};
+use ee_shell::wear_text;
 use ee_wear::{Ledger, SinceFault};
+use ee_words::Fault;
 use std::alloc::Global;
 use std::test::Fail;
 

@@ -2,8 +2,9 @@ use super::trial::with_each_refusal;
 use ee_codec::Address;
 use ee_flash::{MemFlash, Shape};
 use ee_plan::start_of;
-use ee_shell::{Fault, check_script, plan_script};
+use ee_shell::{check_script, plan_script};
 use ee_store::{Variables, format};
+use ee_words::Fault;
 use std::test::Fail;
 
 /// Just formatted.

@@ -1,8 +1,9 @@
 use super::trial::with_each_refusal;
 use ee_flash::Shape;
 use ee_script::{Answer, push_answer};
-use ee_shell::{Fault, File, ReplayFault, fault_line, try_script};
+use ee_shell::try_script;
 use ee_text::push_number;
+use ee_words::{Fault, File, ReplayFault, fault_line};
 use std::test::Fail;
 
 /// The report of a script that writes once and reads twice.

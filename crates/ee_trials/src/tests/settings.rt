@@ -1,5 +1,6 @@
 use super::trial::with_each_refusal;
-use ee_shell::{Fault, get_setting, set_setting};
+use ee_shell::{get_setting, set_setting};
+use ee_words::Fault;
 
 /// Just formatted.
 const FORMATTED: &[u8] = b"ee 1 6

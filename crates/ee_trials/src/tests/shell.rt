@@ -1,5 +1,5 @@
 //! The commands by the worked examples, the words that ask for them, and each fault with its line and its status.
-use ee_shell::{Fault, File, fault_line, read_whole, status_of, write_whole};
+use ee_words::{Fault, File, fault_line, read_whole, status_of, write_whole};
 use std::test::Fail;
 
 mod commands;

@@ -2,8 +2,8 @@ use Rattle.std.proofs.Common.{◌≡◌, ◌⊎◌}
 use Rattle.ee_image.proofs.Taken.{error_passed_on}
 use Rattle.ee_check.specs.Certificate.{claim_of}
 use Rattle.ee_check.proofs.Fields.{passed_on}
-use Rattle.ee_shell.specs.declared.fault.Fault.TheVariants.{Memory}
-use Rattle.ee_shell.specs.Fault.{fault_of_certificate, fault_of_check}
+use Rattle.ee_words.specs.declared.fault.Fault.TheVariants.{Memory}
+use Rattle.ee_words.specs.Fault.{fault_of_certificate, fault_of_check}
 use Rattle.ee_shell.specs.Planning.{IsCheckingFault, IsTask}
 use Rattle.ee_shell.proofs.OneTask.{cause_named, cause_of_check, first_of_check, later_of_check, not_proved, text_of_check}
 use Rattle.ee_shell.proofs.planning.check_script.Goals as goal

@@ -1,7 +1,7 @@
 use Rattle.std.proofs.Common.{◌≡◌, ◌⊎◌}
 use Rattle.ee_image.proofs.Taken.{error_passed_on}
-use Rattle.ee_shell.specs.declared.fault.Fault.TheVariants.{Memory}
-use Rattle.ee_shell.specs.Fault.{fault_of_plan}
+use Rattle.ee_words.specs.declared.fault.Fault.TheVariants.{Memory}
+use Rattle.ee_words.specs.Fault.{fault_of_plan}
 use Rattle.ee_shell.specs.Planning.{IsTask}
 use Rattle.ee_shell.proofs.OneTask.{change_named, change_of_plan, first_of_plan}
 use Rattle.ee_shell.proofs.planning.plan_script.Goals as goal

@@ -1,5 +1,5 @@
 use Rattle.ee_check.proofs.Fields.{passed_on}
-use Rattle.ee_shell.specs.Fault.{fault_of_script}
+use Rattle.ee_words.specs.Fault.{fault_of_script}
 use Rattle.ee_shell.specs.Planning.{IsTaskFault}
 use Rattle.ee_shell.proofs.OneTask.{no_trace}
 use Rattle.ee_shell.proofs.planning.read_task.Goals as goal

@@ -1,6 +1,6 @@
 use Rattle.std.proofs.Common.{inl}
 use Rattle.std.proofs.lemmas.Result.{err_from_is_err_and}
-use Rattle.ee_shell.specs.declared.fault.File.TheVariants.{Image}
+use Rattle.ee_words.specs.declared.fault.File.TheVariants.{Image}
 use Rattle.ee_shell.proofs.Ledgers.{no_memory_for}
 use Rattle.ee_shell.proofs.wear.wear_since.Goals as goal
 

@@ -1,5 +1,5 @@
 use Rattle.std.proofs.lemmas.Result.{err_from_is_err_and}
-use Rattle.ee_shell.specs.declared.fault.File.TheVariants.{Image}
+use Rattle.ee_words.specs.declared.fault.File.TheVariants.{Image}
 use Rattle.ee_shell.proofs.Ledgers.{no_memory_for}
 use Rattle.ee_shell.proofs.wear.whole_wear.Goals as goal
 

@@ -3,9 +3,8 @@ use super::images::{CLEANED, FORMATTED, ONE_MOVE, TWO_PAGES};
 use ee_flash::Shape;
 use ee_image::ImageFault;
 use ee_pages::ScanFault;
-use ee_shell::{
-    Fault, File, ReplayFault, clean_image, format_image, replay, states_text, try_script,
-};
+use ee_shell::{clean_image, format_image, replay, states_text, try_script};
+use ee_words::{Fault, File, ReplayFault};
 use std::test::Fail;
 
 #[test]

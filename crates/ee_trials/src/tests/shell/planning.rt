@@ -1,6 +1,7 @@
 //! Plans and certificates, as texts.
 use super::images::FORMATTED;
-use ee_shell::{Fault, File, check_script, plan_script};
+use ee_shell::{check_script, plan_script};
+use ee_words::{Fault, File};
 use std::alloc::Global;
 use std::test::Fail;
 

@@ -1,6 +1,7 @@
 //! Settings by name, on images.
 use super::images::{FORMATTED, SPENT};
-use ee_shell::{Fault, get_setting, replay, set_setting};
+use ee_shell::{get_setting, replay, set_setting};
+use ee_words::Fault;
 use std::alloc::Global;
 use std::process::Abort;
 use std::test::Fail;

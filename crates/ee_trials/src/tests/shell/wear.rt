@@ -1,7 +1,8 @@
 //! The wear of images, and what came between two.
 use super::images::{ALL_LIVE, FORMATTED, ONE_MOVE, TWO_MOVES, TWO_PAGES};
 use ee_flash::Shape;
-use ee_shell::{Fault, File, try_script, wear_text};
+use ee_shell::{try_script, wear_text};
+use ee_words::{Fault, File};
 use std::alloc::Global;
 use std::process::Abort;
 use std::test::Fail;

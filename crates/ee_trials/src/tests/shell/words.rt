@@ -1,6 +1,6 @@
 //! Worked command lines.
 use ee_flash::Shape;
-use ee_shell::{Job, job};
+use ee_words::{Job, job};
 
 #[test]
 fn reads_each_row(rt: HostRuntime) {

@@ -1,6 +1,6 @@
 use Rattle.std.proofs.Common.{◌-◌, ◌≤◌, length, take}
 use Rattle.std.specs.Io.KnownBytes.{Appends}
-use Rattle.ee_shell.proofs.files.write_whole.Given as goal
+use Rattle.ee_words.proofs.files.write_whole.Given as goal
 
 -- the writer gained exactly the front that was written
 abbrev pub invariant-writing : goal.invariant-writing

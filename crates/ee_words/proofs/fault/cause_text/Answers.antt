@@ -1,6 +1,6 @@
 use Rattle.std.proofs.Common.{rules, append_assoc}
 use Rattle.std.proofs.lemmas.Result.{IfOk-weaker}
-use Rattle.ee_shell.proofs.fault.cause_text.Goals as goal
+use Rattle.ee_words.proofs.fault.cause_text.Goals as goal
 
 pub returns-in-Foreign : goal.returns-in-Foreign
 returns-in-Foreign g c = simp c.in-Foreign.is (IfOk-weaker c.format-in-Foreign.result _ _

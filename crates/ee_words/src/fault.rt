@@ -1,9 +1,9 @@
 //! Every fault that the program tells, each with its one line and its status.
 ghost use Rattle.std.specs.Prelude.{◌≡◌, IfOk};
-ghost use Rattle.ee_shell.specs.Fault.{cause, fault_of_image, fault_of_read, fault_text, status};
+ghost use Rattle.ee_words.specs.Fault.{cause, fault_of_image, fault_of_read, fault_text, status};
 
 use super::files::ReadFault;
-use super::replaying::ReplayFault;
+use super::replay_fault::ReplayFault;
 use ee_check::{CheckFault, TextFault};
 use ee_image::ImageFault;
 use ee_pages::ScanFault;
@@ -27,7 +27,7 @@ pub enum File {
 
 impl fmt::Display for File {
     ghost use Rattle.std.specs.Prelude.{Some};
-    ghost use Rattle.ee_shell.specs.Fault.{file_name};
+    ghost use Rattle.ee_words.specs.Fault.{file_name};
 
     ghost output = { λ file. Some (file_name file) };
 
@@ -157,7 +157,7 @@ impl Fault {
 
 impl From<ScanFault> for Fault {
     ghost use Rattle.std.specs.Prelude.{◌≡◌};
-    ghost use Rattle.ee_shell.specs.Fault.{fault_of_scan};
+    ghost use Rattle.ee_words.specs.Fault.{fault_of_scan};
 
     ghost from_gives = { λ scan fault. fault ≡ fault_of_scan scan };
 
@@ -173,7 +173,7 @@ impl From<ScanFault> for Fault {
 
 impl From<ReplayFault> for Fault {
     ghost use Rattle.std.specs.Prelude.{◌≡◌};
-    ghost use Rattle.ee_shell.specs.Fault.{fault_of_replay};
+    ghost use Rattle.ee_words.specs.Fault.{fault_of_replay};
 
     ghost from_gives = { λ replay fault. fault ≡ fault_of_replay replay };
 
@@ -189,7 +189,7 @@ impl From<ReplayFault> for Fault {
 
 impl From<ScriptFault> for Fault {
     ghost use Rattle.std.specs.Prelude.{◌≡◌};
-    ghost use Rattle.ee_shell.specs.Fault.{fault_of_script};
+    ghost use Rattle.ee_words.specs.Fault.{fault_of_script};
 
     ghost from_gives = { λ script fault. fault ≡ fault_of_script script };
 
@@ -206,7 +206,7 @@ impl From<ScriptFault> for Fault {
 
 impl From<TextFault> for Fault {
     ghost use Rattle.std.specs.Prelude.{◌≡◌};
-    ghost use Rattle.ee_shell.specs.Fault.{fault_of_certificate};
+    ghost use Rattle.ee_words.specs.Fault.{fault_of_certificate};
 
     ghost from_gives = { λ text fault. fault ≡ fault_of_certificate text };
 
@@ -223,7 +223,7 @@ impl From<TextFault> for Fault {
 
 impl From<SchemaFault> for Fault {
     ghost use Rattle.std.specs.Prelude.{◌≡◌};
-    ghost use Rattle.ee_shell.specs.Fault.{fault_of_schema};
+    ghost use Rattle.ee_words.specs.Fault.{fault_of_schema};
 
     ghost from_gives = { λ schema fault. fault ≡ fault_of_schema schema };
 
@@ -240,7 +240,7 @@ impl From<SchemaFault> for Fault {
 
 impl From<PlanFault> for Fault {
     ghost use Rattle.std.specs.Prelude.{◌≡◌};
-    ghost use Rattle.ee_shell.specs.Fault.{fault_of_plan};
+    ghost use Rattle.ee_words.specs.Fault.{fault_of_plan};
 
     ghost from_gives = { λ plan fault. fault ≡ fault_of_plan plan };
 
@@ -254,7 +254,7 @@ impl From<PlanFault> for Fault {
 
 impl From<CheckFault> for Fault {
     ghost use Rattle.std.specs.Prelude.{◌≡◌};
-    ghost use Rattle.ee_shell.specs.Fault.{fault_of_check};
+    ghost use Rattle.ee_words.specs.Fault.{fault_of_check};
 
     ghost from_gives = { λ check fault. fault ≡ fault_of_check check };
 
@@ -271,7 +271,7 @@ impl From<CheckFault> for Fault {
 
 impl From<SinceFault> for Fault {
     ghost use Rattle.std.specs.Prelude.{◌≡◌};
-    ghost use Rattle.ee_shell.specs.Fault.{fault_of_since};
+    ghost use Rattle.ee_words.specs.Fault.{fault_of_since};
 
     ghost from_gives = { λ since fault. fault ≡ fault_of_since since };
 
@@ -286,7 +286,7 @@ impl From<SinceFault> for Fault {
 
 impl From<AllocError> for Fault {
     ghost use Rattle.std.specs.Prelude.{◌≡◌};
-    ghost use Rattle.ee_shell.specs.declared.fault.Fault.TheVariants.{Memory};
+    ghost use Rattle.ee_words.specs.declared.fault.Fault.TheVariants.{Memory};
 
     ghost from_gives = { λ _ fault. fault ≡ Memory };
 

@@ -1,8 +1,8 @@
 use Rattle.std.proofs.Common.{◌≡◌, [], ap, arith, take, length-take}
 use Rattle.std.proofs.lemmas.Grind.{common_steps}
-use Rattle.ee_shell.proofs.Streams.{read_all, read_too_long, took_more, took_none}
-use Rattle.ee_shell.proofs.files.read_whole.Goals as goal
-use Rattle.ee_shell.proofs.files.read_whole.Goals.{in-Ok-2+in_ok-extend_from_slice-in-Ok-2, in-Err}
+use Rattle.ee_words.proofs.Streams.{read_all, read_too_long, took_more, took_none}
+use Rattle.ee_words.proofs.files.read_whole.Goals as goal
+use Rattle.ee_words.proofs.files.read_whole.Goals.{in-Ok-2+in_ok-extend_from_slice-in-Ok-2, in-Err}
 
 pub returns-in-Ok-eq0-clause-whole : goal.returns-in-Ok-eq0-clause-whole
 returns-in-Ok-eq0-clause-whole g c =

@@ -1,10 +1,10 @@
 -- The line and the status of each fault.
 use Rattle.std.specs.Prelude.{ℕ, List, ◌++◌, codes, decimal}
 use Rattle.ee_text.specs.Line.{line_of}
-use Rattle.ee_shell.specs.declared.fault.File.{File}
-use Rattle.ee_shell.specs.declared.fault.File.TheVariants.{Image, Before, Script, Certificate, Settings}
-use Rattle.ee_shell.specs.declared.fault.Fault.{Fault}
-use Rattle.ee_shell.specs.declared.fault.Fault.TheVariants.{CannotRead, TooLong, CannotWriteImage, CannotWriteOutput, BadLine, BadShape, Unformatted, NoLiveSet, TwoLive, Foreign, SettingsText, BadName, BadField, BadRange, SameAddress, UnknownName, OutOfRange, Full, Spent, NotFitting, WrongStart, NotRising, WrongFrom, NotForced, OtherShape, Backwards, Memory}
+use Rattle.ee_words.specs.declared.fault.File.{File}
+use Rattle.ee_words.specs.declared.fault.File.TheVariants.{Image, Before, Script, Certificate, Settings}
+use Rattle.ee_words.specs.declared.fault.Fault.{Fault}
+use Rattle.ee_words.specs.declared.fault.Fault.TheVariants.{CannotRead, TooLong, CannotWriteImage, CannotWriteOutput, BadLine, BadShape, Unformatted, NoLiveSet, TwoLive, Foreign, SettingsText, BadName, BadField, BadRange, SameAddress, UnknownName, OutOfRange, Full, Spent, NotFitting, WrongStart, NotRising, WrongFrom, NotForced, OtherShape, Backwards, Memory}
 use Rattle.ee_image.specs.declared.fault.ImageFault.{ImageFault}
 use Rattle.ee_image.specs.declared.fault.ImageFault.TheVariants as image
 use Rattle.ee_pages.specs.declared.find.ScanFault.{ScanFault}
@@ -21,10 +21,10 @@ use Rattle.ee_settings.specs.declared.fault.SchemaFault.{SchemaFault}
 use Rattle.ee_settings.specs.declared.fault.SchemaFault.TheVariants as schema
 use Rattle.ee_wear.specs.declared.since.SinceFault.{SinceFault}
 use Rattle.ee_wear.specs.declared.since.SinceFault.TheVariants as since
-use Rattle.ee_shell.specs.declared.files.ReadFault.{ReadFault}
-use Rattle.ee_shell.specs.declared.files.ReadFault.TheVariants as read
-use Rattle.ee_shell.specs.declared.replaying.ReplayFault.{ReplayFault}
-use Rattle.ee_shell.specs.declared.replaying.ReplayFault.TheVariants as replay
+use Rattle.ee_words.specs.declared.files.ReadFault.{ReadFault}
+use Rattle.ee_words.specs.declared.files.ReadFault.TheVariants as read
+use Rattle.ee_words.specs.declared.replay_fault.ReplayFault.{ReplayFault}
+use Rattle.ee_words.specs.declared.replay_fault.ReplayFault.TheVariants as replay
 
 abbrev pub file_name : File → List ℕ
 file_name Image = codes "image"

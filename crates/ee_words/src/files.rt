@@ -27,7 +27,7 @@ pub enum ReadFault {
 
 impl From<AllocError> for ReadFault {
     ghost use Rattle.std.specs.Prelude.{◌≡◌};
-    ghost use Rattle.ee_shell.specs.declared.files.ReadFault.TheVariants.{Memory};
+    ghost use Rattle.ee_words.specs.declared.files.ReadFault.TheVariants.{Memory};
 
     ghost from_gives = { λ _ fault. fault ≡ Memory };
 

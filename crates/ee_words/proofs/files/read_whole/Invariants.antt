@@ -1,6 +1,6 @@
 use Rattle.std.proofs.Common.{◌≤◌, vec_len}
 use Rattle.std.specs.Io.KnownBytes.{Consumes}
-use Rattle.ee_shell.proofs.files.read_whole.Given as goal
+use Rattle.ee_words.proofs.files.read_whole.Given as goal
 
 -- the reader lost exactly the bytes that are kept, and they aren't too many
 abbrev pub invariant-reading : goal.invariant-reading

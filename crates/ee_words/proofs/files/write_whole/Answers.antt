@@ -1,6 +1,6 @@
 use Rattle.std.proofs.Common.{rules}
-use Rattle.ee_shell.proofs.Streams.{wrote_more}
-use Rattle.ee_shell.proofs.files.write_whole.Goals as goal
+use Rattle.ee_words.proofs.Streams.{wrote_more}
+use Rattle.ee_words.proofs.files.write_whole.Goals as goal
 
 pub writing-preserved : goal.writing-preserved
 writing-preserved g c = record {

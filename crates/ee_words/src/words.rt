@@ -2,7 +2,7 @@
 ghost use Rattle.std.specs.Prelude.{◌≡◌, ◌∷◌, ◌<◌, ◌^◌, ℕ, Some, IfSome, codes, decimal};
 ghost use Rattle.std.specs.Prelude.{option_map};
 ghost use Rattle.ee_flash.specs.Size.{IsWithinLimits, Size};
-ghost use Rattle.ee_shell.specs.Job.{IsRow, Row, AreWordsOf, row_of, texts_of};
+ghost use Rattle.ee_words.specs.Job.{IsRow, Row, AreWordsOf, row_of, texts_of};
 
 use super::jobs::Job;
 use ee_flash::Shape;

@@ -3,8 +3,8 @@ use Rattle.std.specs.Prelude.{◌≡◌, ◌≢◌, ◌<◌, ◌^◌, ◌⊎◌,
 use Rattle.std.specs.Prelude.{Option, Some, None, option_map}
 use Rattle.std.specs.Borrow.{Bor}
 use Rattle.ee_flash.specs.Size.{IsWithinLimits, Size, size_of}
-use Rattle.ee_shell.specs.declared.jobs.Job.{Job}
-use Rattle.ee_shell.specs.declared.jobs.Job.TheVariants as job
+use Rattle.ee_words.specs.declared.jobs.Job.{Job}
+use Rattle.ee_words.specs.declared.jobs.Job.TheVariants as job
 
 -- a row of the table of commands, with its size, its paths, the name and the value of a setting
 pub data Row : Type 0 where
