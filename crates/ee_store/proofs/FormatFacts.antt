@@ -1,46 +1,23 @@
 -- What formatting does: it erases what is not blank, and then commits the first set.
-use Rattle.std.proofs.Common.{◌≡◌, ◌≢◌, inl, inr, ℕ, ◌+◌, ◌<◌, ◌≤◌, true, false, not, cond, List, [], length, get_or, set, take, min, replicate, refl, sym, subst, ap, ◌∙◌, arith}
-use Rattle.std.specs.List.{All, sum}
-use Rattle.std.proofs.lemmas.Bool.{cases_eq, cases_lt, true≢false}
-use Rattle.std.proofs.lemmas.List.{get_or-replicate, get_or-set_other, get_or-set_same, length-replicate, length-set}
-use Rattle.std.proofs.lemmas.List.Elements.{All-from_get_or, All-get_or}
+use Rattle.std.proofs.Common.{◌≡◌, ◌≢◌, inl, inr, ℕ, ◌+◌, ◌<◌, ◌≤◌, true, false, not, cond, List, [], length, get_or, take, replicate, refl, sym, ap, ◌∙◌, arith}
+use Rattle.std.specs.List.{All}
+use Rattle.std.proofs.lemmas.Bool.{cases_lt, true≢false}
+use Rattle.std.proofs.lemmas.List.{get_or-replicate, get_or-set_other, get_or-set_same, length-replicate}
+use Rattle.std.proofs.lemmas.List.Elements.{All-from_get_or}
 use Rattle.std.proofs.lemmas.List.Filters.{length-filter_more}
-use Rattle.std.proofs.lemmas.List.Sums.{sum_by-set}
-use Rattle.ee_flash.specs.Device.{Device, IsFormed, IsOn, all_ones, page_at}
+use Rattle.ee_flash.specs.Device.{Device, IsFormed, IsOn, page_at}
 use Rattle.ee_flash.specs.Power.{GoesOn}
 use Rattle.ee_flash.specs.Size.{page_count}
-use Rattle.ee_flash.specs.Step.{erased, one_more}
+use Rattle.ee_flash.specs.Step.{erased}
 use Rattle.ee_flash.specs.declared.word.Word.{Word}
 use Rattle.ee_flash.specs.declared.word.Word.TheVariants.{Erased}
 use Rattle.ee_pages.specs.Page.{is_blank, is_written}
 use Rattle.ee_pages.specs.Sets.{pending_of}
 use Rattle.ee_pages.proofs.Slots.{blank_page}
 use Rattle.ee_store.proofs.AfterCalls.{goes_on_same}
-use Rattle.ee_store.proofs.Wears.{no_wear}
+use Rattle.ee_store.proofs.Wears.{no_wear, page_wears}
 use Rattle.ee_store.specs.Parts.{IsSameBut}
 use Rattle.ee_store.specs.State.{WearRises}
-
--- a count that is one more, below all ones
-below_more : (count top : ℕ) → min (count + 1) top < top → (count < top) × (min (count + 1) top ≡ count + 1)
-below_more count top h = (omega arith, omega arith)
-
-more_counts : (wear : List ℕ) (page : ℕ) → page < length wear → All (λ count. count < all_ones) (set wear page (one_more (get_or wear page 0))) → All (λ count. count < all_ones) wear × (sum (set wear page (one_more (get_or wear page 0))) ≡ sum wear + 1)
-more_counts wear page h counts =
-    let more = one_more (get_or wear page 0) in
-    let long = length-set wear page more in
-    let below : more < all_ones = subst (λ count. count < all_ones) (get_or-set_same wear page more 0 h) (All-get_or (λ count. count < all_ones) (set wear page more) page 0 (omega (arith, long)) counts) in
-    let here = below_more (get_or wear page 0) all_ones below in
-    let each : All (λ count. count < all_ones) wear = All-from_get_or (λ count. count < all_ones) wear 0 (λ k in_range. elim (cases_eq k page) [
-      | inl same ↦ subst (λ n. get_or wear n 0 < all_ones) (sym same) here.0
-      | inr other ↦ subst (λ count. count < all_ones) (get_or-set_other wear page k more 0 other) (All-get_or (λ count. count < all_ones) (set wear page more) k 0 (omega (arith, long)) counts)
-    ]) in
-    (each, omega (arith, sum_by-set (λ count. count) wear page more 0 h, here.1))
-
-page_wears : (page : ℕ) (old new : Device) → page < length old.wear → new ≡ erased page old → WearRises 1 old new
-page_wears page old new h done counts =
-    let wear : new.wear ≡ set old.wear page (one_more (get_or old.wear page 0)) = ap (λ (device : Device). device.wear) done in
-    let result = more_counts old.wear page h (subst (All (λ count. count < all_ones)) wear counts) in
-    (result.0, ap sum wear ∙ result.1)
 
 -- how much a page adds to those that are not blank
 abbrev pub counts : List Word → ℕ

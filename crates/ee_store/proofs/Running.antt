@@ -9,6 +9,7 @@ use Rattle.ee_flash.specs.Power.{GoesOn}
 use Rattle.ee_flash.specs.Size.{Size}
 use Rattle.ee_flash.specs.Wear.{total_wear_of}
 use Rattle.ee_pages.specs.Meaning.{Change, Put, Forget, Map, changed, changed_by}
+use Rattle.ee_store.proofs.Wears.{total_rises}
 use Rattle.ee_store.specs.Calls.{ErasesOne}
 use Rattle.ee_store.specs.Changes.{Appends, Moves}
 use Rattle.ee_store.specs.Runs.{Call, Wrote, Forgot, Cleaned, DidRead, AreAnsweredFrom, CleanRunsEraseSets, EachTransferErasesASet, Follows, IsAnsweredBy, IsRun, RunsGoOn, TheStoreIsAMap, changes_of, is_cut, is_transfer, transfers}
@@ -50,7 +51,7 @@ appends : (old new : Device) (change : Change) → Appends old change new → Go
 appends old new change done = record {
   power = done.goes_on;
   adds = λ counts.
-      let wear = done.no_wear counts in
+      let wear = total_rises 0 old new done.no_wear counts in
       let pending : (state_of new).pending ≡ (state_of old).pending = ap (λ (state : State). state.pending) done.state_is in
       (wear.0, omega (arith, wear.1, pending));
   map_is = ap (λ (state : State). state.map) done.state_is;
@@ -60,7 +61,7 @@ moves : (old new : Device) (change : Change) → Moves old change new → Goes t
 moves old new change done = record {
   power = done.goes_on;
   adds = λ counts.
-      let wear = done.wear counts in
+      let wear = total_rises (state_of old).pending old new done.wear counts in
       let pending : (state_of new).pending ≡ old.size.pages = ap (λ (state : State). state.pending) done.state_is in
       (wear.0, omega (arith, wear.1, pending));
   map_is = ap (λ (state : State). state.map) done.state_is;
@@ -70,7 +71,7 @@ erases : (old new : Device) → ErasesOne old new → Goes false [] old new
 erases old new done = record {
   power = done.goes_on;
   adds = λ counts.
-      let wear = done.wear counts in
+      let wear = total_rises 1 old new done.wear counts in
       let pending : (state_of new).pending ≡ (state_of old).pending - 1 = ap (λ (state : State). state.pending) done.state_is in
       (wear.0, omega (arith, wear.1, pending, done.some));
   map_is = ap (λ (state : State). state.map) done.state_is;

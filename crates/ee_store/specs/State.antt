@@ -1,9 +1,9 @@
 -- What a store is to its users: the map that the live set means, and how far it is used.
-use Rattle.std.specs.Prelude.{◌≡◌, ◌+◌, ◌<◌, ℕ, Option, Some, None}
+use Rattle.std.specs.Prelude.{◌≡◌, ◌+◌, ◌<◌, ℕ, Option, Some, None, List, [], ◌∷◌, length, slice_index, slice_set}
 use Rattle.std.specs.List.{All}
 use Rattle.ee_flash.specs.Device.{Device, all_ones}
 use Rattle.ee_flash.specs.Size.{slot_count}
-use Rattle.ee_flash.specs.Wear.{total_wear_of}
+use Rattle.ee_flash.specs.Step.{one_more}
 use Rattle.ee_pages.specs.Meaning.{Change, Map, changed, live_in, meaning}
 use Rattle.ee_pages.specs.Sets.{fill_of, live_of, other, pending_of, set_of, slots_of}
 use Rattle.ee_pages.specs.declared.side.Side.{Side}
@@ -71,6 +71,15 @@ with_pending pages state = record state { pending = pages }
 abbrev pub CountsWear : Device → Type 0
 CountsWear device = All (λ count. count < all_ones) device.wear
 
--- So many pages were erased between. It is said where no page of the device then was erased as often as can be counted.
-abbrev pub WearRises : ℕ → Device → Device → Type 0
-WearRises erases old new = CountsWear new → CountsWear old × (total_wear_of new ≡ total_wear_of old + erases)
+-- these wears, when the pages of a list were each erased once more, as often as the list names them
+abbrev pub worn_by : List ℕ → List ℕ → List ℕ
+worn_by [] wear = wear
+worn_by (page ∷ pages) wear = worn_by pages (slice_set wear page (one_more (slice_index wear page)))
+
+-- So many pages were erased between, one page perhaps several times. The wear of each page rose by as often as it was
+-- erased, up to the greatest count, and by nothing else.
+pub record WearRises (erases : ℕ) (old new : Device) : Type 0 where
+  pub pages : List ℕ
+  pub count : length pages ≡ erases
+  pub there : All (λ page. page < length old.wear) pages
+  pub wear_is : new.wear ≡ worn_by pages old.wear

@@ -1,6 +1,7 @@
 use Rattle.std.proofs.Common.{inr, rules, arith}
-use Rattle.ee_store.proofs.Erasing.{cut_keeps, cut_lowers, cut_same_set, done_keeps, done_lowers, done_same_set, erase_wears}
+use Rattle.ee_store.proofs.Erasing.{cut_keeps, cut_lowers, cut_same_set, done_keeps, done_lowers, done_same_set}
 use Rattle.ee_store.proofs.SetPages.{page_of_device}
+use Rattle.ee_store.proofs.Wears.{page_wears}
 use Rattle.ee_pages.specs.Sets.{other as other_of}
 use Rattle.ee_store.proofs.cleaning.erase_other.Goals as goal
 
@@ -33,4 +34,4 @@ returns-clause-wear g c =
     let old = g.F.Flash.device c.args.flash.now in
     let formed = c.requires.live.formed in
     let page = page_of_device old.size (other_of c.args.side) c.args.page c.requires.page in
-    erase_wears c.args.page old _ formed (omega (arith, formed.wear_length, page)) c.in_ok-erase.ensures.done
+    page_wears c.args.page old _ (omega (arith, formed.wear_length, page)) c.in_ok-erase.ensures.done

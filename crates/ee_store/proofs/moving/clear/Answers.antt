@@ -1,12 +1,23 @@
-use Rattle.std.proofs.Common.{◌≡◌, inl, inr, ap, sym, ◌∙◌, arith}
+use Rattle.std.proofs.Common.{◌≡◌, inl, inr, ap, refl, sym, ◌∙◌, arith}
 use Rattle.std.proofs.lemmas.Bool.{cases_eq}
 use Rattle.ee_flash.specs.Device.{page_at}
 use Rattle.ee_flash.proofs.Outcomes.{calls_compose}
 use Rattle.ee_pages.specs.Page.{is_blank}
 use Rattle.ee_pages.specs.Sets.{first_page, other as other_of}
-use Rattle.ee_store.proofs.MovingFacts.{all_blank, erased_all, erased_one_more, keeps_both, none_pending}
+use Rattle.ee_store.proofs.MovingFacts.{all_blank, erased_all, erased_one_more, goes_on-same, keeps_both, keeps_same, none_pending}
+use Rattle.ee_store.proofs.Wears.{no_wear}
 use Rattle.ee_store.proofs.moving.clear.Goals.{then-not-is_blank+in_ok-erase_other, else-not-is_blank}
 use Rattle.ee_store.proofs.moving.clear.Goals as goal
+
+pub pages-init : goal.pages-init
+pages-init g c =
+    let device = g.F.Flash.device c.args.flash.now in
+    record {
+      keeps = keeps_same device c.args.layout.now c.requires;
+      blank = λ page from below. absurd (omega (arith, from, below));
+      erased = (0, omega arith, no_wear device device refl);
+      goes = goes_on-same device;
+    }
 
 pub pages-preserved : goal.pages-preserved
 pages-preserved g c = elim c.if-not-is_blank.branch [
