@@ -1,8 +1,8 @@
 -- What cleaning leaves, as text.
-use Rattle.std.proofs.Common.{◌≡◌, ◌∙◌, ◌++◌, ℕ, List, [], ap, refl, subst}
+use Rattle.std.proofs.Common.{◌≡◌, ◌∙◌, ◌++◌, ℕ, ◌+◌, List, [], ap, arith, refl, subst}
 use Rattle.ee_flash.specs.Device.{Device}
 use Rattle.ee_store.specs.Finished.{IsStore}
-use Rattle.ee_store.specs.State.{State, state_of, with_pending}
+use Rattle.ee_store.specs.State.{State, WearRises, state_of, with_pending}
 use Rattle.ee_shell.specs.Erases.{ErasesRise}
 use Rattle.ee_shell.specs.Images.{IsCleaned, cleaned_text}
 use Rattle.ee_shell.specs.Opening.{IsOpened}
@@ -19,6 +19,10 @@ is_cleaned image new_image empty text store new flash erased opened stays_on siz
   old = opened.old;
   left = record { spelled = subst (Spells new_image) same spelled; store = left; stays_on = stays_on; same_size = size ∙ opened.same_size };
   state_is = state ∙ ap (with_pending 0) opened.state_is;
-  erases = both opened.device store new 0 0 0 opened.erases rise refl;
+  wear =
+      let all = both opened.device store new 0 0 0 opened.erases rise refl in
+      let left : (state_of new).pending ≡ 0 = ap (λ (s : State). s.pending) state in
+      let erased : all.erased ≡ (state_of opened.device).pending = omega (arith, all.rise, left) in
+      subst (λ n. WearRises n opened.device new) erased all.wear;
   text_is = says ∙ ap (λ l. l ++ cleaned_text erased) none ∙ ap cleaned_text (count ∙ ap (λ (s : State). s.pending) opened.state_is);
 }

@@ -1,18 +1,17 @@
 -- What a store is opened from, and what it leaves, as text.
 use Rattle.std.proofs.Common.{◌≡◌, ◌∙◌, ◌++◌, ℕ, zero, suc, Bool, false, List, [], length, replicate, sym, ap, subst, arith, refl, inr}
-use Rattle.std.specs.List.{filter, list_any, sum}
+use Rattle.std.specs.List.{filter, list_any}
 use Rattle.ee_flash.specs.Device.{Device, IsFormed, blank_device}
 use Rattle.ee_flash.specs.Formed.{IsFormed-pages_of}
 use Rattle.ee_flash.specs.Memory.{device_of}
 use Rattle.ee_flash.specs.Size.{Size, page_count}
-use Rattle.ee_flash.specs.Wear.{total_wear_of}
 use Rattle.ee_flash.specs.declared.memory.MemFlash.{MemFlash}
 use Rattle.ee_flash.specs.declared.word.Word.TheVariants.{Erased}
 use Rattle.ee_pages.specs.Page.{is_written}
 use Rattle.ee_pages.specs.Sets.{pending_of}
 use Rattle.ee_store.specs.Finished.{IsStore}
 use Rattle.ee_store.specs.Openings.{IsFormatted, Opens}
-use Rattle.ee_store.specs.State.{State, formatted, state_of}
+use Rattle.ee_store.specs.State.{State, WearRises, formatted, state_of}
 use Rattle.ee_image.specs.Text.{at_rest, image_text}
 use Rattle.ee_image.specs.declared.fault.ImageFault.TheVariants as image
 use Rattle.ee_image.proofs.Texts.{short}
@@ -22,7 +21,7 @@ use Rattle.ee_shell.specs.Images.{AreStates, IsFormattedText, IsReadingFault, st
 use Rattle.ee_shell.specs.Opening.{IsNewStore, IsOpened, IsRunOn}
 use Rattle.ee_shell.specs.Replaying.{IsReplayed, IsRun, IsTried, Spells}
 use Rattle.ee_shell.specs.Serving.{IsServed, StaysOn}
-use Rattle.ee_shell.proofs.Erasing.{both, by_wear}
+use Rattle.ee_shell.proofs.Erasing.{both, by_wear, unworn, wear_since}
 
 -- a device in memory is formed
 pub formed_of : {A : Type 0} (flash : MemFlash A) → IsFormed (device_of flash)
@@ -86,16 +85,12 @@ is_tried size text image reported store new on =
     let pending : (state_of store).pending ≡ 0 = ap (λ (s : State). s.pending) new.state_is in
     record {
       run = there.0;
-      erases = λ counts.
-          let none = new.no_wear (there.1.counted counts) in
-          omega (arith, there.1.rise counts, none, pending);
+      erased = there.1.erased;
+      wear = wear_since store (blank_device size) there.0.last there.1.erased new.no_wear there.1.wear;
+      rise = omega (arith, there.1.rise, pending);
     }
 
 -- ---- a new device
-
-no_wear : (n : ℕ) → sum (replicate n 0) ≡ 0
-no_wear zero = refl
-no_wear (suc n) = no_wear n
 
 none_written : (n : ℕ) → list_any is_written (replicate n Erased) ≡ false
 none_written zero = refl
@@ -112,12 +107,12 @@ pub is_new : (size : Size) (old new : Device) → old ≡ blank_device size → 
 is_new size old new blank made =
     let kept : StaysOn old = record { on = ap (λ (d : Device). d.on) blank; never_cut = ap (λ (d : Device). d.cuts_left) blank } in
     let none : pending_of old.image ≡ 0 = ap (λ (d : Device). pending_of d.image) blank ∙ none_pending size in
-    let fresh : total_wear_of old ≡ 0 = ap total_wear_of blank ∙ no_wear (page_count size) in
+    let fresh : old.wear ≡ replicate (page_count size) 0 = ap (λ (d : Device). d.wear) blank in
     record {
       stays_on = stays old new kept made.goes_on.same_power made.goes_on.same_cuts_left;
       size_is = made.goes_on.same_size ∙ ap (λ (d : Device). d.size) blank;
       state_is = made.state_is;
-      no_wear = λ counts. let rise = (made.wear counts).1 in omega (arith, rise, none, fresh);
+      no_wear = unworn old new (subst (λ n. WearRises n old new) none made.wear) ∙ fresh;
     }
 
 pub is_formatted : (size : Size) (image : List ℕ) (store flash : Device) → IsNewStore size store → IsStore store → flash ≡ store → Spells image flash → IsFormattedText size image

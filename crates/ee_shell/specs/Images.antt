@@ -1,18 +1,16 @@
 -- What the commands without a script make of an image.
-use Rattle.std.specs.Prelude.{◌≡◌, ℕ, ◌+◌, List, [], ◌∷◌, ◌++◌, decimal, codes}
+use Rattle.std.specs.Prelude.{◌≡◌, ℕ, ◌+◌, List, [], ◌∷◌, ◌++◌, decimal, codes, replicate}
 use Rattle.ee_text.specs.Field.{joined}
 use Rattle.ee_text.specs.Line.{line_of}
 use Rattle.ee_flash.specs.Device.{Device}
-use Rattle.ee_flash.specs.Size.{Size}
-use Rattle.ee_flash.specs.Wear.{total_wear_of}
+use Rattle.ee_flash.specs.Size.{Size, page_count}
 use Rattle.ee_flash.specs.declared.word.Word.{Word}
 use Rattle.ee_pages.specs.Page.{state_of_words}
 use Rattle.ee_pages.specs.declared.state.State as page
 use Rattle.ee_pages.specs.declared.state.State.TheVariants.{Erased, Receive, Active, Valid, Erasing}
-use Rattle.ee_store.specs.State.{CountsWear, formatted, state_of, with_pending}
+use Rattle.ee_store.specs.State.{WearRises, formatted, state_of, with_pending}
 use Rattle.ee_image.specs.Fault.{IsImageFault}
 use Rattle.ee_image.specs.declared.fault.ImageFault.{ImageFault}
-use Rattle.ee_shell.specs.Erases.{ErasesRise}
 use Rattle.ee_words.specs.Fault.{fault_of_image, fault_of_replay}
 use Rattle.ee_shell.specs.Replaying.{IsOpenFault, IsStoreLeft, IsStoreText, Spells}
 use Rattle.ee_words.specs.declared.fault.Fault.{Fault}
@@ -24,21 +22,21 @@ pub record IsFormattedText (size : Size) (text : List ℕ) : Type 0 where
   pub device : Device
   pub left : IsStoreLeft size text device
   pub state_is : state_of device ≡ formatted
-  pub no_wear : CountsWear device → total_wear_of device ≡ 0
+  pub no_wear : device.wear ≡ replicate (page_count size) 0
 
 -- how many pages were erased, as `clean` prints it
 abbrev pub cleaned_text : ℕ → List ℕ
 cleaned_text pages = line_of (joined (codes "cleaned" ∷ decimal pages ∷ []))
 
 -- The image is left with each value, as much used and of the same generation, and no page waits to be erased any more; as
--- many were erased as waited, so that all erases and the pages that wait are together as many as before.
+-- many were erased as waited, as the wear of each page tells.
 pub record IsCleaned (old_image new_image text : List ℕ) : Type 0 where
   pub device : Device
   pub last : Device
   pub old : IsStoreText old_image device
   pub left : IsStoreLeft device.size new_image last
   pub state_is : state_of last ≡ with_pending 0 (state_of device)
-  pub erases : ErasesRise 0 device last
+  pub wear : WearRises (state_of device).pending device last
   pub text_is : text ≡ cleaned_text (state_of device).pending
 
 abbrev pub state_name : page.State → List ℕ

@@ -1,9 +1,8 @@
 -- The stores that the commands work on.
-use Rattle.std.specs.Prelude.{◌≡◌, List, ℕ}
+use Rattle.std.specs.Prelude.{◌≡◌, List, ℕ, replicate}
 use Rattle.ee_flash.specs.Device.{Device}
-use Rattle.ee_flash.specs.Size.{Size}
-use Rattle.ee_flash.specs.Wear.{total_wear_of}
-use Rattle.ee_store.specs.State.{CountsWear, formatted, state_of}
+use Rattle.ee_flash.specs.Size.{Size, page_count}
+use Rattle.ee_store.specs.State.{formatted, state_of}
 use Rattle.ee_shell.specs.Erases.{ErasesRise, erases_of_all}
 use Rattle.ee_shell.specs.Replaying.{IsRun, IsStoreText}
 use Rattle.ee_shell.specs.Serving.{StaysOn}
@@ -22,7 +21,7 @@ pub record IsNewStore (size : Size) (new : Device) : Type 0 where
   pub stays_on : StaysOn new
   pub size_is : new.size ≡ size
   pub state_is : state_of new ≡ formatted
-  pub no_wear : CountsWear new → total_wear_of new ≡ 0
+  pub no_wear : new.wear ≡ replicate (page_count size) 0
 
 -- the script was run on this store
 pub record IsRunOn (store : Device) (text new_image reported : List ℕ) : Type 0 where

@@ -1,17 +1,17 @@
 -- What a script leaves of an image, and why it can't be replayed.
-use Rattle.std.specs.Prelude.{◌≡◌, ◌⊎◌, ℕ, List}
-use Rattle.ee_flash.specs.Device.{Device, IsFormed}
+use Rattle.std.specs.Prelude.{◌≡◌, ◌⊎◌, ◌+◌, ℕ, List}
+use Rattle.ee_flash.specs.Device.{Device, IsFormed, blank_device}
 use Rattle.ee_flash.specs.Size.{Size}
 use Rattle.ee_pages.specs.Layout.{IsScanFault}
 use Rattle.ee_pages.specs.Legal.{IsLegal}
 use Rattle.ee_store.specs.Finished.{IsStore}
-use Rattle.ee_store.specs.State.{CountsWear, State, formatted, state_of}
+use Rattle.ee_store.specs.State.{State, WearRises, formatted, state_of}
 use Rattle.ee_image.specs.Text.{image_text}
 use Rattle.ee_image.specs.Fault.{IsTextFault}
 use Rattle.ee_script.specs.Script.{IsFirstBadLine}
 use Rattle.ee_words.specs.declared.replay_fault.ReplayFault.{ReplayFault}
 use Rattle.ee_words.specs.declared.replay_fault.ReplayFault.TheVariants.{Image, Open, Script, Memory}
-use Rattle.ee_shell.specs.Erases.{ErasesRise, erases, erases_of_all}
+use Rattle.ee_shell.specs.Erases.{ErasesRise, erases_of_all}
 use Rattle.ee_shell.specs.Report.{IsReported}
 use Rattle.ee_shell.specs.Serving.{StaysOn}
 
@@ -50,7 +50,9 @@ pub record IsReplayed (old_image text new_image reported : List ℕ) : Type 0 wh
 -- The script was run on a store with nothing in it, on a device of this size of which no page was erased.
 pub record IsTried (size : Size) (text new_image reported : List ℕ) : Type 0 where
   pub run : IsRun size formatted text new_image reported
-  pub erases : CountsWear run.last → erases run.last ≡ erases_of_all size run.report.answers
+  pub erased : ℕ
+  pub wear : WearRises erased (blank_device size) run.last
+  pub rise : erased + (state_of run.last).pending ≡ erases_of_all size run.report.answers
 
 -- why no store is opened from an image's text: the text is no device's, or the device has no legal image; or memory ran
 -- out

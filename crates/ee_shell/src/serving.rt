@@ -23,6 +23,7 @@ struct Server<V: Variables + Drop, A: Allocator = Global> {
 
 impl<V: Variables + Drop, A: Allocator> Server<V, A> {
     /// Writes, as a line of a script says. An error says that memory ran out.
+    #[tactic(auto, using(crate::proofs::Erasing::as_before))]
     fn write(&mut self, address: Address, value: u32) -> Result<Answer, AllocError>
         ensures answers { IfOk result (λ answer. Answers (V.device self.old.store)
             (Write address value) answer (V.device self.new.store)) }
