@@ -47,7 +47,8 @@ pub record IsReplayed (old_image text new_image reported : List ℕ) : Type 0 wh
   pub run : IsRun device.size (state_of device) text new_image reported
   pub erases : ErasesRise (erases_of_all device.size run.report.answers) device run.last
 
--- The script was run on a store with nothing in it, on a device of this size of which no page was erased.
+-- The script was run on a store with nothing in it, on a device of this size of which no page was erased; each move left
+-- the pages of a set to be erased, and nothing else did.
 pub record IsTried (size : Size) (text new_image reported : List ℕ) : Type 0 where
   pub run : IsRun size formatted text new_image reported
   pub erased : ℕ
