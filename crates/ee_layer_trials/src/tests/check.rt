@@ -1,8 +1,8 @@
 //! Worked certificates and texts, and each call once.
+use crate::tests::{address, forget, write};
 use ee_check::{
     Change, CheckFault, Start, Stretch, TextFault, check, read_certificate, write_certificate,
 };
-use crate::tests::{address, forget, write};
 use ee_codec::Address;
 use std::alloc::Global;
 use std::collections::BTreeSet;
