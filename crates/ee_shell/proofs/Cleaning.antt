@@ -1,5 +1,5 @@
 -- What cleaning leaves, as text.
-use Rattle.std.proofs.Common.{◌≡◌, ◌∙◌, ◌++◌, ℕ, ◌+◌, List, [], ap, arith, refl, subst}
+use Rattle.std.proofs.Common.{◌≡◌, ◌∙◌, ◌++◌, ℕ, List, [], ap, arith, refl, subst}
 use Rattle.ee_flash.specs.Device.{Device}
 use Rattle.ee_store.specs.Finished.{IsStore}
 use Rattle.ee_store.specs.State.{State, WearRises, state_of, with_pending}
