@@ -56,10 +56,12 @@ pub fn read_slot(word: Word) -> Slot
 pub fn ends_in(word: Word, address: Address) -> bool
     ensures { result ≡ word_ends_in word address }
 {
-    match word {
-        Word::Held(number) => number & 0xffff == u64::from(address.get()),
-        _ => false,
-    }
+    // All ones end in no address.
+    let number = match word {
+        Word::Held(number) => number,
+        _ => u64::MAX,
+    };
+    number & 0xffff == u64::from(address.get())
 }
 
 /// Reads a number in the place of a slot.

@@ -1,4 +1,5 @@
-ghost use Rattle.std.specs.Prelude.{◌≡◌, ◌<◌, ◌≤◌, ◌-◌, ◌*◌, ℕ, IfSome, drop, slice_index_or, take};
+ghost use Rattle.std.specs.Prelude.{◌≡◌, ◌<◌, ◌≤◌, ◌-◌, ◌*◌, ℕ, IfSome, drop, slice_index_or, take, true};
+ghost use Rattle.ee_codec.specs.Reading.{ends_in as word_ends_in};
 ghost use Rattle.ee_codec.specs.Words.{IsAddress};
 ghost use Rattle.ee_flash.specs.Size.{slot_count};
 ghost use Rattle.ee_pages.specs.Layout.{IsLayout};
@@ -127,6 +128,15 @@ fn says(word: Word, address: Address) -> Option<Option<u32>>
     if !ends_in(word, address) {
         return None;
     }
+    said(word)
+}
+
+// What a word says of the address that it ends in. It stays out of the loop that asks for an
+// address, which runs over most words and is short without it.
+#[inline(never)]
+fn said(word: Word) -> Option<Option<u32>>
+    ensures { (address : ℕ) → word_ends_in word address ≡ true → result ≡ word_says word address }
+{
     match read_slot(word) {
         Slot::Element { value, .. } => Some(Some(value)),
         Slot::Forgotten { .. } => Some(None),
