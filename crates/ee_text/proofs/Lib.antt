@@ -5,3 +5,4 @@ pub mod Lacking
 pub mod LineFeeds
 pub mod NumberText
 pub mod Parting
+pub mod Leading
