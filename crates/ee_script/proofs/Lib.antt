@@ -5,3 +5,4 @@ pub mod Reading
 pub mod WholeScript
 pub mod Seen
 pub mod Judging
+pub mod Streams

@@ -128,7 +128,7 @@ too_long_to_spell text bytes command long proper e = omega (arith, ap length e, 
 
 -- ---- pieces
 
-no_front : (front back : List ℕ) → front ++ back ≡ [] → front ≡ []
+pub no_front : (front back : List ℕ) → front ++ back ≡ [] → front ≡ []
 no_front [] back e = refl
 no_front (x ∷ front) back e = cc
 

@@ -3,8 +3,10 @@ ghost use Rattle.std.specs.Bool.{OnFalse, OnTrue};
 ghost use Rattle.ee_text.specs.Line.{IsLine, line_of};
 ghost use Rattle.ee_script.specs.Command.{IsCommand};
 ghost use Rattle.ee_script.specs.Script.{NoLine};
-ghost use Rattle.ee_script.specs.Session.{Answered, counted, Ends, Goes};
+ghost use Rattle.ee_script.specs.Session.{Answered, counted, Ends, Goes, IsUnfinished};
 ghost use Rattle.ee_script.specs.Fault.{EndsBadly, IsFault};
+ghost use Rattle.ee_script.specs.Reading.{StopsAt, Takes};
+ghost use Rattle.std.specs.Io.KnownBytes.{IsAtEnd};
 
 use super::answer::{Answer, push_answer};
 use super::command::Command;
@@ -12,10 +14,14 @@ use super::parse::{next_command, read_command};
 use arrayvec::ArrayVec;
 use ee_text::next_line;
 use std::alloc::{AllocError, Allocator, Global};
+use std::io::{ErrorKind, Read};
 use std::marker::Model;
 
 /// The most bytes that a good line has before its line feed.
 pub const LONGEST_LINE: usize = 24;
+
+/// How many bytes one read call asks for.
+const CHUNK: usize = 4096;
 
 /// Why a script can't be answered to its end.
 #[derive(Clone, Copy, Debug, PartialEq, Eq)]
@@ -34,6 +40,26 @@ impl From<AllocError> for ScriptFault {
 
     fn from(_error: AllocError) -> ScriptFault {
         ScriptFault::Memory
+    }
+}
+
+/// Why a script that a reader gives can't be answered to its end: what is met first.
+#[derive(Clone, Copy, Debug, PartialEq, Eq)]
+pub enum StreamFault {
+    /// A read failed, or the most read calls were made and the end had not come.
+    Read,
+    /// A line is bad, or memory ran out.
+    Script(ScriptFault),
+}
+
+impl From<ScriptFault> for StreamFault {
+    ghost use Rattle.std.specs.Prelude.{◌≡◌};
+    ghost use Rattle.ee_script.specs.declared.session.StreamFault.TheVariants.{Script};
+
+    ghost from_gives = { λ script fault. fault ≡ Script script };
+
+    fn from(fault: ScriptFault) -> StreamFault {
+        StreamFault::Script(fault)
     }
 }
 
@@ -107,6 +133,44 @@ impl<S: Serve + Drop, A: Allocator> Session<S, A> {
         self.end_line(end)?;
         self.judge(behind)?;
         Ok(self)
+    }
+
+    /// Takes what a reader gives, to its end. What one read call gives is judged before the next, and
+    /// a read that was interrupted is tried again. No more than `most` read calls are made.
+    pub fn feed_all<R: Read>(
+        self,
+        reader: &mut R,
+        most: u32,
+    ) -> Result<Session<S, A>, StreamFault>
+        ensures fed { IfOk result (Takes S.serves self (R.remaining reader.old)
+            (R.remaining reader.new)) }
+        ensures end { OnOk result (IsAtEnd (R.remaining reader.new)) }
+        ensures fault { IfErr result (StopsAt S.serves self (R.remaining reader.old)
+            (R.remaining reader.new)) }
+    {
+        let mut session = self;
+        let mut piece = [0u8; CHUNK];
+        'reading: for _ in 0..most {
+            match reader.read(&mut piece) {
+                Ok(0) => return Ok(session),
+                Ok(count) => session = session.feed(&piece[..count])?,
+                Err(error) => {
+                    if error.kind() != ErrorKind::Interrupted {
+                        return Err(session.break_off());
+                    }
+                }
+            }
+        }
+        Err(session.break_off())
+    }
+
+    /// The fault of a script of which no more can be read. Less than a line is lost with it.
+    fn break_off(&self) -> StreamFault
+        ensures read { result ≡ StreamFault.Read }
+        ensures short { IsUnfinished self.now.unfinished }
+    {
+        let _ = &self.unfinished;
+        StreamFault::Read
     }
 
     /// Ends the script, and gives what served it and the report. A line that no line feed ended is
