@@ -7,7 +7,7 @@ use Rattle.ee_flash.specs.declared.word.Word.{Word}
 use Rattle.ee_flash.specs.declared.word.Word.TheVariants.{Erased, Held, Torn}
 use Rattle.ee_flash.proofs.Outcomes.{step_changes_one_page, step_keeps_formed}
 use Rattle.ee_pages.specs.Laws.{Keeps}
-use Rattle.ee_codec.specs.declared.header.TheConstants.{MARK}
+use Rattle.ee_codec.specs.Words.{mark_number}
 use Rattle.ee_pages.specs.Legal.{IsLive, fits, place_of}
 use Rattle.ee_pages.specs.Meaning.{Map, changed, meaning, value_said}
 use Rattle.ee_pages.specs.Pushing.{MarkKeepsLive, PushTakes, Takes, WholePushTakes}
@@ -109,20 +109,20 @@ marked : (side : Side) (device : Device) (generation : ℕ) → IsLive device si
 marked side device generation live none = no_commit side device generation live.live (rw none refl)
 
 -- a mark's word, not one of the two that commit the set
-mark_at : (at k : ℕ) (old new : Device) (side : Side) (generation : ℕ) → IsLive old side generation → k < old.size.pages → k * (old.size.words - 4) ≤ fill_of (slots_of (set_of side old)) → at < 4 → 0 ≢ at → (0 ≢ k) ⊎ (1 ≢ at) → place_of k at ≡ Marking → IsStep (Program (first_page old.size side + k) at MARK) old new → Keeps old new side generation × (set_of (other side) new ≡ set_of (other side) old)
+mark_at : (at k : ℕ) (old new : Device) (side : Side) (generation : ℕ) → IsLive old side generation → k < old.size.pages → k * (old.size.words - 4) ≤ fill_of (slots_of (set_of side old)) → at < 4 → 0 ≢ at → (0 ≢ k) ⊎ (1 ≢ at) → place_of k at ≡ Marking → IsStep (Program (first_page old.size side + k) at mark_number) old new → Keeps old new side generation × (set_of (other side) new ≡ set_of (other side) old)
 mark_at at k old new side generation live in_range behind header not_receive not_active place taken =
     let formed = step_keeps_formed _ old new taken in
     let size = (step_changes_one_page _ old new taken).same_size in
-    let apart = other_in_set side old new k at MARK in_range taken in
+    let apart = other_in_set side old new k at mark_number in_range taken in
     let written = λ (word : Word) (fit : fits generation Marking word ≡ true) (put : set_of side new ≡ with_word_in (set_of side old) k at word).
     subst (IsHeaderWritten old generation k at word (set_of side old)) (sym put)
     (header_written side old generation taken.formed live.allowed k at word in_range header behind (ap (λ place. fits generation place word) place ∙ fit)) in
     let kept = λ (word : Word) (left : IsHeaderWritten old generation k at word (set_of side old) (set_of side new)).
     keeps side old new generation live formed size apart
     (same_commit (set_of side old) (set_of side new) (left.elsewhere 0 0 (inr not_receive)) (left.elsewhere 0 1 not_active)) left.obeyed left.slots in (
-      elim (program_in_set side old new k at MARK in_range taken) [
+      elim (program_in_set side old new k at mark_number in_range taken) [
         | inl same ↦ keeps_same side old new generation live formed size apart same
-        | inr (inl held) ↦ kept (Held MARK) (written (Held MARK) refl held)
+        | inr (inl held) ↦ kept (Held mark_number) (written (Held mark_number) refl held)
         | inr (inr torn) ↦ kept Torn (written Torn refl torn)
       ],
       apart,
@@ -134,7 +134,7 @@ mark_keeps_live page (marks.Receive given) old new side generation live behind t
   | inr valid ↦ cc valid
 ]
 mark_keeps_live page marks.Active old new side generation live behind taken = elim (first_or_further page) [
-  | inl first ↦ absurd (marked side old generation live (ap (λ n. word_of (set_of side old) n 1) (sym first) ∙ was_erased side old new page 1 MARK behind.in_range taken))
+  | inl first ↦ absurd (marked side old generation live (ap (λ n. word_of (set_of side old) n 1) (sym first) ∙ was_erased side old new page 1 mark_number behind.in_range taken))
   | inr further ↦ mark_at 1 page old new side generation live behind.in_range (omega (arith, behind.behind)) (omega arith) (λ e. absurd (omega arith)) (inl (λ e. absurd (omega arith))) (place_of-active page further) taken
 ]
 mark_keeps_live page marks.Valid old new side generation live behind taken =
