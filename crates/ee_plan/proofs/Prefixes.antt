@@ -32,7 +32,7 @@ none_within start trace place [] n each behind = refl
 none_within start trace place (stretch ∷ stretches) n each behind =
     let rising = each.0.forced.rising in
     let more = none_within start trace (place_at start trace stretch.to) stretches n each.1 (omega arith) in
-    elim (leb_tells stretch.to n) [ | inl within ↦ absurd (let h = within.1 in omega arith) | inr after ↦ rw after.0 more ]
+    elim (leb_tells stretch.to n) [ inl within ↦ absurd (let h = within.1 in omega arith) | inr after ↦ rw after.0 more ]
 
 -- the place before a change that is still made
 same_place : (start : Situation) (prefix rest : List Change) (n : ℕ) → n ≤ length prefix → place_at start (prefix ++ rest) n ≡ place_at start prefix n
@@ -57,7 +57,7 @@ tight_within start prefix rest place (stretch ∷ stretches) here each fits =
           } in
           rw within.0 (
             (tight, subst (λ p. EachStretch start prefix IsTightStretch p (stretches_within (length prefix) stretches)) same more.0),
-            subst (λ p. end_from start prefix p (stretches_within (length prefix) stretches) ≤ start.slots) same more.1
+            subst (λ p. end_from start prefix p (stretches_within (length prefix) stretches) ≤ start.slots) same more.1,
           )
       | inr behind ↦
           let none = none_within start (prefix ++ rest) (place_at start (prefix ++ rest) stretch.to) stretches (length prefix) each.1 (let h = behind.1 in omega arith) in
