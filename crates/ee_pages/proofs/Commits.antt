@@ -12,8 +12,8 @@ use Rattle.ee_flash.specs.declared.word.Word.TheVariants.{Erased, Held, Torn}
 use Rattle.ee_flash.proofs.Outcomes.{step_changes_one_page, step_keeps_formed, step_leaves_pages}
 use Rattle.ee_codec.proofs.Spelling.{receive_of-receive}
 use Rattle.ee_codec.specs.Reading.{mark_of, receive_of}
-use Rattle.ee_codec.specs.Words.{mark_number}
-use Rattle.ee_pages.specs.Filling.{CommitCommits, IsCommitted, IsFilling, WholeCommitCommits}
+use Rattle.ee_codec.specs.Words.{mark_number, IsGeneration}
+use Rattle.ee_pages.specs.Filling.{IsCommitted, IsFilling}
 use Rattle.ee_pages.specs.Laws.{IsPageOf, Keeps}
 use Rattle.ee_pages.specs.Legal.{IsLive, is_allowed, is_allowed_at}
 use Rattle.ee_pages.specs.Page.{marking, word_in}
@@ -171,12 +171,17 @@ module _ (old new : Device) (side : Side) (generation count : ℕ) (live : IsLiv
     | inr (inr torn) ↦ inl (torn_keeps torn)
   ]
 
-pub commit_commits : CommitCommits
+pub commit_commits : (old new : Device) (side : Side) (generation count : ℕ) → IsLive old side generation → IsFilling old (other side) (generation + 1) count
+    → IsGeneration (generation + 1) → IsStep (marking (first_page old.size (other side)) Active) old new
+    → (set_of side new ≡ set_of side old)
+    × (Keeps old new side generation ⊎ IsCommitted old new (other side) (generation + 1))
 commit_commits old new side generation count live filling proper taken =
     let below : generation + 1 < 4294967295 = omega (arith, proper.1) in
     (same_live old new side generation count live filling below taken, outcomes old new side generation count live filling below taken)
 
-pub whole_commit_commits : WholeCommitCommits
+pub whole_commit_commits : (old new : Device) (side : Side) (generation count : ℕ) → IsLive old side generation → IsFilling old (other side) (generation + 1) count
+    → IsGeneration (generation + 1) → let step = marking (first_page old.size (other side)) Active in IsStep step old new → new ≡ completed step old
+    → IsCommitted old new (other side) (generation + 1)
 whole_commit_commits old new side generation count live filling proper taken whole =
     let below : generation + 1 < 4294967295 = omega (arith, proper.1) in
     commits_whole old new side generation count live filling below taken (ap (λ (device : Device). device.image) whole)

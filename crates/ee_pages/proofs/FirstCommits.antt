@@ -8,8 +8,8 @@ use Rattle.ee_flash.specs.declared.word.Word.TheVariants.{Held}
 use Rattle.ee_flash.proofs.Outcomes.{step_changes_one_page, step_keeps_formed}
 use Rattle.ee_codec.proofs.Spelling.{receive_of-receive}
 use Rattle.ee_codec.specs.Reading.{receive_of}
-use Rattle.ee_codec.specs.Words.{mark_number}
-use Rattle.ee_pages.specs.Filling.{FirstCommitCommits, IsCommitted, IsFilling}
+use Rattle.ee_codec.specs.Words.{mark_number, IsGeneration}
+use Rattle.ee_pages.specs.Filling.{IsCommitted, IsFilling}
 use Rattle.ee_pages.specs.Laws.{IsPageOf}
 use Rattle.ee_pages.specs.Legal.{is_allowed_at}
 use Rattle.ee_pages.specs.Page.{marking}
@@ -72,7 +72,9 @@ module _ (old new : Device) (side : Side) (generation count : ℕ) (filling : Is
         same_slots = ap slots_of pages ∙ header_word (set_of side old) 0 1 (Held mark_number) (omega arith);
       }
 
-pub first_commit_commits : FirstCommitCommits
+pub first_commit_commits : (old new : Device) (side : Side) (generation count : ℕ) → IsFilling old side generation count → IsGeneration generation
+    → committed (set_of (other side) old) ≡ None → let step = marking (first_page old.size side) Active in IsStep step old new → new ≡ completed step old
+    → IsCommitted old new side generation × (set_of (other side) new ≡ set_of (other side) old)
 first_commit_commits old new side generation count filling proper alone taken whole =
     let some : 0 < generation = omega (arith, proper.0) in
     let below : generation < 4294967295 = omega (arith, proper.1) in
