@@ -1,3 +1,4 @@
+pub mod Deciding
 pub mod Digits
 pub mod FirstPlace
 pub mod Joining
