@@ -1,5 +1,7 @@
 pub mod States
 pub mod Wears
+pub mod NotBlank
+pub mod ErasedPages
 pub mod AfterCalls
 pub mod FormatFacts
 pub mod FirstSet
@@ -9,6 +11,7 @@ pub mod OpeningFacts
 pub mod SetPages
 pub mod PendingCounts
 pub mod LowestPending
+pub mod PendingPages
 pub mod Erasing
 pub mod KeptMarks
 pub mod Appending
@@ -19,3 +22,4 @@ pub mod MovingFacts
 pub mod OtherSteps
 pub mod Making
 pub mod Running
+pub mod PageWears

@@ -1,5 +1,5 @@
 -- The lowest page that waits to be erased, from a look over the pages of the other set.
-use Rattle.std.proofs.Common.{◌≡◌, ◌<◌, ◌≤◌, ℕ, Option, Some, None, true, false, sym, subst, ap, ◌∙◌}
+use Rattle.std.proofs.Common.{◌≡◌, ◌<◌, ◌≤◌, ℕ, Option, Some, None, true, false, [], ◌∷◌, sym, subst, ap, ◌∙◌}
 use Rattle.std.proofs.lemmas.Bool.{true≢false}
 use Rattle.ee_flash.specs.Device.{Device, page_at}
 use Rattle.ee_pages.specs.Laws.{IsPageOf}
@@ -9,6 +9,7 @@ use Rattle.ee_pages.specs.declared.side.Side.{Side}
 use Rattle.ee_pages.specs.declared.side.Side.TheVariants.{First}
 use Rattle.ee_store.specs.Calls.{ErasesLowest, IsLowestPending, KeepsAllButLowest}
 use Rattle.ee_store.specs.Parts.{IsSameBut}
+use Rattle.ee_store.specs.State.{Wears}
 
 abbrev side_in : Option (Side × ℕ) → Side
 side_in None = First
@@ -16,7 +17,7 @@ side_in (Some live) = live.0
 
 module _ (old new : Device) (side searched : Side) (generation page : ℕ) (live : live_of old ≡ Some (side, generation)) (is_other : searched ≡ other side) (in_set : IsPageOf old.size searched page)
     (not_blank : is_blank (page_at old page) ≡ false) (lower_blank : (lower : ℕ) → first_page old.size searched ≤ lower → lower < page → is_blank (page_at old lower) ≡ true)
-    (others : IsSameBut page old new) where
+    (others : IsSameBut page old new) (wear : Wears (page ∷ []) old new) where
   is_lowest : IsLowestPending old page
   is_lowest = record {
     waits = record { side = side; generation = generation; live = live; in_other = subst (λ set. IsPageOf old.size set page) is_other in_set; not_blank = not_blank };
@@ -27,7 +28,7 @@ module _ (old new : Device) (side searched : Side) (generation page : ℕ) (live
   }
 
   pub erases_lowest : is_blank (page_at new page) ≡ true → ErasesLowest old new
-  erases_lowest blank = record { page = page; lowest = is_lowest; blank = blank; others = others }
+  erases_lowest blank = record { page = page; lowest = is_lowest; blank = blank; others = others; wear = wear }
 
   pub keeps_all_but_lowest : KeepsAllButLowest old new
-  keeps_all_but_lowest = record { page = page; lowest = is_lowest; others = others }
+  keeps_all_but_lowest = record { page = page; lowest = is_lowest; others = others; wear = wear }
