@@ -1,6 +1,7 @@
-use Rattle.std.proofs.Common.{◌≡◌, ◌≢◌, ◌<◌, ◌+◌, length, ap, arith, ◌∙◌, sym}
+use Rattle.std.proofs.Common.{◌≡◌, ◌≢◌, ◌<◌, ◌+◌, true, false, length, ap, arith, ◌∙◌, sym}
 use Rattle.ee_flash.specs.Device.{page_at}
 use Rattle.ee_flash.specs.Size.{page_count}
+use Rattle.ee_pages.specs.Page.{is_blank}
 use Rattle.ee_store.proofs.AfterCalls.{goes_on_both}
 use Rattle.ee_store.proofs.FormatFacts.{BlanksPage, all_blank, blank_already, blank_more, blanks_page}
 use Rattle.ee_store.proofs.ErasedPages.{all_wear, wears_next}
@@ -20,8 +21,12 @@ pages-preserved g c =
     let formed = g.met.F.Flash.formed c.args.flash.now in
     let within : page < length old.image = omega (arith, in_range, formed.image_length) in
     let step : BlanksPage mid new page = elim c.if-not-is_blank.branch [
-      | then-not-is_blank+in_ok-erase w ↦ rw w.flash-is (blanks_page page mid _ (g.met.F.Flash.formed c.pages.flash) now_in_range (sym c.is_blank.ensures ∙ w.if-not-is_blank.true) w.in_ok-erase.ensures.on w.in_ok-erase.ensures.done)
-      | else-not-is_blank w ↦ rw w.flash-is (blank_already mid page (sym c.is_blank.ensures ∙ w.if-not-is_blank.false))
+      | then-not-is_blank+in_ok-erase w ↦
+          let written : is_blank (page_at mid page) ≡ false = cc in
+          rw w.flash-is (blanks_page page mid _ (g.met.F.Flash.formed c.pages.flash) now_in_range written w.in_ok-erase.ensures.on w.in_ok-erase.ensures.done)
+      | else-not-is_blank w ↦
+          let blank : is_blank (page_at mid page) ≡ true = cc in
+          rw w.flash-is (blank_already mid page blank)
     ] in
     let at : 0 + page ≡ page = omega arith in
     let same_page = sym (c.pages.invariant.rest page (omega arith)) in
