@@ -1,6 +1,8 @@
-pub mod States
+pub mod SetPages
 pub mod Wears
 pub mod NotBlank
+pub mod PendingPages
+pub mod States
 pub mod ErasedPages
 pub mod AfterCalls
 pub mod FormatFacts
@@ -8,10 +10,8 @@ pub mod FirstSet
 pub mod LiveMarks
 pub mod Marks
 pub mod OpeningFacts
-pub mod SetPages
 pub mod PendingCounts
 pub mod LowestPending
-pub mod PendingPages
 pub mod Erasing
 pub mod KeptMarks
 pub mod Appending

@@ -2,14 +2,16 @@
 use Rattle.std.proofs.Common.{◌≡◌, ◌<◌, ◌≤◌, ℕ, Option, Some, None, true, false, [], ◌∷◌, sym, subst, ap, ◌∙◌}
 use Rattle.std.proofs.lemmas.Bool.{true≢false}
 use Rattle.ee_flash.specs.Device.{Device, page_at}
-use Rattle.ee_pages.specs.Laws.{IsPageOf}
+use Rattle.ee_pages.specs.Laws.{IsPageOf, Keeps}
+use Rattle.ee_pages.specs.Legal.{IsLive}
 use Rattle.ee_pages.specs.Page.{is_blank}
 use Rattle.ee_pages.specs.Sets.{first_page, live_of, other}
 use Rattle.ee_pages.specs.declared.side.Side.{Side}
 use Rattle.ee_pages.specs.declared.side.Side.TheVariants.{First}
+use Rattle.ee_store.proofs.PendingPages.{lowest_blank}
 use Rattle.ee_store.specs.Calls.{ErasesLowest, IsLowestPending, KeepsAllButLowest}
 use Rattle.ee_store.specs.Parts.{IsSameBut}
-use Rattle.ee_store.specs.State.{Wears}
+use Rattle.ee_store.specs.State.{Wears, pending_pages, pending_pages_in}
 
 abbrev side_in : Option (Side × ℕ) → Side
 side_in None = First
@@ -27,8 +29,17 @@ module _ (old new : Device) (side searched : Side) (generation page : ℕ) (live
         true≢false (sym (lower_blank lower from below) ∙ waits.not_blank);
   }
 
-  pub erases_lowest : is_blank (page_at new page) ≡ true → ErasesLowest old new
-  erases_lowest blank = record { page = page; lowest = is_lowest; blank = blank; others = others; wear = wear }
+  waited_first : IsLive old side generation → Keeps old new side generation → is_blank (page_at new page) ≡ true → pending_pages old ≡ page ∷ pending_pages new
+  waited_first found keeps blank =
+      let of : IsPageOf old.size (other side) page = subst (λ set. IsPageOf old.size set page) is_other in_set in
+      let lower : (lower : ℕ) → first_page old.size (other side) ≤ lower → lower < page → is_blank (page_at old lower) ≡ true =
+      subst (λ set. (lower : ℕ) → first_page old.size set ≤ lower → lower < page → is_blank (page_at old lower) ≡ true) is_other lower_blank in
+      ap (pending_pages_in old) live
+      ∙ lowest_blank (other side) old new page found.formed keeps.live.formed keeps.same_size of others not_blank lower blank
+      ∙ ap (λ list. page ∷ list) (sym (ap (pending_pages_in new) keeps.live.live))
+
+  pub erases_lowest : is_blank (page_at new page) ≡ true → IsLive old side generation → Keeps old new side generation → ErasesLowest old new
+  erases_lowest blank found keeps = record { waited = waited_first found keeps blank; page = page; lowest = is_lowest; blank = blank; others = others; wear = wear }
 
   pub keeps_all_but_lowest : KeepsAllButLowest old new
   keeps_all_but_lowest = record { page = page; lowest = is_lowest; others = others; wear = wear }

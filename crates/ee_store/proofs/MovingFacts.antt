@@ -22,6 +22,8 @@ use Rattle.ee_pages.specs.declared.side.Side.TheVariants.{First, Second}
 use Rattle.ee_pages.proofs.Legal.{fill-front}
 use Rattle.ee_pages.proofs.Slots.{length-set_of, length-slots}
 use Rattle.ee_store.specs.Parts.{HasMoved, Stays}
+use Rattle.ee_store.specs.State.{not_blank_in}
+use Rattle.ee_store.proofs.PendingPages.{as_many_not_blank}
 use Rattle.ee_pages.proofs.BlankPages.{full_set_has_no_blank_page}
 
 pub goes_on-same : (device : Device) → GoesOn device device
@@ -82,7 +84,7 @@ other_other Second = refl
 
 pub moved_stays : (old moved new : Device) (side : Side) (generation : ℕ) (change : Change) → HasMoved old moved side generation change → Stays moved new (other side) (generation + 1) → HasMoved old new side generation change
 moved_stays old moved new side generation change has stays =
-    let pending : pending_of (set_of side new) ≡ pending_of (set_of side moved) = subst (λ (set : Side). pending_of (set_of set new) ≡ pending_of (set_of set moved)) (other_other side) stays.same_pending in
+    let pending : pending_of (set_of side new) ≡ pending_of (set_of side moved) = as_many_not_blank side moved new (subst (λ (set : Side). not_blank_in set new ≡ not_blank_in set moved) (other_other side) stays.same_pending) in
     record {
       live = stays.keeps.live;
       same_size = stays.keeps.same_size ∙ has.same_size;

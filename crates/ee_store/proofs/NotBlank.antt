@@ -1,5 +1,5 @@
 -- The pages of a list that are not blank, by their numbers.
-use Rattle.std.proofs.Common.{◌≡◌, ℕ, ◌+◌, ◌-◌, ◌<◌, ◌≤◌, ◌++◌, ◌≢◌, Bool, true, false, cond, not, List, [], ◌∷◌, length, take, drop, get_or, refl, sym, subst, ap, ◌∙◌, arith, zero, suc}
+use Rattle.std.proofs.Common.{◌≡◌, ℕ, ◌+◌, ◌-◌, ◌<◌, ◌≤◌, ◌++◌, ◌≢◌, Bool, true, false, cond, not, List, [], ◌∷◌, length, take, drop, get_or, set, refl, sym, subst, ap, ◌∙◌, arith, zero, suc}
 use Rattle.std.specs.List.{All, filter}
 use Rattle.std.proofs.lemmas.Bool.{eq-eqb, ne_eqb}
 use Rattle.std.proofs.lemmas.List.{length-take-le, take-append-drop, take_more}
@@ -90,3 +90,26 @@ times_here (words ∷ pages) number zero =
 times_here (words ∷ pages) number (suc k) =
     let e : number + suc k ≡ number + 1 + k = omega arith in
     named_before (is_blank words) number (number + suc k) _ (λ same. omega arith) ∙ ap (λ n. times n (not_blank_from (number + 1) pages)) e ∙ times_here pages (number + 1) k
+
+-- ---- one page changed
+
+shown : (blank was : Bool) (number : ℕ) (numbers old : List ℕ) → blank ≡ was → numbers ≡ old → cond blank numbers (number ∷ numbers) ≡ cond was old (number ∷ old)
+shown blank was number numbers old e same = ap (λ b. cond b numbers (number ∷ numbers)) e ∙ ap (λ list. cond was list (number ∷ list)) same
+
+-- from blank to blank, or between others
+pub not_blank_same : (pages : List (List Word)) (number k : ℕ) (words : List Word) → is_blank words ≡ is_blank (get_or pages k []) → not_blank_from number (set pages k words) ≡ not_blank_from number pages
+not_blank_same [] number k words e = refl
+not_blank_same (page ∷ pages) number zero words e = shown (is_blank words) (is_blank page) number _ _ e refl
+not_blank_same (page ∷ pages) number (suc k) words e = shown (is_blank page) (is_blank page) number _ _ refl (not_blank_same pages (number + 1) k words e)
+
+-- the first that is not blank becomes blank
+pub first_blank : (pages : List (List Word)) (number k : ℕ) (words : List Word) → k < length pages → ((j : ℕ) → j < k → is_blank (get_or pages j []) ≡ true) → is_blank (get_or pages k []) ≡ false → is_blank words ≡ true
+    → not_blank_from number pages ≡ (number + k) ∷ not_blank_from number (set pages k words)
+first_blank [] number k words h lower written blank = absurd (omega (arith, h))
+first_blank (page ∷ pages) number zero words h lower written blank =
+    let e : number ≡ number + 0 = omega arith in
+    rw (written, blank) (ap (λ n. n ∷ not_blank_from (number + 1) pages) e)
+first_blank (page ∷ pages) number (suc k) words h lower written blank =
+    let here : is_blank page ≡ true = lower zero (omega arith) in
+    let e : number + 1 + k ≡ number + suc k = omega arith in
+    rw here (first_blank pages (number + 1) k words (omega (arith, h)) (λ j below. lower (suc j) (omega (arith, below))) written blank ∙ ap (λ n. n ∷ not_blank_from (number + 1) (set pages k words)) e)

@@ -12,7 +12,7 @@ use Rattle.ee_store.proofs.States.{state_is, state_stays}
 use Rattle.ee_store.specs.Finished.{IsFinished, IsMarked}
 use Rattle.ee_store.specs.Openings.{IsCutOpening, IsFormatted, Opens}
 use Rattle.ee_store.specs.Parts.{Stays}
-use Rattle.ee_store.specs.State.{State, Wears, formatted, not_blank_pages, state_of}
+use Rattle.ee_store.specs.State.{State, Wears, formatted, not_blank_pages, pending_pages_in, state_of}
 
 abbrev side_in : Option (Side × ℕ) → Side
 side_in None = First
@@ -35,6 +35,7 @@ module _ (layout : Layout) (old new : Device) (is : IsLayout old layout) (stays 
     goes_on = on;
     state_is = state_stays old new layout.side layout.generation is.live stays;
     live_is = stays.keeps.live.live ∙ sym is.live.live;
+    same_pending = ap (pending_pages_in new) stays.keeps.live.live ∙ stays.same_pending ∙ sym (ap (pending_pages_in old) is.live.live);
     no_wear = stays.same_wear;
     no_step = λ finished. no_step (finished layout.side layout.generation is.live.live);
   }

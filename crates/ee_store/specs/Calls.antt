@@ -10,7 +10,7 @@ use Rattle.ee_pages.specs.Sets.{live_of, other}
 use Rattle.ee_pages.specs.declared.side.Side.{Side}
 use Rattle.ee_store.specs.Changes.{Appends, IsCutChange, IsFull, IsSpent, Moves, Proceeds}
 use Rattle.ee_store.specs.Parts.{IsSameBut}
-use Rattle.ee_store.specs.State.{Wears, capacity, state_of, with_pending}
+use Rattle.ee_store.specs.State.{Wears, capacity, pending_pages, state_of, with_pending}
 use Rattle.ee_store.specs.declared.variables.Written.{Written}
 use Rattle.ee_store.specs.declared.variables.Written.TheVariants.{Appended, Moved}
 use Rattle.ee_store.specs.declared.variables.WriteFault.{WriteFault}
@@ -56,11 +56,12 @@ pub record IsLowestPending (device : Device) (page : ℕ) : Type 0 where
   pub waits : IsPending device page
   pub none_lower : (lower : ℕ) → lower < page → ¬ IsPending device lower
 
--- the lowest page that waited was erased, and is blank; each other page is as before
+-- the lowest page that waited was erased, and is blank; the others of those wait still, and each other page is as before
 pub record ErasesLowest (old new : Device) : Type 0 where
   pub page : ℕ
   pub lowest : IsLowestPending old page
   pub blank : is_blank (page_at new page) ≡ true
+  pub waited : pending_pages old ≡ page ∷ pending_pages new
   pub others : IsSameBut page old new
   pub wear : Wears (page ∷ []) old new
 

@@ -7,17 +7,19 @@ use Rattle.ee_pages.specs.Legal.{IsLegal}
 use Rattle.ee_pages.specs.Sets.{live_of}
 use Rattle.ee_pages.specs.declared.side.Side.TheVariants.{First}
 use Rattle.ee_store.specs.Finished.{IsFinished, IsStore}
-use Rattle.ee_store.specs.State.{Wears, formatted, not_blank_pages, state_of}
+use Rattle.ee_store.specs.State.{Wears, formatted, not_blank_pages, pending_pages, state_of}
 use Rattle.ee_store.specs.declared.opening.OpenFault.{OpenFault}
 use Rattle.ee_store.specs.declared.opening.OpenFault.TheVariants.{Scan, Cut}
 
--- the image was legal, and its state is as before; where no mark was left, nothing changed
+-- The image was legal; its state is as before, the same set is live, the same pages wait, and none was erased. Where no
+-- mark was left, nothing changed.
 pub record Opens (old new : Device) : Type 0 where
   pub legal : IsLegal old
   pub store : IsStore new
   pub goes_on : GoesOn old new
   pub state_is : state_of new ≡ state_of old
   pub live_is : live_of new ≡ live_of old
+  pub same_pending : pending_pages new ≡ pending_pages old
   pub no_wear : new.wear ≡ old.wear
   pub no_step : IsFinished old → new ≡ old
 
