@@ -1,12 +1,15 @@
-pub mod States
+pub mod SetPages
 pub mod Wears
+pub mod NotBlank
+pub mod PendingPages
+pub mod States
+pub mod ErasedPages
 pub mod AfterCalls
 pub mod FormatFacts
 pub mod FirstSet
 pub mod LiveMarks
 pub mod Marks
 pub mod OpeningFacts
-pub mod SetPages
 pub mod PendingCounts
 pub mod LowestPending
 pub mod Erasing
@@ -19,3 +22,4 @@ pub mod MovingFacts
 pub mod OtherSteps
 pub mod Making
 pub mod Running
+pub mod PageWears

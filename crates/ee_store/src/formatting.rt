@@ -4,9 +4,8 @@ ghost use Rattle.ee_flash.specs.Device.{IsOn};
 ghost use Rattle.ee_flash.specs.Power.{Ends};
 ghost use Rattle.ee_pages.specs.Layout.{IsLayout};
 ghost use Rattle.ee_pages.specs.Page.{is_blank};
-ghost use Rattle.ee_pages.specs.Sets.{pending_of};
 ghost use Rattle.ee_store.specs.Finished.{IsMarked};
-ghost use Rattle.ee_store.specs.State.{WearRises, formatted, state_of};
+ghost use Rattle.ee_store.specs.State.{Wears, formatted, not_blank_pages, state_of};
 ghost use Rattle.ee_pages.specs.declared.side.Side.TheVariants.{First};
 
 use ee_flash::{Cut, Flash};
@@ -19,7 +18,7 @@ pub(crate) fn write_format<F: Flash>(flash: &mut F) -> Result<Layout, Cut>
     ensures first { IfOk result (λ layout. layout.side ≡ First) }
     ensures marked { OnOk result (IsMarked (F.device flash.new) First) }
     ensures state { OnOk result (state_of (F.device flash.new) ≡ formatted) }
-    ensures wear { OnOk result (WearRises (pending_of (F.device flash.old).image)
+    ensures wear { OnOk result (Wears (not_blank_pages (F.device flash.old))
         (F.device flash.old) (F.device flash.new)) }
     ensures power { Ends result (F.device flash.old) (F.device flash.new) }
 {
@@ -37,7 +36,7 @@ pub(crate) fn write_format<F: Flash>(flash: &mut F) -> Result<Layout, Cut>
 // Erases each page that is not blank, by rising page.
 fn erase_all<F: Flash>(flash: &mut F) -> Result<(), Cut>
     ensures blank { OnOk result (All (λ page. is_blank page ≡ true) (F.device flash.new).image) }
-    ensures wear { OnOk result (WearRises (pending_of (F.device flash.old).image)
+    ensures wear { OnOk result (Wears (not_blank_pages (F.device flash.old))
         (F.device flash.old) (F.device flash.new)) }
     ensures power { Ends result (F.device flash.old) (F.device flash.new) }
 {

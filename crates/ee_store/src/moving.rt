@@ -8,10 +8,10 @@ ghost use Rattle.ee_pages.specs.Laws.{Keeps};
 ghost use Rattle.ee_pages.specs.Layout.{IsLayout};
 ghost use Rattle.ee_pages.specs.Meaning.{changed, live_in, meaning};
 ghost use Rattle.ee_pages.specs.Page.{is_blank};
-ghost use Rattle.ee_pages.specs.Sets.{other as other_of, pending_of, set_of, slots_of};
+ghost use Rattle.ee_pages.specs.Sets.{other as other_of, set_of, slots_of};
 ghost use Rattle.ee_store.specs.Finished.{IsMarked};
 ghost use Rattle.ee_store.specs.Parts.{HasMoved, IsSameSet, map_in, meant};
-ghost use Rattle.ee_store.specs.State.{WearRises};
+ghost use Rattle.ee_store.specs.State.{Wears, WearsFront, not_blank_in};
 
 use crate::change::Change;
 use crate::cleaning::erase_other;
@@ -39,7 +39,10 @@ pub(crate) fn transfer<F: Flash>(
     ensures other_set { OnOk result (layout.new.side ≡ other_of layout.old.side) }
     ensures marked { OnOk result (IsMarked (F.device flash.new) (other_of layout.old.side)) }
     ensures wear { OnOk result
-        (WearRises (pending_of (set_of (other_of layout.old.side) (F.device flash.old)))
+        (Wears (not_blank_in (other_of layout.old.side) (F.device flash.old))
+        (F.device flash.old) (F.device flash.new)) }
+    ensures begun { OnErr result
+        (WearsFront (not_blank_in (other_of layout.old.side) (F.device flash.old))
         (F.device flash.old) (F.device flash.new)) }
     ensures cut { OnErr result (
         Keeps (F.device flash.old) (F.device flash.new) layout.old.side layout.old.generation
@@ -73,7 +76,10 @@ fn move_map<F: Flash>(flash: &mut F, layout: &Layout, change: Change) -> Result<
     ensures each_once { IfOk result (λ count. count
         ≡ live_in (changed (meant change) (map_in layout.now.side (F.device flash.old)))) }
     ensures wear { OnOk result
-        (WearRises (pending_of (set_of (other_of layout.now.side) (F.device flash.old)))
+        (Wears (not_blank_in (other_of layout.now.side) (F.device flash.old))
+        (F.device flash.old) (F.device flash.new)) }
+    ensures begun { OnErr result
+        (WearsFront (not_blank_in (other_of layout.now.side) (F.device flash.old))
         (F.device flash.old) (F.device flash.new)) }
     ensures cut { OnErr result (
         Keeps (F.device flash.old) (F.device flash.new) layout.now.side layout.now.generation
@@ -97,7 +103,10 @@ fn clear<F: Flash>(flash: &mut F, layout: &Layout) -> Result<(), Cut>
         (All (λ page. is_blank page ≡ true)
         (set_of (other_of layout.now.side) (F.device flash.new))) }
     ensures wear { OnOk result
-        (WearRises (pending_of (set_of (other_of layout.now.side) (F.device flash.old)))
+        (Wears (not_blank_in (other_of layout.now.side) (F.device flash.old))
+        (F.device flash.old) (F.device flash.new)) }
+    ensures begun { OnErr result
+        (WearsFront (not_blank_in (other_of layout.now.side) (F.device flash.old))
         (F.device flash.old) (F.device flash.new)) }
     ensures power { Ends result (F.device flash.old) (F.device flash.new) }
 {

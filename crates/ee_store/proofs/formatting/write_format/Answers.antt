@@ -1,6 +1,8 @@
 use Rattle.ee_store.proofs.FirstSet.{active_unset, first_layout, first_marked, first_state, unmarked}
 use Rattle.ee_pages.specs.declared.state.Mark.TheVariants.{Receive}
-use Rattle.std.proofs.Common.{◌<◌, arith}
+use Rattle.std.proofs.Common.{◌≡◌, ◌<◌, arith, rules}
+use Rattle.ee_store.specs.State.{Wears, not_blank_pages}
+use Rattle.ee_store.proofs.Wears.{wears_still}
 use Rattle.ee_flash.specs.Size.{page_count}
 use Rattle.ee_store.proofs.formatting.write_format.Goals as goal
 
@@ -45,3 +47,12 @@ returns-clause-state g c =
     let whole = c.in_ok-mark.ensures.done unset in
     let next = active_unset blank mid formed all on whole in
     first_state blank mid formed all on whole new (c.in_ok-mark-2.ensures.on next) (c.in_ok-mark-2.ensures.done next)
+
+pub returns-clause-wear : goal.returns-clause-wear
+returns-clause-wear g c =
+    let old = g.F.Flash.device c.args.flash.now in
+    let blank = g.F.Flash.device c.erase_all.new.flash in
+    let new = g.F.Flash.device c.mark-2.new.flash in
+    let erased : Wears (not_blank_pages old) old blank = search rules in
+    let same : new.wear ≡ blank.wear = search rules in
+    wears_still (not_blank_pages old) old blank new erased same

@@ -1,6 +1,6 @@
 use Rattle.std.proofs.Common.{refl, ◌∙◌}
 use Rattle.ee_pages.specs.Sets.{other}
-use Rattle.ee_store.proofs.LiveMarks.{layout_stays, live_marks_kept, old_marks_kept}
+use Rattle.ee_store.proofs.LiveMarks.{layout_stays, live_marks_kept, old_marks_kept, stays_both}
 use Rattle.ee_store.proofs.marking.finish.Goals as goal
 
 pub returns-clause-finished : goal.returns-clause-finished
@@ -22,3 +22,7 @@ returns-clause-no_step g c marked =
     let mid = g.F.Flash.device c.mark_live_set.new.flash in
     let first = (c.mark_live_set.ensures.no_step marked.live).1 in
     (refl, (c.mark_old_set.ensures.no_step (old_marks_kept (other c.args.layout.now.side) old mid first marked.old)).1 ∙ first)
+
+pub returns-in_err-mark_old_set-clause-stays : goal.returns-in_err-mark_old_set-clause-stays
+returns-in_err-mark_old_set-clause-stays g c =
+    stays_both (g.F.Flash.device c.args.flash.now) (g.F.Flash.device c.mark_live_set.new.flash) (g.F.Flash.device c.mark_old_set.new.flash) c.args.layout.now.side c.args.layout.now.generation c.mark_live_set.ensures.stays c.mark_old_set.ensures.stays
