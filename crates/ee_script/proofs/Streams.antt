@@ -26,7 +26,7 @@ pub record HasTaken {S : Type 0} (step : S → Command → Answer → S → Type
   pub few : length text ≤ most
   pub went : Goes step old text held
 
-consumes_none : (known : Option (List ℕ)) → Consumes known known []
+pub consumes_none : (known : Option (List ℕ)) → Consumes known known []
 consumes_none None = tt
 consumes_none (Some bytes) = refl
 
@@ -116,7 +116,7 @@ module _ {S : Type 0} (step : S → Command → Answer → S → Type 0) (server
 
 -- ---- a bad line is not passed over
 
-all_given : (text given : List ℕ) (after : Option (List ℕ)) → Consumes (Some text) after given → IsAtEnd after → given ≡ text
+pub all_given : (text given : List ℕ) (after : Option (List ℕ)) → Consumes (Some text) after given → IsAtEnd after → given ≡ text
 all_given text given None taken ended = absurd taken
 all_given text given (Some []) taken ended = sym (taken ∙ append-nil given)
 all_given text given (Some (byte ∷ rest)) taken ended = absurd (omega (arith, ap length ended))

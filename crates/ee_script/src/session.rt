@@ -63,6 +63,18 @@ impl From<ScriptFault> for StreamFault {
     }
 }
 
+impl From<AllocError> for StreamFault {
+    ghost use Rattle.std.specs.Prelude.{◌≡◌};
+    ghost use Rattle.ee_script.specs.declared.session.ScriptFault.TheVariants.{Memory};
+    ghost use Rattle.ee_script.specs.declared.session.StreamFault.TheVariants.{Script};
+
+    ghost from_gives = { λ _ fault. fault ≡ Script Memory };
+
+    fn from(_error: AllocError) -> StreamFault {
+        StreamFault::Script(ScriptFault::Memory)
+    }
+}
+
 /// What answers the commands of a script.
 pub trait Serve {
     ghost use Rattle.ee_script.specs.declared.command.Command.{Command};

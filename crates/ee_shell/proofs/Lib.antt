@@ -12,3 +12,4 @@ pub mod Late
 pub mod Traces
 pub mod OneTask
 pub mod Planned
+pub mod Given

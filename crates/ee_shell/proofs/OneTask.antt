@@ -121,6 +121,7 @@ memory_or (replay.Image fault) = inr (λ e. cc e)
 memory_or (replay.Open fault) = inr (λ e. cc e)
 memory_or (replay.Script n) = inr (λ e. cc e)
 memory_or replay.Memory = inl refl
+memory_or replay.Read = inr (λ e. cc e)
 
 one_script_fault : (text : List ℕ) (cause fault : ScriptFault) → cause ≢ script.Memory → IsScriptFault text cause → IsScriptFault text fault → (fault ≡ cause) ⊎ (fault ≡ script.Memory)
 one_script_fault text (script.BadLine m) (script.BadLine n) some h i = inl (ap script.BadLine (one_first_bad_line_lem text n m i h))
