@@ -33,7 +33,7 @@ pub fn format_image<A: Allocator + Copy>(alloc: A, shape: Shape) -> Result<Vec<u
 
 /// Erases each page that waits for it in the image that a text spells, and gives the text of the image
 /// that this leaves, and what there is to print: `cleaned N`, N the number of pages erased. The wear
-/// of each page rises by as often as it was erased, up to `u64::MAX`.
+/// of each of them is one more, up to `u64::MAX`, and no other page wears.
 ///
 /// Source: ours.
 ///
