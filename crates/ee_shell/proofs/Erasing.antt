@@ -1,16 +1,17 @@
 -- What each call adds to the pages that were erased or wait to be.
-use Rattle.std.proofs.Common.{◌≡◌, ◌∙◌, ◌+◌, ◌-◌, ◌<◌, ℕ, List, [], ◌∷◌, Result, Ok, length, ap, refl, subst, arith}
+use Rattle.std.proofs.Common.{◌≡◌, ◌∙◌, ◌+◌, ◌-◌, ◌<◌, ℕ, ◌++◌, sym, List, [], ◌∷◌, Result, Ok, length, ap, refl, subst, arith}
 use Rattle.std.specs.List.{All}
+use Rattle.std.proofs.lemmas.List.{append-nil, append_assoc}
 use Rattle.ee_flash.specs.Device.{Device}
 use Rattle.ee_pages.specs.Meaning.{Change, Put}
-use Rattle.ee_store.specs.Calls.{ErasesOne, Writes}
+use Rattle.ee_store.specs.Calls.{ErasesLowest, ErasesOne, Writes}
 use Rattle.ee_store.specs.Changes.{Appends, Moves}
-use Rattle.ee_store.specs.State.{State, WearRises, pending_pages, state_of, worn_by}
+use Rattle.ee_store.specs.State.{State, WearRises, Wears, pending_pages, state_of, worn_by}
 use Rattle.ee_store.specs.declared.variables.WriteFault.{WriteFault}
 use Rattle.ee_store.specs.declared.variables.Written.{Written}
 use Rattle.ee_store.specs.declared.variables.Written.TheVariants.{Appended, Moved}
 use Rattle.ee_store.proofs.PendingPages.{length-pending_pages}
-use Rattle.ee_store.proofs.Wears.{no_wear, wear_adds, wears_rise}
+use Rattle.ee_store.proofs.Wears.{no_wear, wear_adds, wears_both, wears_none, wears_rise}
 use Rattle.ee_shell.specs.Erases.{ErasesRise}
 
 pub by_wear : (old new : Device) → state_of new ≡ state_of old → WearRises 0 old new → ErasesRise 0 old new
@@ -75,3 +76,38 @@ wear_since old other new erases same rises = record {
     wear_is = rises.wears.wear_is ∙ ap (worn_by rises.pages) same;
   };
 }
+
+-- the same of the pages by name
+pub pages_since : (old other new : Device) (pages : List ℕ) → other.wear ≡ old.wear → Wears pages other new → Wears pages old new
+pages_since old other new pages same wears = record {
+  there = subst (λ (wear : List ℕ). All (λ page. page < length wear) pages) same wears.there;
+  wear_is = wears.wear_is ∙ ap (worn_by pages) same;
+}
+
+-- ---- one clean step after another
+
+-- a front of the pages that waited was erased, and the others wait
+pub record ErasesFront (old new : Device) : Type 0 where
+  pub front : List ℕ
+  pub waited : pending_pages old ≡ front ++ pending_pages new
+  pub wears : Wears front old new
+
+pub front_none : (device : Device) → ErasesFront device device
+front_none device = record { front = []; waited = refl; wears = wears_none device device refl }
+
+pub front_more : (old mid new : Device) → ErasesFront old mid → ErasesLowest mid new → ErasesFront old new
+front_more old mid new some one = record {
+  front = some.front ++ one.page ∷ [];
+  waited = some.waited ∙ ap (λ list. some.front ++ list) one.waited ∙ sym (append_assoc some.front (one.page ∷ []) (pending_pages new));
+  wears = wears_both some.front (one.page ∷ []) old mid new some.wears one.wear;
+}
+
+empty_of : (pages : List ℕ) → length pages ≡ 0 → pages ≡ []
+empty_of [] e = refl
+empty_of (page ∷ pages) e = absurd (omega (arith, e))
+
+pub front_all : (old new : Device) → ErasesFront old new → (state_of new).pending ≡ 0 → Wears (pending_pages old) old new
+front_all old new some none =
+    let rest : pending_pages new ≡ [] = empty_of (pending_pages new) (length-pending_pages new ∙ none) in
+    let all : pending_pages old ≡ some.front = some.waited ∙ ap (λ list. some.front ++ list) rest ∙ append-nil some.front in
+    subst (λ (pages : List ℕ). Wears pages old new) (sym all) some.wears

@@ -17,7 +17,7 @@ use Rattle.ee_pages.specs.declared.side.Side.TheVariants.{First, Second}
 use Rattle.ee_pages.specs.Sets.{live_of}
 use Rattle.ee_store.specs.Changes.{IsAccepted}
 use Rattle.ee_store.specs.Finished.{IsStore}
-use Rattle.ee_store.specs.State.{State, state_in, state_of, state_with}
+use Rattle.ee_store.specs.State.{State, Wears, pending_pages, state_in, state_of, state_with}
 use Rattle.ee_store.specs.declared.variables.Written.{Written}
 use Rattle.ee_store.specs.declared.variables.Written.TheVariants as written
 use Rattle.ee_image.specs.Text.{at_rest}
@@ -41,7 +41,7 @@ use Rattle.ee_words.specs.declared.fault.Fault.{Fault}
 use Rattle.ee_words.specs.declared.fault.Fault.TheVariants.{UnknownName, Memory}
 use Rattle.ee_words.specs.declared.replay_fault.ReplayFault.{ReplayFault}
 use Rattle.ee_words.specs.declared.replay_fault.ReplayFault.TheVariants as replay
-use Rattle.ee_shell.proofs.Erasing.{both, by_append, by_move}
+use Rattle.ee_shell.proofs.Erasing.{both, by_append, by_move, pages_since}
 use Rattle.ee_shell.proofs.OneCause.{one_open_fault, store_is_good}
 use Rattle.ee_shell.specs.Erases.{ErasesRise, erases_of}
 use Rattle.ee_shell.specs.Images.{IsOpeningFault}
@@ -49,7 +49,7 @@ use Rattle.ee_shell.specs.Machine.{Step}
 use Rattle.ee_shell.specs.Opening.{IsOpened}
 use Rattle.ee_shell.specs.Replaying.{IsOpenFault, IsStoreText, Spells}
 use Rattle.ee_shell.specs.Serving.{Serves, StaysOn}
-use Rattle.ee_shell.specs.Settings.{HasStore, HasTree, IsGetFault, IsRead, IsRefused, IsRefusedIn, IsSet, IsSetFault, IsSettingsFault, IsValueRefusal, IsWriteRefusal, IsWritten, SpellsSettings}
+use Rattle.ee_shell.specs.Settings.{HasStore, HasTree, IsGetFault, IsRead, IsRefused, IsRefusedIn, IsSet, IsSetFault, IsSettingsFault, IsValueRefusal, IsWriteRefusal, IsWriteServed, IsWritten, SpellsSettings}
 
 -- ---- the text of the settings
 
@@ -181,20 +181,26 @@ is_written settings old new name value written.Appended on set = record {
   setting = set.0;
   named = set.1;
   in_range = set.2;
-  written = inl (record {
-    answers = record { step = (set.3.proceeds.accepted, set.3.free, set.3.state_is); same_size = set.3.goes_on.same_size };
-    erases = by_append old (Put set.0.numbers.address value) new set.3;
-  });
+  written = inl (
+    record {
+      answers = record { step = (set.3.proceeds.accepted, set.3.free, set.3.state_is); same_size = set.3.goes_on.same_size };
+      erases = by_append old (Put set.0.numbers.address value) new set.3;
+    },
+    set.3.no_wear,
+  );
   stays_on = record { on = set.3.goes_on.same_power ∙ on.on; never_cut = set.3.goes_on.same_cuts_left ∙ on.never_cut };
 }
 is_written settings old new name value written.Moved on set = record {
   setting = set.0;
   named = set.1;
   in_range = set.2;
-  written = inr (record {
-    answers = record { step = (set.3.proceeds.accepted, set.3.all_used, set.3.state_is); same_size = set.3.goes_on.same_size };
-    erases = by_move old (Put set.0.numbers.address value) new set.3;
-  });
+  written = inr (
+    record {
+      answers = record { step = (set.3.proceeds.accepted, set.3.all_used, set.3.state_is); same_size = set.3.goes_on.same_size };
+      erases = by_move old (Put set.0.numbers.address value) new set.3;
+    },
+    set.3.wear,
+  );
   stays_on = record { on = set.3.goes_on.same_power ∙ on.on; never_cut = set.3.goes_on.same_cuts_left ∙ on.never_cut };
 }
 
@@ -210,19 +216,22 @@ from_text image store new command answer opened serves = record {
       (subst (λ (size : Size). ErasesRise (erases_of size answer) store new) opened.same_size serves.erases) (omega arith);
 }
 
-either_from_text : (image : List ℕ) (store new : Device) (command : Command) (opened : IsOpened image store) → Serves store command Appended new ⊎ Serves store command Moved new
-    → Serves opened.device command Appended new ⊎ Serves opened.device command Moved new
-either_from_text image store new command opened (inl h) = inl (from_text image store new command Appended opened h)
-either_from_text image store new command opened (inr h) = inr (from_text image store new command Moved opened h)
+served_from_text : (image : List ℕ) (store new : Device) (address value : ℕ) (opened : IsOpened image store) → IsWriteServed store address value new → IsWriteServed opened.device address value new
+served_from_text image store new address value opened (inl h) = inl (from_text image store new (Write address value) Appended opened h.0, h.1 ∙ opened.no_wear)
+served_from_text image store new address value opened (inr h) =
+    inr (
+      from_text image store new (Write address value) Moved opened h.0,
+      subst (λ (pages : List ℕ). Wears pages opened.device new) opened.same_pending (pages_since opened.device store new (pending_pages store) opened.no_wear h.1),
+    )
 
-size_kept : (old new : Device) (command : Command) → Serves old command Appended new ⊎ Serves old command Moved new → new.size ≡ old.size
-size_kept old new command (inl h) = h.answers.same_size
-size_kept old new command (inr h) = h.answers.same_size
+size_kept : (old new : Device) (address value : ℕ) → IsWriteServed old address value new → new.size ≡ old.size
+size_kept old new address value (inl h) = h.0.answers.same_size
+size_kept old new address value (inr h) = h.0.answers.same_size
 
 pub is_set : (image text name new_image line : List ℕ) (value : ℕ) (store new flash : Device) (settings : List Setting) → IsOpened image store → SpellsSettings text settings → IsWritten settings store name value new
     → IsStore new → flash ≡ new → Spells new_image flash → line ≡ line_of (codes "set") → IsSet image text name value new_image line
 is_set image text name new_image line value store new flash settings opened spelled done left same spells says =
-    let served = either_from_text image store new (Write done.setting.numbers.address value) opened done.written in
+    let served = served_from_text image store new done.setting.numbers.address value opened done.written in
     record {
       device = opened.device;
       old = opened.old;
@@ -234,7 +243,7 @@ is_set image text name new_image line value store new flash settings opened spel
         spelled = subst (Spells new_image) same spells;
         store = left;
         stays_on = done.stays_on;
-        same_size = size_kept opened.device new (Write done.setting.numbers.address value) served;
+        same_size = size_kept opened.device new done.setting.numbers.address value served;
       };
       line_is = says;
     }
@@ -301,9 +310,9 @@ accepted_value : (setting : Setting) (size : Size) (state : State) (value : ℕ)
 accepted_value setting size state value cause within accepted (inl h) = h.0 within
 accepted_value setting size state value cause within accepted (inr h) = accepted_write size state setting.numbers.address value cause accepted h.1
 
-accepted_by : (old new : Device) (address value : ℕ) → Serves old (Write address value) Appended new ⊎ Serves old (Write address value) Moved new → IsAccepted (slot_count old.size) (state_of old) (Put address value)
-accepted_by old new address value (inl h) = h.answers.step.0
-accepted_by old new address value (inr h) = h.answers.step.0
+accepted_by : (old new : Device) (address value : ℕ) → IsWriteServed old address value new → IsAccepted (slot_count old.size) (state_of old) (Put address value)
+accepted_by old new address value (inl h) = h.0.answers.step.0
+accepted_by old new address value (inr h) = h.0.answers.step.0
 
 written_good : (settings : List Setting) (old new : Device) (name : List ℕ) (value : ℕ) (cause : Fault) → HaveRisingNames settings → cause ≢ Memory → IsWritten settings old name value new
     → IsRefused settings old.size (state_of old) name value cause → ⊥

@@ -44,6 +44,8 @@ is_opened text old new rest spelled opens =
       stays_on = stays old new kept opens.goes_on.same_power opens.goes_on.same_cuts_left;
       same_size = opens.goes_on.same_size;
       state_is = opens.state_is;
+      same_pending = opens.same_pending;
+      no_wear = opens.no_wear;
       erases = by_wear old new opens.state_is (no_wear old new opens.no_wear);
     }
 

@@ -8,7 +8,7 @@ use Rattle.ee_flash.specs.declared.word.Word.{Word}
 use Rattle.ee_pages.specs.Page.{state_of_words}
 use Rattle.ee_pages.specs.declared.state.State as page
 use Rattle.ee_pages.specs.declared.state.State.TheVariants.{Erased, Receive, Active, Valid, Erasing}
-use Rattle.ee_store.specs.State.{WearRises, formatted, state_of, with_pending}
+use Rattle.ee_store.specs.State.{Wears, formatted, pending_pages, state_of, with_pending}
 use Rattle.ee_image.specs.Fault.{IsImageFault}
 use Rattle.ee_image.specs.declared.fault.ImageFault.{ImageFault}
 use Rattle.ee_words.specs.Fault.{fault_of_image, fault_of_replay}
@@ -28,15 +28,15 @@ pub record IsFormattedText (size : Size) (text : List ℕ) : Type 0 where
 abbrev pub cleaned_text : ℕ → List ℕ
 cleaned_text pages = line_of (joined (codes "cleaned" ∷ decimal pages ∷ []))
 
--- The image is left with each value, as much used and of the same generation, and no page waits to be erased any more; as
--- many were erased as waited, as the wear of each page tells.
+-- The image is left with each value, as much used and of the same generation, and no page waits to be erased any more;
+-- those that waited were erased, each once, and no other.
 pub record IsCleaned (old_image new_image text : List ℕ) : Type 0 where
   pub device : Device
   pub last : Device
   pub old : IsStoreText old_image device
   pub left : IsStoreLeft device.size new_image last
   pub state_is : state_of last ≡ with_pending 0 (state_of device)
-  pub wear : WearRises (state_of device).pending device last
+  pub wear : Wears (pending_pages device) device last
   pub text_is : text ≡ cleaned_text (state_of device).pending
 
 abbrev pub state_name : page.State → List ℕ

@@ -2,18 +2,20 @@
 use Rattle.std.specs.Prelude.{◌≡◌, List, ℕ, replicate}
 use Rattle.ee_flash.specs.Device.{Device}
 use Rattle.ee_flash.specs.Size.{Size, page_count}
-use Rattle.ee_store.specs.State.{formatted, state_of}
+use Rattle.ee_store.specs.State.{formatted, pending_pages, state_of}
 use Rattle.ee_shell.specs.Erases.{ErasesRise, erases_of_all}
 use Rattle.ee_shell.specs.Replaying.{IsRun, IsStoreText}
 use Rattle.ee_shell.specs.Serving.{StaysOn}
 
--- the store of the image that the text spells, with its state
+-- the store of the image that the text spells, with its state; the same pages wait, and none was erased
 pub record IsOpened (text : List ℕ) (new : Device) : Type 0 where
   pub device : Device
   pub old : IsStoreText text device
   pub stays_on : StaysOn new
   pub same_size : new.size ≡ device.size
   pub state_is : state_of new ≡ state_of device
+  pub same_pending : pending_pages new ≡ pending_pages device
+  pub no_wear : new.wear ≡ device.wear
   pub erases : ErasesRise 0 device new
 
 -- a store with nothing in it, on a device of this size that no page of was erased

@@ -8,7 +8,7 @@ use Rattle.ee_text.specs.Line.{line_of}
 use Rattle.ee_flash.specs.Device.{Device}
 use Rattle.ee_flash.specs.Size.{Size, slot_count}
 use Rattle.ee_store.specs.Changes.{IsFull, IsSpent}
-use Rattle.ee_store.specs.State.{State, state_of}
+use Rattle.ee_store.specs.State.{State, Wears, pending_pages, state_of}
 use Rattle.ee_settings.specs.Calls.{IsNamed, IsUnknown}
 use Rattle.ee_settings.specs.File.{GivesSchema}
 use Rattle.ee_settings.specs.Setting.{IsInRange, Setting, reading_in}
@@ -76,9 +76,12 @@ pub record IsGot (image settings_text name line : List ℕ) : Type 0 where
 
 -- ---- what is set
 
--- the write was served: appended, or moved with the map to the other set
+-- the write was served: appended, and no page was erased; or moved with the map to the other set, and the pages that
+-- waited were erased, each once, and no other
 abbrev pub IsWriteServed : Device → ℕ → ℕ → Device → Type 0
-IsWriteServed old address value new = Serves old (Write address value) Appended new ⊎ Serves old (Write address value) Moved new
+IsWriteServed old address value new =
+    (Serves old (Write address value) Appended new × (new.wear ≡ old.wear))
+    ⊎ (Serves old (Write address value) Moved new × Wears (pending_pages old) old new)
 
 -- The value is in the range of the name's setting, and it was written at the setting's address, as the report machine
 -- answers a write.

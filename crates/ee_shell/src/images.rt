@@ -1,8 +1,8 @@
 //! The commands without a script.
 ghost use Rattle.std.specs.Prelude.{◌≡◌, ◌≢◌, ◌⊎◌, ◌<◌, ◌-◌, ◌++◌, IfOk, IfErr, MatchResult, OnOk};
 ghost use Rattle.ee_text.specs.Line.{line_of};
-ghost use Rattle.ee_store.specs.State.{state_of, with_pending};
-ghost use Rattle.ee_shell.specs.Erases.{ErasesRise};
+ghost use Rattle.ee_store.specs.Calls.{ErasesLowest};
+ghost use Rattle.ee_store.specs.State.{Wears, pending_pages, state_of, with_pending};
 ghost use Rattle.ee_shell.specs.Images.{AreStates, IsCleaned, IsFormattedText, IsOpeningFault, IsReadingFault, cleaned_text, state_lines, state_name, state_text};
 ghost use Rattle.ee_shell.specs.Serving.{StaysOn};
 
@@ -33,7 +33,7 @@ pub fn format_image<A: Allocator + Copy>(alloc: A, shape: Shape) -> Result<Vec<u
 
 /// Erases each page that waits for it in the image that a text spells, and gives the text of the image
 /// that this leaves, and what there is to print: `cleaned N`, N the number of pages erased. The wear
-/// of each page rises by as often as it was erased, up to `u64::MAX`.
+/// of each of them is one more, up to `u64::MAX`, and no other page wears.
 ///
 /// Source: ours.
 ///
@@ -87,7 +87,7 @@ pub fn states_text<A: Allocator + Copy>(alloc: A, image: &[u8]) -> Result<Vec<u8
 }
 
 /// Erases each page that waits for it, and gives their number.
-#[tactic(auto, using(crate::proofs::Erasing::both))]
+#[tactic(auto, using(crate::proofs::Erasing::front_none, crate::proofs::Erasing::front_more, crate::proofs::Erasing::front_all))]
 fn clean_all<V: Variables>(store: &mut V) -> usize
     requires { StaysOn (V.device store.old) }
     ensures count { result ≡ (state_of (V.device store.old)).pending }
@@ -95,7 +95,7 @@ fn clean_all<V: Variables>(store: &mut V) -> usize
     ensures same_size { (V.device store.new).size ≡ (V.device store.old).size }
     ensures state { state_of (V.device store.new)
         ≡ with_pending 0 (state_of (V.device store.old)) }
-    ensures erases { ErasesRise 0 (V.device store.old) (V.device store.new) }
+    ensures wear { let old = V.device store.old in Wears (pending_pages old) old (V.device store.new) }
 {
     let waiting = store.pending();
     let mut erased = 0;
@@ -114,7 +114,7 @@ fn clean_one<V: Variables>(store: &mut V)
     ensures same_size { (V.device store.new).size ≡ (V.device store.old).size }
     ensures state { let old = state_of (V.device store.old) in
         state_of (V.device store.new) ≡ with_pending (old.pending - 1) old }
-    ensures erases { ErasesRise 0 (V.device store.old) (V.device store.new) }
+    ensures lowest { ErasesLowest (V.device store.old) (V.device store.new) }
 {
     match store.clean_step() {
         Ok(true) => {}

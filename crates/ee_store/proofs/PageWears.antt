@@ -192,7 +192,7 @@ pub each_page_wears_every_second_transfer_lem : EachPageWearsEverySecondTransfer
 each_page_wears_every_second_transfer_lem calls old new page whole =
     let all = aged calls old new whole.run whole.without_cuts in
     record {
-      live = λ stands. all.live_page stands.side stands.generation page stands.live stands.in_live;
+      live = λ stands. omega (arith, all.live_page stands.side stands.generation page stands.live stands.in_live);
       spare = λ stands.
           let none : waits old page ≡ 0 = ap (λ b. cond b 0 1) stands.blank in
           omega (arith, all.other_page stands.side stands.generation page stands.live stands.in_other, none);
@@ -203,7 +203,7 @@ pub no_page_wears_more_lem : NoPageWearsMore
 no_page_wears_more_lem calls old new page whole legal none h =
     let all = aged calls old new whole.run whole.without_cuts in
     elim (in_either old.size legal.0 page h) [
-      | inl here ↦ all.live_page legal.0 legal.1 page legal.2.live here
+      | inl here ↦ omega (arith, all.live_page legal.0 legal.1 page legal.2.live here)
       | inr there ↦
           let named = named_in old legal.0 legal.1 page legal.2.live there in
           let few = times_few (pending_pages old) page in

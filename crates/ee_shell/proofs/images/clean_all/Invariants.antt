@@ -1,6 +1,6 @@
 use Rattle.std.proofs.Common.{◌≡◌, ◌+◌, ◌-◌, ◌≤◌}
 use Rattle.ee_store.specs.State.{state_of, with_pending}
-use Rattle.ee_shell.specs.Erases.{ErasesRise}
+use Rattle.ee_shell.proofs.Erasing.{ErasesFront}
 use Rattle.ee_shell.specs.Serving.{StaysOn}
 use Rattle.ee_shell.proofs.images.clean_all.Given as goal
 
@@ -16,7 +16,7 @@ invariant-cleaning g l =
       waited : l.waiting ≡ (state_of first).pending;
       count : (state_of now).pending + l.erased ≡ l.waiting;
       kept : state_of now ≡ with_pending (state_of now).pending (state_of first);
-      rise : ErasesRise 0 first now;
+      erased : ErasesFront first now;
     }
 
 abbrev pub decreases-cleaning : goal.decreases-cleaning

@@ -1,4 +1,5 @@
-use Rattle.std.proofs.Common.{rules}
+use Rattle.std.proofs.Common.{refl, rules}
+use Rattle.ee_pages.specs.Sets.{other as other_of}
 use Rattle.ee_store.proofs.LowestPending.{erases_lowest}
 use Rattle.ee_store.proofs.KeptMarks.{cleaned_marked}
 use Rattle.ee_store.proofs.cleaning.clean.Goals as goal
@@ -11,5 +12,5 @@ returns-clause-marked g c =
 pub returns-clause-lowest : goal.returns-clause-lowest
 returns-clause-lowest g c = λ ok.
     let layout = c.args.layout.now in
-    erases_lowest _ _ layout.side c.other.result layout.generation c.in-Some.page c.requires.layout.live.live (search rules) (search rules) (search rules) (search rules)
+    erases_lowest _ _ layout.side (other_of layout.side) layout.generation c.in-Some.page c.requires.layout.live.live refl (search rules) (search rules) (search rules)
     (search rules) (search rules) (search rules) c.requires.layout.live (search rules)
