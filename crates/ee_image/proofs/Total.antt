@@ -278,8 +278,8 @@ behind_size text size rest short begins limits =
       | inr bad ↦ inr (BadLine bad.0, (short, inr record { size = size; rest = rest; begins = begins; within_limits = limits; bad = bad.1 }))
     ]
 
-pub every_text_lem : (text : List ℕ) → ((device : Device) × IsFormed device × (text ≡ image_text device)) ⊎ ((fault : ImageFault) × IsTextFault text fault)
-every_text_lem text =
+pub each_text_is_judged_lem : (text : List ℕ) → ((device : Device) × IsFormed device × (text ≡ image_text device)) ⊎ ((fault : ImageFault) × IsTextFault text fault)
+each_text_is_judged_lem text =
     elim (cases_lt longest (length text)) [
       | inl long ↦ inr (TooLong, long)
       | inr short ↦ elim (told_size text) [

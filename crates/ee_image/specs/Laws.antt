@@ -18,5 +18,5 @@ abbrev pub OneFault : Type 0
 OneFault = (text : List ℕ) (fault other : ImageFault) → IsTextFault text fault → IsTextFault text other → fault ≡ other
 
 -- every text is a device's or has a fault
-abbrev pub EveryText : Type 0
-EveryText = (text : List ℕ) → ((device : Device) × IsFormed device × (text ≡ image_text device)) ⊎ ((fault : ImageFault) × IsTextFault text fault)
+abbrev pub EachTextIsJudged : Type 0
+EachTextIsJudged = (text : List ℕ) → ((device : Device) × IsFormed device × (text ≡ image_text device)) ⊎ ((fault : ImageFault) × IsTextFault text fault)

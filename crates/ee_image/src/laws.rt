@@ -1,5 +1,5 @@
 //! What holds of every device and every text. Each function does nothing: its contract is the law.
-ghost use Rattle.ee_image.specs.Laws.{EveryText, OneDevice, OneFault, TextsAreGood};
+ghost use Rattle.ee_image.specs.Laws.{EachTextIsJudged, OneDevice, OneFault, TextsAreGood};
 
 /// Two devices with one text are the same, but for power and cuts.
 pub fn one_device()
@@ -17,6 +17,6 @@ pub fn one_fault()
 {}
 
 /// Every text is a device's or has a fault.
-pub fn every_text()
-    ensures { EveryText }
+pub fn each_text_is_judged()
+    ensures { EachTextIsJudged }
 {}

@@ -7,7 +7,7 @@ use Rattle.ee_script.specs.declared.session.ScriptFault.{ScriptFault}
 use Rattle.ee_script.specs.declared.session.ScriptFault.TheVariants.{BadLine, Memory}
 use Rattle.ee_script.specs.Command.{IsCommand, spelling}
 use Rattle.ee_script.specs.Script.{NoLine}
-use Rattle.ee_script.specs.Session.{Progress, Goes, IsUnfinished, counted}
+use Rattle.ee_script.specs.Session.{Progress, Goes, counted}
 use Rattle.ee_script.specs.Fault.{IsFault}
 use Rattle.ee_script.proofs.Steps.{goes_nowhere, goes_on, meets_at_feed, meets_when_long, meets_later, meets_before, meets_within}
 

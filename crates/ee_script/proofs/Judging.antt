@@ -3,11 +3,10 @@
 use Rattle.std.proofs.Common.{◌≡◌, ◌≢◌, ◌⊎◌, ◌∙◌, ◌+◌, ◌<◌, ◌≤◌, ◌^◌, ◌++◌, ℕ, zero, suc, List, [], ◌∷◌, length, inl, inr, refl, sym, ap, subst, arith, append_assoc, length-append}
 use Rattle.std.proofs.lemmas.Bool.{cases_eq, cases_lt}
 use Rattle.ee_text.specs.Line.{line_of}
-use Rattle.ee_codec.specs.Words.{IsAddress, IsValue}
 use Rattle.ee_script.specs.declared.command.Command.{Command}
 use Rattle.ee_script.specs.declared.command.Command.TheVariants.{Write, Read, Clean}
 use Rattle.ee_script.specs.Command.{IsCommand, spelling}
-use Rattle.ee_script.specs.Script.{script, AreCommands, NoLine, IsScript, IsFirstBadLine}
+use Rattle.ee_script.specs.Script.{script, NoLine, IsScript, IsFirstBadLine}
 
 -- ---- what can be found out
 
@@ -17,12 +16,12 @@ one_below P found zero = inr (λ k below holds. omega arith)
 one_below P found (suc n) = elim (one_below P found n) [
   | inl one ↦ inl one
   | inr none ↦ elim (found n) [
-      | inl holds ↦ inl (n, holds)
-      | inr fails ↦ inr (λ k below holds. elim (cases_eq k n) [
-          | inl same ↦ fails (subst P same holds)
-          | inr other ↦ none k (omega arith) holds
-        ])
-    ]
+    | inl holds ↦ inl (n, holds)
+    | inr fails ↦ inr (λ k below holds. elim (cases_eq k n) [
+      | inl same ↦ fails (subst P same holds)
+      | inr other ↦ none k (omega arith) holds
+    ])
+  ]
 ]
 
 -- whether a text begins with another one
@@ -32,9 +31,9 @@ begins_with (x ∷ front) [] = inr (λ more e. omega (arith, ap length e))
 begins_with (x ∷ front) (y ∷ text) = elim (cases_eq y x) [
   | inr other ↦ inr (λ more e. other (cc))
   | inl same ↦ elim (begins_with front text) [
-      | inl more ↦ inl (more.0, (let rest : text ≡ front ++ more.0 = more.1 in cc))
-      | inr none ↦ inr (λ more e. none more (cc))
-    ]
+    | inl more ↦ inl (more.0, (let rest : text ≡ front ++ more.0 = more.1 in cc))
+    | inr none ↦ inr (λ more e. none more (cc))
+  ]
 ]
 
 -- ---- the line at the front
@@ -55,21 +54,21 @@ stands_read : (text : List ℕ) (address : ℕ) → BeginsWith text (Read addres
 stands_read text address = elim (cases_lt 0 address) [
   | inr low ↦ inr (λ begins. omega (arith, begins.proper))
   | inl above ↦ elim (cases_lt address 65535) [
-      | inr high ↦ inr (λ begins. omega (arith, begins.proper))
-      | inl below ↦ stands text (Read address) (above, below)
-    ]
+    | inr high ↦ inr (λ begins. omega (arith, begins.proper))
+    | inl below ↦ stands text (Read address) (above, below)
+  ]
 ]
 
 stands_write : (text : List ℕ) (address value : ℕ) → BeginsWith text (Write address value) ⊎ (BeginsWith text (Write address value) → ⊥)
 stands_write text address value = elim (cases_lt 0 address) [
   | inr low ↦ inr (λ begins. omega (arith, begins.proper))
   | inl above ↦ elim (cases_lt address 65535) [
-      | inr high ↦ inr (λ begins. omega (arith, begins.proper))
-      | inl below ↦ elim (cases_lt value (2 ^ 32)) [
-          | inr large ↦ inr (λ begins. omega (arith, begins.proper))
-          | inl fits ↦ stands text (Write address value) ((above, below), fits)
-        ]
+    | inr high ↦ inr (λ begins. omega (arith, begins.proper))
+    | inl below ↦ elim (cases_lt value (2 ^ 32)) [
+      | inr large ↦ inr (λ begins. omega (arith, begins.proper))
+      | inl fits ↦ stands text (Write address value) ((above, below), fits)
     ]
+  ]
 ]
 
 some_value : (text : List ℕ) (address : ℕ) → ((value : ℕ) × BeginsWith text (Write address value)) ⊎ (((value : ℕ) × BeginsWith text (Write address value)) → ⊥)
@@ -90,12 +89,12 @@ at_front : (text : List ℕ) → ((command : Command) × BeginsWith text command
 at_front text = elim (one_below (λ address. (value : ℕ) × BeginsWith text (Write address value)) (some_value text) 65535) [
   | inl write ↦ inl (Write write.0 write.1.0, write.1.1)
   | inr writes ↦ elim (one_below (λ address. BeginsWith text (Read address)) (stands_read text) 65535) [
-      | inl read ↦ inl (Read read.0, read.1)
-      | inr reads ↦ elim (stands text Clean tt) [
-          | inl clean ↦ inl (Clean, clean)
-          | inr none ↦ inr (no_line text writes reads none)
-        ]
+    | inl read ↦ inl (Read read.0, read.1)
+    | inr reads ↦ elim (stands text Clean tt) [
+      | inl clean ↦ inl (Clean, clean)
+      | inr none ↦ inr (no_line text writes reads none)
     ]
+  ]
 ]
 
 -- ---- the whole text
@@ -106,19 +105,25 @@ IsJudged text = ((commands : List Command) × IsScript text commands) ⊎ ((n : 
 
 behind_line : (text : List ℕ) (command : Command) (begins : BeginsWith text command) → IsJudged begins.more → IsJudged text
 unfolding IsJudged
-behind_line text command begins (inl good) = inl (command ∷ good.0, record {
-  proper = (begins.proper, good.1.proper);
-  text_is = begins.text_is ∙ ap (λ more. line_of (spelling command) ++ more) good.1.text_is;
-})
-behind_line text command begins (inr bad) = inr (bad.0 + 1, record {
-  good = command ∷ bad.1.good;
-  rest = bad.1.rest;
-  proper = (begins.proper, bad.1.proper);
-  text_is = begins.text_is ∙ ap (λ more. line_of (spelling command) ++ more) bad.1.text_is ∙ sym (append_assoc (line_of (spelling command)) (script bad.1.good) bad.1.rest);
-  goes_on = bad.1.goes_on;
-  bad = bad.1.bad;
-  number = omega (arith, bad.1.number);
-})
+behind_line text command begins (inl good) = inl (
+  command ∷ good.0,
+  record {
+    proper = (begins.proper, good.1.proper);
+    text_is = begins.text_is ∙ ap (λ more. line_of (spelling command) ++ more) good.1.text_is;
+  },
+)
+behind_line text command begins (inr bad) = inr (
+  bad.0 + 1,
+  record {
+    good = command ∷ bad.1.good;
+    rest = bad.1.rest;
+    proper = (begins.proper, bad.1.proper);
+    text_is = begins.text_is ∙ ap (λ more. line_of (spelling command) ++ more) bad.1.text_is ∙ sym (append_assoc (line_of (spelling command)) (script bad.1.good) bad.1.rest);
+    goes_on = bad.1.goes_on;
+    bad = bad.1.bad;
+    number = omega (arith, bad.1.number);
+  },
+)
 
 shorter : (text : List ℕ) (command : Command) (begins : BeginsWith text command) → length begins.more < length text
 shorter text command begins =

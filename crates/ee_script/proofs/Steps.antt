@@ -1,9 +1,9 @@
 -- How a session goes on: a byte at a time, a line at a time.
-use Rattle.std.proofs.Common.{◌≡◌, ◌≢◌, ℕ, ◌+◌, ◌≤◌, ◌<◌, ◌++◌, List, [], ◌∷◌, length, refl, sym, ◌∙◌, ap, subst, arith, append_assoc, length-append}
+use Rattle.std.proofs.Common.{◌≡◌, ◌≢◌, ℕ, ◌+◌, ◌<◌, ◌++◌, List, [], ◌∷◌, length, refl, sym, ◌∙◌, ap, subst, arith, append_assoc, length-append}
 use Rattle.std.proofs.lemmas.List.{append-nil}
 use Rattle.std.proofs.lemmas.List.Concat.{flat_map-append}
 use Rattle.ee_text.specs.Field.{Lacks}
-use Rattle.ee_text.proofs.Lacking.{first_place, front_ends, no_place, Lacks-append, Lacks-cons}
+use Rattle.ee_text.proofs.Lacking.{first_place, front_ends, no_place, Lacks-append}
 use Rattle.ee_script.specs.declared.command.Command.{Command}
 use Rattle.ee_script.specs.declared.answer.Answer.{Answer}
 use Rattle.ee_text.specs.Line.{IsLine, line_of}
@@ -11,7 +11,7 @@ use Rattle.ee_script.specs.Command.{IsCommand, spelling}
 use Rattle.ee_script.specs.Script.{script, AreCommands, NoLine}
 use Rattle.ee_script.specs.Answer.{report, wording}
 use Rattle.ee_script.specs.Run.{Run}
-use Rattle.ee_script.specs.Session.{Answered, Progress, Goes, MeetsBadLine, IsUnfinished, counted}
+use Rattle.ee_script.specs.Session.{Answered, Progress, Goes, MeetsBadLine, counted}
 use Rattle.ee_script.proofs.Spelling.{Lacks-spelling, length-spelling}
 
 -- a line that a line feed ends, and that spells no command, is no good line, whatever follows

@@ -7,7 +7,7 @@ use Rattle.ee_script.specs.declared.answer.Answer.{Answer}
 use Rattle.ee_script.specs.declared.session.ScriptFault.{ScriptFault}
 use Rattle.ee_script.specs.declared.session.ScriptFault.TheVariants.{BadLine, Memory}
 use Rattle.ee_script.specs.Command.{spelling}
-use Rattle.ee_script.specs.Script.{script, IsFirstBadLine, NoLine}
+use Rattle.ee_script.specs.Script.{script, IsFirstBadLine}
 use Rattle.ee_script.specs.Run.{Run}
 use Rattle.ee_script.specs.Session.{Progress, Goes, Ends, MeetsBadLine, counted}
 use Rattle.ee_script.specs.Fault.{IsFault, EndsBadly}

@@ -149,11 +149,7 @@ impl<S: Serve + Drop, A: Allocator> Session<S, A> {
 
     /// Takes what a reader gives, to its end. What one read call gives is judged before the next, and
     /// a read that was interrupted is tried again. No more than `most` read calls are made.
-    pub fn feed_all<R: Read>(
-        self,
-        reader: &mut R,
-        most: u32,
-    ) -> Result<Session<S, A>, StreamFault>
+    pub fn feed_all<R: Read>(self, reader: &mut R, most: u32) -> Result<Session<S, A>, StreamFault>
         ensures fed { IfOk result (Takes S.serves self (R.remaining reader.old)
             (R.remaining reader.new)) }
         ensures end { OnOk result (IsAtEnd (R.remaining reader.new)) }

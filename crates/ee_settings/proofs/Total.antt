@@ -191,9 +191,9 @@ why_not ms number Address first = (fault.SameAddress number, (λ e. cc), first)
 rising : (entries : List Entry) (settings : List Setting) → HaveRisingKeys entries → IsSchemaOf entries settings → HaveRisingNames settings
 rising entries settings keys schema = subst (IsStrictlySortedBy (slice_cmp nat_cmp)) (sym (names_as_entries entries settings schema.each)) keys
 
-pub every_table_lem : (members : Members) → HaveRisingKeys (entries_of members)
+pub each_table_is_judged_lem : (members : Members) → HaveRisingKeys (entries_of members)
     → ((settings : List Setting) × GivesSchema members (Ok settings)) ⊎ ((why : SchemaFault) × (why ≢ fault.Memory) × GivesSchema members (Err why))
-every_table_lem members keys =
+each_table_is_judged_lem members keys =
     elim (told_entries (entries_of members) [] (entries_of members) [] refl no_entries) [
       | inl found ↦ inl (found.0, (found.1, rising (entries_of members) found.0 keys found.1))
       | inr first ↦ inr (why_not members first.0 first.1 first.2)

@@ -68,7 +68,7 @@ TablesHaveOneFault = (members : Members) → HaveRisingKeys (entries_of members)
     → GivesSchema members (Err one) → GivesSchema members (Err other) → one ≡ other
 
 -- Every table is a schema or has a first fault; the names of a table rise.
-abbrev pub EveryTable : Type 0
-EveryTable = (members : Members) → HaveRisingKeys (entries_of members)
+abbrev pub EachTableIsJudged : Type 0
+EachTableIsJudged = (members : Members) → HaveRisingKeys (entries_of members)
     → ((settings : List Setting) × GivesSchema members (Ok settings))
     ⊎ ((why : SchemaFault) × (why ≢ schema.Memory) × GivesSchema members (Err why))

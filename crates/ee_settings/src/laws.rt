@@ -1,6 +1,6 @@
 //! What holds of every schema and every store. Each function does nothing: its contract is the law.
 ghost use Rattle.ee_settings.specs.Laws.{SetIsRead, CutKeepsOthers, RefusalsChangeNothing};
-ghost use Rattle.ee_settings.specs.Laws.{EveryTable, NamesAreApart, TablesHaveOneFault, TablesSpellOnce};
+ghost use Rattle.ee_settings.specs.Laws.{EachTableIsJudged, NamesAreApart, TablesHaveOneFault, TablesSpellOnce};
 ghost use Rattle.ee_settings.specs.Laws.{SchemasAreAccepted};
 
 /// A setting that was set reads as the value that was set, and each setting of another name reads
@@ -40,7 +40,7 @@ pub fn tables_have_one_fault()
 {}
 
 /// Every table is a schema or has a first fault.
-#[tactic(auto, using(crate::proofs::Total::every_table_lem))]
-pub fn every_table()
-    ensures { EveryTable }
+#[tactic(auto, using(crate::proofs::Total::each_table_is_judged_lem))]
+pub fn each_table_is_judged()
+    ensures { EachTableIsJudged }
 {}

@@ -1,6 +1,5 @@
-use Rattle.std.proofs.Common.{◌≡◌, ◌++◌, ap, subst, sym}
+use Rattle.std.proofs.Common.{◌++◌, ap, subst, sym}
 use Rattle.std.proofs.lemmas.Result.{err_from_is_err_and}
-use Rattle.ee_text.specs.Line.{IsLine}
 use Rattle.ee_text.proofs.Lacking.{Lacks-append}
 use Rattle.ee_script.specs.Session.{Goes, IsUnfinished}
 use Rattle.ee_script.specs.Fault.{IsFault}

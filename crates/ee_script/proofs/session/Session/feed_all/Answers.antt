@@ -1,4 +1,4 @@
-use Rattle.std.proofs.Common.{◌*◌, ◌+◌, ◌≤◌, arith, length, take}
+use Rattle.std.proofs.Common.{◌*◌, ◌+◌, arith, take}
 use Rattle.std.proofs.lemmas.List.{length-take}
 use Rattle.std.proofs.lemmas.Result.{err_from_is_err_and}
 use Rattle.ee_script.proofs.Streams.{stops_at_fault, taken_kept, taken_more, taken_none, takes}
@@ -26,9 +26,12 @@ reading-preserved g c = elim c.match-read.branch [
 
 pub returns-then-ne-clause-fault : goal.returns-then-ne-clause-fault
 returns-then-ne-clause-fault g c =
-    rw c.break_off.ensures.read
-    (_, takes g.S.Serve.serves c.args.self c.reading.session _ _ (c.reading.counter * 4096) (omega arith)
-    (taken_kept g.S.Serve.serves c.args.self c.reading.session _ _ _ (c.reading.counter * 4096) (c.reading.counter * 4096) c.reading.invariant c.in-Err.ensures.bytes (omega arith)), c.break_off.ensures.short)
+    rw c.break_off.ensures.read (
+      _,
+      takes g.S.Serve.serves c.args.self c.reading.session _ _ (c.reading.counter * 4096) (omega arith)
+          (taken_kept g.S.Serve.serves c.args.self c.reading.session _ _ _ (c.reading.counter * 4096) (c.reading.counter * 4096) c.reading.invariant c.in-Err.ensures.bytes (omega arith)),
+      c.break_off.ensures.short,
+    )
 
 pub returns-clause-fault : goal.returns-clause-fault
 returns-clause-fault g c =
