@@ -1,8 +1,8 @@
 -- What a spelled line looks like: one line, and short.
-use Rattle.std.proofs.Common.{◌≡◌, ℕ, ◌≤◌, ◌<◌, ◌++◌, List, [], ◌∷◌, length, refl, arith, inl, length-append, codes, sym, ◌∙◌}
+use Rattle.std.proofs.Common.{◌≡◌, ℕ, ◌≤◌, ◌++◌, List, ◌∷◌, length, refl, arith, inl, length-append, codes, sym, ◌∙◌}
 use Rattle.std.specs.Fmt.{decimal}
 use Rattle.std.proofs.lemmas.Fmt.{length-decimal-le}
-use Rattle.ee_codec.specs.Words.{IsAddress, IsValue}
+use Rattle.ee_codec.specs.Words.{IsAddress}
 use Rattle.ee_text.specs.Field.{IsField, Lacks}
 use Rattle.ee_text.proofs.Lacking.{Lacks-append, Lacks-decimal, first_place}
 use Rattle.ee_script.specs.declared.command.Command.{Command}

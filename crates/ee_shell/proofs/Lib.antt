@@ -11,3 +11,5 @@ pub mod Reported
 pub mod Late
 pub mod Traces
 pub mod OneTask
+pub mod Planned
+pub mod Given

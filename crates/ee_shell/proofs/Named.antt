@@ -127,6 +127,7 @@ memory_or_not (replay.Image fault) = inr (λ e. cc e)
 memory_or_not (replay.Open fault) = inr (λ e. cc e)
 memory_or_not (replay.Script n) = inr (λ e. cc e)
 memory_or_not replay.Memory = inl refl
+memory_or_not replay.Read = inr (λ e. cc e)
 
 pub opening_named : (image : List ℕ) (why : ReplayFault) (fault cause : Fault) → IsOpenFault image why
     → fault ≡ fault_of_replay why → cause ≢ Memory → IsOpeningFault image cause → (fault ≡ cause) ⊎ (fault ≡ Memory)

@@ -25,7 +25,7 @@ use Rattle.ee_image.specs.declared.fault.ImageFault.{ImageFault}
 use Rattle.ee_image.proofs.Texts.{one_device_lem, one_fault_lem, texts_are_good_lem}
 use Rattle.ee_script.proofs.Reading.{one_first_bad_line_lem, scripts_are_good_lem}
 use Rattle.ee_words.specs.declared.replay_fault.ReplayFault.{ReplayFault}
-use Rattle.ee_words.specs.declared.replay_fault.ReplayFault.TheVariants.{Image, Open, Script, Memory}
+use Rattle.ee_words.specs.declared.replay_fault.ReplayFault.TheVariants.{Image, Open, Script, Memory, Read}
 use Rattle.ee_shell.specs.Replaying.{IsOpenFault, IsReplayFault, IsReplayed, IsRun, IsRunFault, IsStoreText, Spells}
 
 -- ---- a device with no live set
@@ -210,12 +210,15 @@ store_is_good text device (Image fault) store some bad = is_no_text text device 
 store_is_good text device (Open fault) store some bad = legal_is_good device fault store.legal (moved_fault text bad.0 device fault bad.1 store.spelled bad.2)
 store_is_good text device (Script n) store some bad = bad
 store_is_good text device Memory store some bad = some refl
+store_is_good text device Read store some bad = bad
 
 pub one_open_fault : (text : List ℕ) (cause fault : ReplayFault) → cause ≢ Memory → IsOpenFault text cause → IsOpenFault text fault → (fault ≡ cause) ⊎ (fault ≡ Memory)
 one_open_fault text cause Memory some h i = inr refl
 one_open_fault text Memory fault some h i = absurd (some refl)
 one_open_fault text cause (Script n) some h i = absurd i
+one_open_fault text cause Read some h i = absurd i
 one_open_fault text (Script n) fault some h i = absurd h
+one_open_fault text Read fault some h i = absurd h
 one_open_fault text (Image cause) (Image fault) some h i = inl (ap Image (one_fault_lem text fault cause i h))
 one_open_fault text (Image cause) (Open fault) some h i = absurd (is_no_text text i.0 cause i.1 h)
 one_open_fault text (Open cause) (Image fault) some h i = absurd (is_no_text text h.0 fault h.1 i)
@@ -231,24 +234,28 @@ pub one_run_fault : (text : List ℕ) (cause fault : ReplayFault) → cause ≢ 
 one_run_fault text (Image cause) fault some h i = absurd h
 one_run_fault text (Open cause) fault some h i = absurd h
 one_run_fault text Memory fault some h i = absurd (some refl)
+one_run_fault text Read fault some h i = absurd h
 one_run_fault text (Script n) (Image fault) some h i = absurd i
 one_run_fault text (Script n) (Open fault) some h i = absurd i
 one_run_fault text (Script m) (Script n) some h i = inl (ap Script (one_first_bad_line_lem text n m i h))
 one_run_fault text (Script n) Memory some h i = inr refl
+one_run_fault text (Script n) Read some h i = absurd i
 
 pub run_is_good : (size : Size) (start : State) (text image reported : List ℕ) (cause : ReplayFault) → IsRun size start text image reported → cause ≢ Memory → IsRunFault text cause → ⊥
 run_is_good size start text image reported (Image cause) run some h = h
 run_is_good size start text image reported (Open cause) run some h = h
 run_is_good size start text image reported (Script n) run some h = scripts_are_good_lem text run.report.commands n run.report.is_script h
 run_is_good size start text image reported Memory run some h = some refl
+run_is_good size start text image reported Read run some h = h
 
 -- ---- the faults of a replay
 
-memory_or : (fault : ReplayFault) → (fault ≡ Memory) ⊎ (fault ≢ Memory)
+pub memory_or : (fault : ReplayFault) → (fault ≡ Memory) ⊎ (fault ≢ Memory)
 memory_or (Image fault) = inr (λ e. cc e)
 memory_or (Open fault) = inr (λ e. cc e)
 memory_or (Script n) = inr (λ e. cc e)
 memory_or Memory = inl refl
+memory_or Read = inr (λ e. cc e)
 
 pub one_replay_fault : (image text : List ℕ) (cause fault : ReplayFault) → cause ≢ Memory → IsReplayFault image text cause → IsReplayFault image text fault → (fault ≡ cause) ⊎ (fault ≡ Memory)
 one_replay_fault image text cause fault some (inl h) (inl i) = one_open_fault image cause fault some h i

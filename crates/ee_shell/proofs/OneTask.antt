@@ -121,6 +121,7 @@ memory_or (replay.Image fault) = inr (λ e. cc e)
 memory_or (replay.Open fault) = inr (λ e. cc e)
 memory_or (replay.Script n) = inr (λ e. cc e)
 memory_or replay.Memory = inl refl
+memory_or replay.Read = inr (λ e. cc e)
 
 one_script_fault : (text : List ℕ) (cause fault : ScriptFault) → cause ≢ script.Memory → IsScriptFault text cause → IsScriptFault text fault → (fault ≡ cause) ⊎ (fault ≡ script.Memory)
 one_script_fault text (script.BadLine m) (script.BadLine n) some h i = inl (ap script.BadLine (one_first_bad_line_lem text n m i h))
@@ -253,6 +254,10 @@ is_task image text store start trace opened start_is trace_is = record {
   };
   trace_is = trace_is;
 }
+
+-- the trace, by another name; that they are one is found anew at each call, so that another trace leaves a goal open
+pub trace_renamed : (image text : List ℕ) (start : Situation) (trace other : List Change) → IsTask image text start trace → trace ≡ other → IsTask image text start other
+trace_renamed image text start trace other task same = subst (λ changes. IsTask image text start changes) same task
 
 pub no_trace : (image text : List ℕ) (store : Device) (fault : ScriptFault) → IsOpened image store → IsScriptFault text fault → IsTaskFault image text (fault_of_script fault)
 no_trace image text store fault opened bad = inr ((opened.device, opened.old), record { cause = fault; applies = bad; fault_is = refl })

@@ -4,6 +4,7 @@ pub mod Trace
 pub mod Report
 pub mod Serving
 pub mod Replaying
+pub mod Reading
 pub mod Opening
 pub mod Images
 pub mod Wear

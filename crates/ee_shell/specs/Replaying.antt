@@ -10,7 +10,7 @@ use Rattle.ee_image.specs.Text.{image_text}
 use Rattle.ee_image.specs.Fault.{IsTextFault}
 use Rattle.ee_script.specs.Script.{IsFirstBadLine}
 use Rattle.ee_words.specs.declared.replay_fault.ReplayFault.{ReplayFault}
-use Rattle.ee_words.specs.declared.replay_fault.ReplayFault.TheVariants.{Image, Open, Script, Memory}
+use Rattle.ee_words.specs.declared.replay_fault.ReplayFault.TheVariants.{Image, Open, Script, Memory, Read}
 use Rattle.ee_shell.specs.Erases.{ErasesRise, erases_of_all}
 use Rattle.ee_shell.specs.Report.{IsReported}
 use Rattle.ee_shell.specs.Serving.{StaysOn}
@@ -62,6 +62,7 @@ IsOpenFault text (Image fault) = IsTextFault text fault
 IsOpenFault text (Open fault) = (device : Device) × Spells text device × IsScanFault device fault
 IsOpenFault text (Script n) = ⊥
 IsOpenFault text Memory = Unit {0}
+IsOpenFault text Read = ⊥
 
 -- why a script isn't answered: its first bad line, or want of memory
 abbrev pub IsRunFault : List ℕ → ReplayFault → Type 0
@@ -69,6 +70,7 @@ IsRunFault text (Image fault) = ⊥
 IsRunFault text (Open fault) = ⊥
 IsRunFault text (Script n) = IsFirstBadLine text n
 IsRunFault text Memory = Unit {0}
+IsRunFault text Read = ⊥
 
 -- why a script isn't replayed, the first cause that applies: no store is opened, or one is and the script isn't answered
 abbrev pub IsReplayFault : List ℕ → List ℕ → ReplayFault → Type 0

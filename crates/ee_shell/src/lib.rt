@@ -23,7 +23,7 @@ mod wear;
 
 pub use images::{clean_image, format_image, states_text};
 pub use planning::{check_script, plan_script};
-pub use replaying::{Replayed, replay, try_script};
+pub use replaying::{Replayed, replay, replay_reader, try_script};
 pub use reporting::answer_on;
 pub use settings::{get_setting, set_setting};
 pub use wear::wear_text;

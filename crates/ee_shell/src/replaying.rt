@@ -1,16 +1,19 @@
 //! Scripts on images.
-ghost use Rattle.std.specs.Prelude.{◌≡◌, ◌≢◌, ◌⊎◌, ℕ, IfOk, IfErr, MatchResult};
+ghost use Rattle.std.specs.Prelude.{◌≡◌, ◌≢◌, ◌⊎◌, ℕ, List, IfOk, IfErr, MatchResult, Some};
 ghost use Rattle.ee_script.specs.Script.{IsFirstBadLine};
 ghost use Rattle.ee_shell.specs.Opening.{IsRunOn};
-ghost use Rattle.ee_shell.specs.Replaying.{IsReplayFault, IsReplayed, IsRunFault, IsTried};
+ghost use Rattle.ee_shell.specs.Reading.{IsGiven, IsNotAnswered, IsReaderFault};
+ghost use Rattle.ee_shell.specs.Replaying.{IsOpenFault, IsReplayFault, IsReplayed, IsRunFault, IsTried};
+ghost use Rattle.ee_shell.specs.Settings.{HasStore};
 ghost use Rattle.ee_shell.specs.Serving.{StaysOn};
 
 use super::opening::{new_store, open_image, text_of};
-use super::reporting::answer_on;
+use super::reporting::{answer_on, answer_reader_on};
 use ee_flash::{Flash, Shape};
 use ee_store::Store;
 use ee_words::ReplayFault;
 use std::alloc::{Allocator, Global};
+use std::io::Read;
 
 /// What a script leaves: the image as text, and the report.
 ///
@@ -19,7 +22,8 @@ use std::alloc::{Allocator, Global};
 pub struct Replayed<A: Allocator = Global> {
     /// The text of the image afterwards.
     pub image: Vec<u8, A>,
-    /// One line for each line of the script.
+    /// One line for each line of the script, the line of the end, and the text of the certificate that
+    /// no store makes the accepted changes with fewer moves.
     pub report: Vec<u8, A>,
 }
 
@@ -47,6 +51,42 @@ pub fn replay<A: Allocator + Copy>(
 {
     let store = open_image(alloc, image)?;
     let replayed = run_on(alloc, store, script)?;
+    Ok(replayed)
+}
+
+/// `replay` of a script that a reader gives in pieces. The image is opened before the first read; what
+/// one read call gives is judged before the next; no more than `MOST_READS` read calls are made, tries
+/// after an interruption among them. Of the script no more is kept than one unfinished line.
+///
+/// Source: ours.
+///
+/// # Errors
+///
+/// The first `ReplayFault` that applies, and of those of the script the one that is met first: `Read`
+/// where a read failed or there were too many, with no bad line judged before. `Memory` can come in
+/// place of any answer.
+pub fn replay_reader<A: Allocator + Copy, R: Read>(
+    alloc: A,
+    image: &[u8],
+    reader: &mut R,
+) -> Result<Replayed<A>, ReplayFault>
+    ensures replayed { IfOk result (λ replayed. (script : List ℕ)
+        × IsGiven (R.remaining reader.old) (R.remaining reader.new) script
+        × IsReplayed image.now script replayed.image.items replayed.report.items) }
+    ensures fault { IfErr result
+        (IsReaderFault (R.remaining reader.old) (R.remaining reader.new) image.now) }
+    // No cause against the image is passed over.
+    ensures names { (cause : ReplayFault) → cause ≢ ReplayFault.Memory
+        → IsOpenFault image.now cause → MatchResult result (λ _. ⊥)
+        (λ fault. (fault ≡ cause) ⊎ (fault ≡ ReplayFault.Memory)) }
+    // A bad line is never passed over.
+    ensures bad { (script : List ℕ) (n : ℕ) → R.remaining reader.old ≡ Some script
+        → HasStore image.now → IsFirstBadLine script n → MatchResult result (λ _. ⊥)
+        (λ fault. (fault ≡ ReplayFault.Script n) ⊎ (fault ≡ ReplayFault.Memory)
+        ⊎ (fault ≡ ReplayFault.Read)) }
+{
+    let store = open_image(alloc, image)?;
+    let replayed = run_reader(alloc, store, reader)?;
     Ok(replayed)
 }
 
@@ -88,6 +128,24 @@ fn run_on<A: Allocator + Copy, F: Flash + Drop>(
     ensures fault { IfErr result (IsRunFault script.now) }
 {
     let (store, report) = answer_on(alloc, store, script)?;
+    let image = text_of(alloc, &store.into_flash())?;
+    Ok(Replayed { image, report })
+}
+
+/// The same of a script that a reader gives.
+fn run_reader<A: Allocator + Copy, F: Flash + Drop, R: Read>(
+    alloc: A,
+    store: Store<F>,
+    reader: &mut R,
+) -> Result<Replayed<A>, ReplayFault>
+    requires { StaysOn store }
+    ensures run { IfOk result (λ replayed. (script : List ℕ)
+        × IsGiven (R.remaining reader.old) (R.remaining reader.new) script
+        × IsRunOn store script replayed.image.items replayed.report.items) }
+    ensures fault { IfErr result
+        (IsNotAnswered (R.remaining reader.old) (R.remaining reader.new)) }
+{
+    let (store, report) = answer_reader_on(alloc, store, reader)?;
     let image = text_of(alloc, &store.into_flash())?;
     Ok(Replayed { image, report })
 }

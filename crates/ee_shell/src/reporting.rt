@@ -1,23 +1,28 @@
 //! The whole report of a script: its answers, how the store stands at the end, and the certificate that
 //! no store could have moved its live set less often.
-ghost use Rattle.std.specs.Prelude.{◌≡◌, ◌⊎◌, ◌++◌, ℕ, IfOk, IfErr, MatchResult, OnOk, decimal};
+ghost use Rattle.std.specs.Prelude.{◌≡◌, ◌⊎◌, ◌++◌, ℕ, List, [], IfOk, IfErr, MatchResult, OnOk, decimal};
 ghost use Rattle.ee_check.specs.Live.{KeepsWithin};
-ghost use Rattle.ee_flash.specs.Device.{IsOn};
+ghost use Rattle.ee_check.specs.Schedule.{IsProper};
+ghost use Rattle.ee_flash.specs.Device.{Device, IsOn};
 ghost use Rattle.ee_flash.specs.Size.{slot_count};
 ghost use Rattle.ee_plan.specs.Plan.{IsPlan};
+ghost use Rattle.ee_plan.specs.Start.{IsStartOf};
+ghost use Rattle.ee_script.specs.Reading.{IsStreamFault};
 ghost use Rattle.ee_script.specs.Script.{IsFirstBadLine};
 ghost use Rattle.ee_script.specs.Whole.{IsScriptFault};
 ghost use Rattle.ee_store.specs.State.{state_of};
 ghost use Rattle.ee_shell.specs.Report.{end_line};
-ghost use Rattle.ee_shell.specs.Serving.{IsServed, StaysOn};
+ghost use Rattle.ee_shell.specs.Reading.{IsGiven};
+ghost use Rattle.ee_shell.specs.Serving.{IsServed, IsTraced, StaysOn, traced};
 
-use super::serving::trace_on;
+use super::serving::{Traced, trace_on, trace_reader};
 use ee_check::{Change, Start, write_certificate};
 use ee_plan::{Plan, PlanFault, plan, start_of};
-use ee_script::ScriptFault;
+use ee_script::{ScriptFault, StreamFault};
 use ee_store::Variables;
 use ee_text::push_number;
 use std::alloc::{AllocError, Allocator};
+use std::io::Read;
 
 /// Answers a script on a store whose device is on and is never cut, and gives the store and the
 /// report: a line for each line of the script, a line on how the store stands, and the certificate
@@ -44,7 +49,51 @@ pub fn answer_on<A: Allocator + Copy, V: Variables + Drop>(
 {
     let start = start_of(alloc, &store)?;
     let left = trace_on(alloc, store, script)?;
-    let plan = plan_accepted(alloc, &start, left.trace.as_slice())?;
+    let done = report_on(alloc, &start, left)?;
+    Ok(done)
+}
+
+/// The same of a script that a reader gives. Of the script no more is kept than one unfinished line.
+///
+/// # Errors
+///
+/// What is met first: a read that failed or was one too many, or the first bad line; want of memory
+/// can come in place of any answer.
+pub(crate) fn answer_reader_on<A: Allocator + Copy, V: Variables + Drop, R: Read>(
+    alloc: A,
+    store: V,
+    reader: &mut R,
+) -> Result<(V, Vec<u8, A>), StreamFault>
+    requires { StaysOn (V.device store) }
+    ensures served { IfOk result (λ done. (script : List ℕ)
+        × IsGiven (R.remaining reader.old) (R.remaining reader.new) script
+        × IsServed (V.device store) script (V.device done.0) done.1.items) }
+    ensures fault { IfErr result
+        (IsStreamFault (R.remaining reader.old) (R.remaining reader.new)) }
+{
+    let start = start_of(alloc, &store)?;
+    let left = trace_reader(alloc, store, reader)?;
+    let done = report_on(alloc, &start, left)?;
+    Ok(done)
+}
+
+/// The whole report of what a script left, and the store.
+fn report_on<A: Allocator + Copy, V: Variables + Drop>(
+    alloc: A,
+    start: &Start<A>,
+    left: Traced<V, A>,
+) -> Result<(V, Vec<u8, A>), AllocError>
+    requires { (old : Device) × (script : List ℕ)
+        × IsTraced (traced old []) script
+        (traced (V.device left.store) left.trace.items) left.lines.items
+        × IsStartOf (slot_count old.size) (state_of old) start.now × IsProper start.now }
+    ensures { IfOk result (λ done. (old : Device) (script : List ℕ)
+        → IsTraced (traced old []) script
+        (traced (V.device left.store) left.trace.items) left.lines.items
+        → IsStartOf (slot_count old.size) (state_of old) start.now
+        → IsServed old script (V.device done.0) done.1.items) }
+{
+    let plan = plan_accepted(alloc, start, left.trace.as_slice())?;
     let mut report = left.lines;
     push_end(&left.store, plan.transfers, &mut report)?;
     write_certificate(&plan.certificate, &mut report)?;

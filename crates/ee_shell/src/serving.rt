@@ -1,17 +1,23 @@
 //! Scripts on a store: what serves a script's commands, and the answers to a whole one.
-ghost use Rattle.std.specs.Prelude.{◌≡◌, ◌⊎◌, ◌∷◌, ◌++◌, [], ℕ, IfOk, IfErr, MatchResult};
+ghost use Rattle.std.specs.Prelude.{◌≡◌, ◌⊎◌, ◌∷◌, ◌++◌, [], ℕ, List, IfOk, IfErr, MatchResult};
 ghost use Rattle.ee_script.specs.Script.{IsFirstBadLine};
 ghost use Rattle.ee_script.specs.Whole.{IsScriptFault};
 ghost use Rattle.ee_script.specs.declared.command.Command.TheVariants.{Write, Read, Clean};
 ghost use Rattle.ee_shell.specs.Erases.{ErasesRise, erases_of};
+ghost use Rattle.ee_script.specs.Reading.{IsStreamFault};
+ghost use Rattle.ee_shell.specs.Reading.{IsGiven};
 ghost use Rattle.ee_shell.specs.Serving.{Answers, IsTraced, StaysOn, traced};
 ghost use Rattle.ee_shell.specs.Trace.{accepted, written};
 
 use ee_check::Change;
 use ee_codec::Address;
-use ee_script::{Answer, Command, ScriptFault, Serve, answer_script};
+use ee_script::{
+    Answer, Command, ScriptFault, Serve, StreamFault, answer_reader, answer_script,
+};
 use ee_store::{Off, Variables, WriteFault, Written};
+use ee_words::MOST_READS;
 use std::alloc::{AllocError, Allocator, Global};
+use std::io::Read;
 
 /// A store on a device whose power stays on, and the changes that it accepted, in their order.
 #[derive(Drop)]
@@ -106,6 +112,25 @@ impl<V: Variables + Drop, A: Allocator> Server<V, A> {
     }
 }
 
+impl<V: Variables + Drop, A: Allocator> Server<V, A> {
+    /// Answers a whole script that a reader gives.
+    fn answer_reader<R: Read>(
+        self,
+        alloc: A,
+        reader: &mut R,
+    ) -> Result<(Server<V, A>, Vec<u8, A>), StreamFault>
+        ensures traced { IfOk result (λ done. (script : List ℕ)
+            × IsGiven (R.remaining reader.old) (R.remaining reader.new) script
+            × IsTraced (traced (V.device self.store) self.trace.items) script
+            (traced (V.device done.0.store) done.0.trace.items) done.1.items) }
+        ensures fault { IfErr result
+            (IsStreamFault (R.remaining reader.old) (R.remaining reader.new)) }
+    {
+        let (server, report) = answer_reader(alloc, self, reader, MOST_READS)?;
+        Ok((server, report))
+    }
+}
+
 /// What a script left: the store, the changes that it accepted, and the lines of the answers.
 #[derive(Drop)]
 pub(crate) struct Traced<V: Variables + Drop, A: Allocator = Global> {
@@ -137,6 +162,32 @@ pub(crate) fn trace_on<A: Allocator + Copy, V: Variables + Drop>(
         trace: Vec::new(alloc),
     };
     let (Server { store, trace }, lines) = server.answer(alloc, script)?;
+    Ok(Traced {
+        store,
+        trace,
+        lines,
+    })
+}
+
+/// Answers each line of a script that a reader gives, on a store whose device is on and is never cut.
+pub(crate) fn trace_reader<A: Allocator + Copy, V: Variables + Drop, R: Read>(
+    alloc: A,
+    store: V,
+    reader: &mut R,
+) -> Result<Traced<V, A>, StreamFault>
+    requires { StaysOn (V.device store) }
+    ensures traced { IfOk result (λ left. (script : List ℕ)
+        × IsGiven (R.remaining reader.old) (R.remaining reader.new) script
+        × IsTraced (traced (V.device store) []) script
+        (traced (V.device left.store) left.trace.items) left.lines.items) }
+    ensures fault { IfErr result
+        (IsStreamFault (R.remaining reader.old) (R.remaining reader.new)) }
+{
+    let server = Server {
+        store,
+        trace: Vec::new(alloc),
+    };
+    let (Server { store, trace }, lines) = server.answer_reader(alloc, reader)?;
     Ok(Traced {
         store,
         trace,

@@ -1,4 +1,5 @@
 -- How often a page is erased in a run, by where it stands.
+use Rattle.ee_pages.specs.Legal.{IsLegal}
 use Rattle.std.proofs.Common.{◌≡◌, ◌≢◌, ◌⊎◌, inl, inr, ℕ, ◌+◌, ◌/◌, ◌<◌, ◌≤◌, Bool, true, false, cond, eqb, Ok, Err, Option, Some, None, List, [], ◌∷◌, get_or, refl, sym, subst, ap, ◌∙◌, arith}
 use Rattle.std.specs.List.{All}
 use Rattle.std.proofs.lemmas.Bool.{cases_eq, cases_lt, ne_eqb}
@@ -18,8 +19,8 @@ use Rattle.ee_store.proofs.States.{other_twice}
 use Rattle.ee_store.proofs.Wears.{times, times_few, worn_at_most}
 use Rattle.ee_store.specs.Calls.{ErasesOne}
 use Rattle.ee_store.specs.Changes.{Appends, Moves}
-use Rattle.ee_store.specs.Runs.{Call, Wrote, Forgot, Cleaned, DidRead, EachPageWearsEverySecondTransfer, Follows, IsRun, NoPageWearsMore, NoPageWearsMuchMore, is_cut, is_transfer, transfers, wear_at}
-use Rattle.ee_store.specs.State.{not_blank_in, pending_pages, pending_pages_in, state_of, turned}
+use Rattle.ee_store.specs.Runs.{Call, Wrote, Forgot, Cleaned, DidRead, Follows, IsRun, is_cut, is_transfer, transfers, wear_at, IsWholeRun, WearsAtMost}
+use Rattle.ee_store.specs.State.{pending_pages, pending_pages_in, state_of, turned}
 use Rattle.ee_store.specs.declared.variables.ForgetFault.TheVariants as forget
 use Rattle.ee_store.specs.declared.variables.WriteFault.TheVariants as write
 use Rattle.ee_store.specs.declared.variables.Written.TheVariants.{Appended, Moved}
@@ -188,7 +189,7 @@ aged (call ∷ calls) old new run whole =
     subst (λ (count : ℕ). Aged count old new) (sym (sum_by-cons (λ (one : Call). cond (is_transfer one) 1 0) call calls))
     (one_more (is_transfer call) (transfers calls) old run.0 new (ages call old run.0 (whole 0 call (omega arith)) run.1) later)
 
-pub each_page_wears_every_second_transfer_lem : EachPageWearsEverySecondTransfer
+pub each_page_wears_every_second_transfer_lem : (calls : List Call) (old new : Device) (page : ℕ) → IsWholeRun calls old new → WearsAtMost (transfers calls) page old new
 each_page_wears_every_second_transfer_lem calls old new page whole =
     let all = aged calls old new whole.run whole.without_cuts in
     record {
@@ -199,7 +200,8 @@ each_page_wears_every_second_transfer_lem calls old new page whole =
       pending = λ stands. omega (arith, all.other_page stands.side stands.generation page stands.live stands.in_other, few_wait (is_blank (page_at old page)));
     }
 
-pub no_page_wears_more_lem : NoPageWearsMore
+pub no_page_wears_more_lem : (calls : List Call) (old new : Device) (page : ℕ) → IsWholeRun calls old new → IsLegal old → (state_of old).pending ≡ 0
+    → page < page_count old.size → wear_at new page ≤ wear_at old page + (transfers calls + 1) / 2
 no_page_wears_more_lem calls old new page whole legal none h =
     let all = aged calls old new whole.run whole.without_cuts in
     elim (in_either old.size legal.0 page h) [
@@ -210,7 +212,8 @@ no_page_wears_more_lem calls old new page whole legal none h =
           omega (arith, all.other_page legal.0 legal.1 page legal.2.live there, named, few, length-pending_pages old, none)
     ]
 
-pub no_page_wears_much_more_lem : NoPageWearsMuchMore
+pub no_page_wears_much_more_lem : (calls : List Call) (old new : Device) (page : ℕ) → IsWholeRun calls old new → IsLegal old
+    → page < page_count old.size → wear_at new page ≤ wear_at old page + (transfers calls / 2 + 1)
 no_page_wears_much_more_lem calls old new page whole legal h =
     let all = aged calls old new whole.run whole.without_cuts in
     elim (in_either old.size legal.0 page h) [

@@ -13,7 +13,7 @@ use Rattle.ee_store.proofs.PendingPages.{length-pending_pages}
 use Rattle.ee_store.proofs.Wears.{no_wear, total_rises, wears_rise}
 use Rattle.ee_store.specs.Calls.{ErasesOne}
 use Rattle.ee_store.specs.Changes.{Appends, Moves}
-use Rattle.ee_store.specs.Runs.{Call, Wrote, Forgot, Cleaned, DidRead, AreAnsweredFrom, CleanRunsEraseSets, EachTransferErasesASet, Follows, IsAnsweredBy, IsRun, RunsGoOn, TheStoreIsAMap, changes_of, is_cut, is_transfer, transfers}
+use Rattle.ee_store.specs.Runs.{Call, Wrote, Forgot, Cleaned, DidRead, AreAnsweredFrom, Follows, IsAnsweredBy, IsRun, changes_of, is_cut, is_transfer, transfers, IsWholeRun}
 use Rattle.ee_store.specs.State.{CountsWear, State, pending_pages, state_of}
 use Rattle.ee_store.specs.declared.variables.ForgetFault.TheVariants as forget
 use Rattle.ee_store.specs.declared.variables.WriteFault.TheVariants as write
@@ -155,20 +155,23 @@ went (call ∷ calls) old new run whole =
       answers = (answered call old run.0 run.1, subst (λ (map : Map). AreAnsweredFrom map calls) first.map_is rest.answers);
     }
 
-pub runs_go_on_lem : RunsGoOn
+pub runs_go_on_lem : (calls : List Call) (old new : Device) → IsWholeRun calls old new → GoesOn old new
 runs_go_on_lem calls old new whole = assumption (went calls old new whole.run whole.without_cuts)
 
-pub each_transfer_erases_a_set_lem : EachTransferErasesASet
+pub each_transfer_erases_a_set_lem : (calls : List Call) (old new : Device) → IsWholeRun calls old new → CountsWear new
+    → total_wear_of new + (state_of new).pending ≡ total_wear_of old + (state_of old).pending + transfers calls * old.size.pages
 each_transfer_erases_a_set_lem calls old new whole counts =
     let counted : CountsWear new = assumption counts in
     let sum = (went calls old new whole.run whole.without_cuts).adds counted in
     omega (arith, sum.1)
 
-pub clean_runs_erase_sets_lem : CleanRunsEraseSets
+pub clean_runs_erase_sets_lem : (calls : List Call) (old new : Device) → IsWholeRun calls old new → CountsWear new → (state_of old).pending ≡ 0
+    → (state_of new).pending ≡ 0 → total_wear_of new ≡ total_wear_of old + transfers calls * old.size.pages
 clean_runs_erase_sets_lem calls old new whole counts clean cleaned =
     let counted : CountsWear new = assumption counts in
     let sum = (went calls old new whole.run whole.without_cuts).adds counted in
     omega (arith, sum.1, clean, cleaned)
 
-pub the_store_is_a_map_lem : TheStoreIsAMap
+pub the_store_is_a_map_lem : (calls : List Call) (old new : Device) → IsWholeRun calls old new
+    → ((state_of new).map ≡ changed_by (flat_map changes_of calls) (state_of old).map) × AreAnsweredFrom (state_of old).map calls
 the_store_is_a_map_lem calls old new whole = assumption (went calls old new whole.run whole.without_cuts)

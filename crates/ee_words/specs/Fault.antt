@@ -108,6 +108,7 @@ fault_of_replay (replay.Image fault) = fault_of_image Image fault
 fault_of_replay (replay.Open fault) = fault_of_scan fault
 fault_of_replay (replay.Script line) = BadLine Script line
 fault_of_replay replay.Memory = Memory
+fault_of_replay replay.Read = CannotRead Script
 
 -- the fault of a text that is no script
 abbrev pub fault_of_script : ScriptFault → Fault

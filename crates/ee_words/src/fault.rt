@@ -183,6 +183,7 @@ impl From<ReplayFault> for Fault {
             ReplayFault::Open(fault) => Fault::from(fault),
             ReplayFault::Script(line) => Fault::from(ScriptFault::BadLine(line)),
             ReplayFault::Memory => Fault::Memory,
+            ReplayFault::Read => Fault::CannotRead(File::Script),
         }
     }
 }

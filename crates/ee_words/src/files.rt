@@ -12,7 +12,7 @@ pub const MOST_BYTES: usize = 16_777_216;
 pub const MOST_READS: u32 = 33_554_432;
 
 /// How many bytes one read call asks for.
-const CHUNK: usize = 4096;
+const CHUNK: usize = 65536;
 
 /// Why an input can't be read whole.
 #[derive(Clone, Copy, Debug, PartialEq, Eq)]

@@ -1,7 +1,7 @@
 //! Why a script can't be replayed.
 use ee_image::ImageFault;
 use ee_pages::ScanFault;
-use ee_script::ScriptFault;
+use ee_script::{ScriptFault, StreamFault};
 use std::alloc::AllocError;
 use thiserror::Error;
 
@@ -22,6 +22,10 @@ pub enum ReplayFault {
     /// Memory ran out.
     #[error("out of memory")]
     Memory,
+    /// The reader that gives the script failed, or the most read calls were made and the end had not
+    /// come. No script that is given whole is refused so.
+    #[error("cannot read script")]
+    Read,
 }
 
 impl From<AllocError> for ReplayFault {
@@ -59,6 +63,20 @@ impl From<ScriptFault> for ReplayFault {
         match fault {
             ScriptFault::BadLine(line) => ReplayFault::Script(line),
             ScriptFault::Memory => ReplayFault::Memory,
+        }
+    }
+}
+
+impl From<StreamFault> for ReplayFault {
+    ghost use Rattle.std.specs.Prelude.{◌≡◌};
+    ghost use Rattle.ee_words.specs.ReplayFault.{of_stream};
+
+    ghost from_gives = { λ stream fault. fault ≡ of_stream stream };
+
+    fn from(fault: StreamFault) -> ReplayFault {
+        match fault {
+            StreamFault::Read => ReplayFault::Read,
+            StreamFault::Script(fault) => ReplayFault::from(fault),
         }
     }
 }

@@ -1,8 +1,5 @@
-use Rattle.std.proofs.Common.{ℕ, ◌<◌, ◌≡◌, ◌^◌, length, subst, sym, arith}
+use Rattle.std.proofs.Common.{◌<◌, ◌^◌, length, arith}
 use Rattle.std.proofs.lemmas.Result.{err_from_is_err_and, MatchResult-weaker}
-use Rattle.ee_script.specs.Session.{Goes}
-use Rattle.ee_script.specs.Fault.{IsFault}
-use Rattle.ee_script.specs.Whole.{IsScriptFault}
 use Rattle.ee_script.proofs.WholeScript.{answered, fault_in_script, fault_at_end, named, none_passed}
 use Rattle.ee_script.proofs.whole.answer_script.Goals as goal
 
