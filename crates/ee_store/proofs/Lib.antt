@@ -19,3 +19,8 @@ pub mod MovingFacts
 pub mod OtherSteps
 pub mod Making
 pub mod Running
+pub mod Drawings
+pub mod FilledSets
+pub mod CopiedWords
+pub mod MovedSets
+pub mod MarkedSets

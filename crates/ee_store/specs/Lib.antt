@@ -1,4 +1,5 @@
 pub mod State
+pub mod Picture
 pub mod Finished
 pub mod Changes
 pub mod Calls

@@ -16,6 +16,7 @@ pages-init g c =
       keeps = keeps_same device c.args.layout.now c.requires;
       blank = λ page from below. absurd (omega (arith, from, below));
       erased = (0, omega arith, no_wear device device refl);
+      same = refl;
       goes = goes_on-same device;
     }
 
@@ -28,6 +29,7 @@ pages-preserved g c = elim c.if-not-is_blank.branch [
       | inr other ↦ ap is_blank (w.in_ok-erase_other.ensures.others page other) ∙ c.pages.invariant.blank page from (omega arith)
     ];
     erased = erased_one_more (g.F.Flash.device c.args.flash.now) (g.F.Flash.device c.pages.flash) (g.F.Flash.device w.erase_other.new.flash) (other_of c.args.layout.now.side) c.pages.invariant.erased w.in_ok-erase_other.ensures.one_less w.in_ok-erase_other.ensures.wear;
+    same = w.in_ok-erase_other.ensures.same_set ∙ c.pages.invariant.same;
     goes = (calls_compose _ _ _ c.pages.invariant.goes).0 w.in_ok-erase_other.ensures.power.ok;
   })
   | else-not-is_blank w ↦ rw w.flash-is (record {
@@ -37,6 +39,7 @@ pages-preserved g c = elim c.if-not-is_blank.branch [
       | inr other ↦ c.pages.invariant.blank page from (omega arith)
     ];
     erased = c.pages.invariant.erased;
+    same = c.pages.invariant.same;
     goes = c.pages.invariant.goes;
   })
 ]

@@ -4,6 +4,7 @@ use Rattle.ee_flash.specs.Power.{GoesOn}
 use Rattle.ee_pages.specs.Laws.{Keeps}
 use Rattle.ee_pages.specs.Page.{is_blank}
 use Rattle.ee_pages.specs.Sets.{other as other_of, pending_of, set_of}
+use Rattle.ee_store.specs.Parts.{IsSameSet}
 use Rattle.ee_store.specs.State.{WearRises}
 use Rattle.ee_store.proofs.moving.clear.Given as goal
 
@@ -12,5 +13,6 @@ invariant-pages g l = record {
   keeps : Keeps (g.F.Flash.device l.fn.flash) (g.F.Flash.device l.flash) l.layout.side l.layout.generation;
   blank : (page : ℕ) → l.first ≤ page → page < l.page → is_blank (page_at (g.F.Flash.device l.flash) page) ≡ true;
   erased : (erases : ℕ) × (pending_of (set_of (other_of l.layout.side) (g.F.Flash.device l.flash)) + erases ≡ pending_of (set_of (other_of l.layout.side) (g.F.Flash.device l.fn.flash))) × WearRises erases (g.F.Flash.device l.fn.flash) (g.F.Flash.device l.flash);
+  same : IsSameSet l.layout.side (g.F.Flash.device l.fn.flash) (g.F.Flash.device l.flash);
   goes : GoesOn (g.F.Flash.device l.fn.flash) (g.F.Flash.device l.flash);
 }
