@@ -13,11 +13,11 @@ use Rattle.ee_store.proofs.CopiedMaps.{forget-at, forget-other}
 use Rattle.ee_store.specs.Parts.{AddsWords, put_words}
 use Rattle.ee_store.specs.Picture.{element_at, elements_of, elements_to, moved_words}
 
-no_elements : (map : Map) → elements_to map zero ≡ []
+pub no_elements : (map : Map) → elements_to map zero ≡ []
 unfolding elements_to
 no_elements map = refl
 
-one_further : (map : Map) (n : ℕ) → elements_to map (suc n) ≡ elements_to map n ++ element_at (suc n) (map (suc n))
+pub one_further : (map : Map) (n : ℕ) → elements_to map (suc n) ≡ elements_to map n ++ element_at (suc n) (map (suc n))
 unfolding elements_to
 one_further map n = refl
 

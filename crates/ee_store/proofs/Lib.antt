@@ -24,3 +24,4 @@ pub mod FilledSets
 pub mod CopiedWords
 pub mod MovedSets
 pub mod MarkedSets
+pub mod ShownStates

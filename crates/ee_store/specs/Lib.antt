@@ -7,3 +7,4 @@ pub mod Openings
 pub mod Parts
 pub mod Course
 pub mod Runs
+pub mod PageStates
