@@ -1,5 +1,5 @@
 -- Spellings read back, on the side of the definitions.
-use Rattle.std.proofs.Common.{◌≡◌, ℕ, ◌<◌, arith, Some}
+use Rattle.std.proofs.Common.{◌≡◌, ℕ, arith, Some}
 use Rattle.std.proofs.lemmas.Grind.{common_steps}
 use Rattle.ee_flash.specs.declared.word.Word.TheVariants.{Held}
 use Rattle.ee_codec.specs.declared.slot.Slot.TheVariants.{Element, Forgotten}

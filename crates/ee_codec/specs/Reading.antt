@@ -2,12 +2,11 @@
 use Rattle.std.specs.Prelude.{◌≡◌, ◌≢◌, ℕ, ◌-◌, ◌/◌, ◌%◌, ◌^◌, ◌==◌, ◌&&◌, Bool, false, nat_lt, if◌then◌else◌, Option, Some, None}
 use Rattle.ee_flash.specs.declared.word.Word.{Word}
 use Rattle.ee_flash.specs.declared.word.Word.TheVariants.{Erased, Held, Torn}
-use Rattle.ee_codec.specs.declared.header.TheConstants.{MARK}
 use Rattle.ee_codec.specs.declared.header.MarkRead.{MarkRead}
 use Rattle.ee_codec.specs.declared.header.MarkRead.TheVariants as marks
 use Rattle.ee_codec.specs.declared.slot.Slot.{Slot}
 use Rattle.ee_codec.specs.declared.slot.Slot.TheVariants.{Free, Spoiled, Element, Forgotten, Foreign}
-use Rattle.ee_codec.specs.Words.{IsAddress, IsValue, element, forgetting}
+use Rattle.ee_codec.specs.Words.{IsAddress, IsValue, element, forgetting, mark_number}
 
 -- A word says this as a slot: an element or a forgetting exactly where it is its spelling. No other pair is one.
 abbrev pub SaysSlot : Word → Slot → Type 0
@@ -26,8 +25,8 @@ SaysSlot word slot = ⊥
 abbrev pub SaysMark : Word → MarkRead → Type 0
 SaysMark Erased marks.Absent = Unit {0}
 SaysMark Torn marks.Broken = Unit {0}
-SaysMark (Held number) marks.Present = number ≡ MARK
-SaysMark (Held number) marks.Foreign = number ≢ MARK
+SaysMark (Held number) marks.Present = number ≡ mark_number
+SaysMark (Held number) marks.Foreign = number ≢ mark_number
 SaysMark word mark = ⊥
 
 -- The same as functions, for the layers above to compute with.
@@ -61,4 +60,4 @@ receive_of word = None
 abbrev pub mark_of : Word → MarkRead
 mark_of Erased = marks.Absent
 mark_of Torn = marks.Broken
-mark_of (Held number) = if number == MARK then marks.Present else marks.Foreign
+mark_of (Held number) = if number == mark_number then marks.Present else marks.Foreign

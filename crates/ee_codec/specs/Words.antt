@@ -24,3 +24,7 @@ forgetting address value = value * 2 ^ 32 + 2 ^ 16 + address
 -- a set of this generation takes elements
 abbrev pub receive : ℕ → ℕ
 receive generation = 0xAAAAAAAA00000000 + generation
+
+-- the mark: what a header word that says active, valid or erasing holds
+abbrev pub mark_number : ℕ
+mark_number = 0xAAAAAAAAAAAAAAAA

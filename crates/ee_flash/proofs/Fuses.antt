@@ -1,9 +1,9 @@
 -- What a fuse does over many steps.
-use Rattle.std.proofs.Common.{◌≡◌, ℕ, zero, suc, ◌-◌, ◌<◌, Bool, cond, List, [], ◌∷◌, Option, Some, None, refl, ap, ◌∙◌, arith}
+use Rattle.std.proofs.Common.{◌≡◌, ℕ, zero, suc, ◌-◌, ◌<◌, Bool, cond, List, [], ◌∷◌, Option, Some, None, refl, ap, ◌∙◌, arith, length, ◌≤◌}
 use Rattle.std.proofs.Math.Dec.{eqb-suc-zero}
 use Rattle.ee_flash.specs.Device.{Device, IsOn}
 use Rattle.ee_flash.specs.Fuse.{next_fuse, next_tear}
-use Rattle.ee_flash.specs.Laws.{FuseCuts, FuseWaits, NoFuseNoCut, after_steps, all_completed}
+use Rattle.ee_flash.specs.Laws.{after_steps, all_completed}
 use Rattle.ee_flash.specs.Memory.{Memory, after_step, stepped}
 use Rattle.ee_flash.specs.Step.{Step, Program, Erase, completed, one_more}
 use Rattle.ee_flash.specs.declared.fuse.Fuse.{Fuse}
@@ -25,7 +25,7 @@ all_completed_on : (steps : List Step) (device : Device) → (all_completed step
 all_completed_on [] device = refl
 all_completed_on (step ∷ steps) device = all_completed_on steps (completed step device) ∙ completed_on step device
 
-pub no_fuse_no_cut : NoFuseNoCut
+pub no_fuse_no_cut : (steps : List Step) (memory : Memory) → IsOn memory.device → memory.fuse ≡ None → (after_steps steps memory).device ≡ all_completed steps memory.device
 no_fuse_no_cut [] memory on none = refl
 no_fuse_no_cut (step ∷ steps) memory on none =
     let next : Memory = record { device = completed step memory.device; steps = one_more memory.steps; fuse = None } in
@@ -40,7 +40,7 @@ burns_fuse : (after : ℕ) (tear : Tear) → 0 < after → next_fuse (Some (reco
 burns_fuse zero tear h = absurd (omega arith)
 burns_fuse (suc n) tear h = ap (λ (b : Bool). cond b None (Some (record { after = suc n - 1; tear = tear }))) (eqb-suc-zero n)
 
-pub fuse_waits : FuseWaits
+pub fuse_waits : (steps : List Step) (memory : Memory) (fuse : Fuse) → IsOn memory.device → memory.fuse ≡ Some fuse → length steps ≤ fuse.after → let last : Memory = after_steps steps memory in (last.device ≡ all_completed steps memory.device) × (last.fuse ≡ Some (record fuse { after = fuse.after - length steps }))
 fuse_waits [] memory fuse on armed room = (refl, armed ∙ ap (λ (n : ℕ). Some (record { after = n; tear = fuse.tear })) (omega arith))
 fuse_waits (step ∷ steps) memory fuse on armed room =
     let some_left : 0 < fuse.after = omega arith in
@@ -52,7 +52,7 @@ fuse_waits (step ∷ steps) memory fuse on armed room =
       ap (λ (m : Memory). (after_steps steps m).fuse) is ∙ rest.1 ∙ ap (λ (n : ℕ). Some (record { after = n; tear = fuse.tear })) (omega arith),
     )
 
-pub fuse_cuts : FuseCuts
+pub fuse_cuts : (steps : List Step) (step : Step) (memory : Memory) (fuse : Fuse) → IsOn memory.device → memory.fuse ≡ Some fuse → length steps ≡ fuse.after → let last : Memory = after_step step (after_steps steps memory) in (last.device ≡ stepped step (Some fuse.tear) (all_completed steps memory.device)) × (last.fuse ≡ None)
 fuse_cuts steps step memory fuse on armed due =
     let waited = fuse_waits steps memory fuse on armed (omega arith) in
     let last : Memory = after_steps steps memory in

@@ -6,7 +6,6 @@ use Rattle.std.proofs.Math.Seq.{take-add}
 use Rattle.std.proofs.lemmas.List.{drop-drop, drop_at, same_lists, take_all, take_at}
 use Rattle.std.proofs.lemmas.List.Elements.{All-head, All-tail}
 use Rattle.ee_flash.specs.Formed.{length-pages_of, page-pages_of}
-use Rattle.ee_flash.specs.Laws.{JoinedPages, PagesJoin}
 use Rattle.ee_flash.specs.Pages.{page_words, pages_of}
 use Rattle.ee_flash.specs.Size.{Size, page_count}
 use Rattle.ee_flash.specs.declared.word.Word.{Word}
@@ -27,7 +26,7 @@ joined_pages_from size cells from (suc count) =
     ∙ sym (take-add w (count * w) rest)
     ∙ ap (λ (n : ℕ). take n rest) (omega (arith, suc-mul count w))
 
-pub pages_join : PagesJoin
+pub pages_join : (size : Size) (cells : List Word) → length cells ≡ page_count size * size.words → flat_map (λ page. page) (pages_of size cells) ≡ cells
 unfolding pages_of
 pages_join size cells filled =
     let none : 0 * size.words ≡ 0 = omega arith in
@@ -48,7 +47,7 @@ page_of_joined size (page ∷ pages) (suc k) none each h =
     ∙ ap (take w) (sym (drop-drop (k * w) w (page ++ joined pages)) ∙ ap (drop (k * w)) (drop_at page (joined pages) w as_long))
     ∙ page_of_joined size pages k none (All-tail (λ (page : List Word). length page ≡ size.words) page pages each) (omega arith)
 
-pub joined_pages : JoinedPages
+pub joined_pages : (size : Size) (pages : List (List Word)) → length pages ≡ page_count size → All (λ page. length page ≡ size.words) pages → pages_of size (flat_map (λ page. page) pages) ≡ pages
 joined_pages size pages count each =
     same_lists _ _ (length-pages_of size (joined pages) ∙ sym count) (λ k none h.
     let below : k < length pages = omega (arith, length-pages_of size (joined pages)) in

@@ -7,8 +7,8 @@ use Rattle.std.proofs.lemmas.List.{get_or-replicate, get_or-set_same, length-set
 use Rattle.std.proofs.lemmas.List.Elements.{All-from_get_or, All-get_or, All-set}
 use Rattle.ee_flash.specs.Device.{Device, IsBelowAllOnes, IsFormed, IsOn, all_ones, page_at, wear_at}
 use Rattle.ee_flash.specs.Step.{Step, Program, Erase, IsPartlyErased, MayFollow, MayLeave, completed, one_more, erased}
-use Rattle.ee_flash.specs.Power.{GoesOn}
-use Rattle.ee_flash.specs.Laws.{CanTake, CallsCompose, NoCutLeft, StepChangesOnePage, StepEnds, StepKeepsFormed, StepLeavesPages, page_of}
+use Rattle.ee_flash.specs.Power.{GoesOn, IsCut}
+use Rattle.ee_flash.specs.Laws.{CanTake, page_of, IsStep, DiffersInPage}
 use Rattle.ee_flash.specs.declared.word.Word.{Word}
 use Rattle.ee_flash.specs.declared.word.Word.TheVariants.{Erased, Held, Torn}
 
@@ -38,7 +38,7 @@ leaves (Erase page) old new formed may (inr (inl cut)) = cut.image
 leaves (Erase page) old new formed may (inr (inr untouched)) =
     rw untouched.same (IsPartlyErased-same (page_at old page), sym (set-get_or old.image page []))
 
-pub step_leaves_pages : StepLeavesPages
+pub step_leaves_pages : (step : Step) (old new : Device) → IsStep step old new → MayLeave step old new
 step_leaves_pages step old new taken = leaves step old new taken.formed taken.may taken.follows
 
 -- a list that differs in one place differs in its own element there
@@ -74,7 +74,7 @@ same_size step old new (inl done) = ap (λ (device : Device). device.size) done.
 same_size step old new (inr (inl cut)) = cut.same_size
 same_size step old new (inr (inr untouched)) = ap (λ (device : Device). device.size) untouched.same
 
-pub step_changes_one_page : StepChangesOnePage
+pub step_changes_one_page : (step : Step) (old new : Device) → IsStep step old new → DiffersInPage (page_of step) old new
 step_changes_one_page step old new taken = record {
   same_size = same_size step old new taken.follows;
   image = one_page step old new taken.formed taken.may (step_leaves_pages step old new taken);
@@ -147,7 +147,7 @@ cuts_left_fit step old new formed (inr (inl cut)) left is =
 cuts_left_fit step old new formed (inr (inr untouched)) left is =
     formed.cuts_left_fit left (sym (ap (λ (device : Device). device.cuts_left) untouched.same) ∙ is)
 
-pub step_keeps_formed : StepKeepsFormed
+pub step_keeps_formed : (step : Step) (old new : Device) → IsStep step old new → IsFormed new
 step_keeps_formed step old new taken =
     let page = page_of step in
     let left = step_leaves_pages step old new taken in
@@ -170,12 +170,12 @@ completed_power : (step : Step) (old : Device) → IsOn old → GoesOn old (comp
 completed_power (Program page at value) old on = record { same_size = refl; same_power = refl; same_cuts = refl; same_cuts_left = refl; same_while_off = λ off. absurd (true≢false (sym on ∙ off)) }
 completed_power (Erase page) old on = record { same_size = refl; same_power = refl; same_cuts = refl; same_cuts_left = refl; same_while_off = λ off. absurd (true≢false (sym on ∙ off)) }
 
-pub step_ends : StepEnds
+pub step_ends : (step : Step) (old new : Device) → MayFollow step old new → GoesOn old new ⊎ IsCut old new
 step_ends step old new (inl done) = inl (rw done.done (completed_power step old done.was_on))
 step_ends step old new (inr (inl cut)) = inr (record { was_on = cut.was_on; is_off = cut.is_off; same_size = cut.same_size; one_more_cut = cut.cuts; one_less_left = cut.cuts_left })
 step_ends step old new (inr (inr untouched)) = inl (rw untouched.same (record { same_size = refl; same_power = refl; same_cuts = refl; same_cuts_left = refl; same_while_off = λ off. refl }))
 
-pub calls_compose : CallsCompose
+pub calls_compose : (first second third : Device) → GoesOn first second → (GoesOn second third → GoesOn first third) × (IsCut second third → IsCut first third)
 calls_compose first second third on = (
   λ next. record {
     same_size = next.same_size ∙ on.same_size;
@@ -197,5 +197,5 @@ some_more : (left : Option ℕ) → Some 0 ≡ option_map (λ n. n + 1) left →
 some_more None e = cc
 some_more (Some n) e = let same : 0 ≡ n + 1 = same_Some 0 (n + 1) e in omega arith
 
-pub no_cut_left : NoCutLeft
+pub no_cut_left : (old new : Device) → old.cuts_left ≡ Some 0 → IsCut old new → ⊥
 no_cut_left old new none cut = some_more new.cuts_left (sym none ∙ cut.one_less_left)

@@ -7,3 +7,4 @@ pub mod Answered
 pub mod Fronts
 pub mod Lengths
 pub mod Texts
+pub mod Total

@@ -1,4 +1,5 @@
 -- A text is one device's, or has one fault, and not both.
+use Rattle.ee_image.specs.declared.fault.ImageFault.{ImageFault}
 use Rattle.std.proofs.Common.{◌≡◌, ◌≢◌, ◌⊎◌, ℕ, ◌+◌, ◌<◌, ◌≤◌, Some, true, List, [], ◌∷◌, ◌++◌, length, refl, sym, ap, ◌∙◌, subst, arith, inl, inr}
 use Rattle.std.specs.List.{All}
 use Rattle.std.proofs.lemmas.List.{append-nil}
@@ -7,8 +8,7 @@ use Rattle.ee_flash.specs.Size.{Size, IsWithinLimits, page_count}
 use Rattle.ee_flash.specs.Device.{Device, IsBelowAllOnes, IsFormed, all_ones}
 use Rattle.ee_flash.specs.declared.word.Word.{Word}
 use Rattle.ee_image.specs.Text.{image_text, page_lines, at_rest, ArePages, IsNumbered}
-use Rattle.ee_image.specs.Fault.{BeginsWithSize, NoPage, IsBadPage, IsFirstBadLine, HasBadShape}
-use Rattle.ee_image.specs.Laws.{OneDevice, TextsAreGood, OneFault}
+use Rattle.ee_image.specs.Fault.{BeginsWithSize, NoPage, IsBadPage, IsFirstBadLine, HasBadShape, IsTextFault}
 use Rattle.ee_image.specs.declared.fault.ImageFault.TheVariants.{TooLong, BadLine, BadShape, Memory}
 use Rattle.ee_image.proofs.Fronts.{GoesOn, compare_fronts}
 use Rattle.ee_image.proofs.Lengths.{length-image}
@@ -108,7 +108,7 @@ good_shape device formed bad =
     let same = one_size (image_text device) bad.size device.size bad.rest (page_lines device.image device.wear) bad.begins (begins device formed) in
     bad.outside (subst IsWithinLimits (sym same.0) formed.within_limits)
 
-pub texts_are_good_lem : TextsAreGood
+pub texts_are_good_lem : (device : Device) (fault : ImageFault) → IsFormed device → IsTextFault (image_text device) fault → ⊥
 texts_are_good_lem device TooLong formed long = omega (arith, short device formed)
 texts_are_good_lem device (BadLine n) formed bad = good_line device n formed bad.1
 texts_are_good_lem device BadShape formed bad = good_shape device formed bad.1
@@ -128,7 +128,7 @@ line_or_shape text n (inr later) bad =
     let same = one_size text bad.size later.size bad.rest later.rest bad.begins later.begins in
     bad.outside (subst IsWithinLimits (sym same.0) later.within_limits)
 
-pub one_fault_lem : OneFault
+pub one_fault_lem : (text : List ℕ) (fault other : ImageFault) → IsTextFault text fault → IsTextFault text other → fault ≡ other
 one_fault_lem text TooLong TooLong bad other = refl
 one_fault_lem text TooLong (BadLine n) bad other = absurd (let h = other.0 in omega arith)
 one_fault_lem text TooLong BadShape bad other = absurd (let h = other.0 in omega arith)
@@ -149,7 +149,7 @@ same_at_rest device other size image wear =
     ∙ ap (λ (pages : List (List Word)). at_rest record { size = other.size; image = pages; wear = device.wear; cuts = 0; cuts_left = Some 0; on = true }) image
     ∙ ap (λ (wears : List ℕ). at_rest record { size = other.size; image = other.image; wear = wears; cuts = 0; cuts_left = Some 0; on = true }) wear
 
-pub one_device_lem : OneDevice
+pub one_device_lem : (device other : Device) → IsFormed device → IsFormed other → image_text device ≡ image_text other → at_rest device ≡ at_rest other
 one_device_lem device other formed right e =
     let sizes = one_size (image_text device) device.size other.size (page_lines device.image device.wear) (page_lines other.image other.wear) (begins device formed)
     (subst (λ text. BeginsWithSize text other.size (page_lines other.image other.wear)) (sym e) (begins other right)) in

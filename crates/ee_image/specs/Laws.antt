@@ -1,5 +1,5 @@
 -- What holds of every device and every text.
-use Rattle.std.specs.Prelude.{◌≡◌, List, ℕ}
+use Rattle.std.specs.Prelude.{◌≡◌, ◌⊎◌, List, ℕ}
 use Rattle.ee_flash.specs.Device.{Device, IsFormed}
 use Rattle.ee_image.specs.Text.{image_text, at_rest}
 use Rattle.ee_image.specs.Fault.{IsTextFault}
@@ -16,3 +16,7 @@ TextsAreGood = (device : Device) (fault : ImageFault) → IsFormed device → Is
 -- a text has one fault at most
 abbrev pub OneFault : Type 0
 OneFault = (text : List ℕ) (fault other : ImageFault) → IsTextFault text fault → IsTextFault text other → fault ≡ other
+
+-- every text is a device's or has a fault
+abbrev pub EveryText : Type 0
+EveryText = (text : List ℕ) → ((device : Device) × IsFormed device × (text ≡ image_text device)) ⊎ ((fault : ImageFault) × IsTextFault text fault)

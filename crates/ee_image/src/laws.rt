@@ -1,5 +1,5 @@
 //! What holds of every device and every text. Each function does nothing: its contract is the law.
-ghost use Rattle.ee_image.specs.Laws.{OneDevice, TextsAreGood, OneFault};
+ghost use Rattle.ee_image.specs.Laws.{EveryText, OneDevice, OneFault, TextsAreGood};
 
 /// Two devices with one text are the same, but for power and cuts.
 pub fn one_device()
@@ -14,4 +14,9 @@ pub fn texts_are_good()
 /// A text has one fault at most.
 pub fn one_fault()
     ensures { OneFault }
+{}
+
+/// Every text is a device's or has a fault.
+pub fn every_text()
+    ensures { EveryText }
 {}

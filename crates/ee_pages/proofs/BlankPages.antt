@@ -1,5 +1,7 @@
 -- How many pages of a set are not blank after a step in it, and where every slot is written.
-use Rattle.std.proofs.Common.{◌≡◌, inl, inr, ℕ, ◌+◌, ◌-◌, ◌*◌, ◌<◌, ◌≤◌, Bool, true, false, not, cond, List, [], ◌∷◌, length, get_or, set, replicate, refl, sym, ap, ◌∙◌, arith, suc}
+use Rattle.ee_flash.specs.Size.{slot_count}
+use Rattle.ee_pages.specs.Legal.{IsLive}
+use Rattle.std.proofs.Common.{◌≡◌, inl, inr, ℕ, ◌+◌, ◌-◌, ◌*◌, ◌<◌, ◌≤◌, Bool, true, false, not, cond, List, [], ◌∷◌, length, get_or, set, replicate, refl, sym, ap, ◌∙◌, arith, suc, ◌⊎◌}
 use Rattle.std.specs.List.{filter}
 use Rattle.std.proofs.lemmas.Bool.{cases_Bool}
 use Rattle.std.proofs.lemmas.List.{get_or-replicate, get_or-set_same, length-replicate}
@@ -9,14 +11,13 @@ use Rattle.std.proofs.lemmas.List.Sums.{length-filter, prefix_len_passes, sum_by
 use Rattle.std.proofs.lemmas.Nat.{row_fits}
 use Rattle.ee_flash.specs.Device.{Device, page_at}
 use Rattle.ee_flash.specs.Laws.{IsStep, page_of}
-use Rattle.ee_flash.specs.Step.{Erase, Program, Step}
+use Rattle.ee_flash.specs.Step.{Erase, Program, Step, completed}
 use Rattle.ee_flash.specs.declared.word.Word.{Word}
 use Rattle.ee_flash.specs.declared.word.Word.TheVariants.{Erased}
 use Rattle.ee_flash.proofs.Outcomes.{step_changes_one_page}
 use Rattle.ee_pages.specs.Laws.{IsPageOf}
 use Rattle.ee_pages.specs.Page.{is_blank, is_written}
-use Rattle.ee_pages.specs.Pending.{EraseLowersPending, FullSetHasNoBlankPage, ProgramKeepsPending, WholeEraseLowersPending}
-use Rattle.ee_pages.specs.Sets.{first_page, front, pending_of, set_of, slots_of}
+use Rattle.ee_pages.specs.Sets.{first_page, front, pending_of, set_of, slots_of, fill_of}
 use Rattle.ee_pages.specs.declared.side.Side.{Side}
 use Rattle.ee_pages.proofs.Legal.{fill-front}
 use Rattle.ee_pages.proofs.OtherPages.{program_leaves_written}
@@ -46,7 +47,8 @@ after_step step old new side of taken =
     let count = replaced (set_of side old) k (page_at new page) within in
     rw moved (rw there at count)
 
-pub erase_lowers_pending : EraseLowersPending
+pub erase_lowers_pending : (page : ℕ) (old new : Device) (side : Side) → IsPageOf old.size side page → is_blank (page_at old page) ≡ false → IsStep (Erase page) old new
+    → (pending_of (set_of side new) ≡ pending_of (set_of side old)) ⊎ (pending_of (set_of side new) + 1 ≡ pending_of (set_of side old))
 erase_lowers_pending page old new side of written taken =
     let count = after_step (Erase page) old new side of taken in
     elim (cases_Bool (is_blank (page_at new page))) [
@@ -54,7 +56,8 @@ erase_lowers_pending page old new side of written taken =
       | inr still ↦ inl (omega (arith, rw (written, still) at count))
     ]
 
-pub whole_erase_lowers_pending : WholeEraseLowersPending
+pub whole_erase_lowers_pending : (page : ℕ) (old new : Device) (side : Side) → IsPageOf old.size side page → is_blank (page_at old page) ≡ false → IsStep (Erase page) old new
+    → new ≡ completed (Erase page) old → (pending_of (set_of side new) + 1 ≡ pending_of (set_of side old)) × (is_blank (page_at new page) ≡ true)
 whole_erase_lowers_pending page old new side of written taken whole =
     let count = after_step (Erase page) old new side of taken in
     let words = old.size.words in
@@ -65,7 +68,8 @@ whole_erase_lowers_pending page old new side of written taken whole =
     ap is_blank there ∙ blank_page (replicate words Erased) words (length-replicate words Erased) (λ k h. ap is_written (get_or-replicate words k Erased Erased h)) in
     (omega (arith, rw (written, blank) at count), blank)
 
-pub program_keeps_pending : ProgramKeepsPending
+pub program_keeps_pending : (page at value : ℕ) (old new : Device) (side : Side) → IsPageOf old.size side page → is_blank (page_at old page) ≡ false
+    → IsStep (Program page at value) old new → pending_of (set_of side new) ≡ pending_of (set_of side old)
 program_keeps_pending page at value old new side of written taken =
     let count = after_step (Program page at value) old new side of taken in
     let still : is_blank (page_at new page) ≡ false = elim (program_leaves_written page at value old new taken) [
@@ -80,7 +84,8 @@ all_pass p d (x ∷ xs) each =
     let here : p x ≡ true = each 0 (omega arith) in
     rw here (ap suc (all_pass p d xs (λ k h. each (suc k) (omega arith))))
 
-pub full_set_has_no_blank_page : FullSetHasNoBlankPage
+pub full_set_has_no_blank_page : (device : Device) (side : Side) (generation : ℕ) → IsLive device side generation
+    → fill_of (slots_of (set_of side device)) ≡ slot_count device.size → pending_of (set_of side device) ≡ device.size.pages
 full_set_has_no_blank_page device side generation live full =
     let pages = set_of side device in
     let words = device.size.words in

@@ -12,8 +12,8 @@ use Rattle.ee_flash.specs.declared.word.Word.TheVariants.{Erased, Held, Torn}
 use Rattle.ee_flash.proofs.Outcomes.{step_changes_one_page, step_keeps_formed, step_leaves_pages}
 use Rattle.ee_codec.proofs.Spelling.{receive_of-receive}
 use Rattle.ee_codec.specs.Reading.{mark_of, receive_of}
-use Rattle.ee_codec.specs.declared.header.TheConstants.{MARK}
-use Rattle.ee_pages.specs.Filling.{CommitCommits, IsCommitted, IsFilling, WholeCommitCommits}
+use Rattle.ee_codec.specs.Words.{mark_number, IsGeneration}
+use Rattle.ee_pages.specs.Filling.{IsCommitted, IsFilling}
 use Rattle.ee_pages.specs.Laws.{IsPageOf, Keeps}
 use Rattle.ee_pages.specs.Legal.{IsLive, is_allowed, is_allowed_at}
 use Rattle.ee_pages.specs.Page.{marking, word_in}
@@ -74,22 +74,22 @@ further_words pages word page at further =
     ap (λ words. word_in words at) (get_or-set_other pages 0 page (set (get_or pages 0 []) 1 word) [] further)
 
 -- the place of the mark that commits takes any word
-any_commits : (size : Size) (generation written : ℕ) → is_allowed size generation written 0 1 (Held MARK) ≡ true
+any_commits : (size : Size) (generation written : ℕ) → is_allowed size generation written 0 1 (Held mark_number) ≡ true
 any_commits size generation written = grind (arith, common_steps)
 
 pub marked_commits : (pages : List (List Word)) (word : Word) → 0 < length pages → 1 < length (get_or pages 0 []) → committed (marked pages word) ≡ cond (is_mark (mark_of word)) (receive_of (word_of pages 0 0)) None
 marked_commits pages word some long = rw (marked_word pages word some long, first_words pages word 0 some (λ e. cc)) refl
 
-pub mark_allowed : (size : Size) (generation : ℕ) (pages : List (List Word)) (page at : ℕ) → 0 < length pages → 1 < length (get_or pages 0 []) → is_allowed_at size generation pages page at ≡ true → is_allowed_at size generation (marked pages (Held MARK)) page at ≡ true
+pub mark_allowed : (size : Size) (generation : ℕ) (pages : List (List Word)) (page at : ℕ) → 0 < length pages → 1 < length (get_or pages 0 []) → is_allowed_at size generation pages page at ≡ true → is_allowed_at size generation (marked pages (Held mark_number)) page at ≡ true
 mark_allowed size generation pages page at some long before =
-    let slots : slots_of (marked pages (Held MARK)) ≡ slots_of pages = header_word pages 0 1 (Held MARK) (omega arith) in
-    let same : word_of (marked pages (Held MARK)) page at ≡ word_of pages page at → is_allowed_at size generation (marked pages (Held MARK)) page at ≡ true =
+    let slots : slots_of (marked pages (Held mark_number)) ≡ slots_of pages = header_word pages 0 1 (Held mark_number) (omega arith) in
+    let same : word_of (marked pages (Held mark_number)) page at ≡ word_of pages page at → is_allowed_at size generation (marked pages (Held mark_number)) page at ≡ true =
     λ e. rw (slots, e) before in
     elim (cases_eq page 0) [
-      | inr further ↦ same (further_words pages (Held MARK) page at further)
+      | inr further ↦ same (further_words pages (Held mark_number) page at further)
       | inl zero ↦ elim (cases_eq at 1) [
-        | inr other ↦ same (ap (λ n. word_of (marked pages (Held MARK)) n at) zero ∙ first_words pages (Held MARK) at some other ∙ ap (λ n. word_of pages n at) (sym zero))
-        | inl one ↦ rw (zero, one, marked_word pages (Held MARK) some long) (any_commits size generation (front (slots_of (marked pages (Held MARK)))))
+        | inr other ↦ same (ap (λ n. word_of (marked pages (Held mark_number)) n at) zero ∙ first_words pages (Held mark_number) at some other ∙ ap (λ n. word_of pages n at) (sym zero))
+        | inl one ↦ rw (zero, one, marked_word pages (Held mark_number) some long) (any_commits size generation (front (slots_of (marked pages (Held mark_number)))))
       ]
     ]
 
@@ -135,9 +135,9 @@ module _ (old new : Device) (side : Side) (generation count : ℕ) (live : IsLiv
   -- the whole mark
   commits_whole : new.image ≡ (completed (marking (first_page old.size (other side)) Active) old).image → IsCommitted old new (other side) (generation + 1)
   commits_whole is =
-      let pages = set_marked old new (other side) taken.formed differs (Held MARK) is in
+      let pages = set_marked old new (other side) taken.formed differs (Held mark_number) is in
       let after : committed (set_of (other side) new) ≡ Some (generation + 1) =
-      ap committed pages ∙ marked_commits (set_of (other side) old) (Held MARK) some long ∙ ap receive_of filling.receives ∙ receive_of-receive (generation + 1) (omega arith, proper) in
+      ap committed pages ∙ marked_commits (set_of (other side) old) (Held mark_number) some long ∙ ap receive_of filling.receives ∙ receive_of-receive (generation + 1) (omega arith, proper) in
       let before : committed (set_of side new) ≡ Some generation = ap committed same_live ∙ live_commits side old generation live.live in
       record {
         live = record {
@@ -148,11 +148,11 @@ module _ (old new : Device) (side : Side) (generation count : ℕ) (live : IsLiv
               let old_at : at < old.size.words = omega (arith, ap (λ size. size.words) differs.same_size) in
               let fact = mark_allowed old.size (generation + 1) (set_of (other side) old) page at some long (filling.allowed page at old_page old_at) in
               ap (λ (all : List (List Word)). is_allowed_at new.size (generation + 1) all page at) pages
-              ∙ ap (λ size. is_allowed_at size (generation + 1) (marked (set_of (other side) old) (Held MARK)) page at) differs.same_size
+              ∙ ap (λ size. is_allowed_at size (generation + 1) (marked (set_of (other side) old) (Held mark_number)) page at) differs.same_size
               ∙ fact;
         };
         same_size = differs.same_size;
-        same_slots = ap slots_of pages ∙ header_word (set_of (other side) old) 0 1 (Held MARK) (omega arith);
+        same_slots = ap slots_of pages ∙ header_word (set_of (other side) old) 0 1 (Held mark_number) (omega arith);
       }
 
   keeps_by : (committed (set_of (other side) new) ≡ committed (set_of (other side) old)) ⊎ (committed (set_of (other side) new) ≡ None) → Keeps old new side generation
@@ -171,12 +171,17 @@ module _ (old new : Device) (side : Side) (generation count : ℕ) (live : IsLiv
     | inr (inr torn) ↦ inl (torn_keeps torn)
   ]
 
-pub commit_commits : CommitCommits
+pub commit_commits : (old new : Device) (side : Side) (generation count : ℕ) → IsLive old side generation → IsFilling old (other side) (generation + 1) count
+    → IsGeneration (generation + 1) → IsStep (marking (first_page old.size (other side)) Active) old new
+    → (set_of side new ≡ set_of side old)
+    × (Keeps old new side generation ⊎ IsCommitted old new (other side) (generation + 1))
 commit_commits old new side generation count live filling proper taken =
     let below : generation + 1 < 4294967295 = omega (arith, proper.1) in
     (same_live old new side generation count live filling below taken, outcomes old new side generation count live filling below taken)
 
-pub whole_commit_commits : WholeCommitCommits
+pub whole_commit_commits : (old new : Device) (side : Side) (generation count : ℕ) → IsLive old side generation → IsFilling old (other side) (generation + 1) count
+    → IsGeneration (generation + 1) → let step = marking (first_page old.size (other side)) Active in IsStep step old new → new ≡ completed step old
+    → IsCommitted old new (other side) (generation + 1)
 whole_commit_commits old new side generation count live filling proper taken whole =
     let below : generation + 1 < 4294967295 = omega (arith, proper.1) in
     commits_whole old new side generation count live filling below taken (ap (λ (device : Device). device.image) whole)

@@ -1,5 +1,7 @@
 -- What steps in the set that a transfer fills make of it.
-use Rattle.std.proofs.Common.{◌≡◌, inl, inr, ℕ, ◌+◌, Bool, true, false, not, ◌&&◌, List, [], length, get_or, refl, sym, subst, ap, ◌∙◌, arith}
+use Rattle.ee_pages.specs.declared.state.Mark.TheVariants.{Receive}
+use Rattle.ee_pages.specs.Pushing.{slot_step}
+use Rattle.std.proofs.Common.{◌≡◌, inl, inr, ℕ, ◌+◌, Bool, true, false, not, ◌&&◌, List, [], length, get_or, refl, sym, subst, ap, ◌∙◌, arith, slice_set, ◌<◌, ◌*◌, ◌-◌, ◌≤◌, None}
 use Rattle.std.specs.List.{All, list_any}
 use Rattle.std.proofs.lemmas.Bool.{cases_lt}
 use Rattle.std.proofs.lemmas.Grind.{common_steps}
@@ -13,11 +15,11 @@ use Rattle.ee_flash.specs.Step.{Program, completed}
 use Rattle.ee_flash.specs.declared.word.Word.{Word}
 use Rattle.ee_flash.specs.declared.word.Word.TheVariants.{Erased, Held, Torn}
 use Rattle.ee_flash.proofs.Outcomes.{step_changes_one_page, step_keeps_formed}
-use Rattle.ee_codec.specs.Words.{receive}
-use Rattle.ee_pages.specs.Filling.{OpensPage, OpensSet, StagesChange}
+use Rattle.ee_codec.specs.Words.{receive, IsGeneration}
+use Rattle.ee_pages.specs.Filling.{IsFilling}
 use Rattle.ee_pages.specs.Legal.{fits, is_allowed, place_of}
-use Rattle.ee_pages.specs.Meaning.{meaning, value_said}
-use Rattle.ee_pages.specs.Page.{is_blank, is_written, word_in}
+use Rattle.ee_pages.specs.Meaning.{meaning, value_said, Change, Spells, changed}
+use Rattle.ee_pages.specs.Page.{is_blank, is_written, word_in, marking}
 use Rattle.ee_pages.specs.Sets.{fill_of, first_page, front, page_of_slot, place_of_slot, set_of, slots_of, word_of}
 use Rattle.ee_pages.specs.declared.side.Side.{Side}
 use Rattle.ee_pages.specs.declared.table.Place.{Place}
@@ -30,7 +32,12 @@ use Rattle.ee_pages.proofs.SetPrograms.{was_erased, whole_in_set}
 use Rattle.ee_pages.proofs.Slots.{length-slots, page_in_range, slot_at}
 use Rattle.ee_pages.proofs.SlotWrites.{IsSlotWritten, change_written, changes}
 
-pub stages_change : StagesChange
+pub stages_change : (change : Change) (number : ℕ) (old new : Device) (side : Side) (generation count : ℕ) → IsFilling old side generation count
+    → count < slot_count old.size → Spells number change
+    → let step = slot_step old.size side count number in IsStep step old new → new ≡ completed step old
+    → IsFilling new side generation (count + 1)
+    × (slots_of (set_of side new) ≡ slice_set (slots_of (set_of side old)) count (Held number))
+    × ((address : ℕ) → meaning (slots_of (set_of side new)) address ≡ changed change (meaning (slots_of (set_of side old))) address)
 stages_change change number old new side generation count filling room spells taken done =
     let slots = slots_of (set_of side old) in
     let k = page_of_slot old.size count in
@@ -53,7 +60,10 @@ stages_change change number old new side generation count filling room spells ta
 receives-own : (generation : ℕ) → fits generation Receiving (Held (receive generation)) ≡ true
 receives-own generation = grind (arith, common_steps)
 
-pub opens_page : OpensPage
+pub opens_page : (page : ℕ) (old new : Device) (side : Side) (generation count : ℕ) → IsGeneration generation → IsFilling old side generation count
+    → page < old.size.pages → page * (old.size.words - 4) ≤ count
+    → let step = marking (first_page old.size side + page) (Receive generation) in IsStep step old new → new ≡ completed step old
+    → IsFilling new side generation count × (slots_of (set_of side new) ≡ slots_of (set_of side old))
 opens_page page old new side generation count proper filling in_range behind taken done = elim (first_or_further page) [
   | inl first ↦
       let erased = was_erased side old new page 0 (receive generation) in_range taken in
@@ -127,7 +137,9 @@ blank_slots side device formed blank slot = elim (cases_lt slot (slot_count devi
   | inl within ↦ ap is_written (slot_at side device slot formed within ∙ blank_set (set_of side device) (page_of_slot device.size slot) (place_of_slot device.size slot) blank)
 ]
 
-pub opens_set : OpensSet
+pub opens_set : (old new : Device) (side : Side) (generation : ℕ) → IsGeneration generation → All (λ page. is_blank page ≡ true) (set_of side old)
+    → let step = marking (first_page old.size side) (Receive generation) in IsStep step old new → new ≡ completed step old
+    → IsFilling new side generation 0 × ((address : ℕ) → meaning (slots_of (set_of side new)) address ≡ None)
 opens_set old new side generation proper blank taken done =
     let word = Held (receive generation) in
     let size = (step_changes_one_page _ old new taken).same_size in

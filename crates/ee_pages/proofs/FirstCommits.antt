@@ -8,8 +8,8 @@ use Rattle.ee_flash.specs.declared.word.Word.TheVariants.{Held}
 use Rattle.ee_flash.proofs.Outcomes.{step_changes_one_page, step_keeps_formed}
 use Rattle.ee_codec.proofs.Spelling.{receive_of-receive}
 use Rattle.ee_codec.specs.Reading.{receive_of}
-use Rattle.ee_codec.specs.declared.header.TheConstants.{MARK}
-use Rattle.ee_pages.specs.Filling.{FirstCommitCommits, IsCommitted, IsFilling}
+use Rattle.ee_codec.specs.Words.{mark_number, IsGeneration}
+use Rattle.ee_pages.specs.Filling.{IsCommitted, IsFilling}
 use Rattle.ee_pages.specs.Laws.{IsPageOf}
 use Rattle.ee_pages.specs.Legal.{is_allowed_at}
 use Rattle.ee_pages.specs.Page.{marking}
@@ -53,9 +53,9 @@ module _ (old new : Device) (side : Side) (generation count : ℕ) (filling : Is
 
   commits : new.image ≡ (completed (marking (first_page old.size side) Active) old).image → IsCommitted old new side generation
   commits is =
-      let pages = set_marked old new side taken.formed differs (Held MARK) is in
+      let pages = set_marked old new side taken.formed differs (Held mark_number) is in
       let after : committed (set_of side new) ≡ Some generation =
-      ap committed pages ∙ marked_commits (set_of side old) (Held MARK) some_pages long ∙ ap receive_of filling.receives ∙ receive_of-receive generation (some, below) in
+      ap committed pages ∙ marked_commits (set_of side old) (Held mark_number) some_pages long ∙ ap receive_of filling.receives ∙ receive_of-receive generation (some, below) in
       record {
         live = record {
           formed = step_keeps_formed (marking (first_page old.size side) Active) old new taken;
@@ -65,14 +65,16 @@ module _ (old new : Device) (side : Side) (generation count : ℕ) (filling : Is
               let old_at : at < old.size.words = omega (arith, ap (λ size. size.words) differs.same_size) in
               let fact = mark_allowed old.size generation (set_of side old) page at some_pages long (filling.allowed page at old_page old_at) in
               ap (λ (all : List (List Word)). is_allowed_at new.size generation all page at) pages
-              ∙ ap (λ size. is_allowed_at size generation (marked (set_of side old) (Held MARK)) page at) differs.same_size
+              ∙ ap (λ size. is_allowed_at size generation (marked (set_of side old) (Held mark_number)) page at) differs.same_size
               ∙ fact;
         };
         same_size = differs.same_size;
-        same_slots = ap slots_of pages ∙ header_word (set_of side old) 0 1 (Held MARK) (omega arith);
+        same_slots = ap slots_of pages ∙ header_word (set_of side old) 0 1 (Held mark_number) (omega arith);
       }
 
-pub first_commit_commits : FirstCommitCommits
+pub first_commit_commits : (old new : Device) (side : Side) (generation count : ℕ) → IsFilling old side generation count → IsGeneration generation
+    → committed (set_of (other side) old) ≡ None → let step = marking (first_page old.size side) Active in IsStep step old new → new ≡ completed step old
+    → IsCommitted old new side generation × (set_of (other side) new ≡ set_of (other side) old)
 first_commit_commits old new side generation count filling proper alone taken whole =
     let some : 0 < generation = omega (arith, proper.0) in
     let below : generation < 4294967295 = omega (arith, proper.1) in

@@ -1,4 +1,6 @@
 -- How many addresses have a value.
+use Rattle.ee_pages.specs.Sets.{fill_of}
+use Rattle.ee_codec.specs.Words.{IsAddress}
 use Rattle.std.proofs.Common.{◌≡◌, ◌≢◌, inl, inr, ℕ, ◌+◌, ◌<◌, ◌≤◌, Bool, true, false, cond, Option, Some, None, is_some, List, [], ◌∷◌, refl, sym, ap, ◌∙◌, arith, suc, zero}
 use Rattle.std.proofs.lemmas.Bool.{cases_eq}
 use Rattle.std.proofs.lemmas.Grind.{common_steps}
@@ -7,8 +9,8 @@ use Rattle.ee_flash.specs.declared.word.Word.TheVariants.{Erased, Held, Torn}
 use Rattle.ee_codec.specs.Reading.{slot_of}
 use Rattle.ee_codec.specs.declared.slot.Slot.{Slot}
 use Rattle.ee_codec.specs.declared.slot.Slot.TheVariants.{Free, Spoiled, Element, Forgotten, Foreign}
-use Rattle.ee_pages.specs.Meaning.{Forget, Map, Put, changed, later, latest_in, live_in, live_to, meaning, slot_says, value_said}
-use Rattle.ee_pages.specs.Pending.{ChangeCounts, LiveWithinFill}
+use Rattle.ee_pages.specs.Meaning.{Forget, Map, Put, changed, later, latest_in, live_in, live_to, meaning, slot_says, value_said, Change}
+use Rattle.ee_pages.specs.Pending.{IsCountAfter, address_of}
 use Rattle.ee_pages.proofs.Counts.{gap_to, live_to-suc, live_to-zero}
 
 one_or_none : (b : Bool) → cond b 1 0 ≤ 1
@@ -70,7 +72,7 @@ put_count : (b : Bool) (old new : ℕ) → new + cond b 1 0 ≡ old + 1 → new 
 put_count true old new e = omega arith
 put_count false old new e = omega arith
 
-pub change_counts : ChangeCounts
+pub change_counts : (change : Change) (map : Map) → IsAddress (address_of change) → IsCountAfter change map
 change_counts (Put address value) map proper =
     let new = changed (Put address value) map in
     let fact = live_in-differs map new address (λ other apart. put_elsewhere address value other map apart) proper.0 proper.1 in
@@ -110,7 +112,7 @@ erased_in_front slots address = ap value_said (later_none (latest_in slots addre
 one_front : (slot : Word) (slots : List Word) → live_in (meaning (slot ∷ slots)) ≤ live_in (meaning slots) + 1
 one_front slot slots = one_at_most (meaning slots) (meaning (slot ∷ slots)) (named_by (slot_of slot)) (in_front slot slots) 65534
 
-pub live_within_fill : LiveWithinFill
+pub live_within_fill : (slots : List Word) → live_in (meaning slots) ≤ fill_of slots
 live_within_fill [] = let none = gap_to (meaning []) 0 65534 (omega arith) (λ address low high. refl) in omega (arith, none, live_to-zero (meaning []))
 live_within_fill (Erased ∷ slots) =
     let same = below (meaning slots) (meaning (Erased ∷ slots)) 65535 (λ address other. erased_in_front slots address) 65534 (omega arith) in

@@ -1,16 +1,19 @@
 -- What a step in the live set leaves.
-use Rattle.std.proofs.Common.{◌≡◌, ◌≢◌, ◌⊎◌, inl, inr, ℕ, ◌+◌, ◌-◌, ◌*◌, ◌<◌, ◌≤◌, true, Some, None, List, set, refl, sym, subst, ap, ◌∙◌, arith}
+use Rattle.ee_pages.specs.Page.{marking}
+use Rattle.ee_pages.specs.declared.state.Mark.{Mark}
+use Rattle.ee_flash.specs.Size.{slot_count}
+use Rattle.std.proofs.Common.{◌≡◌, ◌≢◌, ◌⊎◌, inl, inr, ℕ, ◌+◌, ◌-◌, ◌*◌, ◌<◌, ◌≤◌, true, Some, None, List, set, refl, sym, subst, ap, ◌∙◌, arith, slice_set}
 use Rattle.ee_flash.specs.Device.{Device, IsFormed}
 use Rattle.ee_flash.specs.Laws.{IsStep}
-use Rattle.ee_flash.specs.Step.{Program}
+use Rattle.ee_flash.specs.Step.{Program, completed}
 use Rattle.ee_flash.specs.declared.word.Word.{Word}
 use Rattle.ee_flash.specs.declared.word.Word.TheVariants.{Erased, Held, Torn}
 use Rattle.ee_flash.proofs.Outcomes.{step_changes_one_page, step_keeps_formed}
 use Rattle.ee_pages.specs.Laws.{Keeps}
-use Rattle.ee_codec.specs.declared.header.TheConstants.{MARK}
+use Rattle.ee_codec.specs.Words.{mark_number}
 use Rattle.ee_pages.specs.Legal.{IsLive, fits, place_of}
-use Rattle.ee_pages.specs.Meaning.{Map, changed, meaning, value_said}
-use Rattle.ee_pages.specs.Pushing.{MarkKeepsLive, PushTakes, Takes, WholePushTakes}
+use Rattle.ee_pages.specs.Meaning.{Map, changed, meaning, value_said, Change, Spells}
+use Rattle.ee_pages.specs.Pushing.{Takes, slot_step, IsMarkBehind}
 use Rattle.ee_pages.specs.Sets.{committed, fill_of, first_page, greater, live_of, other, page_of_slot, place_of_slot, set_of, slots_of, word_of}
 use Rattle.ee_pages.specs.declared.side.Side.{Side}
 use Rattle.ee_pages.specs.declared.side.Side.TheVariants.{First, Second}
@@ -56,7 +59,11 @@ module _ (side : Side) (old new : Device) (generation : ℕ) (live : IsLive old 
     map_is = means;
   }
 
-pub whole_push_takes : WholePushTakes
+pub whole_push_takes : (change : Change) (number : ℕ) (old new : Device) (side : Side) (generation : ℕ) → IsLive old side generation
+    → let slots = slots_of (set_of side old) in fill_of slots < slot_count old.size → Spells number change
+    → let step = slot_step old.size side (fill_of slots) number in IsStep step old new → new ≡ completed step old
+    → Takes old new side generation (changed change (meaning slots))
+    × (slots_of (set_of side new) ≡ slice_set slots (fill_of slots) (Held number))
 whole_push_takes change number old new side generation live room spells taken done =
     let slots = slots_of (set_of side old) in
     let slot = fill_of slots in
@@ -70,7 +77,12 @@ whole_push_takes change number old new side generation live room spells taken do
       let put_there : slots_of (set_of side new) ≡ set slots slot (Held number) = written.slots in search put_there,
     )
 
-pub push_takes : PushTakes
+pub push_takes : (change : Change) (number : ℕ) (old new : Device) (side : Side) (generation : ℕ) → IsLive old side generation
+    → let slots = slots_of (set_of side old) in fill_of slots < slot_count old.size → Spells number change
+    → IsStep (slot_step old.size side (fill_of slots) number) old new
+    → (set_of (other side) new ≡ set_of (other side) old)
+    × (Keeps old new side generation ⊎ Takes old new side generation (meaning slots)
+    ⊎ Takes old new side generation (changed change (meaning slots)))
 push_takes change number old new side generation live room spells taken =
     let slots = slots_of (set_of side old) in
     let slot = fill_of slots in
@@ -109,32 +121,34 @@ marked : (side : Side) (device : Device) (generation : ℕ) → IsLive device si
 marked side device generation live none = no_commit side device generation live.live (rw none refl)
 
 -- a mark's word, not one of the two that commit the set
-mark_at : (at k : ℕ) (old new : Device) (side : Side) (generation : ℕ) → IsLive old side generation → k < old.size.pages → k * (old.size.words - 4) ≤ fill_of (slots_of (set_of side old)) → at < 4 → 0 ≢ at → (0 ≢ k) ⊎ (1 ≢ at) → place_of k at ≡ Marking → IsStep (Program (first_page old.size side + k) at MARK) old new → Keeps old new side generation × (set_of (other side) new ≡ set_of (other side) old)
+mark_at : (at k : ℕ) (old new : Device) (side : Side) (generation : ℕ) → IsLive old side generation → k < old.size.pages → k * (old.size.words - 4) ≤ fill_of (slots_of (set_of side old)) → at < 4 → 0 ≢ at → (0 ≢ k) ⊎ (1 ≢ at) → place_of k at ≡ Marking → IsStep (Program (first_page old.size side + k) at mark_number) old new → Keeps old new side generation × (set_of (other side) new ≡ set_of (other side) old)
 mark_at at k old new side generation live in_range behind header not_receive not_active place taken =
     let formed = step_keeps_formed _ old new taken in
     let size = (step_changes_one_page _ old new taken).same_size in
-    let apart = other_in_set side old new k at MARK in_range taken in
+    let apart = other_in_set side old new k at mark_number in_range taken in
     let written = λ (word : Word) (fit : fits generation Marking word ≡ true) (put : set_of side new ≡ with_word_in (set_of side old) k at word).
     subst (IsHeaderWritten old generation k at word (set_of side old)) (sym put)
     (header_written side old generation taken.formed live.allowed k at word in_range header behind (ap (λ place. fits generation place word) place ∙ fit)) in
     let kept = λ (word : Word) (left : IsHeaderWritten old generation k at word (set_of side old) (set_of side new)).
     keeps side old new generation live formed size apart
     (same_commit (set_of side old) (set_of side new) (left.elsewhere 0 0 (inr not_receive)) (left.elsewhere 0 1 not_active)) left.obeyed left.slots in (
-      elim (program_in_set side old new k at MARK in_range taken) [
+      elim (program_in_set side old new k at mark_number in_range taken) [
         | inl same ↦ keeps_same side old new generation live formed size apart same
-        | inr (inl held) ↦ kept (Held MARK) (written (Held MARK) refl held)
+        | inr (inl held) ↦ kept (Held mark_number) (written (Held mark_number) refl held)
         | inr (inr torn) ↦ kept Torn (written Torn refl torn)
       ],
       apart,
     )
 
-pub mark_keeps_live : MarkKeepsLive
+pub mark_keeps_live : (page : ℕ) (mark : Mark) (old new : Device) (side : Side) (generation : ℕ) → IsLive old side generation
+    → IsMarkBehind old side page mark → IsStep (marking (first_page old.size side + page) mark) old new
+    → Keeps old new side generation × (set_of (other side) new ≡ set_of (other side) old)
 mark_keeps_live page (marks.Receive given) old new side generation live behind taken = elim behind.active_or_valid [
   | inl active ↦ cc active
   | inr valid ↦ cc valid
 ]
 mark_keeps_live page marks.Active old new side generation live behind taken = elim (first_or_further page) [
-  | inl first ↦ absurd (marked side old generation live (ap (λ n. word_of (set_of side old) n 1) (sym first) ∙ was_erased side old new page 1 MARK behind.in_range taken))
+  | inl first ↦ absurd (marked side old generation live (ap (λ n. word_of (set_of side old) n 1) (sym first) ∙ was_erased side old new page 1 mark_number behind.in_range taken))
   | inr further ↦ mark_at 1 page old new side generation live behind.in_range (omega (arith, behind.behind)) (omega arith) (λ e. absurd (omega arith)) (inl (λ e. absurd (omega arith))) (place_of-active page further) taken
 ]
 mark_keeps_live page marks.Valid old new side generation live behind taken =

@@ -9,7 +9,7 @@ use Rattle.ee_flash.specs.declared.word.Word.{Word}
 use Rattle.ee_flash.specs.declared.word.Word.TheVariants.{Erased, Held, Torn}
 use Rattle.ee_flash.proofs.Outcomes.{step_changes_one_page, step_keeps_formed, step_leaves_pages}
 use Rattle.ee_codec.specs.Reading.{mark_of, receive_of}
-use Rattle.ee_pages.specs.Laws.{CannotCommit, IsPageOf, Keeps, OtherSetKeepsLive}
+use Rattle.ee_pages.specs.Laws.{CannotCommit, IsPageOf, Keeps}
 use Rattle.ee_pages.specs.Legal.{IsLive, is_allowed_at}
 use Rattle.ee_pages.specs.Meaning.{meaning}
 use Rattle.ee_pages.specs.Page.{word_in}
@@ -146,7 +146,9 @@ keeps_live side old new generation live formed same_size same after = record {
   same_map = λ address. ap (λ (pages : List (List Word)). meaning (slots_of pages) address) same;
 }
 
-pub other_set_keeps_live : OtherSetKeepsLive
+pub other_set_keeps_live : (step : Step) (old new : Device) (side : Side) (generation : ℕ) → IsLive old side generation → IsStep step old new
+    → IsPageOf old.size (other side) (page_of step) → CannotCommit (first_page old.size (other side)) step old
+    → Keeps old new side generation × (set_of side new ≡ set_of side old)
 other_set_keeps_live step old new side generation live taken at may =
     let differs = step_changes_one_page step old new taken in
     let formed = step_keeps_formed step old new taken in

@@ -5,8 +5,7 @@ use Rattle.ee_flash.specs.Size.{Size}
 use Rattle.ee_flash.specs.declared.word.Word.{Word}
 use Rattle.ee_flash.specs.declared.word.Word.TheVariants.{Erased, Held, Torn}
 use Rattle.ee_codec.specs.Reading.{slot_of}
-use Rattle.ee_codec.specs.Words.{receive}
-use Rattle.ee_codec.specs.declared.header.TheConstants.{MARK}
+use Rattle.ee_codec.specs.Words.{mark_number, receive}
 use Rattle.ee_codec.specs.declared.slot.Slot.{Slot}
 use Rattle.ee_codec.specs.declared.slot.Slot.TheVariants as slots
 use Rattle.ee_pages.specs.Page.{is_written}
@@ -43,7 +42,7 @@ fits generation Receiving (Held number) = number == receive generation
 -- further page, active; any page, valid: erased, torn, or the mark
 fits generation Marking Erased = true
 fits generation Marking Torn = true
-fits generation Marking (Held number) = number == MARK
+fits generation Marking (Held number) = number == mark_number
 -- any page, erasing: erased
 fits generation Erasing word = not (is_written word)
 -- slot: erased, torn, an element or a forgetting

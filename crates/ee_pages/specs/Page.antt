@@ -5,8 +5,7 @@ use Rattle.ee_flash.specs.Device.{Device, word_at}
 use Rattle.ee_flash.specs.Step.{Step, Program}
 use Rattle.ee_flash.specs.declared.word.Word.{Word}
 use Rattle.ee_flash.specs.declared.word.Word.TheVariants.{Erased}
-use Rattle.ee_codec.specs.declared.header.TheConstants.{MARK}
-use Rattle.ee_codec.specs.Words.{receive}
+use Rattle.ee_codec.specs.Words.{mark_number, receive}
 use Rattle.ee_pages.specs.declared.state.Mark.{Mark}
 use Rattle.ee_pages.specs.declared.state.Mark.TheVariants as marks
 use Rattle.ee_pages.specs.declared.state.State.{State}
@@ -43,7 +42,7 @@ place_of_mark marks.Erasing = 3
 -- the number that a mark is spelled by
 abbrev pub number_of_mark : Mark → ℕ
 number_of_mark (marks.Receive generation) = receive generation
-number_of_mark mark = MARK
+number_of_mark mark = mark_number
 
 -- the step that programs a mark
 abbrev pub marking : ℕ → Mark → Step

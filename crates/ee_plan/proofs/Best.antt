@@ -1,12 +1,11 @@
--- A trace that keeps within the slots has a tight certificate, which a schedule reaches and none betters.
-use Rattle.std.proofs.Common.{List, length, subst, arith, inl, inr}
+-- A schedule reaches a tight certificate and none betters it, and so it is wherever the trace is broken off.
+use Rattle.std.proofs.Common.{◌≡◌, ℕ, List, length, map, ap, ◌∙◌, arith, inl, inr}
 use Rattle.ee_check.specs.declared.change.Change.{Change}
-use Rattle.ee_check.specs.Live.{KeepsWithin}
 use Rattle.ee_check.specs.Schedule.{Situation, IsProper}
 use Rattle.ee_check.specs.Certificate.{Claim, IsTight, room}
-use Rattle.ee_check.proofs.Bounds.{certificates_dominate_lem, tight_are_certificates_lem, some_is_tight_lem, tight_is_met_lem}
-use Rattle.ee_plan.specs.Plan.{IsReached, NoneIsBetter, IsBest, EachPrefixIsBest}
-use Rattle.ee_plan.proofs.Fitting.{keeps_front}
+use Rattle.ee_check.proofs.Bounds.{certificates_dominate_lem, tight_are_certificates_lem, tight_is_met_lem}
+use Rattle.ee_plan.specs.Plan.{IsReached, NoneIsBetter, IsBest, IsBestThroughout, moments_within}
+use Rattle.ee_plan.proofs.Prefixes.{claim_within, positions_within, prefix_is_tight}
 
 pub tight_is_reached : (start : Situation) (trace : List Change) (claim : Claim) → IsProper start → IsTight start trace claim
     → IsReached start trace (length claim.stretches) (room start trace claim.stretches)
@@ -22,11 +21,18 @@ none_betters_tight start trace claim proper tight = λ moves schedule.
       | inr same ↦ inr (same.0, (let a = same.1 in let b = tight.fits in omega arith))
     ]
 
-best : (start : Situation) (trace : List Change) → IsProper start → KeepsWithin start.slots start.live trace → IsBest start trace
-best start trace proper keeps =
-    let found = some_is_tight_lem start trace proper keeps in
-    record { claim = found.0; tight = found.1; reached = tight_is_reached start trace found.0 proper found.1; none_better = none_betters_tight start trace found.0 proper found.1 }
+best : (start : Situation) (trace : List Change) (claim : Claim) (moments : List ℕ) → IsProper start → IsTight start trace claim
+    → moments ≡ map (λ stretch. stretch.to) claim.stretches → IsBest start trace moments
+best start trace claim moments proper tight positions = record {
+  claim = claim;
+  tight = tight;
+  positions = positions;
+  reached = tight_is_reached start trace claim proper tight;
+  none_better = none_betters_tight start trace claim proper tight;
+}
 
-pub each_prefix_is_best : (start : Situation) (trace : List Change) → IsProper start → KeepsWithin start.slots start.live trace → EachPrefixIsBest start trace
-each_prefix_is_best start trace proper keeps = λ prefix rest e.
-    best start prefix proper (keeps_front start.slots start.live prefix rest (subst (λ l. KeepsWithin start.slots start.live l) e keeps))
+pub best_throughout : (start : Situation) (trace : List Change) (claim : Claim) (moments : List ℕ) → IsProper start → IsTight start trace claim
+    → moments ≡ map (λ stretch. stretch.to) claim.stretches → IsBestThroughout start trace moments
+best_throughout start trace claim moments proper tight positions = λ prefix rest is.
+    best start prefix (claim_within prefix claim) (moments_within (length prefix) moments) proper (prefix_is_tight start trace prefix rest claim is tight)
+    (ap (moments_within (length prefix)) positions ∙ positions_within (length prefix) claim.stretches)

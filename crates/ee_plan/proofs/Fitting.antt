@@ -26,12 +26,7 @@ keeps_append slots live [] more keeps then = then
 keeps_append slots live (Write address ∷ changes) more keeps then = (keeps.0, keeps_append slots (changed live (Write address)) changes more keeps.1 then)
 keeps_append slots live (Forget address ∷ changes) more keeps then = keeps_append slots (changed live (Forget address)) changes more keeps then
 
--- the front of one that does, and what is behind it
-pub keeps_front : (slots : ℕ) (live : List ℕ) (changes more : List Change) → KeepsWithin slots live (changes ++ more) → KeepsWithin slots live changes
-keeps_front slots live [] more keeps = tt
-keeps_front slots live (Write address ∷ changes) more keeps = (keeps.0, keeps_front slots (changed live (Write address)) changes more keeps.1)
-keeps_front slots live (Forget address ∷ changes) more keeps = keeps_front slots (changed live (Forget address)) changes more keeps
-
+-- what is behind the front of one that does
 pub keeps_back : (slots : ℕ) (live : List ℕ) (changes more : List Change) → KeepsWithin slots live (changes ++ more) → KeepsWithin slots (live_after live changes) more
 keeps_back slots live [] more keeps = keeps
 keeps_back slots live (change ∷ changes) more keeps = keeps_back slots (changed live change) changes more (keeps_tail slots live change (changes ++ more) keeps)

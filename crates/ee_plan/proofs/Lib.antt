@@ -1,5 +1,6 @@
 pub mod Fitting
 pub mod Following
+pub mod Prefixes
 pub mod Best
 pub mod Whole
 pub mod Gathering

@@ -1,17 +1,17 @@
 -- What the planner's walk through the trace comes to.
-use Rattle.std.proofs.Common.{◌≡◌, ◌⊎◌, ℕ, ◌-◌, List, length, refl, sym, ap, subst, arith, inl, inr}
+use Rattle.std.proofs.Common.{◌≡◌, ◌⊎◌, ℕ, ◌-◌, List, length, map, refl, sym, ap, subst, arith, inl, inr}
 use Rattle.std.proofs.Math.Seq.{take-length}
 use Rattle.ee_check.specs.declared.change.Change.{Change}
 use Rattle.ee_check.specs.Live.{KeepsWithin}
 use Rattle.ee_check.specs.Schedule.{Situation, IsProper}
 use Rattle.ee_check.specs.Certificate.{Claim, first_place, IsTightStretch, EachStretch, IsHeader, IsCertificate, IsTight, used_at_end}
 use Rattle.ee_check.proofs.Bounds.{tight_are_certificates_lem}
-use Rattle.ee_plan.specs.Plan.{IsReached, EachPrefixIsBest, IsFirstNotFitting, IsPlanFault}
+use Rattle.ee_plan.specs.Plan.{IsReached, IsBestThroughout, IsFirstNotFitting, IsPlanFault}
 use Rattle.ee_plan.specs.LateStore.{LateStore, HasMade}
 use Rattle.ee_plan.specs.declared.planned.PlanFault.{PlanFault}
 use Rattle.ee_plan.specs.declared.planned.PlanFault.TheVariants.{NotFitting, Memory}
 use Rattle.ee_plan.proofs.Fitting.{none_breaks, one_first}
-use Rattle.ee_plan.proofs.Best.{tight_is_reached, each_prefix_is_best}
+use Rattle.ee_plan.proofs.Best.{tight_is_reached, best_throughout}
 
 -- after all changes
 
@@ -52,8 +52,13 @@ whole_reached start trace store transfers free proper made counted left =
       free_is = let a = reached.free_is in let b = used_now start trace store made in omega arith;
     }
 
-pub whole_best : (start : Situation) (trace : List Change) (store : LateStore) → IsProper start → HasMade start trace (length trace) store → EachPrefixIsBest start trace
-whole_best start trace store proper made = each_prefix_is_best start trace proper (whole_keeps start trace store made)
+pub whole_best : (start : Situation) (trace : List Change) (store : LateStore) (moments : List ℕ) → IsProper start → HasMade start trace (length trace) store
+    → moments ≡ map (λ stretch. stretch.to) store.stretches → IsBestThroughout start trace moments
+unfolding claim_after
+whole_best start trace store moments proper made positions =
+    let claim : Claim = claim_after start trace store in
+    let header : IsHeader start trace claim = record { slots = refl; fill = refl; live = refl; writes = refl } in
+    best_throughout start trace claim moments proper (whole_tight start trace store claim made refl header) positions
 
 pub whole_breaks_nowhere : (start : Situation) (trace : List Change) (store : LateStore) (n : ℕ) → HasMade start trace (length trace) store → IsFirstNotFitting start trace n → ⊥
 whole_breaks_nowhere start trace store n made first = none_breaks start trace n (whole_keeps start trace store made) first

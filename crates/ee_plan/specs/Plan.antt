@@ -1,5 +1,5 @@
 -- What a plan says of a start and a trace, and when there is none.
-use Rattle.std.specs.Prelude.{◌≡◌, ◌⊎◌, ℕ, ◌+◌, ◌-◌, ◌<◌, ◌≤◌, List, ◌∷◌, ◌++◌, length, map}
+use Rattle.std.specs.Prelude.{◌≡◌, ◌⊎◌, ℕ, ◌+◌, ◌-◌, ◌<◌, ◌≤◌, List, ◌∷◌, ◌++◌, filter, length, map, nat_le}
 use Rattle.ee_check.specs.declared.change.Change.{Change}
 use Rattle.ee_check.specs.declared.change.Change.TheVariants.{Write}
 use Rattle.ee_check.specs.Live.{changed, live_after, KeepsWithin}
@@ -28,16 +28,23 @@ abbrev pub NoneIsBetter : Situation → List Change → ℕ → ℕ → Type 0
 NoneIsBetter start trace transfers free = (moves : List Move) → IsSchedule start trace moves
     → (transfers < cost moves) ⊎ ((cost moves ≡ transfers) × (start.slots - free ≤ (after_moves start moves).fill))
 
--- a tight certificate of the trace, which a schedule reaches and none betters
-pub record IsBest (start : Situation) (trace : List Change) : Type 0 where
+-- these are the changes at which the stretches of a tight certificate of the trace end, which a schedule reaches and none
+-- betters
+pub record IsBest (start : Situation) (trace : List Change) (moments : List ℕ) : Type 0 where
   pub claim : Claim
   pub tight : IsTight start trace claim
+  pub positions : moments ≡ map (λ stretch. stretch.to) claim.stretches
   pub reached : IsReached start trace (length claim.stretches) (room start trace claim.stretches)
   pub none_better : NoneIsBetter start trace (length claim.stretches) (room start trace claim.stretches)
 
--- so it is wherever the trace is broken off
-abbrev pub EachPrefixIsBest : Situation → List Change → Type 0
-EachPrefixIsBest start trace = (prefix rest : List Change) → trace ≡ prefix ++ rest → IsBest start prefix
+-- those of the first n changes
+abbrev pub moments_within : ℕ → List ℕ → List ℕ
+moments_within n moments = filter (λ moment. nat_le moment n) moments
+
+-- Wherever the trace is broken off, the moments so far are so of what was made of it.
+abbrev pub IsBestThroughout : Situation → List Change → List ℕ → Type 0
+IsBestThroughout start trace moments = (prefix rest : List Change) → trace ≡ prefix ++ rest
+    → IsBest start prefix (moments_within (length prefix) moments)
 
 -- Change n, counted from 1, is the first that doesn't fit: a write that makes more addresses live than there are slots.
 pub record IsFirstNotFitting (start : Situation) (trace : List Change) (n : ℕ) : Type 0 where

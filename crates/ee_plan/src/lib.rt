@@ -5,8 +5,9 @@
 //! transfer. It makes one insertion or removal for each change.
 //!
 //! The layer above calls `plan`. Its contract has the whole promise: the certificate is tight, some
-//! schedule reaches it, and no schedule does better wherever the trace is broken off. `start_of` gives
-//! what a store gives a trace to start from: its slots, how many are used, and the live addresses.
+//! schedule reaches it, and wherever the trace is broken off, the moments so far are those of the tight
+//! certificate, which no schedule betters. `start_of` gives what a store gives a trace to start from: its
+//! slots, how many are used, and the live addresses.
 #![tactic(auto)]
 
 mod late_store;

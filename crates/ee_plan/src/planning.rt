@@ -1,7 +1,7 @@
 ghost use Rattle.std.specs.Prelude.{◌≡◌, ◌⊎◌, ℕ, length, IfOk, IfErr, MatchResult};
 ghost use Rattle.ee_check.specs.Live.{KeepsWithin};
 ghost use Rattle.ee_check.specs.Certificate.{IsCertificate, claim_of};
-ghost use Rattle.ee_plan.specs.Plan.{IsPlan, IsReached, EachPrefixIsBest, IsFirstNotFitting, IsPlanFault};
+ghost use Rattle.ee_plan.specs.Plan.{IsPlan, IsReached, IsBestThroughout, IsFirstNotFitting, IsPlanFault};
 ghost use Rattle.ee_plan.specs.LateStore.{HasMade};
 
 use super::late_store::LateStore;
@@ -27,8 +27,10 @@ pub fn plan<A: Allocator + Copy, B: Allocator>(
     ensures certificate { IfOk result (λ plan. IsCertificate start.now trace.now (claim_of plan.certificate)) }
     // A schedule of this cost and this room exists.
     ensures reached { IfOk result (λ plan. IsReached start.now trace.now plan.transfers plan.room) }
-    // None is better, and none was at any point of the trace.
-    ensures best { IfOk result (λ _. EachPrefixIsBest start.now trace.now) }
+    // Wherever the trace is broken off, its moments so far are those of the tight certificate, which a
+    // schedule reaches and none betters.
+    ensures best { IfOk result
+        (λ plan. IsBestThroughout start.now trace.now plan.moments.items) }
     ensures keeps { IfOk result (λ _. KeepsWithin start.now.slots start.now.live trace.now) }
     ensures refused { IfErr result (IsPlanFault start.now trace.now) }
     // Every trace that keeps within the slots is planned, and the first change that doesn't is named.

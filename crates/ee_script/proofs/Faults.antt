@@ -1,22 +1,31 @@
 -- The faults of a piece, as the code names them.
-use Rattle.std.proofs.Common.{◌≡◌, ◌≢◌, ◌<◌, ℕ, ◌+◌, ◌++◌, List, [], ◌∷◌, length, get_or, take, drop, sym, ap, ◌∙◌, subst}
-use Rattle.std.proofs.lemmas.List.{take_more, take-append-drop}
+use Rattle.std.proofs.Common.{◌≡◌, ◌≢◌, ◌<◌, ℕ, ◌+◌, ◌++◌, List, [], length, refl, sym, ap, ◌∙◌, append_assoc, subst}
+use Rattle.ee_text.specs.Line.{IsLine, line_of}
 use Rattle.ee_script.specs.declared.command.Command.{Command}
 use Rattle.ee_script.specs.declared.answer.Answer.{Answer}
 use Rattle.ee_script.specs.declared.session.ScriptFault.{ScriptFault}
 use Rattle.ee_script.specs.declared.session.ScriptFault.TheVariants.{BadLine, Memory}
 use Rattle.ee_script.specs.Command.{IsCommand, spelling}
+use Rattle.ee_script.specs.Script.{NoLine}
 use Rattle.ee_script.specs.Session.{Progress, Goes, IsUnfinished, counted}
 use Rattle.ee_script.specs.Fault.{IsFault}
-use Rattle.ee_script.proofs.Steps.{meets_at_feed, meets_when_long, meets_later, meets_before}
+use Rattle.ee_script.proofs.Steps.{goes_nowhere, goes_on, meets_at_feed, meets_when_long, meets_later, meets_before, meets_within}
 
-pub fault_at_feed : {S : Type 0} (old : Progress S) (fault : ScriptFault) → IsUnfinished old.unfinished
-    → ((command : Command) → IsCommand command → old.unfinished ≢ spelling command) → fault ≡ BadLine (counted (old.lines + 1)) → IsFault old (10 ∷ []) fault
-fault_at_feed old fault short none e = subst (IsFault old (10 ∷ [])) (sym e) (meets_at_feed old short none)
+pub fault_at_feed : {S : Type 0} (old : Progress S) (bytes : List ℕ) (fault : ScriptFault) → IsLine (old.unfinished ++ bytes)
+    → ((command : Command) → IsCommand command → old.unfinished ++ bytes ≢ spelling command) → fault ≡ BadLine (counted (old.lines + 1)) → IsFault old (line_of bytes) fault
+fault_at_feed old bytes fault line none e = subst (IsFault old (line_of bytes)) (sym e) (meets_at_feed old bytes line none)
 
-pub fault_when_long : {S : Type 0} (old : Progress S) (byte : ℕ) (fault : ScriptFault) → IsUnfinished old.unfinished
-    → length old.unfinished ≡ 24 → byte ≢ 10 → fault ≡ BadLine (counted (old.lines + 1)) → IsFault old (byte ∷ []) fault
-fault_when_long old byte fault short full other e = subst (IsFault old (byte ∷ [])) (sym e) (meets_when_long old byte short full other)
+pub fault_when_long : {S : Type 0} (old : Progress S) (bytes : List ℕ) (fault : ScriptFault) → IsLine (old.unfinished ++ bytes)
+    → 24 < length old.unfinished + length bytes → fault ≡ BadLine (counted (old.lines + 1)) → IsFault old bytes fault
+fault_when_long old bytes fault line long e = subst (IsFault old bytes) (sym e) (meets_when_long old bytes line long)
+
+pub fault_within : {S : Type 0} (old : Progress S) (bytes line tail : List ℕ) (fault : ScriptFault) → IsLine old.unfinished → IsLine line → bytes ≡ line_of line ++ tail
+    → NoLine (old.unfinished ++ bytes) → fault ≡ BadLine (counted (old.lines + 1)) → IsFault old bytes fault
+fault_within old bytes line tail fault before lacks cut none e = subst (IsFault old bytes) (sym e) (meets_within old bytes line tail before lacks cut none)
+
+-- want of memory is a fault of any piece
+pub fault_of_memory : {S : Type 0} (old : Progress S) (piece : List ℕ) (fault : ScriptFault) → fault ≡ Memory → IsFault old piece fault
+fault_of_memory old piece fault e = subst (IsFault old piece) (sym e) tt
 
 -- a fault in what comes next is a fault in the whole piece
 pub fault_later : {S : Type 0} (step : S → Command → Answer → S → Type 0) (old mid : Progress S) (front back : List ℕ) (fault : ScriptFault)
@@ -28,11 +37,37 @@ pub fault_before : {S : Type 0} (old : Progress S) (front back : List ℕ) (faul
 fault_before old front back (BadLine n) met = meets_before old front back n met
 fault_before old front back Memory met = tt
 
--- a fault at one byte is a fault in the whole piece
-pub fault_in_turn : {S : Type 0} (step : S → Command → Answer → S → Type 0) (old mid : Progress S) (piece : List ℕ) (i : ℕ) (fault : ScriptFault)
-    → i < length piece → Goes step old (take i piece) mid → IsFault mid (get_or piece i 0 ∷ []) fault → IsFault old piece fault
-fault_in_turn step old mid piece i fault below first second =
-    let front : IsFault old (take i piece ++ get_or piece i 0 ∷ []) fault = fault_later step old mid (take i piece) (get_or piece i 0 ∷ []) fault first second in
-    let whole : (take i piece ++ get_or piece i 0 ∷ []) ++ drop (i + 1) piece ≡ piece =
-    ap (λ l. l ++ drop (i + 1) piece) (sym (take_more piece i 0 below)) ∙ take-append-drop (i + 1) piece in
-    subst (λ text. IsFault old text fault) whole (fault_before old (take i piece ++ get_or piece i 0 ∷ []) (drop (i + 1) piece) fault front)
+-- so many of a piece's bytes were judged, and the rest are left
+pub record HasJudged {S : Type 0} (step : S → Command → Answer → S → Type 0) (old : Progress S) (piece rest : List ℕ) (now : Progress S) : Type 0 where
+  pub front : List ℕ
+  pub piece_is : piece ≡ front ++ rest
+  pub went : Goes step old front now
+
+pub judged_none : {S : Type 0} (step : S → Command → Answer → S → Type 0) (old : Progress S) (piece : List ℕ) → HasJudged step old piece piece old
+judged_none step old piece = record { front = []; piece_is = refl; went = goes_nowhere step old }
+
+pub judged_line : {S : Type 0} (step : S → Command → Answer → S → Type 0) (old mid new : Progress S) (piece rest line behind : List ℕ)
+    → HasJudged step old piece rest mid → rest ≡ line ++ behind → Goes step mid line new → HasJudged step old piece behind new
+judged_line step old mid new piece rest line behind judged cut went = record {
+  front = judged.front ++ line;
+  piece_is = judged.piece_is ∙ ap (λ text. judged.front ++ text) cut ∙ sym (append_assoc judged.front line behind);
+  went = goes_on step old mid new judged.front line judged.went went;
+}
+
+-- a fault at a line is a fault in the whole piece
+pub fault_in_turn : {S : Type 0} (step : S → Command → Answer → S → Type 0) (old mid : Progress S) (piece rest line behind : List ℕ) (fault : ScriptFault)
+    → HasJudged step old piece rest mid → rest ≡ line ++ behind → IsFault mid line fault → IsFault old piece fault
+fault_in_turn step old mid piece rest line behind fault judged cut met =
+    subst (λ text. IsFault old text fault) (append_assoc judged.front line behind ∙ sym (judged.piece_is ∙ ap (λ text. judged.front ++ text) cut))
+    (fault_before old (judged.front ++ line) behind fault (fault_later step old mid judged.front line fault judged.went met))
+
+-- the rest of a piece is an unfinished line
+pub judged_all : {S : Type 0} (step : S → Command → Answer → S → Type 0) (old mid new : Progress S) (piece rest : List ℕ)
+    → HasJudged step old piece rest mid → Goes step mid rest new → Goes step old piece new
+judged_all step old mid new piece rest judged went =
+    subst (λ text. Goes step old text new) (sym judged.piece_is) (goes_on step old mid new judged.front rest judged.went went)
+
+pub fault_at_last : {S : Type 0} (step : S → Command → Answer → S → Type 0) (old mid : Progress S) (piece rest : List ℕ) (fault : ScriptFault)
+    → HasJudged step old piece rest mid → IsFault mid rest fault → IsFault old piece fault
+fault_at_last step old mid piece rest fault judged met =
+    subst (λ text. IsFault old text fault) (sym judged.piece_is) (fault_later step old mid judged.front rest fault judged.went met)

@@ -4,3 +4,5 @@ pub mod Faults
 pub mod Reading
 pub mod WholeScript
 pub mod Seen
+pub mod Judging
+pub mod Streams

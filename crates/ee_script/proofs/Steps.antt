@@ -6,12 +6,12 @@ use Rattle.ee_text.specs.Field.{Lacks}
 use Rattle.ee_text.proofs.Lacking.{first_place, front_ends, no_place, Lacks-append, Lacks-cons}
 use Rattle.ee_script.specs.declared.command.Command.{Command}
 use Rattle.ee_script.specs.declared.answer.Answer.{Answer}
-use Rattle.ee_text.specs.Line.{line_of}
+use Rattle.ee_text.specs.Line.{IsLine, line_of}
 use Rattle.ee_script.specs.Command.{IsCommand, spelling}
 use Rattle.ee_script.specs.Script.{script, AreCommands, NoLine}
 use Rattle.ee_script.specs.Answer.{report, wording}
 use Rattle.ee_script.specs.Run.{Run}
-use Rattle.ee_script.specs.Session.{Progress, Goes, MeetsBadLine, IsUnfinished, counted}
+use Rattle.ee_script.specs.Session.{Answered, Progress, Goes, MeetsBadLine, IsUnfinished, counted}
 use Rattle.ee_script.proofs.Spelling.{Lacks-spelling, length-spelling}
 
 -- a line that a line feed ends, and that spells no command, is no good line, whatever follows
@@ -32,7 +32,7 @@ pub no_line_at_end : (text : List ℕ) → Lacks 10 text → NoLine text
 no_line_at_end text lacks command after proper e =
     no_place 10 text (spelling command) after lacks (e ∙ append_assoc (spelling command) (10 ∷ []) after)
 
--- ---- one byte
+-- ---- a line, or a part of one
 
 -- nothing came
 pub goes_nowhere : {S : Type 0} (step : S → Command → Answer → S → Type 0) (old : Progress S) → Goes step old [] old
@@ -46,10 +46,10 @@ goes_nowhere step old = record {
   lines_are = omega arith;
 }
 
--- a byte of an unfinished line
-pub goes_on_byte : {S : Type 0} (step : S → Command → Answer → S → Type 0) (old new : Progress S) (byte : ℕ)
-    → new.server ≡ old.server → new.report ≡ old.report → new.lines ≡ old.lines → new.unfinished ≡ old.unfinished ++ byte ∷ [] → Goes step old (byte ∷ []) new
-goes_on_byte step old new byte server report lines unfinished = record {
+-- bytes of an unfinished line
+pub goes_keeping : {S : Type 0} (step : S → Command → Answer → S → Type 0) (old new : Progress S) (bytes : List ℕ)
+    → new.server ≡ old.server → new.report ≡ old.report → new.lines ≡ old.lines → new.unfinished ≡ old.unfinished ++ bytes → Goes step old bytes new
+goes_keeping step old new bytes server report lines unfinished = record {
   commands = [];
   answers = [];
   proper = tt;
@@ -60,49 +60,75 @@ goes_on_byte step old new byte server report lines unfinished = record {
 }
 
 -- a line feed behind a good line
-pub goes_at_feed : {S : Type 0} (step : S → Command → Answer → S → Type 0) (old new : Progress S) (command : Command) (answer : Answer)
-    → IsCommand command → old.unfinished ≡ spelling command → step old.server command answer new.server
-    → new.report ≡ old.report ++ report (answer ∷ []) → new.lines ≡ counted (old.lines + 1) → new.unfinished ≡ [] → Goes step old (10 ∷ []) new
-goes_at_feed step old new command answer proper spelled stepped reported lines nothing = record {
+pub goes_at_feed : {S : Type 0} (step : S → Command → Answer → S → Type 0) (old mid new : Progress S) (bytes : List ℕ) (command : Command)
+    → IsCommand command → old.unfinished ++ bytes ≡ spelling command → mid.server ≡ old.server → mid.report ≡ old.report → mid.lines ≡ old.lines → mid.unfinished ≡ []
+    → Answered step mid command new → Goes step old (line_of bytes) new
+goes_at_feed {S} step old mid new bytes command proper spelled server reported lines nothing answered = record {
   commands = command ∷ [];
-  answers = answer ∷ [];
+  answers = answered.answer ∷ [];
   proper = (proper, tt);
-  text_is = ap (λ text. text ++ 10 ∷ []) spelled ∙ sym (ap (λ rest. script (command ∷ []) ++ rest) nothing ∙ append-nil (script (command ∷ [])) ∙ append-nil (line_of (spelling command)));
-  report_is = reported;
-  run = (new.server, stepped, refl);
-  lines_are = omega (arith, lines);
+  text_is = sym (append_assoc old.unfinished bytes (10 ∷ [])) ∙ ap (λ text. text ++ 10 ∷ []) spelled
+      ∙ sym (ap (λ rest. script (command ∷ []) ++ rest) (answered.unfinished_is ∙ nothing) ∙ append-nil (script (command ∷ [])) ∙ append-nil (line_of (spelling command)));
+  report_is = answered.report_is ∙ ap (λ text. text ++ report (answered.answer ∷ [])) reported;
+  run = (new.server, subst (λ (s : S). step s command answered.answer new.server) server answered.stepped, refl);
+  lines_are = omega (arith, answered.lines_are, ap counted lines);
 }
 
 -- a line feed behind a bad line
-pub meets_at_feed : {S : Type 0} (old : Progress S) → IsUnfinished old.unfinished → ((command : Command) → IsCommand command → old.unfinished ≢ spelling command)
-    → MeetsBadLine old (10 ∷ []) (counted (old.lines + 1))
-meets_at_feed old short none = record {
+pub meets_at_feed : {S : Type 0} (old : Progress S) (bytes : List ℕ) → IsLine (old.unfinished ++ bytes)
+    → ((command : Command) → IsCommand command → old.unfinished ++ bytes ≢ spelling command) → MeetsBadLine old (line_of bytes) (counted (old.lines + 1))
+meets_at_feed old bytes line none = record {
   good = [];
-  rest = old.unfinished ++ 10 ∷ [];
+  rest = (old.unfinished ++ bytes) ++ 10 ∷ [];
   proper = tt;
-  text_is = refl;
-  goes_on = λ e. omega (arith, ap length e, length-append old.unfinished (10 ∷ []));
-  bad = no_line_at_feed old.unfinished short.one_line none;
+  text_is = sym (append_assoc old.unfinished bytes (10 ∷ []));
+  goes_on = λ e. omega (arith, ap length e, length-append (old.unfinished ++ bytes) (10 ∷ []));
+  bad = no_line_at_feed (old.unfinished ++ bytes) line none;
   number = ap counted (omega arith);
 }
 
--- a byte that makes the line too long
-pub meets_when_long : {S : Type 0} (old : Progress S) (byte : ℕ) → IsUnfinished old.unfinished → length old.unfinished ≡ 24 → byte ≢ 10
-    → MeetsBadLine old (byte ∷ []) (counted (old.lines + 1))
-meets_when_long old byte short full other = record {
+-- where no good line begins a text that has a line feed, none does whatever follows
+no_line_stays : (text line tail more : List ℕ) → Lacks 10 line → text ≡ line_of line ++ tail → NoLine text → NoLine (text ++ more)
+no_line_stays text line tail more lacks cut none command after proper e =
+    let whole : line ++ 10 ∷ (tail ++ more) ≡ spelling command ++ 10 ∷ after =
+    sym (ap (λ l. l ++ more) (cut ∙ append_assoc line (10 ∷ []) tail) ∙ append_assoc line (10 ∷ tail) more) ∙ e ∙ append_assoc (spelling command) (10 ∷ []) after in
+    none command tail proper (cut ∙ ap (λ l. line_of l ++ tail) (first_place 10 line (spelling command) (tail ++ more) after lacks (Lacks-spelling command proper) whole).0)
+
+-- a line that the bytes end, and that is no good one
+pub meets_within : {S : Type 0} (old : Progress S) (bytes line tail : List ℕ) → IsLine old.unfinished → IsLine line → bytes ≡ line_of line ++ tail → NoLine (old.unfinished ++ bytes)
+    → MeetsBadLine old bytes (counted (old.lines + 1))
+meets_within old bytes line tail before lacks cut none = record {
   good = [];
-  rest = old.unfinished ++ byte ∷ [];
+  rest = old.unfinished ++ bytes;
   proper = tt;
   text_is = refl;
-  goes_on = λ e. omega (arith, ap length e, length-append old.unfinished (byte ∷ []));
-  bad = no_line_when_long (old.unfinished ++ byte ∷ []) (Lacks-append 10 old.unfinished (byte ∷ []) short.one_line (Lacks-cons 10 byte [] other refl))
-      (omega (arith, length-append old.unfinished (byte ∷ [])));
+  goes_on = λ e. omega (arith, ap length e, length-append old.unfinished bytes, ap length cut, length-append (line_of line) tail, length-append line (10 ∷ []));
+  bad = λ more. no_line_stays (old.unfinished ++ bytes) (old.unfinished ++ line) tail more (Lacks-append 10 old.unfinished line before lacks)
+      (ap (λ l. old.unfinished ++ l) cut ∙ sym (append_assoc old.unfinished (line_of line) tail) ∙ ap (λ l. l ++ tail) (sym (append_assoc old.unfinished line (10 ∷ [])))) none;
   number = ap counted (omega arith);
 }
+
+-- bytes that make the line too long
+pub meets_when_long : {S : Type 0} (old : Progress S) (bytes : List ℕ) → IsLine (old.unfinished ++ bytes) → 24 < length old.unfinished + length bytes
+    → MeetsBadLine old bytes (counted (old.lines + 1))
+meets_when_long old bytes line long = record {
+  good = [];
+  rest = old.unfinished ++ bytes;
+  proper = tt;
+  text_is = refl;
+  goes_on = λ e. omega (arith, ap length e, length-append old.unfinished bytes);
+  bad = no_line_when_long (old.unfinished ++ bytes) line
+      (omega (arith, length-append old.unfinished bytes));
+  number = ap counted (omega arith);
+}
+
+-- no command is spelled so long
+pub too_long_to_spell : (text bytes : List ℕ) (command : Command) → 24 < length text + length bytes → IsCommand command → text ++ bytes ≡ spelling command → ⊥
+too_long_to_spell text bytes command long proper e = omega (arith, ap length e, length-append text bytes, length-spelling command proper)
 
 -- ---- pieces
 
-no_front : (front back : List ℕ) → front ++ back ≡ [] → front ≡ []
+pub no_front : (front back : List ℕ) → front ++ back ≡ [] → front ≡ []
 no_front [] back e = refl
 no_front (x ∷ front) back e = cc
 

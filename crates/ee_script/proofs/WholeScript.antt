@@ -1,5 +1,5 @@
 -- What a whole script gives, from what one piece and the end give.
-use Rattle.std.proofs.Common.{◌≡◌, ◌≢◌, ℕ, ◌+◌, ◌<◌, ◌≤◌, ◌^◌, ◌⊎◌, ◌++◌, List, [], ◌∷◌, length, refl, sym, ◌∙◌, ap, subst, arith, length-append, inl, inr}
+use Rattle.std.proofs.Common.{◌≡◌, ◌≢◌, ℕ, ◌+◌, ◌<◌, ◌≤◌, ◌^◌, ◌⊎◌, ◌++◌, List, [], ◌∷◌, length, refl, sym, ◌∙◌, ap, subst, arith, append_assoc, length-append, inl, inr}
 use Rattle.std.proofs.lemmas.List.{append-nil}
 use Rattle.ee_text.specs.Line.{line_of}
 use Rattle.ee_script.specs.declared.command.Command.{Command}
@@ -12,7 +12,9 @@ use Rattle.ee_script.specs.Run.{Run}
 use Rattle.ee_script.specs.Session.{Progress, Goes, Ends, MeetsBadLine, counted}
 use Rattle.ee_script.specs.Fault.{IsFault, EndsBadly}
 use Rattle.ee_script.specs.Whole.{IsAnswered, IsScriptFault}
+use Rattle.ee_script.specs.Reading.{IsBadAlready}
 use Rattle.ee_script.proofs.Reading.{one_first_bad_line_lem, scripts_are_good_lem}
+use Rattle.ee_script.proofs.Steps.{no_front}
 
 -- a session that nothing was fed to
 abbrev pub started : {S : Type 0} → S → Progress S
@@ -33,16 +35,20 @@ number_counts : (text rest : List ℕ) (good : List Command) (n : ℕ) → lengt
 number_counts text rest good n small text_is goes_on e =
     omega (arith, ap length text_is, length-append (script good) rest, length-script good, some_left rest goes_on)
 
-pub fault_in_script : {S : Type 0} (server : S) (text : List ℕ) (fault : ScriptFault) → length text < 2 ^ 64 → IsFault (started server) text fault → IsScriptFault text fault
-fault_in_script server text (BadLine n) small met = record {
+-- a bad line that a session met is the first bad one, whatever follows
+pub bad_already : {S : Type 0} (server : S) (text : List ℕ) (n : ℕ) → length text < 2 ^ 64 → MeetsBadLine (started server) text n → IsBadAlready text n
+bad_already server text n small met = λ more. record {
   good = met.good;
-  rest = met.rest;
+  rest = met.rest ++ more;
   proper = met.proper;
-  text_is = met.text_is;
-  goes_on = met.goes_on;
-  bad = subst NoLine (append-nil met.rest) (met.bad []);
+  text_is = ap (λ l. l ++ more) met.text_is ∙ append_assoc (script met.good) met.rest more;
+  goes_on = λ e. met.goes_on (no_front met.rest more e);
+  bad = met.bad more;
   number = number_counts text met.rest met.good n small met.text_is met.goes_on (omega (arith, met.number));
 }
+
+pub fault_in_script : {S : Type 0} (server : S) (text : List ℕ) (fault : ScriptFault) → length text < 2 ^ 64 → IsFault (started server) text fault → IsScriptFault text fault
+fault_in_script server text (BadLine n) small met = subst (λ l. IsFirstBadLine l n) (append-nil text) (bad_already server text n small met [])
 fault_in_script server text Memory small met = tt
 
 pub fault_at_end : {S : Type 0} (step : S → Command → Answer → S → Type 0) (server : S) (text : List ℕ) (last : Progress S) (fault : ScriptFault)

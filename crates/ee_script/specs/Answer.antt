@@ -1,5 +1,5 @@
 -- The answers of a report, and how each is written on its line.
-use Rattle.std.specs.Prelude.{ℕ, List, decimal, codes, flat_map}
+use Rattle.std.specs.Prelude.{◌≡◌, ◌++◌, ℕ, List, decimal, codes, flat_map}
 use Rattle.ee_text.specs.Line.{line_of}
 use Rattle.ee_script.specs.declared.answer.Answer.{Answer}
 use Rattle.ee_script.specs.declared.answer.Answer.TheVariants.{Appended, Moved, Full, Spent, Cleaned, Idle, Value, NoValue}
@@ -18,3 +18,10 @@ wording NoValue = codes "none"
 -- one line for each answer
 abbrev pub report : List Answer → List ℕ
 report answers = flat_map (λ answer. line_of (wording answer)) answers
+
+-- what stood there, and behind it a front of the text, perhaps nothing of it
+pub record GrowsByFront (old text new : List ℕ) : Type 0 where
+  pub front : List ℕ
+  pub back : List ℕ
+  pub text_is : text ≡ front ++ back
+  pub new_is : new ≡ old ++ front

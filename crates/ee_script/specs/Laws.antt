@@ -1,5 +1,5 @@
 -- What holds of every text: it is read in one way.
-use Rattle.std.specs.Prelude.{◌≡◌, ℕ, List}
+use Rattle.std.specs.Prelude.{◌≡◌, ◌⊎◌, ℕ, List}
 use Rattle.ee_script.specs.declared.command.Command.{Command}
 use Rattle.ee_script.specs.Script.{IsScript, IsFirstBadLine}
 
@@ -16,3 +16,7 @@ OneFirstBadLine = (text : List ℕ) (m n : ℕ) → IsFirstBadLine text m → Is
 -- a script has no bad line
 abbrev pub ScriptsAreGood : Type 0
 ScriptsAreGood = (text : List ℕ) (commands : List Command) (n : ℕ) → IsScript text commands → IsFirstBadLine text n → ⊥
+
+-- every text is a script of some commands, or has a first bad line
+abbrev pub EachTextIsJudged : Type 0
+EachTextIsJudged = (text : List ℕ) → ((commands : List Command) × IsScript text commands) ⊎ ((n : ℕ) × IsFirstBadLine text n)

@@ -6,3 +6,4 @@ pub mod Session
 pub mod Fault
 pub mod Laws
 pub mod Whole
+pub mod Reading

@@ -1,5 +1,5 @@
 -- What a session has done so far, and what a piece of the script adds to it.
-use Rattle.std.specs.Prelude.{◌≡◌, ◌≢◌, ℕ, ◌+◌, ◌^◌, ◌-◌, min, ◌≤◌, List, [], ◌++◌, length}
+use Rattle.std.specs.Prelude.{◌≡◌, ◌≢◌, ℕ, ◌+◌, ◌^◌, ◌-◌, min, ◌≤◌, List, [], ◌∷◌, ◌++◌, length}
 use Rattle.ee_text.specs.Line.{IsLine}
 use Rattle.ee_script.specs.declared.command.Command.{Command}
 use Rattle.ee_script.specs.declared.answer.Answer.{Answer}
@@ -34,6 +34,14 @@ pub record Goes {S : Type 0} (step : S → Command → Answer → S → Type 0) 
   pub report_is : new.report ≡ old.report ++ report answers
   pub run : Run step old.server commands answers new.server
   pub lines_are : counted new.lines ≡ counted (old.lines + length commands)
+
+-- The command of a line was answered; the report grew by the answer, and what is unfinished stays.
+pub record Answered {S : Type 0} (step : S → Command → Answer → S → Type 0) (old : Progress S) (command : Command) (new : Progress S) : Type 0 where
+  pub answer : Answer
+  pub stepped : step old.server command answer new.server
+  pub report_is : new.report ≡ old.report ++ report (answer ∷ [])
+  pub lines_are : new.lines ≡ counted (old.lines + 1)
+  pub unfinished_is : new.unfinished ≡ old.unfinished
 
 -- A bad line was met in the piece, and n is its number: whatever follows the piece, no good line stands there.
 pub record MeetsBadLine {S : Type 0} (old : Progress S) (piece : List ℕ) (n : ℕ) : Type 0 where

@@ -1,5 +1,5 @@
-ghost use Rattle.std.specs.Prelude.{◌≡◌, [], ◌∷◌, ◌++◌, OnOk};
-ghost use Rattle.ee_script.specs.Answer.{report};
+ghost use Rattle.std.specs.Prelude.{◌≡◌, [], ◌∷◌, ◌++◌, OnErr, OnOk};
+ghost use Rattle.ee_script.specs.Answer.{GrowsByFront, report};
 
 use ee_text::push_number;
 use std::alloc::{AllocError, Allocator};
@@ -25,10 +25,11 @@ pub enum Answer {
     NoValue,
 }
 
-/// Writes the answer's line at the end of a report. After an error the report may have a part of
-/// it.
+/// Writes the answer's line at the end of a report. After an error the report has what it had, and
+/// perhaps a front of the line.
 pub fn push_answer<A: Allocator>(out: &mut Vec<u8, A>, answer: Answer) -> Result<(), AllocError>
-    ensures { OnOk result (out.new.items ≡ out.old.items ++ report (answer ∷ [])) }
+    ensures ok { OnOk result (out.new.items ≡ out.old.items ++ report (answer ∷ [])) }
+    ensures err { OnErr result (GrowsByFront out.old.items (report (answer ∷ [])) out.new.items) }
 {
     match answer {
         Answer::Appended => out.extend_from_slice(b"ok\n"),

@@ -21,6 +21,6 @@ mod whole;
 
 pub use answer::{Answer, push_answer};
 pub use command::Command;
-pub use parse::read_command;
-pub use session::{LONGEST_LINE, ScriptFault, Serve, Session};
-pub use whole::answer_script;
+pub use parse::{next_command, read_command};
+pub use session::{LONGEST_LINE, ScriptFault, Serve, Session, StreamFault};
+pub use whole::{answer_reader, answer_script};

@@ -1,17 +1,27 @@
-ghost use Rattle.std.specs.Prelude.{◌≡◌, ◌+◌, [], ◌∷◌, IfOk, MatchResult};
-ghost use Rattle.ee_text.specs.Line.{line_feed};
-ghost use Rattle.ee_script.specs.Session.{counted, Ends, Goes};
+ghost use Rattle.std.specs.Prelude.{◌≡◌, ◌+◌, ◌<◌, ◌++◌, [], length, IfErr, IfOk, MatchResult, OnOk};
+ghost use Rattle.std.specs.Bool.{OnFalse, OnTrue};
+ghost use Rattle.ee_text.specs.Line.{IsLine, line_of};
+ghost use Rattle.ee_script.specs.Command.{IsCommand};
+ghost use Rattle.ee_script.specs.Script.{NoLine};
+ghost use Rattle.ee_script.specs.Session.{Answered, counted, Ends, Goes, IsUnfinished};
 ghost use Rattle.ee_script.specs.Fault.{EndsBadly, IsFault};
+ghost use Rattle.ee_script.specs.Reading.{StopsAt, Takes};
+ghost use Rattle.std.specs.Io.KnownBytes.{IsAtEnd};
 
 use super::answer::{Answer, push_answer};
 use super::command::Command;
-use super::parse::read_command;
+use super::parse::{next_command, read_command};
 use arrayvec::ArrayVec;
+use ee_text::next_line;
 use std::alloc::{AllocError, Allocator, Global};
+use std::io::{ErrorKind, Read};
 use std::marker::Model;
 
 /// The most bytes that a good line has before its line feed.
 pub const LONGEST_LINE: usize = 24;
+
+/// How many bytes one read call asks for.
+const CHUNK: usize = 4096;
 
 /// Why a script can't be answered to its end.
 #[derive(Clone, Copy, Debug, PartialEq, Eq)]
@@ -30,6 +40,26 @@ impl From<AllocError> for ScriptFault {
 
     fn from(_error: AllocError) -> ScriptFault {
         ScriptFault::Memory
+    }
+}
+
+/// Why a script that a reader gives can't be answered to its end: what is met first.
+#[derive(Clone, Copy, Debug, PartialEq, Eq)]
+pub enum StreamFault {
+    /// A read failed, or the most read calls were made and the end had not come.
+    Read,
+    /// A line is bad, or memory ran out.
+    Script(ScriptFault),
+}
+
+impl From<ScriptFault> for StreamFault {
+    ghost use Rattle.std.specs.Prelude.{◌≡◌};
+    ghost use Rattle.ee_script.specs.declared.session.StreamFault.TheVariants.{Script};
+
+    ghost from_gives = { λ script fault. fault ≡ Script script };
+
+    fn from(fault: ScriptFault) -> StreamFault {
+        StreamFault::Script(fault)
     }
 }
 
@@ -86,16 +116,61 @@ impl<S: Serve + Drop, A: Allocator> Session<S, A> {
     }
 
     /// Takes the next piece of the script: each line that ends in it is answered. A line is judged
-    /// when its line feed comes, or at the first byte that makes it longer than any good line.
+    /// when its line feed comes, or at the end of the piece that makes it longer than any good line.
     pub fn feed(mut self, piece: &[u8]) -> Result<Session<S, A>, ScriptFault>
         ensures { MatchResult result
             (λ session. Goes S.serves self piece.now session)
             (IsFault self piece.now) }
     {
-        for byte in piece {
-            self.take(*byte)?;
+        if self.unfinished.is_empty() {
+            self.judge(piece)?;
+            return Ok(self);
         }
+        let Some((end, behind)) = next_line(piece) else {
+            self.keep(piece)?;
+            return Ok(self);
+        };
+        self.end_line(end)?;
+        self.judge(behind)?;
         Ok(self)
+    }
+
+    /// Takes what a reader gives, to its end. What one read call gives is judged before the next, and
+    /// a read that was interrupted is tried again. No more than `most` read calls are made.
+    pub fn feed_all<R: Read>(
+        self,
+        reader: &mut R,
+        most: u32,
+    ) -> Result<Session<S, A>, StreamFault>
+        ensures fed { IfOk result (Takes S.serves self (R.remaining reader.old)
+            (R.remaining reader.new)) }
+        ensures end { OnOk result (IsAtEnd (R.remaining reader.new)) }
+        ensures fault { IfErr result (StopsAt S.serves self (R.remaining reader.old)
+            (R.remaining reader.new)) }
+    {
+        let mut session = self;
+        let mut piece = [0u8; CHUNK];
+        'reading: for _ in 0..most {
+            match reader.read(&mut piece) {
+                Ok(0) => return Ok(session),
+                Ok(count) => session = session.feed(&piece[..count])?,
+                Err(error) => {
+                    if error.kind() != ErrorKind::Interrupted {
+                        return Err(session.break_off());
+                    }
+                }
+            }
+        }
+        Err(session.break_off())
+    }
+
+    /// The fault of a script of which no more can be read. Less than a line is lost with it.
+    fn break_off(&self) -> StreamFault
+        ensures read { result ≡ StreamFault.Read }
+        ensures short { IsUnfinished self.now.unfinished }
+    {
+        let _ = &self.unfinished;
+        StreamFault::Read
     }
 
     /// Ends the script, and gives what served it and the report. A line that no line feed ended is
@@ -109,36 +184,81 @@ impl<S: Serve + Drop, A: Allocator> Session<S, A> {
         Ok((self.server, self.report))
     }
 
-    /// Takes the next byte.
-    fn take(&mut self, byte: u8) -> Result<(), ScriptFault>
+    /// Takes a text with nothing unfinished before it: each line is judged where it lies.
+    fn judge(&mut self, text: &[u8]) -> Result<(), ScriptFault>
+        requires { self.old.unfinished ≡ [] }
         ensures { MatchResult result
-            (λ _. Goes S.serves self.old (byte ∷ []) self.new)
-            (IsFault self.old (byte ∷ [])) }
+            (λ _. Goes S.serves self.old text.now self.new)
+            (IsFault self.old text.now) }
     {
-        if byte == b'\n' {
-            return self.judge();
+        let mut rest = text;
+        'lines: while let Some((command, behind)) = next_command(rest) {
+            self.answer(command)?;
+            rest = behind;
         }
-        if self.unfinished.is_full() {
-            return Err(self.bad_line());
-        }
-        self.unfinished.push(byte);
+        self.keep(rest)?;
         Ok(())
     }
 
-    /// Judges and answers the line that a line feed ends now.
-    fn judge(&mut self) -> Result<(), ScriptFault>
-        ensures { MatchResult result
-            (λ _. Goes S.serves self.old (line_feed ∷ []) self.new)
-            (IsFault self.old (line_feed ∷ [])) }
+    /// Judges and answers the line that an earlier piece began and that ends behind these bytes.
+    fn end_line(&mut self, bytes: &[u8]) -> Result<(), ScriptFault>
+        requires { IsLine bytes.now }
+        ensures done { OnOk result (Goes S.serves self.old (line_of bytes.now) self.new) }
+        ensures nothing { OnOk result (self.new.unfinished ≡ []) }
+        ensures fault { IfErr result (IsFault self.old (line_of bytes.now)) }
     {
+        if !self.hold(bytes) {
+            return Err(self.bad_line());
+        }
         let Some(command) = read_command(self.unfinished.as_slice()) else {
             return Err(self.bad_line());
         };
+        self.unfinished.clear();
+        self.answer(command)?;
+        Ok(())
+    }
+
+    /// Answers the command of the next line, with nothing unfinished before it.
+    fn answer(&mut self, command: Command) -> Result<(), ScriptFault>
+        requires { IsCommand command }
+        ensures answered { OnOk result (Answered S.serves self.old command self.new) }
+        ensures memory { IfErr result (λ fault. fault ≡ ScriptFault.Memory) }
+    {
         let answer = self.server.serve(command)?;
         push_answer(&mut self.report, answer)?;
-        self.unfinished.clear();
         self.lines = self.lines.saturating_add(1);
         Ok(())
+    }
+
+    /// Keeps the bytes of a line that isn't ended yet. They make it a bad line if they end it, since
+    /// no good line begins so, or if they make it too long.
+    fn keep(&mut self, bytes: &[u8]) -> Result<(), ScriptFault>
+        requires before { IsLine self.old.unfinished }
+        requires none { NoLine (self.old.unfinished ++ bytes.now) }
+        ensures { MatchResult result
+            (λ _. Goes S.serves self.old bytes.now self.new)
+            (IsFault self.old bytes.now) }
+    {
+        if let Some(_) = next_line(bytes) {
+            return Err(self.bad_line());
+        }
+        if !self.hold(bytes) {
+            return Err(self.bad_line());
+        }
+        Ok(())
+    }
+
+    /// Whether these bytes, which end no line, leave what is unfinished no longer than a good line.
+    /// They are added to it then.
+    fn hold(&mut self, bytes: &[u8]) -> bool
+        requires { IsLine bytes.now }
+        ensures line { IsLine (self.old.unfinished ++ bytes.now) }
+        ensures held { OnTrue result (self.new
+            ≡ record self.old { unfinished = self.old.unfinished ++ bytes.now }) }
+        ensures too_long { OnFalse result ((self.new ≡ self.old)
+            × (24 < length self.old.unfinished + length bytes.now)) }
+    {
+        self.unfinished.try_extend_from_slice(bytes).is_ok()
     }
 
     /// The fault of the line that isn't answered yet.

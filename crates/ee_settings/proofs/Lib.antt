@@ -4,3 +4,4 @@ pub mod Entries
 pub mod Names
 pub mod Once
 pub mod First
+pub mod Total

@@ -15,7 +15,7 @@ use Rattle.ee_settings.specs.declared.numbers.Numbers.{Numbers}
 fields_by : (a b c d e f g h : ℤ) → a ≡ e → b ≡ f → c ≡ g → d ≡ h → ◌≡◌ {A = Fields} (record { address = a; min = b; max = c; default = d }) (record { address = e; min = f; max = g; default = h })
 fields_by a b c d e f g h p q r s = rw (p, q, r, s)
 
-same_fields : (one other : Fields) → one.address ≡ other.address → one.min ≡ other.min → one.max ≡ other.max → one.default ≡ other.default → one ≡ other
+pub same_fields : (one other : Fields) → one.address ≡ other.address → one.min ≡ other.min → one.max ≡ other.max → one.default ≡ other.default → one ≡ other
 same_fields one other p q r s = fields_by one.address one.min one.max one.default other.address other.min other.max other.default p q r s
 
 numbers_by : (a b c d e f g h : ℕ) → a ≡ e → b ≡ f → c ≡ g → d ≡ h → ◌≡◌ {A = Numbers} (record { address = a; min = b; max = c; default = d }) (record { address = e; min = f; max = g; default = h })
@@ -35,7 +35,7 @@ fields_once (array ds) one other h k = absurd h
 fields_once (table ms) one other h k =
     same_fields one other (cc (h.address, k.address)) (cc (h.min, k.min)) (cc (h.max, k.max)) (cc (h.default, k.default))
 
-spelled_once : (one other : Numbers) → fields_of one ≡ fields_of other → one ≡ other
+pub spelled_once : (one other : Numbers) → fields_of one ≡ fields_of other → one ≡ other
 spelled_once one other e =
     same_numbers one other (cc (ap (λ (f : Fields). f.address) e)) (cc (ap (λ (f : Fields). f.min) e)) (cc (ap (λ (f : Fields). f.max) e)) (cc (ap (λ (f : Fields). f.default) e))
 

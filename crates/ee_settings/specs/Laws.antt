@@ -66,3 +66,9 @@ abbrev pub TablesHaveOneFault : Type 0
 TablesHaveOneFault = (members : Members) → HaveRisingKeys (entries_of members)
     → (one other : SchemaFault) → one ≢ schema.Memory → other ≢ schema.Memory
     → GivesSchema members (Err one) → GivesSchema members (Err other) → one ≡ other
+
+-- Every table is a schema or has a first fault; the names of a table rise.
+abbrev pub EveryTable : Type 0
+EveryTable = (members : Members) → HaveRisingKeys (entries_of members)
+    → ((settings : List Setting) × GivesSchema members (Ok settings))
+    ⊎ ((why : SchemaFault) × (why ≢ schema.Memory) × GivesSchema members (Err why))

@@ -1,6 +1,7 @@
 //! What holds of every schema and every store. Each function does nothing: its contract is the law.
 ghost use Rattle.ee_settings.specs.Laws.{SetIsRead, CutKeepsOthers, RefusalsChangeNothing};
-ghost use Rattle.ee_settings.specs.Laws.{NamesAreApart, TablesHaveOneFault, TablesSpellOnce, SchemasAreAccepted};
+ghost use Rattle.ee_settings.specs.Laws.{EveryTable, NamesAreApart, TablesHaveOneFault, TablesSpellOnce};
+ghost use Rattle.ee_settings.specs.Laws.{SchemasAreAccepted};
 
 /// A setting that was set reads as the value that was set, and each setting of another name reads
 /// as before, also where the store moved its map to the other set.
@@ -36,4 +37,10 @@ pub fn schemas_are_accepted()
 /// A table has one first fault at most.
 pub fn tables_have_one_fault()
     ensures { TablesHaveOneFault }
+{}
+
+/// Every table is a schema or has a first fault.
+#[tactic(auto, using(crate::proofs::Total::every_table_lem))]
+pub fn every_table()
+    ensures { EveryTable }
 {}

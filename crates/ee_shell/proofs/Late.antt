@@ -308,42 +308,42 @@ module _ (size : Size) where
     generations = let g = fits.generations in omega arith;
   }
 
-  pub all_written : (commands : List Command) (answers : List Answer) (old new : State) (start : Situation) → AreCommands commands
+  pub all_put : (commands : List Command) (answers : List Answer) (old new : State) (start : Situation) → AreCommands commands
       → IsStartOf (slot_count size) old start → Run (Step size) old commands answers new → Fits start old commands
-      → written (accepted commands answers) ≡ written commands
-  all_written [] [] old new start are is run fits = refl
-  all_written [] (answer ∷ answers) old new start are is run fits = absurd run
-  all_written (command ∷ commands) [] old new start are is run fits = absurd run
-  all_written (Write address value ∷ commands) (Appended ∷ answers) old new start are is run fits =
+      → puts (accepted commands answers) ≡ puts commands
+  all_put [] [] old new start are is run fits = refl
+  all_put [] (answer ∷ answers) old new start are is run fits = absurd run
+  all_put (command ∷ commands) [] old new start are is run fits = absurd run
+  all_put (Write address value ∷ commands) (Appended ∷ answers) old new start are is run fits =
       let next = after_move start (Append (changes.Write address)) in
       let here : IsStartOf (slot_count size) run.0 next = appends size old run.0 start address value are.0.0 run.1.2 is in
       let same : run.0.generation ≡ old.generation = ap (λ s. s.generation) run.1.2 in
-      ap (λ l. changes.Write address ∷ l) (all_written commands answers run.0 new next are.1 here run.2
+      ap (λ l. Put address value ∷ l) (all_put commands answers run.0 new next are.1 here run.2
       (fits_after old run.0 start next address value commands (omega arith) refl refl fits))
-  all_written (Write address value ∷ commands) (Moved ∷ answers) old new start are is run fits =
+  all_put (Write address value ∷ commands) (Moved ∷ answers) old new start are is run fits =
       let next = after_move start (Carry (changes.Write address)) in
       let here : IsStartOf (slot_count size) run.0 next = moves_on size old run.0 start address value are.0.0 run.1.2 is in
       let one : run.0.generation ≡ old.generation + 1 = ap (λ s. s.generation) run.1.2 in
-      ap (λ l. changes.Write address ∷ l) (all_written commands answers run.0 new next are.1 here run.2
+      ap (λ l. Put address value ∷ l) (all_put commands answers run.0 new next are.1 here run.2
       (fits_after old run.0 start next address value commands (omega arith) refl refl fits))
-  all_written (Write address value ∷ commands) (Full ∷ answers) old new start are is run fits =
+  all_put (Write address value ∷ commands) (Full ∷ answers) old new start are is run fits =
       absurd (not_full (slot_count size) old start address are.0.0 is fits.keeps.0 run.1.0)
-  all_written (Write address value ∷ commands) (Spent ∷ answers) old new start are is run fits =
+  all_put (Write address value ∷ commands) (Spent ∷ answers) old new start are is run fits =
       absurd (let g = fits.generations in let last = run.1.1.last_generation in omega arith)
-  all_written (Read address ∷ commands) (Value value ∷ answers) old new start are is run fits =
-      all_written commands answers run.0 new start are.1 (stays size old run.0 start run.1.1 is) run.2
+  all_put (Read address ∷ commands) (Value value ∷ answers) old new start are is run fits =
+      all_put commands answers run.0 new start are.1 (stays size old run.0 start run.1.1 is) run.2
       (fits_on old run.0 start (Read address) commands refl (ap (λ s. s.generation) run.1.1) fits)
-  all_written (Read address ∷ commands) (NoValue ∷ answers) old new start are is run fits =
-      all_written commands answers run.0 new start are.1 (stays size old run.0 start run.1.1 is) run.2
+  all_put (Read address ∷ commands) (NoValue ∷ answers) old new start are is run fits =
+      all_put commands answers run.0 new start are.1 (stays size old run.0 start run.1.1 is) run.2
       (fits_on old run.0 start (Read address) commands refl (ap (λ s. s.generation) run.1.1) fits)
-  all_written (Clean ∷ commands) (Cleaned ∷ answers) old new start are is run fits =
+  all_put (Clean ∷ commands) (Cleaned ∷ answers) old new start are is run fits =
       let here = start_stays (slot_count size) old run.0 start is (ap (λ s. s.map) run.1.1) (ap (λ s. s.fill) run.1.1) in
-      all_written commands answers run.0 new start are.1 here run.2
+      all_put commands answers run.0 new start are.1 here run.2
       (fits_on old run.0 start Clean commands refl (ap (λ s. s.generation) run.1.1) fits)
-  all_written (Clean ∷ commands) (Idle ∷ answers) old new start are is run fits =
-      all_written commands answers run.0 new start are.1 (stays size old run.0 start run.1.1 is) run.2
+  all_put (Clean ∷ commands) (Idle ∷ answers) old new start are is run fits =
+      all_put commands answers run.0 new start are.1 (stays size old run.0 start run.1.1 is) run.2
       (fits_on old run.0 start Clean commands refl (ap (λ s. s.generation) run.1.1) fits)
-  all_written (command ∷ commands) (answer ∷ answers) old new start are is run fits = absurd run.1
+  all_put (command ∷ commands) (answer ∷ answers) old new start are is run fits = absurd run.1
 
 -- ---- the run of a script, together
 

@@ -11,3 +11,4 @@ pub mod Reported
 pub mod Late
 pub mod Traces
 pub mod OneTask
+pub mod Planned

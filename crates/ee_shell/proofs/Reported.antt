@@ -21,7 +21,7 @@ use Rattle.ee_store.proofs.States.{state_is}
 use Rattle.ee_shell.specs.Report.{end_line, report_text}
 use Rattle.ee_shell.specs.Serving.{IsServed, IsTraced, traced}
 use Rattle.ee_shell.specs.Trace.{accepted, moves, written}
-use Rattle.ee_shell.proofs.Late.{all_written, run_count, run_fewest, run_keeps, run_room, values_are}
+use Rattle.ee_shell.proofs.Late.{all_put, run_count, run_fewest, run_keeps, run_room, values_are}
 
 -- no more slots are used than there are
 pub fill_within : (device : Device) → IsStore device → (state_of device).fill ≤ slot_count device.size
@@ -91,7 +91,7 @@ module _ (old new : Device) (text lines : List ℕ) (trace kept : List Change) (
           fewest = run_fewest old.size commands answers (state_of old) (state_of new) start claim are is proper run.answered.run tight;
           room = run_room old.size commands answers (state_of old) (state_of new) start claim are is proper run.answered.run tight;
           values = values_are old.size commands answers (state_of old) (state_of new) run.answered.run;
-          all_accepted = all_written old.size commands answers (state_of old) (state_of new) start are is run.answered.run;
+          all_accepted = all_put old.size commands answers (state_of old) (state_of new) start are is run.answered.run;
           report_is = report_is ended reported plan.transfers claim (planned.transfers ∙ sym count) end all;
         };
         erases = run.erases;

@@ -9,9 +9,11 @@ use Rattle.ee_flash.specs.declared.memory.MemFlash.{MemFlash}
 use Rattle.ee_flash.specs.declared.word.Word.TheVariants.{Erased}
 use Rattle.ee_pages.specs.Page.{is_written}
 use Rattle.ee_pages.specs.Sets.{pending_of}
+use Rattle.ee_store.proofs.NotBlank.{length-not_blank}
+use Rattle.ee_store.proofs.Wears.{no_wear, wears_rise}
 use Rattle.ee_store.specs.Finished.{IsStore}
 use Rattle.ee_store.specs.Openings.{IsFormatted, Opens}
-use Rattle.ee_store.specs.State.{State, WearRises, formatted, state_of}
+use Rattle.ee_store.specs.State.{State, formatted, not_blank_pages, state_of}
 use Rattle.ee_image.specs.Text.{at_rest, image_text}
 use Rattle.ee_image.specs.declared.fault.ImageFault.TheVariants as image
 use Rattle.ee_image.proofs.Texts.{short}
@@ -42,7 +44,7 @@ is_opened text old new rest spelled opens =
       stays_on = stays old new kept opens.goes_on.same_power opens.goes_on.same_cuts_left;
       same_size = opens.goes_on.same_size;
       state_is = opens.state_is;
-      erases = by_wear old new opens.state_is opens.no_wear;
+      erases = by_wear old new opens.state_is (no_wear old new opens.no_wear);
     }
 
 pub is_run_on : (old new flash : Device) (text image reported : List ℕ) → IsServed old text new reported → IsStore new → flash ≡ new → Spells image flash → IsRunOn old text image reported
@@ -106,13 +108,13 @@ none_pending size = none_of _ (replicate size.words Erased) (page_count size) (r
 pub is_new : (size : Size) (old new : Device) → old ≡ blank_device size → IsFormatted old new → IsNewStore size new
 is_new size old new blank made =
     let kept : StaysOn old = record { on = ap (λ (d : Device). d.on) blank; never_cut = ap (λ (d : Device). d.cuts_left) blank } in
-    let none : pending_of old.image ≡ 0 = ap (λ (d : Device). pending_of d.image) blank ∙ none_pending size in
+    let none : length (not_blank_pages old) ≡ 0 = length-not_blank old.image 0 ∙ ap (λ (d : Device). pending_of d.image) blank ∙ none_pending size in
     let fresh : old.wear ≡ replicate (page_count size) 0 = ap (λ (d : Device). d.wear) blank in
     record {
       stays_on = stays old new kept made.goes_on.same_power made.goes_on.same_cuts_left;
       size_is = made.goes_on.same_size ∙ ap (λ (d : Device). d.size) blank;
       state_is = made.state_is;
-      no_wear = unworn old new (subst (λ n. WearRises n old new) none made.wear) ∙ fresh;
+      no_wear = unworn old new (wears_rise (not_blank_pages old) 0 old new made.wear none) ∙ fresh;
     }
 
 pub is_formatted : (size : Size) (image : List ℕ) (store flash : Device) → IsNewStore size store → IsStore store → flash ≡ store → Spells image flash → IsFormattedText size image

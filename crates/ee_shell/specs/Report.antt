@@ -28,7 +28,7 @@ report_text slots answers state claim = report answers ++ (end_line slots state 
 -- From the old state, on a device of this size, the script was answered as the report machine answers it, and the new
 -- state is what it came to. The moves are the fewest for the changes that were accepted, no store that makes as few has
 -- more room at the end, and the report prints the certificate. Every address reads the value last written to it by them,
--- or as before; and where all writes fit, all are accepted.
+-- or as before; and where all writes fit, what was accepted is each write of the script, with its address and its value.
 pub record IsReported (size : Size) (old : State) (text : List ℕ) (new : State) (reported : List ℕ) : Type 0 where
   pub commands : List Command
   pub answers : List Answer
@@ -40,5 +40,5 @@ pub record IsReported (size : Size) (old : State) (text : List ℕ) (new : State
   pub fewest : AreFewest start (written (accepted commands answers)) answers claim
   pub room : NoneEndsWithMoreRoom start (written (accepted commands answers)) (moves answers) new.fill
   pub values : new.map ≡ changed_by (puts (accepted commands answers)) old.map
-  pub all_accepted : Fits start old commands → written (accepted commands answers) ≡ written commands
+  pub all_accepted : Fits start old commands → puts (accepted commands answers) ≡ puts commands
   pub report_is : reported ≡ report_text (slot_count size) answers new claim

@@ -1,8 +1,6 @@
 //! Plans of scripts on images, and the certificates that prove them.
 ghost use Rattle.std.specs.Prelude.{◌≡◌, ◌≢◌, ◌⊎◌, ◌++◌, ◌∷◌, [], IfErr, IfNone, IfOk, IfSome, MatchResult, OnOk};
 ghost use Rattle.ee_text.specs.Line.{line_of};
-ghost use Rattle.ee_script.specs.Command.{IsCommand, spelling};
-ghost use Rattle.ee_script.specs.Script.{NoLine};
 ghost use Rattle.ee_script.specs.Whole.{IsScriptFault};
 ghost use Rattle.ee_shell.specs.Planning.{IsCheckingFault, IsPlanned, IsPlanningFault, IsProved, IsTask, IsTaskFault, IsTrace, proved_text};
 ghost use Rattle.ee_shell.specs.Trace.{written};
@@ -10,8 +8,8 @@ ghost use Rattle.ee_shell.specs.Trace.{written};
 use super::opening::open_image;
 use ee_check::{Change, Start, check, read_certificate, write_certificate};
 use ee_plan::{plan, start_of};
-use ee_script::{Command, ScriptFault, read_command};
-use ee_text::{next_line, push_number};
+use ee_script::{Command, ScriptFault, next_command};
+use ee_text::push_number;
 use ee_words::Fault;
 use std::alloc::{AllocError, Allocator};
 
@@ -112,16 +110,6 @@ fn read_trace<A: Allocator + Copy>(alloc: A, script: &[u8]) -> Result<Vec<Change
         rest = more;
     }
     Ok(trace)
-}
-
-/// The command whose line stands at the front of the text, and what stands behind the line.
-fn next_command(text: &[u8]) -> Option<(Command, &[u8])>
-    ensures found { IfSome result (λ parts. IsCommand parts.0
-        × (text.now ≡ line_of (spelling parts.0) ++ parts.1.now)) }
-    ensures none { IfNone result (NoLine text.now) }
-{
-    let (line, rest) = next_line(text)?;
-    Some((read_command(line)?, rest))
 }
 
 /// Puts a command at the end of a trace, if it is a write.

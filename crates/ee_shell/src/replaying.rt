@@ -19,7 +19,8 @@ use std::alloc::{Allocator, Global};
 pub struct Replayed<A: Allocator = Global> {
     /// The text of the image afterwards.
     pub image: Vec<u8, A>,
-    /// One line for each line of the script.
+    /// One line for each line of the script, the line of the end, and the text of the certificate that
+    /// no store makes the accepted changes with fewer moves.
     pub report: Vec<u8, A>,
 }
 

@@ -1,10 +1,9 @@
 -- What formatting does: it erases what is not blank, and then commits the first set.
-use Rattle.std.proofs.Common.{◌≡◌, ◌≢◌, inl, inr, ℕ, ◌+◌, ◌<◌, ◌≤◌, true, false, not, cond, List, [], length, get_or, take, replicate, refl, sym, ap, ◌∙◌, arith}
+use Rattle.std.proofs.Common.{◌≡◌, ◌≢◌, inl, inr, ℕ, ◌+◌, ◌<◌, ◌≤◌, true, false, List, [], length, replicate, refl, sym, ap, ◌∙◌, arith}
 use Rattle.std.specs.List.{All}
 use Rattle.std.proofs.lemmas.Bool.{cases_lt, true≢false}
 use Rattle.std.proofs.lemmas.List.{get_or-replicate, get_or-set_other, get_or-set_same, length-replicate}
 use Rattle.std.proofs.lemmas.List.Elements.{All-from_get_or}
-use Rattle.std.proofs.lemmas.List.Filters.{length-filter_more}
 use Rattle.ee_flash.specs.Device.{Device, IsFormed, IsOn, page_at}
 use Rattle.ee_flash.specs.Power.{GoesOn}
 use Rattle.ee_flash.specs.Size.{page_count}
@@ -12,29 +11,26 @@ use Rattle.ee_flash.specs.Step.{erased}
 use Rattle.ee_flash.specs.declared.word.Word.{Word}
 use Rattle.ee_flash.specs.declared.word.Word.TheVariants.{Erased}
 use Rattle.ee_pages.specs.Page.{is_blank, is_written}
-use Rattle.ee_pages.specs.Sets.{pending_of}
 use Rattle.ee_pages.proofs.Slots.{blank_page}
 use Rattle.ee_store.proofs.AfterCalls.{goes_on_same}
-use Rattle.ee_store.proofs.Wears.{no_wear, page_wears}
+use Rattle.ee_store.proofs.ErasedPages.{blank_wears, written_wears}
+use Rattle.ee_store.proofs.NotBlank.{named}
+use Rattle.ee_store.proofs.Wears.{page_wears}
 use Rattle.ee_store.specs.Parts.{IsSameBut}
-use Rattle.ee_store.specs.State.{WearRises}
-
--- how much a page adds to those that are not blank
-abbrev pub counts : List Word → ℕ
-counts page = cond (not (is_blank page)) 1 0
+use Rattle.ee_store.specs.State.{Wears}
 
 -- a page is blank now, and the others are as they were
 pub record BlanksPage (mid new : Device) (page : ℕ) : Type 0 where
   pub others : IsSameBut page mid new
   pub blank : is_blank (page_at new page) ≡ true
-  pub wear : WearRises (counts (page_at mid page)) mid new
+  pub wear : Wears (named page (page_at mid page)) mid new
   pub power : GoesOn mid new
 
 pub blank_already : (device : Device) (page : ℕ) → is_blank (page_at device page) ≡ true → BlanksPage device device page
 blank_already device page blank = record {
   others = λ k apart. refl;
   blank = blank;
-  wear = rw blank (no_wear device device refl);
+  wear = blank_wears page (page_at device page) device blank;
   power = goes_on_same device;
 }
 
@@ -50,7 +46,7 @@ blanks_page page mid new formed h written on done =
     record {
       others = λ k apart. ap (λ (device : Device). page_at device k) done ∙ get_or-set_other mid.image page k words [] apart;
       blank = ap is_blank there ∙ blank_page words mid.size.words (length-replicate mid.size.words Erased) (λ k below. ap is_written (get_or-replicate mid.size.words k Erased Erased below));
-      wear = rw written (page_wears page mid new (omega (arith, formed.wear_length)) done);
+      wear = written_wears page (page_at mid page) mid new written (page_wears page mid new (omega (arith, formed.wear_length)) (ap (λ (device : Device). device.wear) done));
       power = erase_goes_on page mid new on done;
     }
 
@@ -62,10 +58,6 @@ blank_more page mid new before blanks k h = elim (cases_lt k page) [
       ap is_blank (blanks.others k apart) ∙ before k earlier
   | inr last ↦ let e : k ≡ page = omega arith in ap (λ n. is_blank (page_at new n)) e ∙ blanks.blank
 ]
-
--- one page more was counted
-pub pending_more : (image : List (List Word)) (page : ℕ) → page < length image → pending_of (take (page + 1) image) ≡ pending_of (take page image) + counts (get_or image page [])
-pending_more image page h = length-filter_more (λ (words : List Word). not (is_blank words)) image page [] h
 
 pub all_blank : (device : Device) (pages : ℕ) → length device.image ≤ pages → ((k : ℕ) → k < pages → is_blank (page_at device k) ≡ true) → All (λ page. is_blank page ≡ true) device.image
 all_blank device pages h each = All-from_get_or (λ (page : List Word). is_blank page ≡ true) device.image [] (λ k in_range. each k (omega arith))

@@ -1,12 +1,15 @@
-pub mod States
+pub mod SetPages
 pub mod Wears
+pub mod NotBlank
+pub mod PendingPages
+pub mod States
+pub mod ErasedPages
 pub mod AfterCalls
 pub mod FormatFacts
 pub mod FirstSet
 pub mod LiveMarks
 pub mod Marks
 pub mod OpeningFacts
-pub mod SetPages
 pub mod PendingCounts
 pub mod LowestPending
 pub mod Erasing
@@ -25,3 +28,4 @@ pub mod CopiedWords
 pub mod MovedSets
 pub mod MarkedSets
 pub mod ShownStates
+pub mod PageWears

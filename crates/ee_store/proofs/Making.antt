@@ -5,6 +5,7 @@ use Rattle.std.proofs.lemmas.Grind.{common_steps}
 use Rattle.std.specs.List.{filter}
 use Rattle.ee_flash.specs.Device.{Device, IsFormed, IsOff, IsOn}
 use Rattle.ee_flash.specs.Power.{Ends, GoesOn, IsCut}
+use Rattle.ee_flash.specs.Size.{Size}
 use Rattle.ee_flash.specs.declared.word.Word.{Word}
 use Rattle.ee_flash.specs.declared.word.Word.TheVariants.{Erased, Held, Torn}
 use Rattle.ee_codec.specs.Reading.{mark_of, receive_of}
@@ -30,9 +31,8 @@ use Rattle.ee_store.specs.declared.change.Change.TheVariants as kinds
 use Rattle.ee_store.proofs.Drawings.{same_drawn}
 use Rattle.ee_store.specs.Finished.{IsMarked, IsStore}
 use Rattle.ee_store.specs.Parts.{ForgetsHeld, HasMoved, IsSameSet, meant, number_of}
-use Rattle.ee_store.specs.State.{State, WearRises, appended, capacity, spoiled, state_of}
+use Rattle.ee_store.specs.State.{State, Wears, WearsFront, appended, capacity, not_blank_from, not_blank_in, pending_pages, pending_pages_in, spoiled, state_of, turned}
 use Rattle.ee_store.proofs.States.{same_states, state_is, state_kept, state_moved}
-use Rattle.ee_store.proofs.Wears.{no_wear}
 
 module _ (old new : Device) (side : Side) (generation : ℕ) (live : IsLive old side generation) where
   pub fill_was : (state_of old).fill ≡ fill_of (slots_of (set_of side old))
@@ -40,6 +40,17 @@ module _ (old new : Device) (side : Side) (generation : ℕ) (live : IsLive old 
 
   pub map_was : (address : ℕ) → (state_of old).map address ≡ meaning (slots_of (set_of side old)) address
   map_was address = ap (λ (state : State). state.map address) (state_is old side generation live)
+
+  -- the pages that wait are those of the other set
+  pub pending_was : pending_pages old ≡ not_blank_in (other side) old
+  pending_was = ap (pending_pages_in old) live.live
+
+  pending_stays : IsLive new side generation → new.size ≡ old.size → IsSameSet (other side) old new → pending_pages new ≡ pending_pages old
+  pending_stays now sizes same =
+      ap (pending_pages_in new) now.live
+      ∙ ap (λ (size : Size). not_blank_from (first_page size (other side)) (set_of (other side) new)) sizes
+      ∙ ap (not_blank_from (first_page old.size (other side))) same
+      ∙ sym pending_was
 
   pub state_appended : (change : Change) → Takes old new side generation (changed change (meaning (slots_of (set_of side old)))) → IsSameSet (other side) old new → state_of new ≡ appended change (state_of old)
   state_appended change takes same =
@@ -82,7 +93,9 @@ module _ (old new : Device) (side : Side) (generation : ℕ) (live : IsLive old 
     goes_on = goes_on;
     free = omega (arith, fill_was);
     state_is = state_appended change takes same;
-    no_wear = no_wear old new wear;
+    live_is = takes.live.live ∙ sym live.live;
+    same_pending = pending_stays takes.live takes.same_size same;
+    no_wear = wear;
   }
 
   cut_append : (change : Change) → IsSameSet (other side) old new
@@ -94,22 +107,25 @@ module _ (old new : Device) (side : Side) (generation : ℕ) (live : IsLive old 
 
   pub cut_in_append : (change : Change) → Proceeds old change → IsCut old new → fill_of (slots_of (set_of side old)) < capacity old → IsSameSet (other side) old new
       → Keeps old new side generation ⊎ Takes old new side generation (meaning (slots_of (set_of side old))) ⊎ Takes old new side generation (changed change (meaning (slots_of (set_of side old))))
-      → IsCutChange old change new
-  cut_in_append change proceeds cut free same left = record {
+      → new.wear ≡ old.wear → IsCutChange old change new
+  cut_in_append change proceeds cut free same left wear = record {
     proceeds = proceeds;
     cut = cut;
     free = λ _. cut_append change same left;
     all_used = λ all. absurd (omega (arith, fill_was));
+    no_wear = λ _. wear;
+    wear = λ all. absurd (omega (arith, fill_was));
   }
 
-  pub moves : (change : Change) → Proceeds old change → GoesOn old new → fill_of (slots_of (set_of side old)) ≡ capacity old → HasMoved old new side generation change → WearRises (pending_of (set_of (other side) old)) old new → ShowsMoved old change new side generation → Moves old change new
+  pub moves : (change : Change) → Proceeds old change → GoesOn old new → fill_of (slots_of (set_of side old)) ≡ capacity old → HasMoved old new side generation change → Wears (not_blank_in (other side) old) old new → ShowsMoved old change new side generation → Moves old change new
   moves change proceeds goes_on all has wear shows = record {
     image = (side, generation, live.live, shows);
     proceeds = proceeds;
     goes_on = goes_on;
     all_used = fill_was ∙ all;
     state_is = state_moved old new side generation live change has;
-    wear = subst (λ n. WearRises n old new) (sym (ap (λ (state : State). state.pending) (state_is old side generation live))) wear;
+    live_is = has.live.live ∙ ap turned (sym live.live);
+    wear = subst (λ pages. Wears pages old new) (sym pending_was) wear;
   }
 
   cut_move : (change : Change) → pending_of (set_of (other side) new) ≤ old.size.pages → Keeps old new side generation ⊎ HasMoved old new side generation change → IsCutMove old.size.pages (state_of old) change (state_of new)
@@ -117,12 +133,14 @@ module _ (old new : Device) (side : Side) (generation : ℕ) (live : IsLive old 
   cut_move change few (inr has) = inr (state_moved old new side generation live change has)
 
   pub cut_in_move : (change : Change) → Proceeds old change → IsCut old new → fill_of (slots_of (set_of side old)) ≡ capacity old → pending_of (set_of (other side) new) ≤ old.size.pages
-      → Keeps old new side generation ⊎ HasMoved old new side generation change → IsCutChange old change new
-  cut_in_move change proceeds cut all few left = record {
+      → Keeps old new side generation ⊎ HasMoved old new side generation change → WearsFront (not_blank_in (other side) old) old new → IsCutChange old change new
+  cut_in_move change proceeds cut all few left begun = record {
     proceeds = proceeds;
     cut = cut;
     free = λ less. absurd (omega (arith, fill_was));
     all_used = λ _. cut_move change few left;
+    no_wear = λ less. absurd (omega (arith, fill_was));
+    wear = λ _. subst (λ pages. WearsFront pages old new) (sym pending_was) begun;
   }
 
 -- the word of a change of a map, with the value that it forgets

@@ -6,7 +6,7 @@ use Rattle.std.proofs.lemmas.List.Elements.{All-get_or}
 use Rattle.ee_codec.specs.Words.{IsGeneration}
 use Rattle.ee_flash.specs.Device.{Device, IsFormed, IsOn, all_ones, page_at, word_at}
 use Rattle.ee_flash.specs.Laws.{IsStep}
-use Rattle.ee_flash.specs.Size.{page_count}
+use Rattle.ee_flash.specs.Size.{Size, page_count}
 use Rattle.ee_flash.specs.Step.{Step, Program, IsCutIn, IsUntouched, MayFollow, completed}
 use Rattle.ee_flash.specs.declared.device.Cut.{Cut}
 use Rattle.ee_flash.specs.declared.word.Word.{Word}
@@ -16,15 +16,17 @@ use Rattle.ee_pages.specs.Laws.{IsPageOf}
 use Rattle.ee_pages.specs.Legal.{IsLive}
 use Rattle.ee_pages.specs.Page.{is_blank, is_marked, is_written, marking, number_of_mark, place_of_mark, word_in}
 use Rattle.ee_pages.specs.Pushing.{IsMarkBehind}
-use Rattle.ee_pages.specs.Sets.{first_page, other, pending_of}
+use Rattle.ee_pages.specs.Sets.{first_page, other, set_of}
 use Rattle.ee_pages.specs.declared.side.Side.{Side}
 use Rattle.ee_pages.specs.declared.side.Side.TheVariants.{First, Second}
 use Rattle.ee_pages.specs.declared.state.Mark.{Mark}
 use Rattle.ee_pages.specs.declared.state.Mark.TheVariants.{Receive, Active, Valid, Erasing}
 use Rattle.ee_pages.proofs.OtherSet.{other_set_keeps_live}
-use Rattle.ee_pages.proofs.BlankPages.{program_keeps_pending}
+use Rattle.ee_pages.proofs.OtherPages.{program_leaves_written, step_keeps_other_pages}
 use Rattle.ee_pages.proofs.LiveSteps.{mark_keeps_live}
+use Rattle.ee_store.proofs.PendingPages.{same_not_blank}
 use Rattle.ee_store.specs.Parts.{KeepsMarks, Stays}
+use Rattle.ee_store.specs.State.{not_blank_from}
 
 -- a written word stays one where a word of the pages gets written
 written_stays : (image : List (List Word)) (page at : ℕ) (word : Word) (p k : ℕ) → page < length image → at < length (get_or image page []) → is_written word ≡ true → is_written (word_in (get_or image p []) k) ≡ true → is_written (word_in (get_or (set image page (set (get_or image page []) at word)) p []) k) ≡ true
@@ -126,7 +128,7 @@ live_mark_stays page mark old new side generation live from behind (inr taken) =
     let kept = mark_keeps_live (page - first_page old.size side) mark old new side generation live behind step in
     record {
       keeps = kept.0;
-      same_pending = ap pending_of kept.1;
+      same_pending = ap (λ (size : Size). not_blank_from (first_page size (other side)) (set_of (other side) new)) kept.0.same_size ∙ ap (not_blank_from (first_page old.size (other side))) kept.1;
       same_wear = program_keeps_wear page (place_of_mark mark) (number_of_mark mark) old new taken.follows;
     }
 
@@ -135,9 +137,13 @@ pub old_mark_stays : (page : ℕ) (old new : Device) (side : Side) (generation :
 old_mark_stays page old new side generation live of written (inl same) = same_stays old new side generation live same
 old_mark_stays page old new side generation live of written (inr taken) =
     let kept = other_set_keeps_live (marking page Erasing) old new side generation live taken of ((λ first one. cc), (λ first zero. cc)) in
+    let still : is_blank (page_at new page) ≡ false = elim (program_leaves_written page 3 (number_of_mark Erasing) old new taken) [
+      | inl same ↦ ap (λ (image : List (List Word)). is_blank (get_or image page [])) same ∙ written
+      | inr more ↦ more
+    ] in
     record {
       keeps = kept.0;
-      same_pending = program_keeps_pending page 3 (number_of_mark Erasing) old new (other side) of written taken;
+      same_pending = same_not_blank (other side) old new page live.formed kept.0.live.formed kept.0.same_size of (λ p apart. step_keeps_other_pages (marking page Erasing) old new p taken apart) (still ∙ sym written);
       same_wear = program_keeps_wear page 3 (number_of_mark Erasing) old new taken.follows;
     }
 

@@ -1,5 +1,5 @@
 -- What calls in the other set leave together.
-use Rattle.std.proofs.Common.{◌≡◌, ◌≤◌, ◌<◌, ◌-◌, ℕ, ◌+◌, true, List, [], ◌∷◌, get_or, refl, sym, subst, ap, ◌∙◌, arith, suc}
+use Rattle.std.proofs.Common.{◌≡◌, ◌≤◌, ◌<◌, ◌-◌, ℕ, ◌+◌, true, List, [], get_or, refl, sym, subst, ap, ◌∙◌, arith}
 use Rattle.std.specs.List.{All}
 use Rattle.std.proofs.lemmas.List.{get_or-drop, get_or-take}
 use Rattle.std.proofs.lemmas.List.Sums.{prefix_len-le-length}
@@ -23,8 +23,8 @@ use Rattle.ee_pages.proofs.Legal.{fill-front}
 use Rattle.ee_pages.proofs.Slots.{length-set_of, length-slots}
 use Rattle.ee_pages.proofs.BlankPages.{full_set_has_no_blank_page}
 use Rattle.ee_store.specs.Parts.{HasMoved, Stays}
-use Rattle.ee_store.specs.State.{WearRises}
-use Rattle.ee_store.proofs.Wears.{no_wear, wear_adds}
+use Rattle.ee_store.specs.State.{not_blank_in}
+use Rattle.ee_store.proofs.PendingPages.{as_many_not_blank}
 
 pub goes_on-same : (device : Device) → GoesOn device device
 goes_on-same device = record { same_size = refl; same_power = refl; same_cuts = refl; same_cuts_left = refl; same_while_off = λ off. refl }
@@ -53,19 +53,6 @@ few_slots device formed =
     let few : device.size.words - 4 ≤ 508 = omega (arith, formed.within_limits.few_words) in
     mul-le _ _ 64 508 formed.within_limits.few_pages few
 
--- as many pages of the set as are fewer now were erased between
-abbrev pub ErasedSome : Device → Device → Side → Type 0
-ErasedSome old new side = (erases : ℕ) × (pending_of (set_of side new) + erases ≡ pending_of (set_of side old)) × WearRises erases old new
-
-pub erased_one_more : (first second third : Device) (side : Side) → ErasedSome first second side → pending_of (set_of side third) + 1 ≡ pending_of (set_of side second) → WearRises 1 second third → ErasedSome first third side
-erased_one_more first second third side some one wear = (some.0 + 1, omega (arith, some.1), wear_adds some.0 1 first second third some.2 wear)
-
-pub none_pending : (pages : List (List Word)) → All (λ page. is_blank page ≡ true) pages → pending_of pages ≡ 0
-none_pending [] blank = refl
-none_pending (page ∷ pages) blank =
-    let here : is_blank page ≡ true = blank 0 [] (omega arith) in
-    rw here (none_pending pages (λ k d h. blank (suc k) d (omega arith)))
-
 page_there : (side : Side) (device : Device) (page : ℕ) → page < device.size.pages → get_or (set_of side device) page [] ≡ page_at device (first_page device.size side + page)
 page_there First device page h =
     let e : page ≡ 0 + page = omega arith in
@@ -76,17 +63,6 @@ pub all_blank : (side : Side) (device : Device) → IsFormed device → ((page :
 all_blank side device formed each = All-from_get_or (λ page. is_blank page ≡ true) (set_of side device) [] (λ k h.
     let within : k < device.size.pages = omega (arith, length-set_of side device formed) in
     ap is_blank (page_there side device k within) ∙ each (first_page device.size side + k) (omega arith) (omega arith))
-
--- all of them
-pub erased_all : (old new : Device) (side : Side) → ErasedSome old new side → pending_of (set_of side new) ≡ 0 → WearRises (pending_of (set_of side old)) old new
-erased_all old new side some none =
-    let all : some.0 ≡ pending_of (set_of side old) = omega (arith, some.1) in
-    subst (λ (erases : ℕ). WearRises erases old new) all some.2
-
-pub wear_stays : (erases : ℕ) (first second third : Device) → WearRises erases first second → third.wear ≡ second.wear → WearRises erases first third
-wear_stays erases first second third rises same =
-    let e : erases + 0 ≡ erases = omega arith in
-    subst (λ (n : ℕ). WearRises n first third) e (wear_adds erases 0 first second third rises (no_wear second third same))
 
 -- the set that was filled is live, and the other has no blank page
 pub has_moved : (old opened filled new : Device) (side : Side) (generation count : ℕ) (change : Change) → Keeps old opened side generation → Keeps opened filled side generation → fill_of (slots_of (set_of side old)) ≡ slot_count old.size → IsFilling filled (other side) (generation + 1) count → ((address : ℕ) → meaning (slots_of (set_of (other side) filled)) address ≡ changed change (meaning (slots_of (set_of side opened))) address) → count ≡ live_in (changed change (meaning (slots_of (set_of side opened)))) → set_of side new ≡ set_of side filled → IsCommitted filled new (other side) (generation + 1) → HasMoved old new side generation change
@@ -108,7 +84,7 @@ other_other Second = refl
 
 pub moved_stays : (old moved new : Device) (side : Side) (generation : ℕ) (change : Change) → HasMoved old moved side generation change → Stays moved new (other side) (generation + 1) → HasMoved old new side generation change
 moved_stays old moved new side generation change has stays =
-    let pending : pending_of (set_of side new) ≡ pending_of (set_of side moved) = subst (λ (set : Side). pending_of (set_of set new) ≡ pending_of (set_of set moved)) (other_other side) stays.same_pending in
+    let pending : pending_of (set_of side new) ≡ pending_of (set_of side moved) = as_many_not_blank side moved new (subst (λ (set : Side). not_blank_in set new ≡ not_blank_in set moved) (other_other side) stays.same_pending) in
     record {
       live = stays.keeps.live;
       same_size = stays.keeps.same_size ∙ has.same_size;

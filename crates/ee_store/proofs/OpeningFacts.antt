@@ -4,17 +4,16 @@ use Rattle.ee_flash.specs.Device.{Device}
 use Rattle.ee_flash.specs.Power.{GoesOn, IsCut}
 use Rattle.ee_pages.specs.Layout.{IsLayout}
 use Rattle.ee_pages.specs.Legal.{IsLive}
-use Rattle.ee_pages.specs.Sets.{live_of, pending_of}
+use Rattle.ee_pages.specs.Sets.{live_of}
 use Rattle.ee_pages.specs.declared.find.Layout.{Layout}
 use Rattle.ee_pages.specs.declared.side.Side.{Side}
 use Rattle.ee_pages.specs.declared.side.Side.TheVariants.{First, Second}
 use Rattle.ee_store.proofs.States.{state_is, state_stays}
-use Rattle.ee_store.proofs.Wears.{no_wear}
 use Rattle.ee_store.specs.Finished.{IsFinished, IsMarked}
 use Rattle.ee_store.specs.Openings.{IsCutOpening, IsFormatted, Opens, ShowsMarks}
 use Rattle.ee_store.specs.Picture.{IsDrawn, blank, filled}
 use Rattle.ee_store.specs.Parts.{Stays}
-use Rattle.ee_store.specs.State.{State, WearRises, formatted, state_of}
+use Rattle.ee_store.specs.State.{State, Wears, formatted, not_blank_pages, pending_pages_in, state_of}
 
 abbrev side_in : Option (Side × ℕ) → Side
 side_in None = First
@@ -37,7 +36,9 @@ module _ (layout : Layout) (old new : Device) (is : IsLayout old layout) (stays 
     };
     goes_on = on;
     state_is = state_stays old new layout.side layout.generation is.live stays;
-    no_wear = no_wear old new stays.same_wear;
+    live_is = stays.keeps.live.live ∙ sym is.live.live;
+    same_pending = ap (pending_pages_in new) stays.keeps.live.live ∙ stays.same_pending ∙ sym (ap (pending_pages_in old) is.live.live);
+    no_wear = stays.same_wear;
     no_step = λ finished. no_step (finished layout.side layout.generation is.live.live);
   }
 
@@ -48,6 +49,7 @@ module _ (layout : Layout) (old new : Device) (is : IsLayout old layout) (stays 
     cut = cut;
     legal = (layout.side, layout.generation, stays.keeps.live);
     state_is = state_stays old new layout.side layout.generation is.live stays;
+    no_wear = stays.same_wear;
   }
 
 -- a new store whose live set is the first has it with generation 1
@@ -56,7 +58,7 @@ live_first layout new is first state =
     let generation : layout.generation ≡ 1 = ap (λ (s : State). s.generation) (sym (state_is new layout.side layout.generation is.live) ∙ state) in
     is.live.live ∙ ap (λ side. Some (side, layout.generation)) first ∙ ap (λ number. Some (First, number)) generation
 
-pub formats : (layout : Layout) (old new : Device) → IsLayout new layout → layout.side ≡ First → IsMarked new First → state_of new ≡ formatted → IsDrawn First new (filled new.size 1 []) → IsDrawn Second new blank → WearRises (pending_of old.image) old new → GoesOn old new → IsFormatted old new
+pub formats : (layout : Layout) (old new : Device) → IsLayout new layout → layout.side ≡ First → IsMarked new First → state_of new ≡ formatted → IsDrawn First new (filled new.size 1 []) → IsDrawn Second new blank → Wears (not_blank_pages old) old new → GoesOn old new → IsFormatted old new
 formats layout old new is first marked state first_set second_set wear on = record {
   first_set = first_set;
   second_set = second_set;

@@ -45,7 +45,7 @@ count_some (page ∷ pages) (suc k) h e =
 
 -- the pages of a set from its first one, by their numbers in the device
 module _ (side : Side) (device : Device) (formed : IsFormed device) (first : ℕ) (first_is : first ≡ first_page device.size side) where
-  page_there : (page : ℕ) → first ≤ page → page < first + device.size.pages → get_or (set_of side device) (page - first) [] ≡ page_at device page
+  pub page_there : (page : ℕ) → first ≤ page → page < first + device.size.pages → get_or (set_of side device) (page - first) [] ≡ page_at device page
   page_there page from below =
       let e : first_page device.size side + (page - first) ≡ page = omega arith in
       page_of_set side device (page - first) (omega arith) ∙ ap (page_at device) e

@@ -9,11 +9,12 @@ use Rattle.ee_flash.specs.Power.{GoesOn}
 use Rattle.ee_flash.specs.Size.{Size}
 use Rattle.ee_flash.specs.Wear.{total_wear_of}
 use Rattle.ee_pages.specs.Meaning.{Change, Put, Forget, Map, changed, changed_by}
-use Rattle.ee_store.proofs.Wears.{total_rises}
+use Rattle.ee_store.proofs.PendingPages.{length-pending_pages}
+use Rattle.ee_store.proofs.Wears.{no_wear, total_rises, wears_rise}
 use Rattle.ee_store.specs.Calls.{ErasesOne}
 use Rattle.ee_store.specs.Changes.{Appends, Moves}
 use Rattle.ee_store.specs.Runs.{Call, Wrote, Forgot, Cleaned, DidRead, AreAnsweredFrom, CleanRunsEraseSets, EachTransferErasesASet, Follows, IsAnsweredBy, IsRun, RunsGoOn, TheStoreIsAMap, changes_of, is_cut, is_transfer, transfers}
-use Rattle.ee_store.specs.State.{CountsWear, State, state_of}
+use Rattle.ee_store.specs.State.{CountsWear, State, pending_pages, state_of}
 use Rattle.ee_store.specs.declared.variables.ForgetFault.TheVariants as forget
 use Rattle.ee_store.specs.declared.variables.WriteFault.TheVariants as write
 use Rattle.ee_store.specs.declared.variables.Written.TheVariants.{Appended, Moved}
@@ -51,7 +52,7 @@ appends : (old new : Device) (change : Change) → Appends old change new → Go
 appends old new change done = record {
   power = done.goes_on;
   adds = λ counts.
-      let wear = total_rises 0 old new done.no_wear counts in
+      let wear = total_rises 0 old new (no_wear old new done.no_wear) counts in
       let pending : (state_of new).pending ≡ (state_of old).pending = ap (λ (state : State). state.pending) done.state_is in
       (wear.0, omega (arith, wear.1, pending));
   map_is = ap (λ (state : State). state.map) done.state_is;
@@ -61,7 +62,7 @@ moves : (old new : Device) (change : Change) → Moves old change new → Goes t
 moves old new change done = record {
   power = done.goes_on;
   adds = λ counts.
-      let wear = total_rises (state_of old).pending old new done.wear counts in
+      let wear = total_rises (state_of old).pending old new (wears_rise (pending_pages old) (state_of old).pending old new done.wear (length-pending_pages old)) counts in
       let pending : (state_of new).pending ≡ old.size.pages = ap (λ (state : State). state.pending) done.state_is in
       (wear.0, omega (arith, wear.1, pending));
   map_is = ap (λ (state : State). state.map) done.state_is;
@@ -71,7 +72,7 @@ erases : (old new : Device) → ErasesOne old new → Goes false [] old new
 erases old new done = record {
   power = done.goes_on;
   adds = λ counts.
-      let wear = total_rises 1 old new done.wear counts in
+      let wear = total_rises 1 old new (wears_rise (done.lowest.page ∷ []) 1 old new done.lowest.wear refl) counts in
       let pending : (state_of new).pending ≡ (state_of old).pending - 1 = ap (λ (state : State). state.pending) done.state_is in
       (wear.0, omega (arith, wear.1, pending, done.some));
   map_is = ap (λ (state : State). state.map) done.state_is;

@@ -1,6 +1,7 @@
 -- The pages of a set by their numbers in the device.
-use Rattle.std.proofs.Common.{◌≡◌, ◌≢◌, ℕ, ◌+◌, ◌<◌, ◌≤◌, List, [], length, get_or, sym, ap, ◌∙◌, arith}
-use Rattle.std.proofs.lemmas.List.{ext_get_or, get_or-drop, get_or-take}
+use Rattle.std.proofs.Common.{◌≡◌, ◌≢◌, ℕ, ◌+◌, ◌<◌, ◌≤◌, inl, inr, List, [], length, get_or, set, sym, ap, ◌∙◌, arith}
+use Rattle.std.proofs.lemmas.Bool.{cases_eq}
+use Rattle.std.proofs.lemmas.List.{ext_get_or, get_or-drop, get_or-set_other, get_or-set_same, get_or-take, length-set}
 use Rattle.ee_flash.specs.Device.{Device, IsFormed, page_at}
 use Rattle.ee_flash.specs.Size.{Size, page_count}
 use Rattle.ee_flash.specs.declared.word.Word.{Word}
@@ -55,3 +56,25 @@ same_other side old new page old_formed new_formed sizes at same =
     ∙ ap (λ (size : Size). page_at new (first_page size (other side) + k)) sizes
     ∙ same (first_page old.size (other side) + k) (apart_other old.size side page k at within)
     ∙ sym (page_of_set (other side) old k within))
+
+-- what changes one page of a set changes it in the list of its pages
+pub one_changed : (side : Side) (old new : Device) (page k : ℕ) → IsFormed old → IsFormed new → new.size ≡ old.size → first_page old.size side + k ≡ page → k < old.size.pages → IsSameBut page old new → set_of side new ≡ set (set_of side old) k (page_at new page)
+one_changed side old new page k old_formed new_formed sizes at within same =
+    let pages : new.size.pages ≡ old.size.pages = ap (λ (size : Size). size.pages) sizes in
+    let old_count = length-set_of side old old_formed in
+    let new_count : length (set_of side new) ≡ old.size.pages = length-set_of side new new_formed ∙ pages in
+    let long = length-set (set_of side old) k (page_at new page) in
+    ext_get_or [] (set_of side new) (set (set_of side old) k (page_at new page)) (new_count ∙ sym old_count ∙ sym long) (λ j h.
+    let below : j < old.size.pages = omega (arith, h, new_count) in
+    let there : get_or (set_of side new) j [] ≡ page_at new (first_page old.size side + j) =
+    page_of_set side new j (omega (arith, below, pages)) ∙ ap (λ (size : Size). page_at new (first_page size side + j)) sizes in
+    elim (cases_eq j k) [
+      | inl here ↦
+          there ∙ ap (λ n. page_at new (first_page old.size side + n)) here ∙ ap (page_at new) at
+          ∙ sym (get_or-set_same (set_of side old) k (page_at new page) [] (omega (arith, within, old_count)))
+          ∙ ap (λ n. get_or (set (set_of side old) k (page_at new page)) n []) (sym here)
+      | inr other ↦
+          let apart : first_page old.size side + j ≢ page = λ e. other (omega (arith, e, at)) in
+          there ∙ same (first_page old.size side + j) apart ∙ sym (page_of_set side old j below)
+          ∙ sym (get_or-set_other (set_of side old) k j (page_at new page) [] other)
+    ])

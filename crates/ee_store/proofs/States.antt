@@ -9,6 +9,7 @@ use Rattle.ee_pages.specs.Pushing.{Takes}
 use Rattle.ee_pages.specs.Sets.{other, pending_of, set_of}
 use Rattle.ee_pages.specs.declared.side.Side.{Side}
 use Rattle.ee_pages.specs.declared.side.Side.TheVariants.{First, Second}
+use Rattle.ee_store.proofs.PendingPages.{as_many_not_blank}
 use Rattle.ee_store.specs.Parts.{HasMoved, Stays}
 use Rattle.ee_store.specs.State.{State, moved, state_in, state_of, state_with, with_pending}
 
@@ -41,7 +42,7 @@ module _ (old new : Device) (side : Side) (generation : ℕ) (live : IsLive old 
   pub state_stays : Stays old new side generation → state_of new ≡ state_of old
   state_stays stays =
       state_is new side generation stays.keeps.live
-      ∙ same_states _ _ _ _ generation generation _ _ stays.keeps.same_map stays.keeps.same_fill refl stays.same_pending
+      ∙ same_states _ _ _ _ generation generation _ _ stays.keeps.same_map stays.keeps.same_fill refl (as_many_not_blank (other side) old new stays.same_pending)
       ∙ sym (state_is old side generation live)
 
   -- one slot more is written

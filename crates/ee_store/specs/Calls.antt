@@ -1,6 +1,6 @@
 -- What each call of a store answers, and what it leaves: one relation for each, by cases on the answer. Every store keeps
 -- them.
-use Rattle.std.specs.Prelude.{◌≡◌, ◌≢◌, ◌<◌, ◌⊎◌, ℕ, ◌-◌, Option, Some, None, Result, Ok, Err, Bool, true, false}
+use Rattle.std.specs.Prelude.{◌≡◌, ◌≢◌, ◌<◌, ◌⊎◌, ℕ, ◌-◌, Option, Some, None, Result, Ok, Err, Bool, true, false, [], ◌∷◌}
 use Rattle.ee_flash.specs.Device.{Device, IsOff, IsOn, page_at}
 use Rattle.ee_flash.specs.Power.{GoesOn, IsCut}
 use Rattle.ee_pages.specs.Laws.{IsPageOf}
@@ -10,7 +10,7 @@ use Rattle.ee_pages.specs.Sets.{live_of, other}
 use Rattle.ee_pages.specs.declared.side.Side.{Side}
 use Rattle.ee_store.specs.Changes.{Appends, IsCutChange, IsFull, IsSpent, Moves, Proceeds}
 use Rattle.ee_store.specs.Parts.{IsSameBut}
-use Rattle.ee_store.specs.State.{WearRises, capacity, state_of, with_pending}
+use Rattle.ee_store.specs.State.{Wears, capacity, pending_pages, state_of, with_pending}
 use Rattle.ee_store.specs.declared.variables.Written.{Written}
 use Rattle.ee_store.specs.declared.variables.Written.TheVariants.{Appended, Moved}
 use Rattle.ee_store.specs.declared.variables.WriteFault.{WriteFault}
@@ -56,18 +56,21 @@ pub record IsLowestPending (device : Device) (page : ℕ) : Type 0 where
   pub waits : IsPending device page
   pub none_lower : (lower : ℕ) → lower < page → ¬ IsPending device lower
 
--- the lowest page that waited is blank, and each other page is as before
+-- the lowest page that waited was erased, and is blank; the others of those wait still, and each other page is as before
 pub record ErasesLowest (old new : Device) : Type 0 where
   pub page : ℕ
   pub lowest : IsLowestPending old page
   pub blank : is_blank (page_at new page) ≡ true
+  pub waited : pending_pages old ≡ page ∷ pending_pages new
   pub others : IsSameBut page old new
+  pub wear : Wears (page ∷ []) old new
 
--- each page but the lowest that waited is as before
+-- the erase of the lowest page that waited was begun, and each other page is as before
 pub record KeepsAllButLowest (old new : Device) : Type 0 where
   pub page : ℕ
   pub lowest : IsLowestPending old page
   pub others : IsSameBut page old new
+  pub wear : Wears (page ∷ []) old new
 
 -- the lowest page that waited was erased
 pub record ErasesOne (old new : Device) : Type 0 where
@@ -75,8 +78,8 @@ pub record ErasesOne (old new : Device) : Type 0 where
   pub goes_on : GoesOn old new
   pub some : 0 < (state_of old).pending
   pub state_is : state_of new ≡ with_pending ((state_of old).pending - 1) (state_of old)
+  pub live_is : live_of new ≡ live_of old
   pub lowest : ErasesLowest old new
-  pub wear : WearRises 1 old new
 
 -- power was cut in erasing it: as many pages wait, or one less
 pub record IsCutClean (old new : Device) : Type 0 where

@@ -3,10 +3,10 @@ use Rattle.std.specs.Prelude.{◌≡◌, ◌<◌, ◌≤◌, ◌⊎◌, ℕ, ◌
 use Rattle.ee_flash.specs.Device.{Device, IsOn}
 use Rattle.ee_flash.specs.Power.{GoesOn, IsCut}
 use Rattle.ee_pages.specs.Meaning.{Change, Put, Forget, live_in}
-use Rattle.ee_pages.specs.Sets.{other}
+use Rattle.ee_pages.specs.Sets.{live_of, other}
 use Rattle.ee_pages.specs.declared.side.Side.{Side}
 use Rattle.ee_store.specs.Picture.{IsDrawn, OfLive, filled, moved_words, number_of_change, picture_of, retired, with_change}
-use Rattle.ee_store.specs.State.{State, WearRises, appended, capacity, moved, spoiled, state_of, with_pending}
+use Rattle.ee_store.specs.State.{State, Wears, WearsFront, appended, capacity, moved, pending_pages, spoiled, state_of, turned, with_pending}
 
 -- the greatest generation: no transfer follows it
 abbrev pub greatest_generation : ℕ
@@ -48,24 +48,27 @@ pub record ShowsMoved (old : Device) (change : Change) (new : Device) (side : Si
   pub new_pages : IsDrawn (other side) new (filled old.size (generation + 1) (moved_words change (state_of old).map))
   pub old_pages : IsDrawn side new (retired (λ page. true) (picture_of side old))
 
--- a slot was free, and the change stands in it
+-- a slot was free, and the change stands in it; the same set is live, the same pages wait, and none was erased
 pub record Appends (old : Device) (change : Change) (new : Device) : Type 0 where
   pub proceeds : Proceeds old change
   pub goes_on : GoesOn old new
   pub free : (state_of old).fill < capacity old
   pub state_is : state_of new ≡ appended change (state_of old)
+  pub live_is : live_of new ≡ live_of old
+  pub same_pending : pending_pages new ≡ pending_pages old
   pub image : OfLive old (λ side generation. ShowsAppended old change new side)
-  pub no_wear : WearRises 0 old new
+  pub no_wear : new.wear ≡ old.wear
 
 -- no slot was free, and the map was moved to the other set with the change; the pages of that set which waited to be
--- erased were erased
+-- erased were erased, each once, and no other
 pub record Moves (old : Device) (change : Change) (new : Device) : Type 0 where
   pub proceeds : Proceeds old change
   pub goes_on : GoesOn old new
   pub all_used : (state_of old).fill ≡ capacity old
   pub state_is : state_of new ≡ moved old.size.pages change (state_of old)
+  pub live_is : live_of new ≡ turned (live_of old)
   pub image : OfLive old (λ side generation. ShowsMoved old change new side generation)
-  pub wear : WearRises (state_of old).pending old new
+  pub wear : Wears (pending_pages old) old new
 
 -- With a slot free, a cut leaves the state as it was, or a slot more torn, or the change appended.
 abbrev pub IsCutAppend : State → Change → State → Type 0
@@ -76,9 +79,11 @@ IsCutAppend old change new = (new ≡ old) ⊎ (new ≡ spoiled old) ⊎ (new �
 abbrev pub IsCutMove : ℕ → State → Change → State → Type 0
 IsCutMove pages old change new = ((pending : ℕ) × (pending ≤ pages) × (new ≡ with_pending pending old)) ⊎ (new ≡ moved pages change old)
 
--- power was cut in a change
+-- Power was cut in a change. With a slot free no page was erased; with none free, a front of those that waited.
 pub record IsCutChange (old : Device) (change : Change) (new : Device) : Type 0 where
   pub proceeds : Proceeds old change
   pub cut : IsCut old new
   pub free : (state_of old).fill < capacity old → IsCutAppend (state_of old) change (state_of new)
   pub all_used : (state_of old).fill ≡ capacity old → IsCutMove old.size.pages (state_of old) change (state_of new)
+  pub no_wear : (state_of old).fill < capacity old → new.wear ≡ old.wear
+  pub wear : (state_of old).fill ≡ capacity old → WearsFront (pending_pages old) old new

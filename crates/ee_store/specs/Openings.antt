@@ -5,12 +5,12 @@ use Rattle.ee_flash.specs.Power.{GoesOn, IsCut}
 use Rattle.ee_pages.specs.Layout.{IsScanFault}
 use Rattle.ee_pages.specs.Legal.{IsLegal}
 use Rattle.ee_pages.specs.Page.{is_blank}
-use Rattle.ee_pages.specs.Sets.{first_page, live_of, other, pending_of}
+use Rattle.ee_pages.specs.Sets.{first_page, live_of, other}
 use Rattle.ee_pages.specs.declared.side.Side.{Side}
 use Rattle.ee_pages.specs.declared.side.Side.TheVariants.{First, Second}
 use Rattle.ee_store.specs.Finished.{IsFinished, IsStore, last_used}
 use Rattle.ee_store.specs.Picture.{IsDrawn, OfLive, blank, filled, marked_to, picture_of, retired}
-use Rattle.ee_store.specs.State.{WearRises, formatted, state_of}
+use Rattle.ee_store.specs.State.{Wears, formatted, not_blank_pages, pending_pages, state_of}
 use Rattle.ee_store.specs.declared.opening.OpenFault.{OpenFault}
 use Rattle.ee_store.specs.declared.opening.OpenFault.TheVariants.{Scan, Cut}
 
@@ -20,30 +20,35 @@ pub record ShowsMarks (old new : Device) (side : Side) : Type 0 where
   pub live_pages : IsDrawn side new (marked_to (last_used old side) (picture_of side old))
   pub old_pages : IsDrawn (other side) new (retired (λ page. not (is_blank (page_at old (first_page old.size (other side) + page)))) (picture_of (other side) old))
 
--- the image was legal, and its state is as before; where no mark was left, nothing changed
+-- The image was legal; its state is as before, the same set is live, the same pages wait, and none was erased. Where no
+-- mark was left, nothing changed.
 pub record Opens (old new : Device) : Type 0 where
   pub legal : IsLegal old
   pub store : IsStore new
   pub goes_on : GoesOn old new
   pub state_is : state_of new ≡ state_of old
+  pub live_is : live_of new ≡ live_of old
+  pub same_pending : pending_pages new ≡ pending_pages old
   pub image : OfLive old (λ side generation. ShowsMarks old new side)
-  pub no_wear : WearRises 0 old new
+  pub no_wear : new.wear ≡ old.wear
   pub no_step : IsFinished old → new ≡ old
 
--- power was cut in setting a mark, and the state is as before
+-- power was cut in setting a mark; the state is as before, and no page was erased
 pub record IsCutOpening (old new : Device) : Type 0 where
   pub was_legal : IsLegal old
   pub mark_left : ¬ IsFinished old
   pub cut : IsCut old new
   pub legal : IsLegal new
   pub state_is : state_of new ≡ state_of old
+  pub no_wear : new.wear ≡ old.wear
 
 -- why there is no store: the image was not legal, and nothing changed; or power was cut
 abbrev pub OpenFails : Device → OpenFault → Device → Type 0
 OpenFails old (Scan fault) new = IsScanFault old fault × (new ≡ old)
 OpenFails old Cut new = IsCutOpening old new
 
--- a store with nothing in it, whose live set is the first, with generation 1; each page that was not blank was erased
+-- a store with nothing in it, whose live set is the first, with generation 1; each page that was not blank was
+-- erased, each once, and no other
 pub record IsFormatted (old new : Device) : Type 0 where
   pub store : IsStore new
   pub live_is : live_of new ≡ Some (First, 1)
@@ -51,4 +56,4 @@ pub record IsFormatted (old new : Device) : Type 0 where
   pub state_is : state_of new ≡ formatted
   pub first_set : IsDrawn First new (filled new.size 1 [])
   pub second_set : IsDrawn Second new blank
-  pub wear : WearRises (pending_of old.image) old new
+  pub wear : Wears (not_blank_pages old) old new

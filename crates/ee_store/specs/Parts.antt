@@ -14,6 +14,7 @@ use Rattle.ee_pages.specs.declared.side.Side.{Side}
 use Rattle.ee_pages.specs.declared.state.Mark.{Mark}
 use Rattle.ee_pages.specs.declared.state.Mark.TheVariants.{Active, Receive, Valid}
 use Rattle.ee_store.specs.Picture.{IsDrawn, Picture, mark_where, marked, picture_of}
+use Rattle.ee_store.specs.State.{not_blank_in}
 use Rattle.ee_store.specs.declared.change.Change as declared
 use Rattle.ee_store.specs.declared.change.Change.TheVariants as kinds
 
@@ -36,10 +37,10 @@ ForgetsHeld map (kinds.Forget address value) = map address ≡ Some value
 abbrev pub map_in : Side → Device → Map
 map_in side device = meaning (slots_of (set_of side device))
 
--- the live set, the number of pages that wait to be erased and all wear are as before
+-- the live set, the pages of the other set that are not blank and all wear are as before
 pub record Stays (old new : Device) (side : Side) (generation : ℕ) : Type 0 where
   pub keeps : Keeps old new side generation
-  pub same_pending : pending_of (set_of (other side) new) ≡ pending_of (set_of (other side) old)
+  pub same_pending : not_blank_in (other side) new ≡ not_blank_in (other side) old
   pub same_wear : new.wear ≡ old.wear
 
 -- no mark is lost

@@ -1,12 +1,18 @@
 -- Runs of calls of a store, and what holds over each run in which power is not cut: each law is proved by the function of its
 -- name.
-use Rattle.std.specs.Prelude.{◌≡◌, ◌+◌, ◌*◌, ℕ, Bool, true, false, Option, Result, Ok, Err, IfOk, List, [], ◌∷◌}
+use Rattle.std.specs.Prelude.{◌≡◌, ◌+◌, ◌*◌, ◌/◌, ◌<◌, ◌≤◌, ℕ, Bool, true, false, Option, Some, Result, Ok, Err, IfOk, List, [], ◌∷◌, slice_index}
 use Rattle.std.specs.List.{All, count_by, flat_map}
-use Rattle.ee_flash.specs.Device.{Device}
+use Rattle.ee_flash.specs.Device.{Device, page_at}
 use Rattle.ee_flash.specs.Power.{GoesOn}
+use Rattle.ee_flash.specs.Size.{page_count}
 use Rattle.ee_flash.specs.Wear.{total_wear_of}
+use Rattle.ee_pages.specs.Laws.{IsPageOf}
+use Rattle.ee_pages.specs.Legal.{IsLegal}
 use Rattle.ee_pages.specs.Meaning.{Change, Put, Forget, Map, changed_by}
-use Rattle.ee_store.specs.Calls.{Cleans, Forgets, Reads, Writes}
+use Rattle.ee_pages.specs.Page.{is_blank}
+use Rattle.ee_pages.specs.Sets.{live_of, other}
+use Rattle.ee_pages.specs.declared.side.Side.{Side}
+use Rattle.ee_store.specs.Calls.{Cleans, Forgets, IsPending, Reads, Writes}
 use Rattle.ee_store.specs.State.{CountsWear, state_of}
 use Rattle.ee_store.specs.declared.variables.ForgetFault.{ForgetFault}
 use Rattle.ee_store.specs.declared.variables.ForgetFault.TheVariants as forget
@@ -89,6 +95,49 @@ abbrev pub CleanRunsEraseSets : Type 0
 CleanRunsEraseSets =
     (calls : List Call) (old new : Device) → IsWholeRun calls old new → CountsWear new → (state_of old).pending ≡ 0
     → (state_of new).pending ≡ 0 → total_wear_of new ≡ total_wear_of old + transfers calls * old.size.pages
+
+-- how often the page was erased in all
+abbrev pub wear_at : Device → ℕ → ℕ
+wear_at device page = slice_index device.wear page
+
+-- the page is one of the live set
+pub record IsLivePage (device : Device) (page : ℕ) : Type 0 where
+  pub side : Side
+  pub generation : ℕ
+  pub live : live_of device ≡ Some (side, generation)
+  pub in_live : IsPageOf device.size side page
+
+-- it is one of the other set, and blank
+pub record IsSparePage (device : Device) (page : ℕ) : Type 0 where
+  pub side : Side
+  pub generation : ℕ
+  pub live : live_of device ≡ Some (side, generation)
+  pub in_other : IsPageOf device.size (other side) page
+  pub blank : is_blank (page_at device page) ≡ true
+
+-- So often at the most was the page erased in a run with so many transfers, by where it stood at the start: in the live
+-- set, in the other set with nothing to erase, or in the other set and waiting to be erased.
+pub record WearsAtMost (moves page : ℕ) (old new : Device) : Type 0 where
+  pub live : IsLivePage old page → wear_at new page ≤ wear_at old page + (moves + 1) / 2
+  pub spare : IsSparePage old page → wear_at new page ≤ wear_at old page + moves / 2
+  pub pending : IsPending old page → wear_at new page ≤ wear_at old page + (moves / 2 + 1)
+
+-- each page is erased at every second transfer at the most
+abbrev pub EachPageWearsEverySecondTransfer : Type 0
+EachPageWearsEverySecondTransfer =
+    (calls : List Call) (old new : Device) (page : ℕ) → IsWholeRun calls old new → WearsAtMost (transfers calls) page old new
+
+-- So from a legal image in which no page waits, no page is erased more often than every second transfer, rounded up.
+abbrev pub NoPageWearsMore : Type 0
+NoPageWearsMore =
+    (calls : List Call) (old new : Device) (page : ℕ) → IsWholeRun calls old new → IsLegal old → (state_of old).pending ≡ 0
+    → page < page_count old.size → wear_at new page ≤ wear_at old page + (transfers calls + 1) / 2
+
+-- And from any legal image no page is erased more than once more often than every second transfer.
+abbrev pub NoPageWearsMuchMore : Type 0
+NoPageWearsMuchMore =
+    (calls : List Call) (old new : Device) (page : ℕ) → IsWholeRun calls old new → IsLegal old
+    → page < page_count old.size → wear_at new page ≤ wear_at old page + (transfers calls / 2 + 1)
 
 -- the map at the end has every change that was answered, in their order, and no other; each read is answered by the map at
 -- its point

@@ -1,11 +1,13 @@
 -- What a store is to its users: the map that the live set means, and how far it is used.
-use Rattle.std.specs.Prelude.{◌≡◌, ◌+◌, ◌<◌, ℕ, Option, Some, None, List, [], ◌∷◌, length, slice_index, slice_set}
+use Rattle.std.specs.Prelude.{◌≡◌, ◌+◌, ◌<◌, ℕ, if◌then◌else◌, Option, Some, None, List, [], ◌∷◌, ◌++◌, length, slice_index, slice_set}
 use Rattle.std.specs.List.{All}
 use Rattle.ee_flash.specs.Device.{Device, all_ones}
 use Rattle.ee_flash.specs.Size.{slot_count}
 use Rattle.ee_flash.specs.Step.{one_more}
+use Rattle.ee_flash.specs.declared.word.Word.{Word}
 use Rattle.ee_pages.specs.Meaning.{Change, Map, changed, live_in, meaning}
-use Rattle.ee_pages.specs.Sets.{fill_of, live_of, other, pending_of, set_of, slots_of}
+use Rattle.ee_pages.specs.Page.{is_blank}
+use Rattle.ee_pages.specs.Sets.{fill_of, first_page, live_of, other, pending_of, set_of, slots_of}
 use Rattle.ee_pages.specs.declared.side.Side.{Side}
 
 -- the value of each address that has one, how many slots are used, the generation of the live set, and how many pages of
@@ -67,6 +69,37 @@ moved pages change state = record {
 abbrev pub with_pending : ℕ → State → State
 with_pending pages state = record state { pending = pages }
 
+-- ---- which pages wait to be erased
+
+-- the numbers of those pages that are not blank, rising, where the first page has this number
+abbrev pub not_blank_from : ℕ → List (List Word) → List ℕ
+not_blank_from number [] = []
+not_blank_from number (page ∷ pages) =
+    if is_blank page then not_blank_from (number + 1) pages else number ∷ not_blank_from (number + 1) pages
+
+-- the pages of a set that are not blank, by their numbers in the device
+abbrev pub not_blank_in : Side → Device → List ℕ
+not_blank_in side device = not_blank_from (first_page device.size side) (set_of side device)
+
+-- the pages of the device that are not blank
+abbrev pub not_blank_pages : Device → List ℕ
+not_blank_pages device = not_blank_from 0 device.image
+
+abbrev pub pending_pages_in : Device → Option (Side × ℕ) → List ℕ
+pending_pages_in device None = []
+pending_pages_in device (Some live) = not_blank_in (other live.0) device
+
+-- the pages that wait to be erased: those of the set that is not live which are not blank, by rising number
+abbrev pub pending_pages : Device → List ℕ
+pending_pages device = pending_pages_in device (live_of device)
+
+-- the live set after a transfer: the other set, with the next generation
+abbrev pub turned : Option (Side × ℕ) → Option (Side × ℕ)
+turned None = None
+turned (Some live) = Some (other live.0, live.1 + 1)
+
+-- ---- how wear rises
+
 -- no page was erased as often as can be counted
 abbrev pub CountsWear : Device → Type 0
 CountsWear device = All (λ count. count < all_ones) device.wear
@@ -76,10 +109,21 @@ abbrev pub worn_by : List ℕ → List ℕ → List ℕ
 worn_by [] wear = wear
 worn_by (page ∷ pages) wear = worn_by pages (slice_set wear page (one_more (slice_index wear page)))
 
--- So many pages were erased between, one page perhaps several times. The wear of each page rose by as often as it was
--- erased, up to the greatest count, and by nothing else.
+-- The pages of the list were erased between, and no other erase was begun: the wear of each page rose by as often as the
+-- list names it, up to the greatest count.
+pub record Wears (pages : List ℕ) (old new : Device) : Type 0 where
+  pub there : All (λ page. page < length old.wear) pages
+  pub wear_is : new.wear ≡ worn_by pages old.wear
+
+-- So were those of a front of the list.
+pub record WearsFront (pages : List ℕ) (old new : Device) : Type 0 where
+  pub front : List ℕ
+  pub rest : List ℕ
+  pub pages_are : pages ≡ front ++ rest
+  pub wears : Wears front old new
+
+-- So were so many pages, one page perhaps several times.
 pub record WearRises (erases : ℕ) (old new : Device) : Type 0 where
   pub pages : List ℕ
   pub count : length pages ≡ erases
-  pub there : All (λ page. page < length old.wear) pages
-  pub wear_is : new.wear ≡ worn_by pages old.wear
+  pub wears : Wears pages old new

@@ -1,5 +1,5 @@
-ghost use Rattle.std.specs.Prelude.{◌≡◌, ◌<◌, ◌≤◌, ◌⊎◌, ℕ, ◌+◌, IfNone, IfSome, OnErr, OnOk, false, true};
-ghost use Rattle.ee_flash.specs.Device.{page_at};
+ghost use Rattle.std.specs.Prelude.{◌≡◌, ◌<◌, ◌≤◌, ◌⊎◌, ℕ, ◌+◌, [], ◌∷◌, IfNone, IfSome, OnErr, OnOk, false, true};
+ghost use Rattle.ee_flash.specs.Device.{IsOn, page_at};
 ghost use Rattle.ee_flash.specs.Power.{Ends};
 ghost use Rattle.ee_pages.specs.Laws.{IsPageOf, Keeps};
 ghost use Rattle.ee_pages.specs.Layout.{IsLayout};
@@ -9,7 +9,7 @@ ghost use Rattle.ee_pages.specs.Sets.{first_page as first_of, other as other_of,
 ghost use Rattle.ee_store.specs.Calls.{ErasesLowest, KeepsAllButLowest};
 ghost use Rattle.ee_store.specs.Finished.{IsMarked};
 ghost use Rattle.ee_store.specs.Parts.{IsSameBut, IsSameSet};
-ghost use Rattle.ee_store.specs.State.{WearRises};
+ghost use Rattle.ee_store.specs.State.{Wears};
 
 use ee_flash::{Cut, Flash};
 use ee_pages::{Layout, Side, first_page, is_blank as page_is_blank};
@@ -25,8 +25,7 @@ pub(crate) fn clean<F: Flash>(flash: &mut F, layout: &Layout) -> Result<bool, Cu
         × (F.device flash.new ≡ F.device flash.old) }
     ensures one { result ≡ Ok true
         → (pending_of (set_of (other_of layout.now.side) (F.device flash.new)) + 1
-        ≡ pending_of (set_of (other_of layout.now.side) (F.device flash.old)))
-        × WearRises 1 (F.device flash.old) (F.device flash.new) }
+        ≡ pending_of (set_of (other_of layout.now.side) (F.device flash.old))) }
     ensures lowest { result ≡ Ok true → ErasesLowest (F.device flash.old) (F.device flash.new) }
     ensures marked { IsMarked (F.device flash.old) layout.now.side
         → OnOk result (IsMarked (F.device flash.new) layout.now.side) }
@@ -37,7 +36,8 @@ pub(crate) fn clean<F: Flash>(flash: &mut F, layout: &Layout) -> Result<bool, Cu
         ≡ pending_of (set_of (other_of layout.now.side) (F.device flash.old)))
         ⊎ (pending_of (set_of (other_of layout.now.side) (F.device flash.new)) + 1
         ≡ pending_of (set_of (other_of layout.now.side) (F.device flash.old)))) }
-    ensures others { OnErr result (KeepsAllButLowest (F.device flash.old) (F.device flash.new)) }
+    ensures others { OnErr result (IsOn (F.device flash.old)
+        → KeepsAllButLowest (F.device flash.old) (F.device flash.new)) }
     ensures power { Ends result (F.device flash.old) (F.device flash.new) }
 {
     let Some(page) = first_pending(flash, layout.side.other()) else {
@@ -67,7 +67,9 @@ pub(crate) fn erase_other<F: Flash>(
         ≡ pending_of (set_of (other_of side) (F.device flash.old)))
         ⊎ (pending_of (set_of (other_of side) (F.device flash.new)) + 1
         ≡ pending_of (set_of (other_of side) (F.device flash.old))) }
-    ensures wear { OnOk result (WearRises 1 (F.device flash.old) (F.device flash.new)) }
+    ensures wear { OnOk result (Wears (page ∷ []) (F.device flash.old) (F.device flash.new)) }
+    ensures begun { OnErr result (IsOn (F.device flash.old)
+        → Wears (page ∷ []) (F.device flash.old) (F.device flash.new)) }
     ensures power { Ends result (F.device flash.old) (F.device flash.new) }
 {
     flash.erase(page)?;

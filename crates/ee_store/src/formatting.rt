@@ -4,11 +4,10 @@ ghost use Rattle.ee_flash.specs.Device.{IsOn};
 ghost use Rattle.ee_flash.specs.Power.{Ends};
 ghost use Rattle.ee_pages.specs.Layout.{IsLayout};
 ghost use Rattle.ee_pages.specs.Page.{is_blank};
-ghost use Rattle.ee_pages.specs.Sets.{pending_of};
 ghost use Rattle.ee_pages.specs.declared.side.Side.TheVariants.{First, Second};
 ghost use Rattle.ee_store.specs.Finished.{IsMarked};
-ghost use Rattle.ee_store.specs.State.{WearRises, formatted, state_of};
 ghost use Rattle.ee_store.specs.Picture.{IsDrawn, blank, filled};
+ghost use Rattle.ee_store.specs.State.{Wears, formatted, not_blank_pages, state_of};
 
 use ee_flash::{Cut, Flash};
 use ee_pages::{Layout, Mark, Side, is_blank as page_is_blank, mark};
@@ -23,7 +22,7 @@ pub(crate) fn write_format<F: Flash>(flash: &mut F) -> Result<Layout, Cut>
     ensures first_set { OnOk result
         (IsDrawn First (F.device flash.new) (filled (F.device flash.new).size 1 [])) }
     ensures second_set { OnOk result (IsDrawn Second (F.device flash.new) blank) }
-    ensures wear { OnOk result (WearRises (pending_of (F.device flash.old).image)
+    ensures wear { OnOk result (Wears (not_blank_pages (F.device flash.old))
         (F.device flash.old) (F.device flash.new)) }
     ensures power { Ends result (F.device flash.old) (F.device flash.new) }
 {
@@ -41,7 +40,7 @@ pub(crate) fn write_format<F: Flash>(flash: &mut F) -> Result<Layout, Cut>
 // Erases each page that is not blank, by rising page.
 fn erase_all<F: Flash>(flash: &mut F) -> Result<(), Cut>
     ensures blank { OnOk result (All (λ page. is_blank page ≡ true) (F.device flash.new).image) }
-    ensures wear { OnOk result (WearRises (pending_of (F.device flash.old).image)
+    ensures wear { OnOk result (Wears (not_blank_pages (F.device flash.old))
         (F.device flash.old) (F.device flash.new)) }
     ensures power { Ends result (F.device flash.old) (F.device flash.new) }
 {

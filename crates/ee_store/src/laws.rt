@@ -1,7 +1,7 @@
 //! Laws of calls of any `Variables` in which power is not cut, over any run of them and of the images
 //! that they leave, each the contract of a function that does nothing.
 ghost use Rattle.ee_store.specs.PageStates.{MovedWordsAreLive, PicturesTellImages, StatesAfterAppend, StatesAfterClean, StatesAfterFormat, StatesAfterOpening, StatesAfterTransfer};
-ghost use Rattle.ee_store.specs.Runs.{CleanRunsEraseSets, EachTransferErasesASet, RunsGoOn, TheStoreIsAMap};
+ghost use Rattle.ee_store.specs.Runs.{CleanRunsEraseSets, EachPageWearsEverySecondTransfer, EachTransferErasesASet, NoPageWearsMore, NoPageWearsMuchMore, RunsGoOn, TheStoreIsAMap};
 
 /// Size, power and cuts are as before.
 pub fn runs_go_on()
@@ -18,6 +18,23 @@ pub fn each_transfer_erases_a_set()
 /// transfer.
 pub fn clean_runs_erase_sets()
     ensures { CleanRunsEraseSets }
+{}
+
+/// With T transfers a page of the live set is erased (T + 1) / 2 times at the most, one of the other
+/// set T / 2 times if it is blank at the start, and T / 2 + 1 times if it waits to be erased.
+pub fn each_page_wears_every_second_transfer()
+    ensures { EachPageWearsEverySecondTransfer }
+{}
+
+/// From an image in which no page waits to be erased, no page is erased more often than every second
+/// transfer, rounded up.
+pub fn no_page_wears_more()
+    ensures { NoPageWearsMore }
+{}
+
+/// From any legal image, no page is erased more than once more often than every second transfer.
+pub fn no_page_wears_much_more()
+    ensures { NoPageWearsMuchMore }
 {}
 
 /// The map is the changes that were answered, in their order, and every read is answered by it.

@@ -8,11 +8,11 @@ ghost use Rattle.ee_pages.specs.Laws.{Keeps};
 ghost use Rattle.ee_pages.specs.Layout.{IsLayout};
 ghost use Rattle.ee_pages.specs.Meaning.{changed, live_in, meaning};
 ghost use Rattle.ee_pages.specs.Page.{is_blank};
-ghost use Rattle.ee_pages.specs.Sets.{first_page as first_of, other as other_of, pending_of, set_of, slots_of};
+ghost use Rattle.ee_pages.specs.Sets.{first_page as first_of, other as other_of, set_of, slots_of};
 ghost use Rattle.ee_store.specs.Finished.{IsMarked};
 ghost use Rattle.ee_store.specs.Parts.{HasMoved, Holds, IsCommittedWith, IsSameSet, SetsMark, map_in, meant};
 ghost use Rattle.ee_store.specs.Picture.{IsDrawn, filled, moved_words, picture_of, retired};
-ghost use Rattle.ee_store.specs.State.{WearRises};
+ghost use Rattle.ee_store.specs.State.{Wears, WearsFront, not_blank_in};
 
 use crate::change::Change;
 use crate::cleaning::erase_other;
@@ -47,7 +47,10 @@ pub(crate) fn transfer<F: Flash>(
         (IsDrawn layout.old.side (F.device flash.new)
         (retired (λ page. true) (picture_of layout.old.side (F.device flash.old)))) }
     ensures wear { OnOk result
-        (WearRises (pending_of (set_of (other_of layout.old.side) (F.device flash.old)))
+        (Wears (not_blank_in (other_of layout.old.side) (F.device flash.old))
+        (F.device flash.old) (F.device flash.new)) }
+    ensures begun { OnErr result
+        (WearsFront (not_blank_in (other_of layout.old.side) (F.device flash.old))
         (F.device flash.old) (F.device flash.new)) }
     ensures cut { OnErr result (
         Keeps (F.device flash.old) (F.device flash.new) layout.old.side layout.old.generation
@@ -90,7 +93,10 @@ fn move_map<F: Flash>(flash: &mut F, layout: &Layout, change: Change) -> Result<
         (IsDrawn layout.now.side (F.device flash.new)
         (picture_of layout.now.side (F.device flash.old))) }
     ensures wear { OnOk result
-        (WearRises (pending_of (set_of (other_of layout.now.side) (F.device flash.old)))
+        (Wears (not_blank_in (other_of layout.now.side) (F.device flash.old))
+        (F.device flash.old) (F.device flash.new)) }
+    ensures begun { OnErr result
+        (WearsFront (not_blank_in (other_of layout.now.side) (F.device flash.old))
         (F.device flash.old) (F.device flash.new)) }
     ensures cut { OnErr result (
         Keeps (F.device flash.old) (F.device flash.new) layout.now.side layout.now.generation
@@ -116,7 +122,10 @@ fn clear<F: Flash>(flash: &mut F, layout: &Layout) -> Result<(), Cut>
     ensures live_pages { OnOk result
         (IsSameSet layout.now.side (F.device flash.old) (F.device flash.new)) }
     ensures wear { OnOk result
-        (WearRises (pending_of (set_of (other_of layout.now.side) (F.device flash.old)))
+        (Wears (not_blank_in (other_of layout.now.side) (F.device flash.old))
+        (F.device flash.old) (F.device flash.new)) }
+    ensures begun { OnErr result
+        (WearsFront (not_blank_in (other_of layout.now.side) (F.device flash.old))
         (F.device flash.old) (F.device flash.new)) }
     ensures power { Ends result (F.device flash.old) (F.device flash.new) }
 {

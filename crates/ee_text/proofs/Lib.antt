@@ -1,3 +1,4 @@
+pub mod Deciding
 pub mod Digits
 pub mod FirstPlace
 pub mod Joining
@@ -5,3 +6,4 @@ pub mod Lacking
 pub mod LineFeeds
 pub mod NumberText
 pub mod Parting
+pub mod Leading

@@ -5,7 +5,7 @@
 //! `joined fields` for a row of fields, `line_of text` for a line. What is read is spelled so, and what is
 //! spelled so is read. Nothing here allocates but `push_number`.
 //!
-//! The layers above read with `next_line`, `Fields` or `next_field`, and `number`. They write with
+//! The layers above read with `next_line`, `Fields` or `next_field`, `number` and `leading_number`. They write with
 //! `push_number` and std's `extend_from_slice`. Their proofs may use the lemmas of `proofs/`: `Joining`,
 //! `LineFeeds`, `NumberText`, `Parting` and `Lacking`. The module `laws` says what they come to.
 #![tactic(auto)]
@@ -18,4 +18,4 @@ mod numbers;
 
 pub use fields::{Fields, next_field};
 pub use lines::next_line;
-pub use numbers::{number, number_up_to, push_number};
+pub use numbers::{leading_number, number, number_up_to, push_number};

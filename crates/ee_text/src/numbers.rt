@@ -1,6 +1,8 @@
 //! Numbers as a text writes them: decimal, with no sign and no zero in front.
-ghost use Rattle.std.specs.Prelude.{◌≡◌, ℕ, ◌^◌, ◌<◌, ◌≤◌, ◌++◌, IfSome, OnOk, OnErr, Some, decimal};
+ghost use Rattle.std.specs.Prelude.{◌≡◌, ℕ, ◌^◌, ◌<◌, ◌≤◌, ◌++◌, List, ◌⊎◌, IfNone, IfSome, IsSomeAnd, OnOk, OnErr, Some, decimal, drop, length, slice_index};
+ghost use Rattle.std.specs.Bool.{OnFalse, OnTrue};
 ghost use Rattle.std.specs.Option.{SomeIff};
+ghost use Rattle.ee_text.specs.Number.{IsWorth, StartsWithNoDigit};
 ghost use Rattle.std.specs.Str.Parse.{AllDigits, digits_value};
 
 use itoa::Buffer;
@@ -29,6 +31,27 @@ pub fn number_up_to(field: &[u8], greatest: u64) -> Option<u64>
     number(field).filter(|n| *n <= greatest)
 }
 
+/// The number that stands at the front of a text, up to the first byte that is no digit, and what
+/// stands behind it. None where no number stands there, or one above `greatest`.
+pub fn leading_number(text: &[u8], greatest: u64) -> Option<(u64, &[u8])>
+    // What is read is written there, and no digit follows.
+    ensures found { IfSome result (λ parts. (parts.0 ≤ greatest)
+        × (text.now ≡ decimal parts.0 ++ parts.1.now) × StartsWithNoDigit parts.1.now) }
+    // What is written there is read.
+    ensures only { (n : ℕ) (behind : List ℕ) → n ≤ greatest → StartsWithNoDigit behind
+        → text.now ≡ decimal n ++ behind
+        → IsSomeAnd result (λ parts. (parts.0 ≡ n) × (parts.1.now ≡ behind)) }
+{
+    let (value, count) = leading_digits(text)?;
+    if !is_plain(&text[..count]) {
+        return None;
+    }
+    if value > greatest {
+        return None;
+    }
+    Some((value, &text[count..]))
+}
+
 /// Writes the number at the end. An `Err` leaves `out` as it was.
 pub fn push_number<A: Allocator>(out: &mut Vec<u8, A>, n: u64) -> Result<(), AllocError>
     ensures ok { OnOk result (out.new.items ≡ out.old.items ++ decimal n) }
@@ -51,4 +74,37 @@ fn value_of_digits(digits: &[u8]) -> Option<u64>
         value = value.checked_mul(10)?.checked_add(u64::from(digit))?;
     }
     Some(value)
+}
+
+// What the digits at the front of a text are worth, and how many they are. None where that is above
+// `u64::MAX`.
+fn leading_digits(text: &[u8]) -> Option<(u64, usize)>
+    ensures found { IfSome result (λ parts. IsWorth text.now parts.1 parts.0
+        × StartsWithNoDigit (drop parts.1 text.now)) }
+    ensures too_large { IfNone result ((count : ℕ) × (value : ℕ) × IsWorth text.now count value
+        × (2 ^ 64 ≤ value)) }
+{
+    let mut value: u64 = 0;
+    for (count, byte) in text.iter().enumerate() {
+        let digit = match *byte {
+            b'0'..=b'9' => *byte - b'0',
+            _ => return Some((value, count)),
+        };
+        value = value.checked_mul(10)?.checked_add(u64::from(digit))?;
+    }
+    Some((value, text.len()))
+}
+
+// Whether there are digits, with no zero in front of others.
+fn is_plain(digits: &[u8]) -> bool
+    ensures plain { OnTrue result ((0 < length digits.now)
+        × (slice_index digits.now 0 ≡ 48 → length digits.now ≡ 1)) }
+    ensures not_plain { OnFalse result ((length digits.now ≡ 0)
+        ⊎ ((slice_index digits.now 0 ≡ 48) × (1 < length digits.now))) }
+{
+    match digits {
+        [] => false,
+        [b'0', others @ ..] => others.is_empty(),
+        _ => true,
+    }
 }

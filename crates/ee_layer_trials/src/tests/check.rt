@@ -141,6 +141,27 @@ fn one_slot(rt: HostRuntime) -> Result<(), Fail> {
     Ok(())
 }
 
+// On one slot each write but the first transfers.
+#[test]
+fn a_thousand_stretches(rt: HostRuntime) -> Result<(), Fail> {
+    let start = start(rt.alloc(), 1, 0, &[])?;
+    let mut trace = vec![in rt.alloc(); write(1)?]?;
+    let mut text = String::from_str(rt.alloc(), "slots 1 fill 0 live 0 writes 1001\n")?;
+    for to in 2..1002_u64 {
+        trace.push(write(1)?)?;
+        let from = if to == 2 { 0 } else { 1 };
+        text.push_str(format!(in rt.alloc(); "to {to} from {from}\n")?.as_str())?;
+    }
+    text.push_str("transfers 1000\n")?;
+    let certificate = read_certificate(rt.alloc(), text.as_bytes())?;
+    assert_eq!(rt; certificate.stretches.len(), 1000);
+    assert_eq!(rt; check(rt.alloc(), &start, &trace, &certificate), Ok(1000));
+    let mut out = Vec::new(rt.alloc());
+    write_certificate(&certificate, &mut out)?;
+    assert_eq!(rt; out.as_slice(), text.as_bytes());
+    Ok(())
+}
+
 #[test]
 fn forgettings(rt: HostRuntime) -> Result<(), Fail> {
     let two = start(rt.alloc(), 2, 0, &[])?;

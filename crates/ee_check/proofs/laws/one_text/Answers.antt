@@ -1,5 +1,6 @@
+use Rattle.std.proofs.Common.{rules}
 use Rattle.ee_check.proofs.Texts.{one_text_lem}
 use Rattle.ee_check.proofs.laws.one_text.Goals as goal
 
 pub returns : goal.returns
-returns c = one_text_lem
+returns c = search (rules, one_text_lem)

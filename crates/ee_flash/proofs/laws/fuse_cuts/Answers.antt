@@ -1,5 +1,6 @@
+use Rattle.std.proofs.Common.{rules}
 use Rattle.ee_flash.proofs.Fuses.{fuse_cuts}
 use Rattle.ee_flash.proofs.laws.fuse_cuts.Goals as goal
 
 pub returns : goal.returns
-returns c = fuse_cuts
+returns c = search (rules, fuse_cuts)

@@ -1,5 +1,6 @@
+use Rattle.std.proofs.Common.{rules}
 use Rattle.ee_flash.proofs.Fuses.{fuse_waits}
 use Rattle.ee_flash.proofs.laws.fuse_waits.Goals as goal
 
 pub returns : goal.returns
-returns c = fuse_waits
+returns c = search (rules, fuse_waits)

@@ -1,5 +1,6 @@
+use Rattle.std.proofs.Common.{rules}
 use Rattle.ee_flash.proofs.Outcomes.{step_changes_one_page}
 use Rattle.ee_flash.proofs.laws.step_changes_one_page.Goals as goal
 
 pub returns : goal.returns
-returns c = step_changes_one_page
+returns c = search (rules, step_changes_one_page)

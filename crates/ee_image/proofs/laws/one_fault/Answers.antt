@@ -1,5 +1,6 @@
+use Rattle.std.proofs.Common.{rules}
 use Rattle.ee_image.proofs.Texts.{one_fault_lem}
 use Rattle.ee_image.proofs.laws.one_fault.Goals as goal
 
 pub returns : goal.returns
-returns c = one_fault_lem
+returns c = search (rules, one_fault_lem)

@@ -1,5 +1,6 @@
+use Rattle.std.proofs.Common.{rules}
 use Rattle.ee_pages.proofs.OtherSet.{other_set_keeps_live}
 use Rattle.ee_pages.proofs.laws.other_set_keeps_live.Goals as goal
 
 pub returns : goal.returns
-returns c = other_set_keeps_live
+returns c = search (rules, other_set_keeps_live)

@@ -25,7 +25,8 @@ returns-clause-reached g c =
     (search rules) (let a = c.slots.ensures.slots in let b = c.fill.ensures in omega arith)
 
 pub returns-clause-best : goal.returns-clause-best
-returns-clause-best g c = whole_best c.args.start.now c.args.trace.now c.in_ok-store.store c.slots.ensures.start.proper c.in_ok-store.ensures.ok
+returns-clause-best g c =
+    whole_best c.args.start.now c.args.trace.now c.in_ok-store.store _ c.slots.ensures.start.proper c.in_ok-store.ensures.ok (search rules)
 
 pub returns-clause-names : goal.returns-clause-names
 returns-clause-names g c = λ n first. whole_breaks_nowhere c.args.start.now c.args.trace.now c.in_ok-store.store n c.in_ok-store.ensures.ok first

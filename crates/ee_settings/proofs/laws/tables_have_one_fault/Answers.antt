@@ -1,5 +1,6 @@
+use Rattle.std.proofs.Common.{rules}
 use Rattle.ee_settings.proofs.First.{one_fault}
 use Rattle.ee_settings.proofs.laws.tables_have_one_fault.Goals as goal
 
 pub returns : goal.returns
-returns c = one_fault
+returns c = search (rules, one_fault)

@@ -1,8 +1,10 @@
-use Rattle.std.proofs.Common.{◌≡◌, ◌⊎◌}
+use Rattle.std.proofs.Common.{◌≡◌, ◌⊎◌, rules, subst}
 use Rattle.ee_image.proofs.Taken.{error_passed_on}
+use Rattle.ee_check.specs.Schedule.{IsProper}
 use Rattle.ee_words.specs.declared.fault.Fault.TheVariants.{Memory}
 use Rattle.ee_words.specs.Fault.{fault_of_plan}
 use Rattle.ee_shell.specs.Planning.{IsTask}
+use Rattle.ee_shell.proofs.Planned.{is_planned}
 use Rattle.ee_shell.proofs.OneTask.{change_named, change_of_plan, first_of_plan}
 use Rattle.ee_shell.proofs.planning.plan_script.Goals as goal
 
@@ -23,3 +25,9 @@ returns-clause-names g c = λ cause some applies.
     let task : IsTask c.args.image.now c.args.script.now c.in_ok-start.start c.deref.result.now = rw c.deref.ensures.value c.in_ok-start.ensures.task in
     let named = change_of_plan c.args.image.now c.args.script.now c.in_ok-start.start c.deref.result.now cause some applies task in
     c.in_ok-plan.ensures.names named.n named.first
+
+-- the text is found anew, so that another one leaves a goal open
+pub returns-clause-planned : goal.returns-clause-planned
+returns-clause-planned g c =
+    let task : IsTask c.args.image.now c.args.script.now c.in_ok-start.start c.deref.result.now = rw c.deref.ensures.value c.in_ok-start.ensures.task in
+    is_planned _ _ _ _ _ _ task (subst IsProper c.start.view_is c.start.invariant.proper) c.in_ok-plan.ensures.planned (search rules)

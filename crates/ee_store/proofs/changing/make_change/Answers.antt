@@ -14,7 +14,7 @@ returns-in_err-append-clause-cut g c =
     let slots : c.slots.result ≡ capacity old = c.slots.ensures.value ∙ ap slot_count c.shape.ensures in
     always_on_err c.from_residual.result
     (cut_in_append old new layout.side layout.generation c.requires.layout.live (meant c.args.change) c.requires.proceeds (c.in_err-append.ensures.power.cut c.requires.proceeds.on)
-    (omega (arith, slots, c.if-layout-slots.true, c.requires.layout.fill)) c.append.ensures.other c.in_err-append.ensures.cut)
+    (omega (arith, slots, c.if-layout-slots.true, c.requires.layout.fill)) c.append.ensures.other c.in_err-append.ensures.cut c.append.ensures.wear)
 
 pub returns-in_err-append-clause-store : goal.returns-in_err-append-clause-store
 returns-in_err-append-clause-store g c =
@@ -55,7 +55,7 @@ returns-in_err-transfer-clause-cut g c =
     let few = few_pending new (other layout.side) (g.met.F.Flash.formed c.transfer.new.flash) in
     always_on_err c.from_residual-in_err-transfer.result
     (cut_in_move old new layout.side layout.generation c.requires.layout.live (meant c.args.change) c.requires.proceeds cut
-    (omega (arith, slots, c.if-layout-slots.false, c.requires.layout.fill, within)) (omega (arith, few, ap (λ size. size.pages) cut.same_size)) c.in_err-transfer.ensures.cut)
+    (omega (arith, slots, c.if-layout-slots.false, c.requires.layout.fill, within)) (omega (arith, few, ap (λ size. size.pages) cut.same_size)) c.in_err-transfer.ensures.cut c.in_err-transfer.ensures.begun)
 
 pub returns-in_err-transfer-clause-store : goal.returns-in_err-transfer-clause-store
 returns-in_err-transfer-clause-store g c =

@@ -1,37 +1,33 @@
-use Rattle.std.proofs.Common.{inr, rules, arith}
-use Rattle.ee_store.proofs.Erasing.{cut_keeps, cut_lowers, cut_same_set, done_keeps, done_lowers, done_same_set}
-use Rattle.ee_store.proofs.SetPages.{page_of_device}
-use Rattle.ee_store.proofs.Wears.{page_wears}
-use Rattle.ee_pages.specs.Sets.{other as other_of}
+use Rattle.std.proofs.Common.{rules}
+use Rattle.ee_store.proofs.Erasing.{cut_keeps, cut_lowers, cut_same_set, cut_wears, done_blank, done_keeps, done_lowers, done_same_set, done_wears}
 use Rattle.ee_store.proofs.cleaning.erase_other.Goals as goal
 
 pub returns-in_err-erase-clause-keeps : goal.returns-in_err-erase-clause-keeps
-returns-in_err-erase-clause-keeps g c = cut_keeps _ _ _ c.args.side c.args.generation c.requires.live (search rules) c.in_err-erase.ensures.cut
+returns-in_err-erase-clause-keeps g c = cut_keeps c.args.page _ _ c.args.side c.args.generation c.requires.live (search rules) (search rules)
 
 pub returns-in_err-erase-clause-same_set : goal.returns-in_err-erase-clause-same_set
-returns-in_err-erase-clause-same_set g c = cut_same_set _ _ _ c.args.side c.args.generation c.requires.live (search rules) c.in_err-erase.ensures.cut
+returns-in_err-erase-clause-same_set g c = search (rules, cut_same_set)
 
 pub returns-in_err-erase-clause-cut : goal.returns-in_err-erase-clause-cut
-returns-in_err-erase-clause-cut g c = cut_lowers _ _ _ c.args.side c.args.generation c.requires.live (search rules) c.in_err-erase.ensures.cut c.requires.not_blank
+returns-in_err-erase-clause-cut g c = search (rules, cut_lowers)
+
+pub returns-in_err-erase-clause-begun : goal.returns-in_err-erase-clause-begun
+returns-in_err-erase-clause-begun g c = search (rules, cut_wears)
 
 pub returns-clause-keeps : goal.returns-clause-keeps
-returns-clause-keeps g c = done_keeps _ _ _ c.args.side c.args.generation c.requires.live (search rules) c.in_ok-erase.ensures.on c.in_ok-erase.ensures.done
+returns-clause-keeps g c = done_keeps c.args.page _ _ c.args.side c.args.generation c.requires.live (search rules) (search rules) (search rules)
 
 pub returns-clause-same_set : goal.returns-clause-same_set
-returns-clause-same_set g c = done_same_set _ _ _ c.args.side c.args.generation c.requires.live (search rules) c.in_ok-erase.ensures.on c.in_ok-erase.ensures.done
+returns-clause-same_set g c = search (rules, done_same_set)
 
 pub returns-clause-blank : goal.returns-clause-blank
-returns-clause-blank g c = (done_lowers _ _ _ c.args.side c.args.generation c.requires.live (search rules) c.in_ok-erase.ensures.on c.in_ok-erase.ensures.done c.requires.not_blank).1
+returns-clause-blank g c = search (rules, done_blank)
 
 pub returns-clause-one_less : goal.returns-clause-one_less
-returns-clause-one_less g c = (done_lowers _ _ _ c.args.side c.args.generation c.requires.live (search rules) c.in_ok-erase.ensures.on c.in_ok-erase.ensures.done c.requires.not_blank).0
+returns-clause-one_less g c = search (rules, done_lowers)
 
 pub returns-clause-cut : goal.returns-clause-cut
-returns-clause-cut g c = inr (done_lowers _ _ _ c.args.side c.args.generation c.requires.live (search rules) c.in_ok-erase.ensures.on c.in_ok-erase.ensures.done c.requires.not_blank).0
+returns-clause-cut g c = search (rules, done_lowers)
 
 pub returns-clause-wear : goal.returns-clause-wear
-returns-clause-wear g c =
-    let old = g.F.Flash.device c.args.flash.now in
-    let formed = c.requires.live.formed in
-    let page = page_of_device old.size (other_of c.args.side) c.args.page c.requires.page in
-    page_wears c.args.page old _ (omega (arith, formed.wear_length, page)) c.in_ok-erase.ensures.done
+returns-clause-wear g c = search (rules, done_wears)

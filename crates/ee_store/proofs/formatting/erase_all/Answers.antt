@@ -1,11 +1,10 @@
-use Rattle.std.proofs.Common.{◌≡◌, ◌≢◌, ◌<◌, ◌+◌, length, take, ap, arith, ◌∙◌, sym, subst}
+use Rattle.std.proofs.Common.{◌≡◌, ◌≢◌, ◌<◌, ◌+◌, true, false, length, ap, arith, ◌∙◌, sym}
 use Rattle.ee_flash.specs.Device.{page_at}
 use Rattle.ee_flash.specs.Size.{page_count}
-use Rattle.ee_pages.specs.Sets.{pending_of}
+use Rattle.ee_pages.specs.Page.{is_blank}
 use Rattle.ee_store.proofs.AfterCalls.{goes_on_both}
-use Rattle.ee_store.proofs.FormatFacts.{BlanksPage, all_blank, blank_already, blank_more, blanks_page, counts, pending_more}
-use Rattle.ee_store.proofs.Wears.{wear_adds}
-use Rattle.ee_store.specs.State.{WearRises}
+use Rattle.ee_store.proofs.FormatFacts.{BlanksPage, all_blank, blank_already, blank_more, blanks_page}
+use Rattle.ee_store.proofs.ErasedPages.{all_wear, wears_next}
 use Rattle.ee_store.proofs.formatting.erase_all.Goals.{then-not-is_blank+in_ok-erase, else-not-is_blank}
 use Rattle.ee_store.proofs.formatting.erase_all.Goals as goal
 
@@ -22,17 +21,21 @@ pages-preserved g c =
     let formed = g.met.F.Flash.formed c.args.flash.now in
     let within : page < length old.image = omega (arith, in_range, formed.image_length) in
     let step : BlanksPage mid new page = elim c.if-not-is_blank.branch [
-      | then-not-is_blank+in_ok-erase w ↦ rw w.flash-is (blanks_page page mid _ (g.met.F.Flash.formed c.pages.flash) now_in_range (sym c.is_blank.ensures ∙ w.if-not-is_blank.true) w.in_ok-erase.ensures.on w.in_ok-erase.ensures.done)
-      | else-not-is_blank w ↦ rw w.flash-is (blank_already mid page (sym c.is_blank.ensures ∙ w.if-not-is_blank.false))
+      | then-not-is_blank+in_ok-erase w ↦
+          let written : is_blank (page_at mid page) ≡ false = cc in
+          rw w.flash-is (blanks_page page mid _ (g.met.F.Flash.formed c.pages.flash) now_in_range written w.in_ok-erase.ensures.on w.in_ok-erase.ensures.done)
+      | else-not-is_blank w ↦
+          let blank : is_blank (page_at mid page) ≡ true = cc in
+          rw w.flash-is (blank_already mid page blank)
     ] in
-    let more : pending_of (take (page + 1) old.image) ≡ pending_of (take page old.image) + counts (page_at mid page) =
-    pending_more old.image page within ∙ ap (λ words. pending_of (take page old.image) + counts words) (sym (c.pages.invariant.rest page (omega arith))) in
+    let at : 0 + page ≡ page = omega arith in
+    let same_page = sym (c.pages.invariant.rest page (omega arith)) in
     record {
       blank = blank_more page mid new c.pages.invariant.blank step;
       rest = λ k h.
           let apart : k ≢ page = λ e. omega (arith, e, h) in
           step.others k apart ∙ c.pages.invariant.rest k (omega (arith, h));
-      wear = subst (λ erases. WearRises erases old new) (sym more) (wear_adds (pending_of (take page old.image)) (counts (page_at mid page)) old mid new c.pages.invariant.wear step.wear);
+      wear = wears_next old.image 0 page page old mid new at within same_page c.pages.invariant.wear step.wear;
       power = goes_on_both old mid new c.pages.invariant.power step.power;
     }
 
@@ -44,3 +47,12 @@ returns-clause-blank g c =
     let same = ap page_count c.pages.invariant.power.same_size in
     let formed = g.met.F.Flash.formed c.pages.flash in
     all_blank new c.pages.page (omega (arith, c.pages-page-end.ensures.value, pages, same, formed.image_length, c.pages-test.false)) c.pages.invariant.blank
+
+pub returns-clause-wear : goal.returns-clause-wear
+returns-clause-wear g c =
+    let old = g.F.Flash.device c.args.flash.now in
+    let new = g.F.Flash.device c.pages.flash in
+    let pages = ap (λ size. size.pages) c.shape.ensures in
+    let formed = g.met.F.Flash.formed c.args.flash.now in
+    let all : c.pages.page ≡ length old.image = omega (arith, c.pages-page-end.ensures.value, pages, formed.image_length, c.pages.auto.page-end, c.pages-test.false) in
+    all_wear old.image 0 c.pages.page old new all c.pages.invariant.wear

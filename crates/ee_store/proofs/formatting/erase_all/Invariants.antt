@@ -2,8 +2,7 @@ use Rattle.std.proofs.Common.{◌≡◌, ℕ, ◌<◌, ◌≤◌, true, take}
 use Rattle.ee_flash.specs.Device.{page_at}
 use Rattle.ee_flash.specs.Power.{GoesOn}
 use Rattle.ee_pages.specs.Page.{is_blank}
-use Rattle.ee_pages.specs.Sets.{pending_of}
-use Rattle.ee_store.specs.State.{WearRises}
+use Rattle.ee_store.specs.State.{Wears, not_blank_from}
 use Rattle.ee_store.proofs.formatting.erase_all.Given as goal
 
 abbrev pub invariant-pages : goal.invariant-pages
@@ -13,6 +12,6 @@ invariant-pages g l =
     record {
       blank : (k : ℕ) → k < l.page → is_blank (page_at now k) ≡ true;
       rest : (k : ℕ) → l.page ≤ k → page_at now k ≡ page_at old k;
-      wear : WearRises (pending_of (take l.page old.image)) old now;
+      wear : Wears (not_blank_from 0 (take l.page old.image)) old now;
       power : GoesOn old now;
     }

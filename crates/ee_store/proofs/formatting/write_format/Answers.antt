@@ -1,5 +1,7 @@
-use Rattle.std.proofs.Common.{◌<◌, ap, arith}
+use Rattle.std.proofs.Common.{◌≡◌, ◌<◌, ap, arith, rules}
 use Rattle.ee_flash.specs.Device.{Device}
+use Rattle.ee_store.specs.State.{Wears, not_blank_pages}
+use Rattle.ee_store.proofs.Wears.{wears_still}
 use Rattle.ee_flash.specs.Size.{page_count}
 use Rattle.ee_pages.specs.declared.state.Mark.TheVariants.{Active, Receive}
 use Rattle.ee_store.proofs.FirstSet.{active_unset, first_layout, first_marked, first_state, unmarked}
@@ -82,3 +84,12 @@ returns-clause-second_set g c =
     formats_second blank mid new formed mid_formed (ap (λ (device : Device). device.size) whole) (ap (λ (device : Device). device.size) (c.in_ok-mark-2.ensures.done active)) all
     (sets_mark 0 (Receive 1) blank mid formed h (λ set. (c.in_ok-mark.ensures.present set).1) c.in_ok-mark.ensures.done)
     (sets_mark 0 Active mid new mid_formed next (λ set. (c.in_ok-mark-2.ensures.present set).1) c.in_ok-mark-2.ensures.done)
+
+pub returns-clause-wear : goal.returns-clause-wear
+returns-clause-wear g c =
+    let old = g.F.Flash.device c.args.flash.now in
+    let blank = g.F.Flash.device c.erase_all.new.flash in
+    let new = g.F.Flash.device c.mark-2.new.flash in
+    let erased : Wears (not_blank_pages old) old blank = search rules in
+    let same : new.wear ≡ blank.wear = search rules in
+    wears_still (not_blank_pages old) old blank new erased same

@@ -2,12 +2,14 @@ use Rattle.std.proofs.Common.{◌≡◌, ◌+◌, inr, length, sym, subst, ◌�
 use Rattle.std.proofs.lemmas.Result.{err_from_is_err_and}
 use Rattle.ee_flash.specs.Size.{Size}
 use Rattle.ee_pages.specs.declared.side.Side.{Side}
-use Rattle.ee_pages.specs.Sets.{fill_of, other as other_of, pending_of, set_of, slots_of}
+use Rattle.ee_pages.specs.Sets.{fill_of, other as other_of, set_of, slots_of}
 use Rattle.ee_store.proofs.MarkedSets.{waits}
 use Rattle.ee_store.proofs.MovedSets.{all_retired, filled_up}
 use Rattle.ee_store.specs.Picture.{IsDrawn, filled, moved_words, picture_of, retired}
 use Rattle.ee_store.specs.Parts.{map_in, meant}
-use Rattle.ee_store.proofs.MovingFacts.{moved_stays, other_other, wear_stays}
+use Rattle.ee_store.proofs.MovingFacts.{moved_stays, other_other}
+use Rattle.ee_store.proofs.Wears.{front_all, wears_still}
+use Rattle.ee_store.specs.State.{not_blank_in}
 use Rattle.ee_store.proofs.moving.transfer.Goals as goal
 
 pub returns-in_err-finish-clause-cut : goal.returns-in_err-finish-clause-cut
@@ -23,7 +25,16 @@ returns-clause-moved g c =
 
 pub returns-clause-wear : goal.returns-clause-wear
 returns-clause-wear g c =
-    wear_stays (pending_of (set_of (other_of c.args.layout.now.side) (g.F.Flash.device c.args.flash.now))) (g.F.Flash.device c.args.flash.now) (g.F.Flash.device c.move_map.new.flash) (g.F.Flash.device c.finish.new.flash) c.in_ok-count.ensures.wear c.in_ok-finish.ensures.stays.same_wear
+    let old = g.F.Flash.device c.args.flash.now in
+    wears_still (not_blank_in (other_of c.args.layout.now.side) old) old (g.F.Flash.device c.move_map.new.flash) (g.F.Flash.device c.finish.new.flash) c.in_ok-count.ensures.wear c.in_ok-finish.ensures.stays.same_wear
+
+pub returns-in_err-finish-clause-begun : goal.returns-in_err-finish-clause-begun
+returns-in_err-finish-clause-begun g c =
+    let old = g.F.Flash.device c.args.flash.now in
+    let new = g.F.Flash.device c.finish.new.flash in
+    let failed = err_from_is_err_and c.from_residual-in_err-finish.result c.from_residual-in_err-finish.ensures.1 in
+    let pages = not_blank_in (other_of c.args.layout.now.side) old in
+    rw failed.1 (front_all pages old new (wears_still pages old (g.F.Flash.device c.move_map.new.flash) new c.in_ok-count.ensures.wear c.in_err-finish.ensures.stays.same_wear))
 
 pub returns-clause-new_pages : goal.returns-clause-new_pages
 returns-clause-new_pages g c =

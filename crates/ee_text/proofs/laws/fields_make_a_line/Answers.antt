@@ -1,7 +1,12 @@
--- proofs/laws/fields_make_a_line/Answers.antt
-use Rattle.std.proofs.Common.{arith}
+use Rattle.std.proofs.Common.{List, ℕ, arith, rules}
+use Rattle.std.specs.List.{AllByRecursion}
+use Rattle.ee_text.specs.Field.{joined}
+use Rattle.ee_text.specs.Line.{IsLine}
 use Rattle.ee_text.proofs.Joining.{Lacks-joined}
 use Rattle.ee_text.proofs.laws.fields_make_a_line.Goals as goal
 
+in_a_line : (fields : List (List ℕ)) → AllByRecursion IsLine fields → IsLine (joined fields)
+in_a_line = Lacks-joined 10 (omega arith)
+
 pub returns : goal.returns
-returns c = Lacks-joined 10 (omega arith)
+returns c = search (rules, in_a_line)

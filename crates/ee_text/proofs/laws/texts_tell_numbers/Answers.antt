@@ -1,6 +1,6 @@
--- proofs/laws/texts_tell_numbers/Answers.antt
+use Rattle.std.proofs.Common.{rules}
 use Rattle.std.proofs.lemmas.Fmt.{decimal_injective}
 use Rattle.ee_text.proofs.laws.texts_tell_numbers.Goals as goal
 
 pub returns : goal.returns
-returns c = decimal_injective
+returns c = search (rules, decimal_injective)

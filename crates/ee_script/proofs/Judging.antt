@@ -1,0 +1,139 @@
+-- Every text is a script or has a first bad line: whether a good line stands at its front can be found out, since there
+-- are only so many addresses and values.
+use Rattle.std.proofs.Common.{◌≡◌, ◌≢◌, ◌⊎◌, ◌∙◌, ◌+◌, ◌<◌, ◌≤◌, ◌^◌, ◌++◌, ℕ, zero, suc, List, [], ◌∷◌, length, inl, inr, refl, sym, ap, subst, arith, append_assoc, length-append}
+use Rattle.std.proofs.lemmas.Bool.{cases_eq, cases_lt}
+use Rattle.ee_text.specs.Line.{line_of}
+use Rattle.ee_codec.specs.Words.{IsAddress, IsValue}
+use Rattle.ee_script.specs.declared.command.Command.{Command}
+use Rattle.ee_script.specs.declared.command.Command.TheVariants.{Write, Read, Clean}
+use Rattle.ee_script.specs.Command.{IsCommand, spelling}
+use Rattle.ee_script.specs.Script.{script, AreCommands, NoLine, IsScript, IsFirstBadLine}
+
+-- ---- what can be found out
+
+-- whether one of the numbers below this one is such
+one_below : (P : ℕ → Type 0) → ((k : ℕ) → P k ⊎ (P k → ⊥)) → (n : ℕ) → ((k : ℕ) × P k) ⊎ ((k : ℕ) → k < n → P k → ⊥)
+one_below P found zero = inr (λ k below holds. omega arith)
+one_below P found (suc n) = elim (one_below P found n) [
+  | inl one ↦ inl one
+  | inr none ↦ elim (found n) [
+      | inl holds ↦ inl (n, holds)
+      | inr fails ↦ inr (λ k below holds. elim (cases_eq k n) [
+          | inl same ↦ fails (subst P same holds)
+          | inr other ↦ none k (omega arith) holds
+        ])
+    ]
+]
+
+-- whether a text begins with another one
+begins_with : (front text : List ℕ) → ((more : List ℕ) × (text ≡ front ++ more)) ⊎ ((more : List ℕ) → text ≢ front ++ more)
+begins_with [] text = inl (text, refl)
+begins_with (x ∷ front) [] = inr (λ more e. omega (arith, ap length e))
+begins_with (x ∷ front) (y ∷ text) = elim (cases_eq y x) [
+  | inr other ↦ inr (λ more e. other (cc))
+  | inl same ↦ elim (begins_with front text) [
+      | inl more ↦ inl (more.0, (let rest : text ≡ front ++ more.0 = more.1 in cc))
+      | inr none ↦ inr (λ more e. none more (cc))
+    ]
+]
+
+-- ---- the line at the front
+
+-- the line of this command stands at the front
+record BeginsWith (text : List ℕ) (command : Command) : Type 0 where
+  proper : IsCommand command
+  more : List ℕ
+  text_is : text ≡ line_of (spelling command) ++ more
+
+stands : (text : List ℕ) (command : Command) → IsCommand command → BeginsWith text command ⊎ (BeginsWith text command → ⊥)
+stands text command proper = elim (begins_with (line_of (spelling command)) text) [
+  | inl more ↦ inl record { proper = proper; more = more.0; text_is = more.1 }
+  | inr none ↦ inr (λ begins. none begins.more begins.text_is)
+]
+
+stands_read : (text : List ℕ) (address : ℕ) → BeginsWith text (Read address) ⊎ (BeginsWith text (Read address) → ⊥)
+stands_read text address = elim (cases_lt 0 address) [
+  | inr low ↦ inr (λ begins. omega (arith, begins.proper))
+  | inl above ↦ elim (cases_lt address 65535) [
+      | inr high ↦ inr (λ begins. omega (arith, begins.proper))
+      | inl below ↦ stands text (Read address) (above, below)
+    ]
+]
+
+stands_write : (text : List ℕ) (address value : ℕ) → BeginsWith text (Write address value) ⊎ (BeginsWith text (Write address value) → ⊥)
+stands_write text address value = elim (cases_lt 0 address) [
+  | inr low ↦ inr (λ begins. omega (arith, begins.proper))
+  | inl above ↦ elim (cases_lt address 65535) [
+      | inr high ↦ inr (λ begins. omega (arith, begins.proper))
+      | inl below ↦ elim (cases_lt value (2 ^ 32)) [
+          | inr large ↦ inr (λ begins. omega (arith, begins.proper))
+          | inl fits ↦ stands text (Write address value) ((above, below), fits)
+        ]
+    ]
+]
+
+some_value : (text : List ℕ) (address : ℕ) → ((value : ℕ) × BeginsWith text (Write address value)) ⊎ (((value : ℕ) × BeginsWith text (Write address value)) → ⊥)
+some_value text address = elim (one_below (λ value. BeginsWith text (Write address value)) (stands_write text address) (2 ^ 32)) [
+  | inl one ↦ inl one
+  | inr none ↦ inr (λ begins. none begins.0 begins.1.proper.1 begins.1)
+]
+
+-- no line of a write, of a read, of a clean step
+no_line : (text : List ℕ) → ((address : ℕ) → address < 65535 → ((value : ℕ) × BeginsWith text (Write address value)) → ⊥)
+    → ((address : ℕ) → address < 65535 → BeginsWith text (Read address) → ⊥) → (BeginsWith text Clean → ⊥) → NoLine text
+no_line text writes reads clean (Write address value) more proper e = writes address proper.0.1 (value, record { proper = proper; more = more; text_is = e })
+no_line text writes reads clean (Read address) more proper e = reads address proper.1 record { proper = proper; more = more; text_is = e }
+no_line text writes reads clean Clean more proper e = clean record { proper = proper; more = more; text_is = e }
+
+-- whether a good line stands at the front, and which
+at_front : (text : List ℕ) → ((command : Command) × BeginsWith text command) ⊎ NoLine text
+at_front text = elim (one_below (λ address. (value : ℕ) × BeginsWith text (Write address value)) (some_value text) 65535) [
+  | inl write ↦ inl (Write write.0 write.1.0, write.1.1)
+  | inr writes ↦ elim (one_below (λ address. BeginsWith text (Read address)) (stands_read text) 65535) [
+      | inl read ↦ inl (Read read.0, read.1)
+      | inr reads ↦ elim (stands text Clean tt) [
+          | inl clean ↦ inl (Clean, clean)
+          | inr none ↦ inr (no_line text writes reads none)
+        ]
+    ]
+]
+
+-- ---- the whole text
+
+-- what the text is
+IsJudged : List ℕ → Type 0
+IsJudged text = ((commands : List Command) × IsScript text commands) ⊎ ((n : ℕ) × IsFirstBadLine text n)
+
+behind_line : (text : List ℕ) (command : Command) (begins : BeginsWith text command) → IsJudged begins.more → IsJudged text
+unfolding IsJudged
+behind_line text command begins (inl good) = inl (command ∷ good.0, record {
+  proper = (begins.proper, good.1.proper);
+  text_is = begins.text_is ∙ ap (λ more. line_of (spelling command) ++ more) good.1.text_is;
+})
+behind_line text command begins (inr bad) = inr (bad.0 + 1, record {
+  good = command ∷ bad.1.good;
+  rest = bad.1.rest;
+  proper = (begins.proper, bad.1.proper);
+  text_is = begins.text_is ∙ ap (λ more. line_of (spelling command) ++ more) bad.1.text_is ∙ sym (append_assoc (line_of (spelling command)) (script bad.1.good) bad.1.rest);
+  goes_on = bad.1.goes_on;
+  bad = bad.1.bad;
+  number = omega (arith, bad.1.number);
+})
+
+shorter : (text : List ℕ) (command : Command) (begins : BeginsWith text command) → length begins.more < length text
+shorter text command begins =
+    omega (arith, ap length begins.text_is, length-append (line_of (spelling command)) begins.more, length-append (spelling command) (10 ∷ []))
+
+-- a text of at most so many bytes
+judged : (most : ℕ) (text : List ℕ) → length text ≤ most → IsJudged text
+unfolding IsJudged
+judged most [] short = inl ([], record { proper = tt; text_is = refl })
+judged zero (byte ∷ text) short = absurd (omega arith)
+judged (suc most) (byte ∷ text) short = elim (at_front (byte ∷ text)) [
+  | inl line ↦ behind_line (byte ∷ text) line.0 line.1 (judged most line.1.more (omega (arith, shorter (byte ∷ text) line.0 line.1)))
+  | inr none ↦ inr (1, record { good = []; rest = byte ∷ text; proper = tt; text_is = refl; goes_on = λ e. omega (arith, ap length e); bad = none; number = refl })
+]
+
+pub script_or_bad_line : (text : List ℕ) → ((commands : List Command) × IsScript text commands) ⊎ ((n : ℕ) × IsFirstBadLine text n)
+unfolding IsJudged
+script_or_bad_line text = judged (length text) text (omega arith)

@@ -1,0 +1,36 @@
+use Rattle.std.proofs.Common.{◌*◌, ◌+◌, ◌≤◌, arith, length, take}
+use Rattle.std.proofs.lemmas.List.{length-take}
+use Rattle.std.proofs.lemmas.Result.{err_from_is_err_and}
+use Rattle.ee_script.proofs.Streams.{stops_at_fault, taken_kept, taken_more, taken_none, takes}
+use Rattle.ee_script.proofs.session.Session.feed_all.Goals as goal
+use Rattle.ee_script.proofs.session.Session.feed_all.Goals.{in-Ok+in_ok-session-in-Ok, in-Err+else-ne}
+
+pub reading-init : goal.reading-init
+reading-init g c = taken_none g.S.Serve.serves c.args.self (g.R.Read.remaining c.args.reader.now) 0
+
+pub returns-in_err-session-in-Ok-clause-fault : goal.returns-in_err-session-in-Ok-clause-fault
+returns-in_err-session-in-Ok-clause-fault g c =
+    let p = err_from_is_err_and c.from_residual.result c.from_residual.ensures.1 in
+    rw p.1 (rw p.2
+    (stops_at_fault g.S.Serve.serves c.args.self c.reading.session _ _ _ (c.reading.counter * 4096) (take c.in-Ok.count c.read.new.buf) c.in_err-session-in-Ok.field-0.0
+    c.reading.invariant c.in-Ok.ensures.bytes.0 (omega (arith, length-take c.in-Ok.count c.read.new.buf)) c.in_err-session-in-Ok.ensures))
+
+pub reading-preserved : goal.reading-preserved
+reading-preserved g c = elim c.match-read.branch [
+  | in-Ok+in_ok-session-in-Ok w ↦ rw w.session-is
+      (taken_more g.S.Serve.serves c.args.self c.reading.session _ _ _ _ (c.reading.counter * 4096) ((c.reading.counter + 1) * 4096) (take w.in-Ok.count c.read.new.buf)
+      c.reading.invariant w.in-Ok.ensures.bytes.0 (omega (arith, length-take w.in-Ok.count c.read.new.buf)) w.in_ok-session-in-Ok.ensures)
+  | in-Err+else-ne w ↦ rw w.session-is
+      (taken_kept g.S.Serve.serves c.args.self c.reading.session _ _ _ (c.reading.counter * 4096) ((c.reading.counter + 1) * 4096) c.reading.invariant w.in-Err.ensures.bytes (omega arith))
+]
+
+pub returns-then-ne-clause-fault : goal.returns-then-ne-clause-fault
+returns-then-ne-clause-fault g c =
+    rw c.break_off.ensures.read
+    (_, takes g.S.Serve.serves c.args.self c.reading.session _ _ (c.reading.counter * 4096) (omega arith)
+    (taken_kept g.S.Serve.serves c.args.self c.reading.session _ _ _ (c.reading.counter * 4096) (c.reading.counter * 4096) c.reading.invariant c.in-Err.ensures.bytes (omega arith)), c.break_off.ensures.short)
+
+pub returns-clause-fault : goal.returns-clause-fault
+returns-clause-fault g c =
+    rw c.break_off-2.ensures.read
+    (_, takes g.S.Serve.serves c.args.self c.reading.session _ _ (c.reading.counter * 4096) (omega arith) c.reading.invariant, c.break_off-2.ensures.short)

@@ -1,0 +1,5 @@
+use Rattle.ee_store.proofs.PageWears.{each_page_wears_every_second_transfer_lem}
+use Rattle.ee_store.proofs.laws.each_page_wears_every_second_transfer.Goals as goal
+
+pub returns : goal.returns
+returns c = each_page_wears_every_second_transfer_lem

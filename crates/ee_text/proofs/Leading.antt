@@ -1,0 +1,99 @@
+-- Numbers that stand at the front of a text.
+use Rattle.std.proofs.Common.{◌≡◌, ◌≢◌, ◌⊎◌, ◌∙◌, ℕ, ◌+◌, ◌-◌, ◌*◌, ◌^◌, ◌<◌, ◌≤◌, ◌++◌, List, [], ◌∷◌, length, get_or, take, drop, inl, inr, refl, sym, ap, subst, arith, decimal, length-drop, take-append-drop}
+use Rattle.std.specs.Char.{digit_value}
+use Rattle.std.specs.Str.Parse.{AllDigits, digits_value}
+use Rattle.std.proofs.lemmas.Fmt.{decimal-digits_value, decimal_is_IsNumeral, decimal_nonempty}
+use Rattle.std.proofs.lemmas.Grind.{common_steps}
+use Rattle.std.proofs.lemmas.Int.Digits.{digits_value_more}
+use Rattle.std.proofs.lemmas.List.{take_all, take_more}
+use Rattle.std.proofs.lemmas.Str.Parse.{digits_value-take-le}
+use Rattle.ee_text.specs.Number.{IsWorth, StartsWithNoDigit}
+use Rattle.ee_text.proofs.Digits.{own, zero_alone}
+
+-- a digit, by its byte
+digit_value_is : (byte : ℕ) → 48 ≤ byte → byte ≤ 57 → digit_value byte ≡ byte - 48
+digit_value_is byte low high = grind (arith, common_steps)
+
+not_a_digit : (byte : ℕ) → (byte < 48) ⊎ (57 < byte) → digit_value byte < 10 → ⊥
+not_a_digit byte (inl low) digit = grind (arith, common_steps)
+not_a_digit byte (inr high) digit = grind (arith, common_steps)
+
+AllDigits-snoc : (xs : List ℕ) (x : ℕ) → AllDigits 10 xs → digit_value x < 10 → AllDigits 10 (xs ++ x ∷ [])
+AllDigits-snoc [] x all digit = (digit, tt)
+AllDigits-snoc (y ∷ xs) x all digit = (all.0, AllDigits-snoc xs x all.1 digit)
+
+-- nothing was read
+pub worth_nothing : (text : List ℕ) → IsWorth text 0 0
+worth_nothing text = record { within = omega arith; digits = tt; value_is = refl }
+
+-- one digit more
+pub worth_more : (text : List ℕ) (count value : ℕ) → count < length text → 48 ≤ get_or text count 0 → get_or text count 0 ≤ 57 → IsWorth text count value
+    → IsWorth text (count + 1) (value * 10 + (get_or text count 0 - 48))
+worth_more text count value below low high worth =
+    let worth_of : digit_value (get_or text count 0) ≡ get_or text count 0 - 48 = digit_value_is (get_or text count 0) low high in
+    record {
+      within = omega arith;
+      digits = subst (AllDigits 10) (sym (take_more text count 0 below)) (AllDigits-snoc (take count text) (get_or text count 0) worth.digits (omega arith));
+      value_is = omega (arith, digits_value_more 10 text count below, worth.value_is);
+    }
+
+-- ---- one number at the front
+
+-- digits up to what is no digit are told from what follows
+same_front : (xs ys ds rest : List ℕ) → AllDigits 10 xs → StartsWithNoDigit ys → AllDigits 10 ds → StartsWithNoDigit rest → xs ++ ys ≡ ds ++ rest → (xs ≡ ds) × (ys ≡ rest)
+same_front [] ys [] rest all ends are stop e = (refl, e)
+same_front [] [] (d ∷ ds) rest all ends are stop e = absurd (omega (arith, ap length e))
+same_front [] (y ∷ ys) (d ∷ ds) rest all ends are stop e = absurd (not_a_digit y ends (subst (λ b. digit_value b < 10) (sym (ap (λ l. get_or l 0 0) e)) are.0))
+same_front (x ∷ xs) ys [] [] all ends are stop e = absurd (omega (arith, ap length e))
+same_front (x ∷ xs) ys [] (r ∷ rest) all ends are stop e = absurd (not_a_digit r stop (subst (λ b. digit_value b < 10) (ap (λ l. get_or l 0 0) e) all.0))
+same_front (x ∷ xs) ys (d ∷ ds) rest all ends are stop e =
+    let first : x ≡ d = ap (λ l. get_or l 0 0) e in
+    let behind : xs ++ ys ≡ ds ++ rest = ap (drop 1) e in
+    let same = same_front xs ys ds rest all.1 ends are.1 stop behind in
+    let others = same.0 in
+    (cc, same.1)
+
+-- digits at the front are a front of the number there
+front_of : (xs ys ds rest : List ℕ) → AllDigits 10 xs → AllDigits 10 ds → StartsWithNoDigit rest → xs ++ ys ≡ ds ++ rest → (length xs ≤ length ds) × (xs ≡ take (length xs) ds)
+front_of [] ys ds rest all are stop e = (omega arith, refl)
+front_of (x ∷ xs) ys [] [] all are stop e = absurd (omega (arith, ap length e))
+front_of (x ∷ xs) ys [] (r ∷ rest) all are stop e = absurd (not_a_digit r stop (subst (λ b. digit_value b < 10) (ap (λ l. get_or l 0 0) e) all.0))
+front_of (x ∷ xs) ys (d ∷ ds) rest all are stop e =
+    let first : x ≡ d = ap (λ l. get_or l 0 0) e in
+    let behind : xs ++ ys ≡ ds ++ rest = ap (drop 1) e in
+    let same = front_of xs ys ds rest all.1 are.1 stop behind in
+    let others = same.1 in
+    (omega (arith, same.0), cc)
+
+-- digits that are worth too much stand at the front of no number
+pub no_number : (text behind : List ℕ) (count value n : ℕ) → IsWorth text count value → 2 ^ 64 ≤ value → n < 2 ^ 64 → StartsWithNoDigit behind → text ≡ decimal n ++ behind → ⊥
+no_number text behind count value n worth large fits ends e =
+    let numeral = decimal_is_IsNumeral n fits in
+    let front = front_of (take count text) (drop count text) (decimal n) behind worth.digits numeral.0.1 ends (take-append-drop count text ∙ e) in
+    let below : digits_value 10 (take (length (take count text)) (decimal n)) ≤ digits_value 10 (decimal n) = digits_value-take-le 10 (decimal n) (length (take count text)) (omega arith) in
+    omega (arith, worth.value_is, ap (digits_value 10) front.1, below, numeral.1)
+
+-- the number at the front is what the digits there are worth
+pub one_number : (text behind : List ℕ) (count value n : ℕ) → IsWorth text count value → StartsWithNoDigit (drop count text) → n < 2 ^ 64 → StartsWithNoDigit behind → text ≡ decimal n ++ behind
+    → (value ≡ n) × (drop count text ≡ behind) × (take count text ≡ decimal n)
+one_number text behind count value n worth stop fits ends e =
+    let numeral = decimal_is_IsNumeral n fits in
+    let same = same_front (take count text) (drop count text) (decimal n) behind worth.digits stop numeral.0.1 ends (take-append-drop count text ∙ e) in
+    (worth.value_is ∙ ap (digits_value 10) same.0 ∙ numeral.1, same.1, same.0)
+
+-- digits with no zero in front of others are a number, the one that they are worth
+pub spelled : (text : List ℕ) (count value : ℕ) → IsWorth text count value → value < 2 ^ 64 → 0 < length (take count text)
+    → (get_or (take count text) 0 0 ≡ 48 → length (take count text) ≡ 1) → text ≡ decimal value ++ drop count text
+spelled text count value worth fits some alone =
+    let small : digits_value 10 (take count text) < 2 ^ 64 = omega (arith, worth.value_is) in
+    sym (take-append-drop count text)
+    ∙ ap (λ front. front ++ drop count text) (sym (decimal-digits_value own (take count text) worth.digits some alone small) ∙ ap decimal (sym worth.value_is))
+
+-- and others are none
+pub not_spelled : (digits : List ℕ) (n : ℕ) → n < 2 ^ 64 → (length digits ≡ 0) ⊎ ((get_or digits 0 0 ≡ 48) × (1 < length digits)) → digits ≡ decimal n → ⊥
+not_spelled digits n fits (inl none) e = omega (arith, decimal_nonempty n fits, ap length e)
+not_spelled digits n fits (inr zero) e = omega (arith, zero_alone n fits (ap (λ l. get_or l 0 0) (sym e) ∙ zero.0), ap length e, zero.1)
+
+-- the rest of a text, as a slice takes it
+pub rest_is : (text : List ℕ) (count : ℕ) → take (length text - count) (drop count text) ≡ drop count text
+rest_is text count = take_all (length text - count) (drop count text) (omega (arith, length-drop count text))
