@@ -11,10 +11,10 @@ use Rattle.ee_flash.specs.declared.word.Word.TheVariants.{Erased, Held, Torn}
 use Rattle.ee_pages.specs.Meaning.{Change, Forget, IsNextLive, Map, Put, Spells, changed, latest_in, later, live_in, live_to, meaning, says, slot_says, value_said}
 use Rattle.ee_pages.proofs.Counts.{live_to-zero}
 use Rattle.ee_pages.specs.Pending.{address_of}
+use Rattle.ee_pages.proofs.LiveCounts.{change_counts}
 use Rattle.ee_store.specs.Parts.{map_to, meant, replaced}
 use Rattle.ee_store.specs.declared.change.Change as declared
 use Rattle.ee_store.specs.declared.change.Change.TheVariants as kinds
-use Rattle.ee_pages.proofs.LiveCounts.{change_counts}
 
 -- maps that say the same have as many addresses with a value
 pub same_counts : (first second : Map) → ((address : ℕ) → first address ≡ second address) → live_in first ≡ live_in second
@@ -218,10 +218,10 @@ gap_at_start (suc n) = omega (arith, one_further nothing n, gap_at_start n)
 pub live_in-nothing : (map : Map) → ((address : ℕ) → map address ≡ None) → 0 ≡ live_in map
 live_in-nothing map none = sym (gap_at_start 65534) ∙ same_counts nothing map (λ address. sym (none address))
 
-forget-at : (map : Map) (named address : ℕ) → address ≡ named → changed (Forget named) map address ≡ None
+pub forget-at : (map : Map) (named address : ℕ) → address ≡ named → changed (Forget named) map address ≡ None
 forget-at map named address e = ap (λ (b : Bool). cond b None (map address)) (eq-eqb named address (sym e))
 
-forget-other : (map : Map) (named address : ℕ) → (address ≡ named → ⊥) → changed (Forget named) map address ≡ map address
+pub forget-other : (map : Map) (named address : ℕ) → (address ≡ named → ⊥) → changed (Forget named) map address ≡ map address
 forget-other map named address other = ap (λ (b : Bool). cond b None (map address)) (ne_eqb named address (λ e. other (sym e)))
 
 changed-other : (change : Change) (map : Map) (address : ℕ) → (address ≡ address_of change → ⊥) → changed change map address ≡ map address

@@ -22,4 +22,10 @@ pub mod MovingFacts
 pub mod OtherSteps
 pub mod Making
 pub mod Running
+pub mod Drawings
+pub mod FilledSets
+pub mod CopiedWords
+pub mod MovedSets
+pub mod MarkedSets
+pub mod ShownStates
 pub mod PageWears

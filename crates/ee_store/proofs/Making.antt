@@ -24,9 +24,13 @@ use Rattle.ee_pages.specs.declared.side.Side.TheVariants.{First}
 use Rattle.ee_pages.proofs.Commits.{live_commits}
 use Rattle.ee_pages.proofs.LiveCounts.{change_counts, live_within_fill}
 use Rattle.ee_pages.proofs.Slots.{length-set_of, length-slots}
-use Rattle.ee_store.specs.Changes.{Appends, IsAccepted, IsCutAppend, IsCutChange, IsCutMove, IsFull, IsSpent, Moves, Proceeds, greatest_generation}
+use Rattle.ee_store.specs.Changes.{Appends, IsAccepted, IsCutAppend, IsCutChange, IsCutMove, IsFull, IsSpent, Moves, Proceeds, ShowsAppended, ShowsMoved, greatest_generation}
+use Rattle.ee_store.specs.Picture.{IsDrawn, filled, moved_words, number_of_change, picture_of, retired, with_change}
+use Rattle.ee_store.specs.declared.change.Change as declared
+use Rattle.ee_store.specs.declared.change.Change.TheVariants as kinds
+use Rattle.ee_store.proofs.Drawings.{same_drawn}
 use Rattle.ee_store.specs.Finished.{IsMarked, IsStore}
-use Rattle.ee_store.specs.Parts.{HasMoved, IsSameSet}
+use Rattle.ee_store.specs.Parts.{ForgetsHeld, HasMoved, IsSameSet, meant, number_of}
 use Rattle.ee_store.specs.State.{State, Wears, WearsFront, appended, capacity, not_blank_from, not_blank_in, pending_pages, pending_pages_in, spoiled, state_of, turned}
 use Rattle.ee_store.proofs.States.{same_states, state_is, state_kept, state_moved}
 
@@ -66,8 +70,25 @@ module _ (old new : Device) (side : Side) (generation : ℕ) (live : IsLive old 
       ∙ same_states _ _ _ _ generation generation _ _ keeps.same_map keeps.same_fill refl (ap pending_of same)
       ∙ sym (state_is old side generation live)
 
-  pub appends : (change : Change) → Proceeds old change → GoesOn old new → fill_of (slots_of (set_of side old)) < capacity old → Takes old new side generation (changed change (meaning (slots_of (set_of side old)))) → IsSameSet (other side) old new → new.wear ≡ old.wear → Appends old change new
-  appends change proceeds goes_on free takes same wear = record {
+  pub shows_appended : (change : Change) (fill number : ℕ) → fill ≡ fill_of (slots_of (set_of side old)) → number ≡ number_of_change (state_of old).map change → new.size ≡ old.size → IsDrawn side new (with_change old.size fill number (picture_of side old)) → IsSameSet (other side) old new → ShowsAppended old change new side
+  shows_appended change fill number filled spelled sizes drawn same = record {
+    live_pages =
+        let there = subst (λ n. IsDrawn side new (with_change old.size n number (picture_of side old))) (filled ∙ sym fill_was) drawn in
+        subst (λ n. IsDrawn side new (with_change old.size (state_of old).fill n (picture_of side old))) spelled there;
+    old_pages = same_drawn (other side) old new sizes same;
+  }
+
+  pub shows_moved : (change : Change) → IsDrawn (other side) new (filled old.size (generation + 1) (moved_words change (meaning (slots_of (set_of side old))))) → IsDrawn side new (retired (λ page. true) (picture_of side old)) → ShowsMoved old change new side generation
+  shows_moved change new_drawn old_drawn = record {
+    new_pages =
+        let map : (state_of old).map ≡ meaning (slots_of (set_of side old)) = ap (λ (state : State). state.map) (state_is old side generation live) in
+        subst (λ (said : Map). IsDrawn (other side) new (filled old.size (generation + 1) (moved_words change said))) (sym map) new_drawn;
+    old_pages = old_drawn;
+  }
+
+  pub appends : (change : Change) → Proceeds old change → GoesOn old new → fill_of (slots_of (set_of side old)) < capacity old → Takes old new side generation (changed change (meaning (slots_of (set_of side old)))) → IsSameSet (other side) old new → new.wear ≡ old.wear → ShowsAppended old change new side → Appends old change new
+  appends change proceeds goes_on free takes same wear shows = record {
+    image = (side, generation, live.live, shows);
     proceeds = proceeds;
     goes_on = goes_on;
     free = omega (arith, fill_was);
@@ -96,8 +117,9 @@ module _ (old new : Device) (side : Side) (generation : ℕ) (live : IsLive old 
     wear = λ all. absurd (omega (arith, fill_was));
   }
 
-  pub moves : (change : Change) → Proceeds old change → GoesOn old new → fill_of (slots_of (set_of side old)) ≡ capacity old → HasMoved old new side generation change → Wears (not_blank_in (other side) old) old new → Moves old change new
-  moves change proceeds goes_on all has wear = record {
+  pub moves : (change : Change) → Proceeds old change → GoesOn old new → fill_of (slots_of (set_of side old)) ≡ capacity old → HasMoved old new side generation change → Wears (not_blank_in (other side) old) old new → ShowsMoved old change new side generation → Moves old change new
+  moves change proceeds goes_on all has wear shows = record {
+    image = (side, generation, live.live, shows);
     proceeds = proceeds;
     goes_on = goes_on;
     all_used = fill_was ∙ all;
@@ -120,6 +142,11 @@ module _ (old new : Device) (side : Side) (generation : ℕ) (live : IsLive old 
     no_wear = λ less. absurd (omega (arith, fill_was));
     wear = λ _. subst (λ pages. WearsFront pages old new) (sym pending_was) begun;
   }
+
+-- the word of a change of a map, with the value that it forgets
+pub number_is : (change : declared.Change) (map : Map) → ForgetsHeld map change → number_of change ≡ number_of_change map (meant change)
+number_is (kinds.Put address value) map held = refl
+number_is (kinds.Forget address value) map held = rw held refl
 
 -- the counts of a map that a change is accepted for
 put_count : (live now slots : ℕ) (held : Bool) → now ≡ live + cond held 0 1 → live ≤ slots → (held ≡ false → live ≢ slots) → now ≤ slots

@@ -21,10 +21,10 @@ use Rattle.ee_pages.specs.declared.side.Side.{Side}
 use Rattle.ee_pages.specs.declared.side.Side.TheVariants.{First, Second}
 use Rattle.ee_pages.proofs.Legal.{fill-front}
 use Rattle.ee_pages.proofs.Slots.{length-set_of, length-slots}
+use Rattle.ee_pages.proofs.BlankPages.{full_set_has_no_blank_page}
 use Rattle.ee_store.specs.Parts.{HasMoved, Stays}
 use Rattle.ee_store.specs.State.{not_blank_in}
 use Rattle.ee_store.proofs.PendingPages.{as_many_not_blank}
-use Rattle.ee_pages.proofs.BlankPages.{full_set_has_no_blank_page}
 
 pub goes_on-same : (device : Device) → GoesOn device device
 goes_on-same device = record { same_size = refl; same_power = refl; same_cuts = refl; same_cuts_left = refl; same_while_off = λ off. refl }
@@ -78,7 +78,7 @@ has_moved old opened filled new side generation count change first second full f
       pending_is = ap pending_of same ∙ full_set_has_no_blank_page filled side generation keeps.live filled_up ∙ ap (λ (size : Size). size.pages) keeps.same_size;
     }
 
-other_other : (side : Side) → other (other side) ≡ side
+pub other_other : (side : Side) → other (other side) ≡ side
 other_other First = refl
 other_other Second = refl
 

@@ -58,7 +58,7 @@ module _ (old : Device) (layout : Layout) (found : IsLayout old layout) (free : 
   some_slots : 0 < old.size.words - 4
   some_slots = omega (arith, found.live.formed.within_limits.some_words)
 
-  last_is : page_of_slot old.size (layout.fill - 1) ≡ last_used old layout.side
+  pub last_is : page_of_slot old.size (layout.fill - 1) ≡ last_used old layout.side
   last_is = ap (λ n. page_of_slot old.size (n - 1)) found.fill
 
   -- the marks of a page that is in use already
@@ -77,7 +77,7 @@ module _ (old : Device) (layout : Layout) (found : IsLayout old layout) (free : 
       record { from = omega (arith, found.current); below = omega (arith, found.current, within) }
 
   module _ (some : 0 < layout.fill) (whole : layout.fill % (words - 4) ≡ 0) where
-    further : page_of_slot old.size layout.fill ≡ page_of_slot old.size (layout.fill - 1) + 1
+    pub further : page_of_slot old.size layout.fill ≡ page_of_slot old.size (layout.fill - 1) + 1
     further = next_place layout.fill (old.size.words - 4) some_slots some (subst (λ n. layout.fill % (n - 4) ≡ 0) words_is whole)
 
     next_is : layout.current + 1 ≡ first_page old.size layout.side + page_of_slot old.size layout.fill

@@ -1,5 +1,5 @@
 -- What an opening leaves, from what setting the marks leaves.
-use Rattle.std.proofs.Common.{◌≡◌, ℕ, Option, Some, None, sym, subst, ap, ◌∙◌}
+use Rattle.std.proofs.Common.{◌≡◌, ℕ, Option, Some, None, [], sym, subst, ap, ◌∙◌}
 use Rattle.ee_flash.specs.Device.{Device}
 use Rattle.ee_flash.specs.Power.{GoesOn, IsCut}
 use Rattle.ee_pages.specs.Layout.{IsLayout}
@@ -7,10 +7,11 @@ use Rattle.ee_pages.specs.Legal.{IsLive}
 use Rattle.ee_pages.specs.Sets.{live_of}
 use Rattle.ee_pages.specs.declared.find.Layout.{Layout}
 use Rattle.ee_pages.specs.declared.side.Side.{Side}
-use Rattle.ee_pages.specs.declared.side.Side.TheVariants.{First}
+use Rattle.ee_pages.specs.declared.side.Side.TheVariants.{First, Second}
 use Rattle.ee_store.proofs.States.{state_is, state_stays}
 use Rattle.ee_store.specs.Finished.{IsFinished, IsMarked}
-use Rattle.ee_store.specs.Openings.{IsCutOpening, IsFormatted, Opens}
+use Rattle.ee_store.specs.Openings.{IsCutOpening, IsFormatted, Opens, ShowsMarks}
+use Rattle.ee_store.specs.Picture.{IsDrawn, blank, filled}
 use Rattle.ee_store.specs.Parts.{Stays}
 use Rattle.ee_store.specs.State.{State, Wears, formatted, not_blank_pages, pending_pages_in, state_of}
 
@@ -25,8 +26,9 @@ finished_from device side generation live marked found number is =
     subst (λ set. IsMarked device set) same marked
 
 module _ (layout : Layout) (old new : Device) (is : IsLayout old layout) (stays : Stays old new layout.side layout.generation) where
-  pub opens : IsMarked new layout.side → (IsMarked old layout.side → new ≡ old) → GoesOn old new → Opens old new
-  opens marked no_step on = record {
+  pub opens : IsMarked new layout.side → ShowsMarks old new layout.side → (IsMarked old layout.side → new ≡ old) → GoesOn old new → Opens old new
+  opens marked shows no_step on = record {
+    image = (layout.side, layout.generation, is.live.live, shows);
     legal = (layout.side, layout.generation, is.live);
     store = record {
       legal = (layout.side, layout.generation, stays.keeps.live);
@@ -56,8 +58,10 @@ live_first layout new is first state =
     let generation : layout.generation ≡ 1 = ap (λ (s : State). s.generation) (sym (state_is new layout.side layout.generation is.live) ∙ state) in
     is.live.live ∙ ap (λ side. Some (side, layout.generation)) first ∙ ap (λ number. Some (First, number)) generation
 
-pub formats : (layout : Layout) (old new : Device) → IsLayout new layout → layout.side ≡ First → IsMarked new First → state_of new ≡ formatted → Wears (not_blank_pages old) old new → GoesOn old new → IsFormatted old new
-formats layout old new is first marked state wear on = record {
+pub formats : (layout : Layout) (old new : Device) → IsLayout new layout → layout.side ≡ First → IsMarked new First → state_of new ≡ formatted → IsDrawn First new (filled new.size 1 []) → IsDrawn Second new blank → Wears (not_blank_pages old) old new → GoesOn old new → IsFormatted old new
+formats layout old new is first marked state first_set second_set wear on = record {
+  first_set = first_set;
+  second_set = second_set;
   store = record {
     legal = (layout.side, layout.generation, is.live);
     finished = λ power. finished_from new layout.side layout.generation is.live (subst (λ set. IsMarked new set) (sym first) marked);

@@ -60,11 +60,11 @@ first_in_device : (side : Side) (device : Device) → IsFormed device → first_
 first_in_device First device formed = omega (arith, formed.within_limits.some_pages)
 first_in_device Second device formed = omega (arith, formed.within_limits.some_pages)
 
-first_in_set : (side : Side) (device : Device) → IsFormed device → IsPageOf device.size side (first_page device.size side)
+pub first_in_set : (side : Side) (device : Device) → IsFormed device → IsPageOf device.size side (first_page device.size side)
 first_in_set side device formed = record { from = omega arith; below = omega (arith, formed.within_limits.some_pages) }
 
 -- a blank page's words are erased
-blank_word : (words : List Word) (at : ℕ) → is_blank words ≡ true → word_in words at ≡ Erased
+pub blank_word : (words : List Word) (at : ℕ) → is_blank words ≡ true → word_in words at ≡ Erased
 blank_word words at blank = elim (cases_lt at (length words)) [
   | inr past ↦ get_or_past words at Erased past
   | inl within ↦ elim (cases_Bool (is_written (word_in words at))) [

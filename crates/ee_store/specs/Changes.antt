@@ -1,9 +1,11 @@
 -- What a change of a store's map leaves, and when none is made.
-use Rattle.std.specs.Prelude.{◌≡◌, ◌<◌, ◌≤◌, ◌⊎◌, ℕ, None}
+use Rattle.std.specs.Prelude.{◌≡◌, ◌<◌, ◌≤◌, ◌⊎◌, ℕ, ◌+◌, true, None}
 use Rattle.ee_flash.specs.Device.{Device, IsOn}
 use Rattle.ee_flash.specs.Power.{GoesOn, IsCut}
 use Rattle.ee_pages.specs.Meaning.{Change, Put, Forget, live_in}
-use Rattle.ee_pages.specs.Sets.{live_of}
+use Rattle.ee_pages.specs.Sets.{live_of, other}
+use Rattle.ee_pages.specs.declared.side.Side.{Side}
+use Rattle.ee_store.specs.Picture.{IsDrawn, OfLive, filled, moved_words, number_of_change, picture_of, retired, with_change}
 use Rattle.ee_store.specs.State.{State, Wears, WearsFront, appended, capacity, moved, pending_pages, spoiled, state_of, turned, with_pending}
 
 -- the greatest generation: no transfer follows it
@@ -35,6 +37,17 @@ pub record Proceeds (device : Device) (change : Change) : Type 0 where
   pub on : IsOn device
   pub accepted : IsAccepted (capacity device) (state_of device) change
 
+-- what is drawn after an append: the change's word, with the marks of its page; the other set is as before
+pub record ShowsAppended (old : Device) (change : Change) (new : Device) (side : Side) : Type 0 where
+  pub live_pages : IsDrawn side new (with_change old.size (state_of old).fill (number_of_change (state_of old).map change) (picture_of side old))
+  pub old_pages : IsDrawn (other side) new (picture_of (other side) old)
+
+-- what is drawn after a transfer: the other set is filled with the map, and each page of the set that was live may be
+-- erased
+pub record ShowsMoved (old : Device) (change : Change) (new : Device) (side : Side) (generation : ℕ) : Type 0 where
+  pub new_pages : IsDrawn (other side) new (filled old.size (generation + 1) (moved_words change (state_of old).map))
+  pub old_pages : IsDrawn side new (retired (λ page. true) (picture_of side old))
+
 -- a slot was free, and the change stands in it; the same set is live, the same pages wait, and none was erased
 pub record Appends (old : Device) (change : Change) (new : Device) : Type 0 where
   pub proceeds : Proceeds old change
@@ -43,6 +56,7 @@ pub record Appends (old : Device) (change : Change) (new : Device) : Type 0 wher
   pub state_is : state_of new ≡ appended change (state_of old)
   pub live_is : live_of new ≡ live_of old
   pub same_pending : pending_pages new ≡ pending_pages old
+  pub image : OfLive old (λ side generation. ShowsAppended old change new side)
   pub no_wear : new.wear ≡ old.wear
 
 -- no slot was free, and the map was moved to the other set with the change; the pages of that set which waited to be
@@ -53,6 +67,7 @@ pub record Moves (old : Device) (change : Change) (new : Device) : Type 0 where
   pub all_used : (state_of old).fill ≡ capacity old
   pub state_is : state_of new ≡ moved old.size.pages change (state_of old)
   pub live_is : live_of new ≡ turned (live_of old)
+  pub image : OfLive old (λ side generation. ShowsMoved old change new side generation)
   pub wear : Wears (pending_pages old) old new
 
 -- With a slot free, a cut leaves the state as it was, or a slot more torn, or the change appended.

@@ -1,4 +1,5 @@
 pub mod State
+pub mod Picture
 pub mod Finished
 pub mod Changes
 pub mod Calls
@@ -6,3 +7,4 @@ pub mod Openings
 pub mod Parts
 pub mod Course
 pub mod Runs
+pub mod PageStates

@@ -1,15 +1,24 @@
 -- How a store comes to be: by opening a legal image, or by formatting.
-use Rattle.std.specs.Prelude.{◌≡◌, Some}
-use Rattle.ee_flash.specs.Device.{Device}
+use Rattle.std.specs.Prelude.{◌≡◌, ◌+◌, Some, [], not}
+use Rattle.ee_flash.specs.Device.{Device, page_at}
 use Rattle.ee_flash.specs.Power.{GoesOn, IsCut}
 use Rattle.ee_pages.specs.Layout.{IsScanFault}
 use Rattle.ee_pages.specs.Legal.{IsLegal}
-use Rattle.ee_pages.specs.Sets.{live_of}
-use Rattle.ee_pages.specs.declared.side.Side.TheVariants.{First}
-use Rattle.ee_store.specs.Finished.{IsFinished, IsStore}
+use Rattle.ee_pages.specs.Page.{is_blank}
+use Rattle.ee_pages.specs.Sets.{first_page, live_of, other}
+use Rattle.ee_pages.specs.declared.side.Side.{Side}
+use Rattle.ee_pages.specs.declared.side.Side.TheVariants.{First, Second}
+use Rattle.ee_store.specs.Finished.{IsFinished, IsStore, last_used}
+use Rattle.ee_store.specs.Picture.{IsDrawn, OfLive, blank, filled, marked_to, picture_of, retired}
 use Rattle.ee_store.specs.State.{Wears, formatted, not_blank_pages, pending_pages, state_of}
 use Rattle.ee_store.specs.declared.opening.OpenFault.{OpenFault}
 use Rattle.ee_store.specs.declared.opening.OpenFault.TheVariants.{Scan, Cut}
+
+-- what is drawn after an opening: the marks of the live set up to its last used page; and each page of the other set that
+-- is not blank may be erased
+pub record ShowsMarks (old new : Device) (side : Side) : Type 0 where
+  pub live_pages : IsDrawn side new (marked_to (last_used old side) (picture_of side old))
+  pub old_pages : IsDrawn (other side) new (retired (λ page. not (is_blank (page_at old (first_page old.size (other side) + page)))) (picture_of (other side) old))
 
 -- The image was legal; its state is as before, the same set is live, the same pages wait, and none was erased. Where no
 -- mark was left, nothing changed.
@@ -20,6 +29,7 @@ pub record Opens (old new : Device) : Type 0 where
   pub state_is : state_of new ≡ state_of old
   pub live_is : live_of new ≡ live_of old
   pub same_pending : pending_pages new ≡ pending_pages old
+  pub image : OfLive old (λ side generation. ShowsMarks old new side)
   pub no_wear : new.wear ≡ old.wear
   pub no_step : IsFinished old → new ≡ old
 
@@ -44,4 +54,6 @@ pub record IsFormatted (old new : Device) : Type 0 where
   pub live_is : live_of new ≡ Some (First, 1)
   pub goes_on : GoesOn old new
   pub state_is : state_of new ≡ formatted
+  pub first_set : IsDrawn First new (filled new.size 1 [])
+  pub second_set : IsDrawn Second new blank
   pub wear : Wears (not_blank_pages old) old new

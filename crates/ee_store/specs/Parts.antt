@@ -1,14 +1,19 @@
 -- What the parts of a call leave: a call is one after another of them.
-use Rattle.std.specs.Prelude.{◌≡◌, ◌≢◌, ◌<◌, ℕ, ◌+◌, ◌==◌, nat_le, if◌then◌else◌, true, None}
-use Rattle.ee_flash.specs.Device.{Device, page_at}
+use Rattle.std.specs.Prelude.{◌≡◌, ◌≢◌, ◌<◌, ◌⊎◌, ℕ, ◌+◌, ◌-◌, ◌==◌, ◌&&◌, nat_le, nat_lt, if◌then◌else◌, true, Some, None, List, [], ◌∷◌, ◌++◌, length, slice_index_or}
+use Rattle.ee_codec.specs.Words.{element, forgetting}
+use Rattle.ee_flash.specs.Device.{Device, page_at, word_at}
+use Rattle.ee_flash.specs.Size.{Size}
+use Rattle.ee_flash.specs.declared.word.Word.{Word}
+use Rattle.ee_flash.specs.declared.word.Word.TheVariants.{Erased, Held}
 use Rattle.ee_pages.specs.Laws.{Keeps}
-use Rattle.ee_pages.specs.Legal.{IsLive}
+use Rattle.ee_pages.specs.Legal.{IsLive, slots_before}
 use Rattle.ee_pages.specs.Meaning.{Change, Map, Put, Forget, changed, live_in, meaning}
-use Rattle.ee_pages.specs.Page.{is_marked}
+use Rattle.ee_pages.specs.Page.{is_marked, place_of_mark}
 use Rattle.ee_pages.specs.Sets.{fill_of, first_page, other, page_of_slot, pending_of, set_of, slots_of}
 use Rattle.ee_pages.specs.declared.side.Side.{Side}
 use Rattle.ee_pages.specs.declared.state.Mark.{Mark}
-use Rattle.ee_pages.specs.declared.state.Mark.TheVariants.{Active, Valid}
+use Rattle.ee_pages.specs.declared.state.Mark.TheVariants.{Active, Receive, Valid}
+use Rattle.ee_store.specs.Picture.{IsDrawn, Picture, mark_where, marked, picture_of}
 use Rattle.ee_store.specs.State.{not_blank_in}
 use Rattle.ee_store.specs.declared.change.Change as declared
 use Rattle.ee_store.specs.declared.change.Change.TheVariants as kinds
@@ -17,6 +22,16 @@ use Rattle.ee_store.specs.declared.change.Change.TheVariants as kinds
 abbrev pub meant : declared.Change → Change
 meant (kinds.Put address value) = Put address value
 meant (kinds.Forget address value) = Forget address
+
+-- the number of its word
+abbrev pub number_of : declared.Change → ℕ
+number_of (kinds.Put address value) = element address value
+number_of (kinds.Forget address value) = forgetting address value
+
+-- a value that it forgets is the one that the map has
+abbrev pub ForgetsHeld : Map → declared.Change → Type 0
+ForgetsHeld map (kinds.Put address value) = Unit {0}
+ForgetsHeld map (kinds.Forget address value) = map address ≡ Some value
 
 -- the map that the slots of a set hold
 abbrev pub map_in : Side → Device → Map
@@ -61,3 +76,40 @@ pub record HasMoved (old new : Device) (side : Side) (generation : ℕ) (change 
   pub map_is : (address : ℕ) → map_in (other side) new address ≡ changed change (map_in side old) address
   pub fill_is : fill_of (slots_of (set_of (other side) new)) ≡ live_in (changed change (map_in side old))
   pub pending_is : pending_of (set_of side new) ≡ old.size.pages
+
+-- one word of the device is this one, and each other is as before
+pub record PutsWord (page at : ℕ) (word : Word) (old new : Device) : Type 0 where
+  pub there : word_at new page at ≡ word
+  pub elsewhere : (other_page place : ℕ) → (other_page ≢ page) ⊎ (place ≢ at) → word_at new other_page place ≡ word_at old other_page place
+
+-- a mark is set, and each other word is as before
+abbrev pub SetsMark : ℕ → Mark → Device → Device → Type 0
+SetsMark page mark old new = PutsWord page (place_of_mark mark) (marked mark (word_at old page (place_of_mark mark))) old new
+
+-- a set that a transfer fills: receive words on the pages up to this one, the words in its slots, and all else erased
+abbrev pub opened : Size → ℕ → ℕ → List Word → Picture
+opened size generation last words page at =
+    if nat_lt 3 at then slice_index_or words (slots_before size page at) Erased
+    else mark_where ((at == 0) && nat_le page last) (Receive generation)
+
+-- the set holds these words, and is open up to the page of the last of them
+abbrev pub Holds : Device → Side → ℕ → List Word → Type 0
+Holds device side generation words =
+    IsDrawn side device (opened device.size generation (page_of_slot device.size (length words - 1)) words)
+
+-- the live set is as before, and the other set, which held so many words, holds some more
+pub record AddsWords (old new : Device) (side : Side) (generation count : ℕ) (more : List Word) : Type 0 where
+  pub live_pages : IsDrawn side new (picture_of side old)
+  pub new_pages : (words : List Word) → length words ≡ count → Holds old (other side) generation words → Holds new (other side) generation (words ++ more)
+
+-- the words that a change puts into the new set before those that are copied
+abbrev pub put_words : Change → List Word
+put_words (Put address value) = Held (element address value) ∷ []
+put_words (Forget address) = []
+
+-- the set holds these words, and the mark that commits it
+abbrev pub IsCommittedWith : Device → Side → ℕ → List Word → Type 0
+IsCommittedWith device side generation words =
+    IsDrawn side device (λ page at.
+    if (page == 0) && (at == 1) then mark_where true Active
+    else opened device.size generation (page_of_slot device.size (length words - 1)) words page at)

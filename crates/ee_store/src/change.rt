@@ -3,7 +3,7 @@ ghost use Rattle.ee_codec.specs.Words.{IsAddress};
 ghost use Rattle.ee_flash.specs.Device.{all_ones};
 ghost use Rattle.ee_pages.specs.Meaning.{Spells};
 ghost use Rattle.ee_pages.specs.Pending.{address_of};
-ghost use Rattle.ee_store.specs.Parts.{meant};
+ghost use Rattle.ee_store.specs.Parts.{meant, number_of};
 
 use ee_codec::{Address, element_word, forget_word};
 
@@ -30,6 +30,7 @@ impl Change {
 
     /// The number of the word that spells it, below `u64::MAX`.
     pub(crate) fn word(self) -> u64
+        ensures number { result ≡ number_of self }
         ensures spells { Spells result (meant self) }
         ensures below_all_ones { result < all_ones }
     {

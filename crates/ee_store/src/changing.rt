@@ -5,7 +5,8 @@ ghost use Rattle.ee_pages.specs.Layout.{IsLayout};
 ghost use Rattle.ee_pages.specs.Pending.{address_of};
 ghost use Rattle.ee_store.specs.Changes.{Appends, IsCutChange, Moves, Proceeds};
 ghost use Rattle.ee_store.specs.Finished.{IsMarked, IsStore};
-ghost use Rattle.ee_store.specs.Parts.{meant};
+ghost use Rattle.ee_store.specs.Parts.{ForgetsHeld, meant};
+ghost use Rattle.ee_store.specs.State.{state_of};
 
 use crate::change::Change;
 use crate::moving::transfer;
@@ -25,6 +26,7 @@ pub(crate) fn make_change<F: Flash>(
     requires marked { IsMarked (F.device flash.old) layout.old.side }
     requires address { IsAddress (address_of (meant change)) }
     requires proceeds { Proceeds (F.device flash.old) (meant change) }
+    requires forgets { ForgetsHeld (state_of (F.device flash.old)).map change }
     ensures appended { result ≡ Ok Written.Appended
         → Appends (F.device flash.old) (meant change) (F.device flash.new) }
     ensures moved { result ≡ Ok Written.Moved

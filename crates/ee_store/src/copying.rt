@@ -1,16 +1,19 @@
-ghost use Rattle.std.specs.Prelude.{◌≡◌, ◌≢◌, ◌<◌, ◌≤◌, ℕ, ◌+◌, IfOk, IfSome, [], None, Ok, OnOk, OnSome, slice_set};
+ghost use Rattle.std.specs.Prelude.{◌≡◌, ◌≢◌, ◌<◌, ◌≤◌, ℕ, ◌+◌, ◌-◌, IfOk, IfSome, List, [], ◌∷◌, ◌++◌, None, Ok, OnOk, OnSome, length, slice_set};
 ghost use Rattle.std.specs.List.{All};
 ghost use Rattle.ee_codec.specs.Words.{IsAddress, IsGeneration};
 ghost use Rattle.ee_flash.specs.Power.{Ends};
 ghost use Rattle.ee_flash.specs.Size.{slot_count};
+ghost use Rattle.ee_flash.specs.declared.word.Word.{Word};
 ghost use Rattle.ee_flash.specs.declared.word.Word.TheVariants.{Held};
+ghost use Rattle.ee_codec.specs.Words.{element};
 ghost use Rattle.ee_pages.specs.Filling.{IsFilling};
 ghost use Rattle.ee_pages.specs.Laws.{Keeps};
 ghost use Rattle.ee_pages.specs.Layout.{IsLayout};
-ghost use Rattle.ee_pages.specs.Meaning.{AreLiveThrough, IsNextLive, Put, Spells, changed, live_in};
-ghost use Rattle.ee_pages.specs.Sets.{other as other_of, set_of, slots_of};
+ghost use Rattle.ee_pages.specs.Meaning.{AreLiveThrough, Forget, IsNextLive, Put, Spells, changed, live_in};
+ghost use Rattle.ee_pages.specs.Sets.{other as other_of, page_of_slot, set_of, slots_of};
 ghost use Rattle.ee_store.specs.Course.{GoesOver};
-ghost use Rattle.ee_store.specs.Parts.{map_in, meant, replaced};
+ghost use Rattle.ee_store.specs.Parts.{AddsWords, map_in, meant, number_of, opened, put_words, replaced};
+ghost use Rattle.ee_store.specs.Picture.{IsDrawn, elements_of, moved_words, picture_of};
 
 use crate::change::Change;
 use ee_codec::Address;
@@ -127,6 +130,12 @@ pub(crate) fn fill_set<F: Flash>(
         ≡ changed (meant change) (map_in layout.now.side (F.device flash.old)) address) }
     ensures each_once { IfOk result (λ count. count
         ≡ live_in (changed (meant change) (map_in layout.now.side (F.device flash.old)))) }
+    ensures adds { OnOk result
+        (AddsWords (F.device flash.old) (F.device flash.new) layout.now.side
+        (layout.now.generation + 1) 0
+        (moved_words (meant change) (map_in layout.now.side (F.device flash.old)))) }
+    ensures as_many { IfOk result (λ count. count ≡ length
+        (moved_words (meant change) (map_in layout.now.side (F.device flash.old)))) }
     ensures wear { (F.device flash.new).wear ≡ (F.device flash.old).wear }
     ensures power { Ends result (F.device flash.old) (F.device flash.new) }
 {
@@ -154,6 +163,10 @@ fn put_first<F: Flash>(flash: &mut F, layout: &Layout, change: Change) -> Result
         ≡ changed (meant change) (λ address. None) address) }
     ensures each_once { IfOk result (λ count. count
         ≡ live_in (map_in (other_of layout.now.side) (F.device flash.new))) }
+    ensures adds { OnOk result
+        (AddsWords (F.device flash.old) (F.device flash.new) layout.now.side
+        (layout.now.generation + 1) 0 (put_words (meant change))) }
+    ensures as_many { IfOk result (λ count. count ≡ length (put_words (meant change))) }
     ensures wear { (F.device flash.new).wear ≡ (F.device flash.old).wear }
     ensures power { Ends result (F.device flash.old) (F.device flash.new) }
 {
@@ -193,6 +206,14 @@ fn copy_others<F: Flash>(
     ensures each_once { IfOk result (λ all. all
         ≡ live_in (replaced (map_in (other_of layout.now.side) (F.device flash.old)) except
         (map_in layout.now.side (F.device flash.old)))) }
+    ensures adds { OnOk result
+        (AddsWords (F.device flash.old) (F.device flash.new) layout.now.side
+        (layout.now.generation + 1) count
+        (elements_of
+        (changed (Forget except) (map_in layout.now.side (F.device flash.old))))) }
+    ensures as_many { IfOk result (λ all. all ≡ count + length
+        (elements_of
+        (changed (Forget except) (map_in layout.now.side (F.device flash.old))))) }
     ensures wear { (F.device flash.new).wear ≡ (F.device flash.old).wear }
     ensures power { Ends result (F.device flash.old) (F.device flash.new) }
 {
@@ -230,6 +251,9 @@ fn copy_one<F: Flash>(
         → map_in (other_of layout.now.side) (F.device flash.new) named
         ≡ changed (Put address value)
         (map_in (other_of layout.now.side) (F.device flash.old)) named) }
+    ensures adds { address ≢ except → OnOk result
+        (AddsWords (F.device flash.old) (F.device flash.new) layout.now.side
+        (layout.now.generation + 1) count (Held (element address value) ∷ [])) }
     ensures wear { (F.device flash.new).wear ≡ (F.device flash.old).wear }
     ensures power { Ends result (F.device flash.old) (F.device flash.new) }
 {
@@ -261,6 +285,9 @@ fn stage<F: Flash>(flash: &mut F, layout: &Layout, count: usize, change: Change)
     ensures map { OnOk result ((address : ℕ)
         → map_in (other_of layout.now.side) (F.device flash.new) address
         ≡ changed (meant change) (map_in (other_of layout.now.side) (F.device flash.old)) address) }
+    ensures adds { OnOk result
+        (AddsWords (F.device flash.old) (F.device flash.new) layout.now.side
+        (layout.now.generation + 1) count (Held (number_of change) ∷ [])) }
     ensures wear { (F.device flash.new).wear ≡ (F.device flash.old).wear }
     ensures power { Ends result (F.device flash.old) (F.device flash.new) }
 {
@@ -287,6 +314,17 @@ fn receive<F: Flash>(flash: &mut F, layout: &Layout, count: usize) -> Result<(),
     ensures same_slots { OnOk result
         (slots_of (set_of (other_of layout.now.side) (F.device flash.new))
         ≡ slots_of (set_of (other_of layout.now.side) (F.device flash.old))) }
+    ensures live_pages { OnOk result
+        (IsDrawn layout.now.side (F.device flash.new)
+        (picture_of layout.now.side (F.device flash.old))) }
+    ensures opens { let side = other_of layout.now.side in OnOk result
+        ((words : List Word) → length words ≡ count
+        → IsDrawn side (F.device flash.old)
+        (opened (F.device flash.old).size (layout.now.generation + 1)
+        (page_of_slot (F.device flash.old).size (count - 1)) words)
+        → IsDrawn side (F.device flash.new)
+        (opened (F.device flash.old).size (layout.now.generation + 1)
+        (page_of_slot (F.device flash.old).size count) words)) }
     ensures wear { (F.device flash.new).wear ≡ (F.device flash.old).wear }
     ensures power { Ends result (F.device flash.old) (F.device flash.new) }
 {
@@ -314,6 +352,18 @@ fn put_in<F: Flash>(flash: &mut F, layout: &Layout, count: usize, change: Change
     ensures map { OnOk result ((address : ℕ)
         → map_in (other_of layout.now.side) (F.device flash.new) address
         ≡ changed (meant change) (map_in (other_of layout.now.side) (F.device flash.old)) address) }
+    ensures live_pages { OnOk result
+        (IsDrawn layout.now.side (F.device flash.new)
+        (picture_of layout.now.side (F.device flash.old))) }
+    ensures puts { let side = other_of layout.now.side in OnOk result
+        ((words : List Word) → length words ≡ count
+        → IsDrawn side (F.device flash.old)
+        (opened (F.device flash.old).size (layout.now.generation + 1)
+        (page_of_slot (F.device flash.old).size count) words)
+        → IsDrawn side (F.device flash.new)
+        (opened (F.device flash.old).size (layout.now.generation + 1)
+        (page_of_slot (F.device flash.old).size count)
+        (words ++ (Held (number_of change) ∷ [])))) }
     ensures wear { (F.device flash.new).wear ≡ (F.device flash.old).wear }
     ensures power { Ends result (F.device flash.old) (F.device flash.new) }
 {

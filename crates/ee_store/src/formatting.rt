@@ -1,12 +1,13 @@
-ghost use Rattle.std.specs.Prelude.{◌≡◌, ℕ, IfOk, OnOk, true};
+ghost use Rattle.std.specs.Prelude.{◌≡◌, ℕ, IfOk, [], OnOk, true};
 ghost use Rattle.std.specs.List.{All};
 ghost use Rattle.ee_flash.specs.Device.{IsOn};
 ghost use Rattle.ee_flash.specs.Power.{Ends};
 ghost use Rattle.ee_pages.specs.Layout.{IsLayout};
 ghost use Rattle.ee_pages.specs.Page.{is_blank};
+ghost use Rattle.ee_pages.specs.declared.side.Side.TheVariants.{First, Second};
 ghost use Rattle.ee_store.specs.Finished.{IsMarked};
+ghost use Rattle.ee_store.specs.Picture.{IsDrawn, blank, filled};
 ghost use Rattle.ee_store.specs.State.{Wears, formatted, not_blank_pages, state_of};
-ghost use Rattle.ee_pages.specs.declared.side.Side.TheVariants.{First};
 
 use ee_flash::{Cut, Flash};
 use ee_pages::{Layout, Mark, Side, is_blank as page_is_blank, mark};
@@ -18,6 +19,9 @@ pub(crate) fn write_format<F: Flash>(flash: &mut F) -> Result<Layout, Cut>
     ensures first { IfOk result (λ layout. layout.side ≡ First) }
     ensures marked { OnOk result (IsMarked (F.device flash.new) First) }
     ensures state { OnOk result (state_of (F.device flash.new) ≡ formatted) }
+    ensures first_set { OnOk result
+        (IsDrawn First (F.device flash.new) (filled (F.device flash.new).size 1 [])) }
+    ensures second_set { OnOk result (IsDrawn Second (F.device flash.new) blank) }
     ensures wear { OnOk result (Wears (not_blank_pages (F.device flash.old))
         (F.device flash.old) (F.device flash.new)) }
     ensures power { Ends result (F.device flash.old) (F.device flash.new) }

@@ -1,5 +1,6 @@
-//! Laws over any run of calls of any `Variables` in which power is not cut, each the contract of a
-//! function that does nothing.
+//! Laws of calls of any `Variables` in which power is not cut, over any run of them and of the images
+//! that they leave, each the contract of a function that does nothing.
+ghost use Rattle.ee_store.specs.PageStates.{MovedWordsAreLive, PicturesTellImages, StatesAfterAppend, StatesAfterClean, StatesAfterFormat, StatesAfterOpening, StatesAfterTransfer};
 ghost use Rattle.ee_store.specs.Runs.{CleanRunsEraseSets, EachPageWearsEverySecondTransfer, EachTransferErasesASet, NoPageWearsMore, NoPageWearsMuchMore, RunsGoOn, TheStoreIsAMap};
 
 /// Size, power and cuts are as before.
@@ -39,4 +40,42 @@ pub fn no_page_wears_much_more()
 /// The map is the changes that were answered, in their order, and every read is answered by it.
 pub fn the_store_is_a_map()
     ensures { TheStoreIsAMap }
+{}
+
+/// After an append each page before that of its slot is valid, and that one is active, unless a mark
+/// says that it is valid already.
+pub fn states_after_append()
+    ensures { StatesAfterAppend }
+{}
+
+/// After a transfer the used pages of the new set are valid, the last of them is active and the
+/// others are erased; each page of the set that was left may be erased.
+pub fn states_after_transfer()
+    ensures { StatesAfterTransfer }
+{}
+
+/// After a clean step the lowest page that waited is erased, and each other one is as before.
+pub fn states_after_clean()
+    ensures { StatesAfterClean }
+{}
+
+/// After an opening the live set is marked as after an append, and each page of the other set is
+/// erased as a whole or may be erased.
+pub fn states_after_opening()
+    ensures { StatesAfterOpening }
+{}
+
+/// After format the first page is active and each other one erased.
+pub fn states_after_format()
+    ensures { StatesAfterFormat }
+{}
+
+/// A transfer writes one word for each address that has a value.
+pub fn moved_words_are_live()
+    ensures { MovedWordsAreLive }
+{}
+
+/// The pictures of its two sets say all of a device's image.
+pub fn pictures_tell_images()
+    ensures { PicturesTellImages }
 {}

@@ -3,7 +3,8 @@
 //!
 //! `specs/State.antt` says what a store is to its users, `specs/Changes.antt` and `specs/Calls.antt`
 //! what each call answers and leaves, cuts included, `specs/Openings.antt` how a store comes to be,
-//! and `specs/Finished.antt` which marks an opening sets.
+//! `specs/Finished.antt` which marks an opening sets, and `specs/Picture.antt` how the image is drawn
+//! that a call leaves.
 //!
 //! The layers above may use: the contract of `Variables`, which is one relation for each call over
 //! the device before and after; `open` and `format`; and that a store's image is legal, always.

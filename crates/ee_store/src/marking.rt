@@ -1,13 +1,15 @@
-ghost use Rattle.std.specs.Prelude.{◌≡◌, ◌<◌, ◌≤◌, ℕ, ◌+◌, ◌-◌, OnOk, false, true};
+ghost use Rattle.std.specs.Prelude.{◌≡◌, ◌<◌, ◌≤◌, ℕ, ◌+◌, ◌-◌, OnOk, false, not, true};
 ghost use Rattle.ee_flash.specs.Power.{Ends};
+ghost use Rattle.ee_flash.specs.Device.{page_at};
 ghost use Rattle.ee_pages.specs.Layout.{IsLayout};
 ghost use Rattle.ee_pages.specs.Page.{is_blank, is_marked};
 ghost use Rattle.ee_pages.specs.Pushing.{IsMarkBehind};
 ghost use Rattle.ee_pages.specs.Laws.{IsPageOf};
 ghost use Rattle.ee_pages.specs.Sets.{first_page as first, other as other_of};
-ghost use Rattle.ee_flash.specs.Device.{page_at};
-ghost use Rattle.ee_store.specs.Finished.{IsLiveMarked, IsMarked, IsOldMarked};
-ghost use Rattle.ee_store.specs.Parts.{IsSameBut, KeepsMarks, Stays};
+ghost use Rattle.ee_store.specs.Finished.{IsLiveMarked, IsMarked, IsOldMarked, last_used};
+ghost use Rattle.ee_store.specs.Openings.{ShowsMarks};
+ghost use Rattle.ee_store.specs.Parts.{IsSameBut, IsSameSet, KeepsMarks, SetsMark, Stays};
+ghost use Rattle.ee_store.specs.Picture.{IsDrawn, marked_to, picture_of, retired};
 
 use ee_flash::{Cut, Flash};
 use ee_pages::{Layout, Mark, first_page, is_blank as page_is_blank, mark};
@@ -20,6 +22,8 @@ pub(crate) fn finish<F: Flash>(flash: &mut F, layout: &Layout) -> Result<(), Cut
     ensures stays { Stays (F.device flash.old)
         (F.device flash.new) layout.now.side layout.now.generation }
     ensures finished { OnOk result (IsMarked (F.device flash.new) layout.now.side) }
+    ensures shows { OnOk result
+        (ShowsMarks (F.device flash.old) (F.device flash.new) layout.now.side) }
     ensures no_step { IsMarked (F.device flash.old) layout.now.side
         → (result ≡ Ok tt) × (F.device flash.new ≡ F.device flash.old) }
     ensures power { Ends result (F.device flash.old) (F.device flash.new) }
@@ -35,6 +39,12 @@ fn mark_live_set<F: Flash>(flash: &mut F, layout: &Layout) -> Result<(), Cut>
     ensures stays { Stays (F.device flash.old)
         (F.device flash.new) layout.now.side layout.now.generation }
     ensures marked { OnOk result (IsLiveMarked (F.device flash.new) layout.now.side) }
+    ensures live_pages { OnOk result
+        (IsDrawn layout.now.side (F.device flash.new)
+        (marked_to (last_used (F.device flash.old) layout.now.side)
+        (picture_of layout.now.side (F.device flash.old)))) }
+    ensures old_pages { OnOk result
+        (IsSameSet (other_of layout.now.side) (F.device flash.old) (F.device flash.new)) }
     ensures no_step { IsLiveMarked (F.device flash.old) layout.now.side
         → (result ≡ Ok tt) × (F.device flash.new ≡ F.device flash.old) }
     ensures power { Ends result (F.device flash.old) (F.device flash.new) }
@@ -54,6 +64,13 @@ fn mark_old_set<F: Flash>(flash: &mut F, layout: &Layout) -> Result<(), Cut>
         (F.device flash.new) layout.now.side layout.now.generation }
     ensures marks { KeepsMarks (F.device flash.old) (F.device flash.new) }
     ensures marked { OnOk result (IsOldMarked (F.device flash.new) (other_of layout.now.side)) }
+    ensures live_pages { OnOk result
+        (IsSameSet layout.now.side (F.device flash.old) (F.device flash.new)) }
+    ensures old_pages { let old = F.device flash.old in OnOk result
+        (IsDrawn (other_of layout.now.side) (F.device flash.new)
+        (retired
+        (λ page. not (is_blank (page_at old (first old.size (other_of layout.now.side) + page))))
+        (picture_of (other_of layout.now.side) old))) }
     ensures no_step { IsOldMarked (F.device flash.old) (other_of layout.now.side)
         → (result ≡ Ok tt) × (F.device flash.new ≡ F.device flash.old) }
     ensures power { Ends result (F.device flash.old) (F.device flash.new) }
@@ -83,6 +100,7 @@ pub(crate) fn mark_live<F: Flash>(
     ensures others { IsSameBut page (F.device flash.old) (F.device flash.new) }
     ensures marks { KeepsMarks (F.device flash.old) (F.device flash.new) }
     ensures marked { OnOk result (is_marked (F.device flash.new) page kind ≡ true) }
+    ensures sets { OnOk result (SetsMark page kind (F.device flash.old) (F.device flash.new)) }
     ensures no_step { is_marked (F.device flash.old) page kind ≡ true
         → (result ≡ Ok tt) × (F.device flash.new ≡ F.device flash.old) }
     ensures power { Ends result (F.device flash.old) (F.device flash.new) }
@@ -101,6 +119,8 @@ fn mark_old<F: Flash>(flash: &mut F, layout: &Layout, page: usize) -> Result<(),
     ensures others { IsSameBut page (F.device flash.old) (F.device flash.new) }
     ensures marks { KeepsMarks (F.device flash.old) (F.device flash.new) }
     ensures marked { OnOk result (is_marked (F.device flash.new) page Mark.Erasing ≡ true) }
+    ensures sets { OnOk result
+        (SetsMark page Mark.Erasing (F.device flash.old) (F.device flash.new)) }
     ensures no_step { is_marked (F.device flash.old) page Mark.Erasing ≡ true
         → (result ≡ Ok tt) × (F.device flash.new ≡ F.device flash.old) }
     ensures power { Ends result (F.device flash.old) (F.device flash.new) }

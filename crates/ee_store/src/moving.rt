@@ -1,4 +1,4 @@
-ghost use Rattle.std.specs.Prelude.{◌≡◌, ◌<◌, ◌≤◌, ◌⊎◌, ℕ, ◌+◌, IfOk, None, OnErr, OnOk, true};
+ghost use Rattle.std.specs.Prelude.{◌≡◌, ◌<◌, ◌≤◌, ◌⊎◌, ℕ, ◌+◌, IfOk, [], None, OnErr, OnOk, length, true};
 ghost use Rattle.std.specs.List.{All};
 ghost use Rattle.ee_codec.specs.Words.{IsGeneration};
 ghost use Rattle.ee_flash.specs.Power.{Ends};
@@ -8,9 +8,10 @@ ghost use Rattle.ee_pages.specs.Laws.{Keeps};
 ghost use Rattle.ee_pages.specs.Layout.{IsLayout};
 ghost use Rattle.ee_pages.specs.Meaning.{changed, live_in, meaning};
 ghost use Rattle.ee_pages.specs.Page.{is_blank};
-ghost use Rattle.ee_pages.specs.Sets.{other as other_of, set_of, slots_of};
+ghost use Rattle.ee_pages.specs.Sets.{first_page as first_of, other as other_of, set_of, slots_of};
 ghost use Rattle.ee_store.specs.Finished.{IsMarked};
-ghost use Rattle.ee_store.specs.Parts.{HasMoved, IsSameSet, map_in, meant};
+ghost use Rattle.ee_store.specs.Parts.{HasMoved, Holds, IsCommittedWith, IsSameSet, SetsMark, map_in, meant};
+ghost use Rattle.ee_store.specs.Picture.{IsDrawn, filled, moved_words, picture_of, retired};
 ghost use Rattle.ee_store.specs.State.{Wears, WearsFront, not_blank_in};
 
 use crate::change::Change;
@@ -38,6 +39,13 @@ pub(crate) fn transfer<F: Flash>(
     ensures layout { OnOk result (IsLayout (F.device flash.new) layout.new) }
     ensures other_set { OnOk result (layout.new.side ≡ other_of layout.old.side) }
     ensures marked { OnOk result (IsMarked (F.device flash.new) (other_of layout.old.side)) }
+    ensures new_pages { OnOk result
+        (IsDrawn (other_of layout.old.side) (F.device flash.new)
+        (filled (F.device flash.old).size (layout.old.generation + 1)
+        (moved_words (meant change) (map_in layout.old.side (F.device flash.old))))) }
+    ensures old_pages { OnOk result
+        (IsDrawn layout.old.side (F.device flash.new)
+        (retired (λ page. true) (picture_of layout.old.side (F.device flash.old)))) }
     ensures wear { OnOk result
         (Wears (not_blank_in (other_of layout.old.side) (F.device flash.old))
         (F.device flash.old) (F.device flash.new)) }
@@ -75,6 +83,15 @@ fn move_map<F: Flash>(flash: &mut F, layout: &Layout, change: Change) -> Result<
         (meant change)) }
     ensures each_once { IfOk result (λ count. count
         ≡ live_in (changed (meant change) (map_in layout.now.side (F.device flash.old)))) }
+    ensures as_many { IfOk result (λ count. count ≡ length
+        (moved_words (meant change) (map_in layout.now.side (F.device flash.old)))) }
+    ensures new_pages { OnOk result
+        (IsCommittedWith (F.device flash.new) (other_of layout.now.side)
+        (layout.now.generation + 1)
+        (moved_words (meant change) (map_in layout.now.side (F.device flash.old)))) }
+    ensures live_pages { OnOk result
+        (IsDrawn layout.now.side (F.device flash.new)
+        (picture_of layout.now.side (F.device flash.old))) }
     ensures wear { OnOk result
         (Wears (not_blank_in (other_of layout.now.side) (F.device flash.old))
         (F.device flash.old) (F.device flash.new)) }
@@ -102,6 +119,8 @@ fn clear<F: Flash>(flash: &mut F, layout: &Layout) -> Result<(), Cut>
     ensures blank { OnOk result
         (All (λ page. is_blank page ≡ true)
         (set_of (other_of layout.now.side) (F.device flash.new))) }
+    ensures live_pages { OnOk result
+        (IsSameSet layout.now.side (F.device flash.old) (F.device flash.new)) }
     ensures wear { OnOk result
         (Wears (not_blank_in (other_of layout.now.side) (F.device flash.old))
         (F.device flash.old) (F.device flash.new)) }
@@ -131,6 +150,11 @@ fn open_set<F: Flash>(flash: &mut F, layout: &Layout) -> Result<(), Cut>
         (IsFilling (F.device flash.new) (other_of layout.now.side) (layout.now.generation + 1) 0) }
     ensures nothing { OnOk result ((address : ℕ)
         → map_in (other_of layout.now.side) (F.device flash.new) address ≡ None) }
+    ensures holds { OnOk result
+        (Holds (F.device flash.new) (other_of layout.now.side) (layout.now.generation + 1) []) }
+    ensures live_pages { OnOk result
+        (IsDrawn layout.now.side (F.device flash.new)
+        (picture_of layout.now.side (F.device flash.old))) }
     ensures wear { (F.device flash.new).wear ≡ (F.device flash.old).wear }
     ensures power { Ends result (F.device flash.old) (F.device flash.new) }
 {
@@ -154,6 +178,9 @@ fn commit<F: Flash>(flash: &mut F, layout: &Layout) -> Result<(), Cut>
         ⊎ IsCommitted (F.device flash.old) (F.device flash.new) (other_of layout.now.side)
         (layout.now.generation + 1)) }
     ensures same_set { IsSameSet layout.now.side (F.device flash.old) (F.device flash.new) }
+    ensures sets { OnOk result
+        (SetsMark (first_of (F.device flash.old).size (other_of layout.now.side)) Mark.Active
+        (F.device flash.old) (F.device flash.new)) }
     ensures wear { (F.device flash.new).wear ≡ (F.device flash.old).wear }
     ensures power { Ends result (F.device flash.old) (F.device flash.new) }
 {

@@ -1,13 +1,15 @@
-ghost use Rattle.std.specs.Prelude.{◌≡◌, ◌<◌, ◌⊎◌, ℕ, OnErr, OnOk};
+ghost use Rattle.std.specs.Prelude.{◌≡◌, ◌<◌, ◌⊎◌, ℕ, ◌+◌, OnErr, OnOk};
 ghost use Rattle.ee_flash.specs.Power.{Ends};
 ghost use Rattle.ee_flash.specs.Size.{slot_count};
+ghost use Rattle.ee_flash.specs.declared.word.Word.TheVariants.{Held};
 ghost use Rattle.ee_pages.specs.Laws.{Keeps};
 ghost use Rattle.ee_pages.specs.Layout.{IsLayout};
 ghost use Rattle.ee_pages.specs.Meaning.{changed, meaning};
 ghost use Rattle.ee_pages.specs.Pushing.{Takes};
-ghost use Rattle.ee_pages.specs.Sets.{other as other_of, set_of, slots_of};
+ghost use Rattle.ee_pages.specs.Sets.{first_page as first_of, other as other_of, page_of_slot, place_of_slot, set_of, slots_of};
 ghost use Rattle.ee_store.specs.Finished.{IsMarked};
-ghost use Rattle.ee_store.specs.Parts.{IsReady, IsSameSet, KeepsMarks, Stays, map_in, meant};
+ghost use Rattle.ee_store.specs.Parts.{IsReady, IsSameSet, KeepsMarks, PutsWord, Stays, map_in, meant, number_of};
+ghost use Rattle.ee_store.specs.Picture.{IsDrawn, marked_to, picture_of, with_change};
 
 use crate::change::Change;
 use crate::marking::mark_live;
@@ -38,6 +40,10 @@ pub(crate) fn append<F: Flash>(
         ⊎ Takes (F.device flash.old) (F.device flash.new) layout.old.side layout.old.generation
         (changed (meant change)
         (map_in layout.old.side (F.device flash.old)))) }
+    ensures drawn { OnOk result
+        (IsDrawn layout.old.side (F.device flash.new)
+        (with_change (F.device flash.old).size layout.old.fill (number_of change)
+        (picture_of layout.old.side (F.device flash.old)))) }
     ensures other { IsSameSet (other_of layout.old.side) (F.device flash.old) (F.device flash.new) }
     ensures wear { (F.device flash.new).wear ≡ (F.device flash.old).wear }
     ensures power { Ends result (F.device flash.old) (F.device flash.new) }
@@ -60,6 +66,10 @@ fn open_page<F: Flash>(flash: &mut F, layout: &Layout) -> Result<(), Cut>
         layout.now.side layout.now.generation }
     ensures other { IsSameSet (other_of layout.now.side) (F.device flash.old) (F.device flash.new) }
     ensures ready { OnOk result (IsReady (F.device flash.new) layout.now.side layout.now.fill) }
+    ensures drawn { OnOk result
+        (IsDrawn layout.now.side (F.device flash.new)
+        (marked_to (page_of_slot (F.device flash.old).size layout.now.fill)
+        (picture_of layout.now.side (F.device flash.old)))) }
     ensures power { Ends result (F.device flash.old) (F.device flash.new) }
 {
     let slots = flash.shape().words() - 4;
@@ -87,6 +97,10 @@ fn push<F: Flash>(flash: &mut F, layout: &Layout, change: Change) -> Result<(), 
         (changed (meant change)
         (map_in layout.now.side (F.device flash.old)))) }
     ensures marks { KeepsMarks (F.device flash.old) (F.device flash.new) }
+    ensures puts { let old = F.device flash.old in OnOk result
+        (PutsWord (first_of old.size layout.now.side + page_of_slot old.size layout.now.fill)
+        (place_of_slot old.size layout.now.fill) (Held (number_of change))
+        old (F.device flash.new)) }
     ensures other { IsSameSet (other_of layout.now.side) (F.device flash.old) (F.device flash.new) }
     ensures wear { (F.device flash.new).wear ≡ (F.device flash.old).wear }
     ensures power { Ends result (F.device flash.old) (F.device flash.new) }

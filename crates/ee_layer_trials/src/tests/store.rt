@@ -4,6 +4,7 @@ mod cuts;
 mod each_cut;
 mod forgetting;
 mod image;
+mod many_pages;
 mod moves;
 mod order;
 mod refusals;

@@ -1,9 +1,9 @@
 use Rattle.std.proofs.Common.{◌≡◌, ap, ◌∙◌, arith}
 use Rattle.ee_flash.specs.Size.{slot_count}
 use Rattle.ee_pages.specs.Sets.{other}
-use Rattle.ee_store.specs.Parts.{meant}
-use Rattle.ee_store.specs.State.{capacity}
-use Rattle.ee_store.proofs.Making.{always_on_err, appends, change_fits, cut_in_append, cut_in_move, few_pending, few_within, generation_left, live_after_append, moves, off_store, store_after_move}
+use Rattle.ee_store.specs.Parts.{meant, number_of}
+use Rattle.ee_store.specs.State.{capacity, state_of}
+use Rattle.ee_store.proofs.Making.{always_on_err, appends, change_fits, cut_in_append, cut_in_move, few_pending, few_within, generation_left, live_after_append, moves, number_is, off_store, shows_appended, shows_moved, store_after_move}
 use Rattle.ee_store.proofs.changing.make_change.Goals as goal
 
 pub returns-in_err-append-clause-cut : goal.returns-in_err-append-clause-cut
@@ -73,6 +73,8 @@ returns-in_ok-append-clause-appended g c = λ _.
     let slots : c.slots.result ≡ capacity old = c.slots.ensures.value ∙ ap slot_count c.shape.ensures in
     appends old new layout.side layout.generation c.requires.layout.live (meant c.args.change) c.requires.proceeds c.in_ok-append.ensures.power.ok
     (omega (arith, slots, c.if-layout-slots.true, c.requires.layout.fill)) c.in_ok-append.ensures.takes c.append.ensures.other c.append.ensures.wear
+    (shows_appended old new layout.side layout.generation c.requires.layout.live (meant c.args.change) layout.fill (number_of c.args.change) c.requires.layout.fill
+    (number_is c.args.change (state_of old).map c.requires.forgets) c.in_ok-append.ensures.power.ok.same_size c.in_ok-append.ensures.drawn c.append.ensures.other)
 
 pub returns-in_ok-transfer-clause-moved : goal.returns-in_ok-transfer-clause-moved
 returns-in_ok-transfer-clause-moved g c = λ _.
@@ -83,3 +85,4 @@ returns-in_ok-transfer-clause-moved g c = λ _.
     let within = few_within old layout.side (g.met.F.Flash.formed c.args.flash.now) in
     moves old new layout.side layout.generation c.requires.layout.live (meant c.args.change) c.requires.proceeds c.in_ok-transfer.ensures.power.ok
     (omega (arith, slots, c.if-layout-slots.false, c.requires.layout.fill, within)) c.in_ok-transfer.ensures.moved c.in_ok-transfer.ensures.wear
+    (shows_moved old new layout.side layout.generation c.requires.layout.live (meant c.args.change) c.in_ok-transfer.ensures.new_pages c.in_ok-transfer.ensures.old_pages)

@@ -1,10 +1,12 @@
-use Rattle.std.proofs.Common.{◌≡◌, ◌<◌, ℕ, None, refl, ap, subst, ◌∙◌, arith}
+use Rattle.std.proofs.Common.{◌≡◌, ◌<◌, ℕ, ◌+◌, None, refl, ap, subst, ◌∙◌, arith}
 use Rattle.ee_flash.specs.Device.{Device}
 use Rattle.ee_flash.specs.Size.{slot_count}
 use Rattle.ee_flash.proofs.Outcomes.{calls_compose}
 use Rattle.ee_pages.specs.Meaning.{IsNextLive, meaning}
 use Rattle.ee_pages.specs.Sets.{other as other_of, set_of, slots_of}
 use Rattle.ee_store.specs.Parts.{map_to, replaced}
+use Rattle.ee_store.proofs.CopiedWords.{adds_next, all_words, no_words}
+use Rattle.ee_store.proofs.FilledSets.{adds_none}
 use Rattle.ee_store.proofs.CopiedMaps.{at_first, at_last, meaning-zero, room, same_counts, taken_up}
 use Rattle.ee_store.proofs.MovingFacts.{goes_on-same, keeps_both, keeps_same}
 use Rattle.ee_store.proofs.copying.copy_others.Goals as goal
@@ -22,6 +24,8 @@ live-init g c =
       count = c.requires.each_once ∙ same_counts _ _ first;
       below = omega arith;
       over = rw c.new-cursor.ensures.first at c.new-cursor.ensures.over;
+      adds = rw (no_words map c.args.except) (adds_none device c.args.layout.now.side (c.args.layout.now.generation + 1) c.args.count);
+      as_many = rw (no_words map c.args.except) (omega arith);
       wear = refl;
       goes = goes_on-same device;
     })
@@ -45,6 +49,10 @@ live-preserved g c =
     let after = taken_up start map c.args.except c.live.cursor.after _ _ next c.in-Some.ensures.proper _ _ c.live.count c.in_ok-count.count c.live.invariant.map c.live.invariant.count
     (λ same. (let e = (c.in_ok-count.ensures.passed same).0 in cc, λ address. ap (λ (at : Device). meaning (slots_of (set_of (other_of c.args.layout.now.side) at)) address) (c.in_ok-count.ensures.passed same).1))
     (λ apart. (c.in_ok-count.ensures.one_more apart, c.in_ok-count.ensures.map apart)) in
+    let words = adds_next map c.args.except c.live.cursor.after _ _ device (g.F.Flash.device c.live.flash) (g.F.Flash.device c.copy_one.new.flash) c.args.layout.now.side (c.args.layout.now.generation + 1) c.args.count c.live.count c.in_ok-count.count
+    c.live.invariant.keeps.same_size c.in_ok-count.ensures.keeps.same_size next c.live.invariant.adds c.live.invariant.as_many
+    (λ same. (let e = (c.in_ok-count.ensures.passed same).0 in cc, (c.in_ok-count.ensures.passed same).1))
+    (λ apart. (c.in_ok-count.ensures.one_more apart, c.in_ok-count.ensures.adds apart)) in
     rw c.in-Some.ensures.moved (record {
       keeps = keeps_both _ _ _ _ _ c.live.invariant.keeps c.in_ok-count.ensures.keeps;
       filling = c.in_ok-count.ensures.filling;
@@ -52,6 +60,8 @@ live-preserved g c =
       count = after.0;
       below = c.in-Some.ensures.proper.1;
       over = rw (c.live.invariant.keeps.same_slots, c.in-Some.ensures.moved) at c.in-Some.ensures.over;
+      adds = words.0;
+      as_many = words.1;
       wear = c.in_ok-count.ensures.wear ∙ c.live.invariant.wear;
       goes = (calls_compose _ _ _ c.live.invariant.goes).0 c.in_ok-count.ensures.power.ok;
     })
@@ -63,3 +73,17 @@ returns-clause-each_once g c =
     let map = meaning (slots_of (set_of c.args.layout.now.side device)) in
     let none = subst (λ slots. IsNextLive (meaning slots) c.live.cursor.after None) c.live.invariant.keeps.same_slots c.in_default.ensures.next in
     c.live.invariant.count ∙ same_counts _ _ (at_last start map c.args.except c.live.cursor.after none)
+
+pub returns-clause-adds : goal.returns-clause-adds
+returns-clause-adds g c =
+    let device = g.F.Flash.device c.args.flash.now in
+    let map = meaning (slots_of (set_of c.args.layout.now.side device)) in
+    let none = subst (λ slots. IsNextLive (meaning slots) c.live.cursor.after None) c.live.invariant.keeps.same_slots c.in_default.ensures.next in
+    rw (all_words map c.args.except c.live.cursor.after c.live.invariant.below none) c.live.invariant.adds
+
+pub returns-clause-as_many : goal.returns-clause-as_many
+returns-clause-as_many g c =
+    let device = g.F.Flash.device c.args.flash.now in
+    let map = meaning (slots_of (set_of c.args.layout.now.side device)) in
+    let none = subst (λ slots. IsNextLive (meaning slots) c.live.cursor.after None) c.live.invariant.keeps.same_slots c.in_default.ensures.next in
+    rw (all_words map c.args.except c.live.cursor.after c.live.invariant.below none) c.live.invariant.as_many

@@ -1,11 +1,12 @@
-use Rattle.std.proofs.Common.{◌≡◌, ◌<◌, ℕ, ◌+◌, ◌-◌}
+use Rattle.std.proofs.Common.{◌≡◌, ◌<◌, ℕ, ◌+◌, ◌-◌, length}
 use Rattle.ee_flash.specs.Power.{GoesOn}
 use Rattle.ee_pages.specs.Filling.{IsFilling}
 use Rattle.ee_pages.specs.Laws.{Keeps}
-use Rattle.ee_pages.specs.Meaning.{live_in, meaning}
+use Rattle.ee_pages.specs.Meaning.{Forget, changed, live_in, meaning}
 use Rattle.ee_pages.specs.Sets.{other as other_of, set_of, slots_of}
 use Rattle.ee_store.specs.Course.{GoesOver}
-use Rattle.ee_store.specs.Parts.{map_to, replaced}
+use Rattle.ee_store.specs.Parts.{AddsWords, map_to, replaced}
+use Rattle.ee_store.specs.Picture.{elements_to}
 use Rattle.ee_store.proofs.copying.copy_others.Given as goal
 
 abbrev pub invariant-live : goal.invariant-live
@@ -16,6 +17,8 @@ invariant-live g l = record {
   count : l.count ≡ live_in (replaced (meaning (slots_of (set_of (other_of l.layout.side) (g.F.Flash.device l.fn.flash)))) l.except (map_to (meaning (slots_of (set_of l.layout.side (g.F.Flash.device l.fn.flash)))) l.cursor.after));
   below : l.cursor.after < 65535;
   over : GoesOver (meaning (slots_of (set_of l.layout.side (g.F.Flash.device l.fn.flash)))) l.cursor;
+  adds : AddsWords (g.F.Flash.device l.fn.flash) (g.F.Flash.device l.flash) l.layout.side (l.layout.generation + 1) l.fn.count (elements_to (changed (Forget l.except) (meaning (slots_of (set_of l.layout.side (g.F.Flash.device l.fn.flash))))) l.cursor.after);
+  as_many : l.count ≡ l.fn.count + length (elements_to (changed (Forget l.except) (meaning (slots_of (set_of l.layout.side (g.F.Flash.device l.fn.flash))))) l.cursor.after);
   wear : (g.F.Flash.device l.flash).wear ≡ (g.F.Flash.device l.fn.flash).wear;
   goes : GoesOn (g.F.Flash.device l.fn.flash) (g.F.Flash.device l.flash);
 }

@@ -1,6 +1,8 @@
-use Rattle.std.proofs.Common.{ap, ◌∙◌, arith}
+use Rattle.std.proofs.Common.{◌+◌, ap, ◌∙◌, arith}
+use Rattle.std.proofs.Math.Path.{fun_ext}
 use Rattle.ee_flash.specs.Size.{slot_count}
-use Rattle.ee_store.specs.Parts.{meant}
+use Rattle.ee_store.specs.Parts.{map_in, meant}
+use Rattle.ee_store.proofs.CopiedWords.{adds_all}
 use Rattle.ee_store.proofs.CopiedMaps.{all_count}
 use Rattle.ee_store.proofs.copying.fill_set.Goals as goal
 
@@ -12,3 +14,14 @@ copy_others-requires-clause-fits g c =
 pub returns-clause-each_once : goal.returns-clause-each_once
 returns-clause-each_once g c =
     c.in_ok-count.ensures.each_once ∙ all_count _ _ _ (meant c.args.change) _ c.address-address.ensures.address c.in_ok-first.ensures.map c.in_ok-first.ensures.keeps.same_map
+
+pub returns-clause-adds : goal.returns-clause-adds
+returns-clause-adds g c =
+    let old = g.F.Flash.device c.args.flash.now in
+    let mid = g.F.Flash.device c.put_first.new.flash in
+    let new = g.F.Flash.device c.copy_others.new.flash in
+    let side = c.args.layout.now.side in
+    let first = c.in_ok-first.ensures in
+    let second = c.in_ok-count.ensures in
+    adds_all (meant c.args.change) old mid new side (c.args.layout.now.generation + 1) c.in_ok-first.first c.address-address.result (map_in side old) (map_in side mid)
+    first.keeps.same_size second.keeps.same_size c.address-address.ensures.address (fun_ext first.keeps.same_map) first.as_many first.adds second.adds

@@ -1,6 +1,11 @@
 use Rattle.std.proofs.Common.{inl, inr}
-use Rattle.ee_pages.specs.Sets.{other as other_of}
+use Rattle.std.proofs.Common.{◌+◌}
+use Rattle.ee_pages.specs.Sets.{first_page, other as other_of, page_of_slot, place_of_slot}
+use Rattle.ee_pages.proofs.Slots.{page_in_range, place_in_range}
 use Rattle.ee_store.specs.Parts.{meant}
+use Rattle.ee_store.proofs.Drawings.{page_of_its_set, put_apart, put_there, same_size_of}
+use Rattle.ee_store.proofs.FilledSets.{slot_holds}
+use Rattle.ee_store.proofs.SetPages.{page_in_device}
 use Rattle.ee_store.proofs.OtherSteps.{free_slot, put_cut, put_done}
 use Rattle.ee_store.proofs.copying.put_in.Goals as goal
 
@@ -39,3 +44,28 @@ returns-clause-map g c =
     (put_done (g.F.Flash.device c.args.flash.now) _ c.args.layout.now.side c.args.layout.now.generation c.args.count _ c.requires.layout.live c.requires.filling c.requires.free c.word.ensures.below_all_ones (meant c.args.change) _ _
     (cc (c.first_page.ensures, c.other.ensures, c.words-slots.ensures.value, c.shape.ensures)) (cc (c.words-slots.ensures.value, c.shape.ensures))
     c.word.ensures.spells c.in_ok-program.ensures.on c.in_ok-program.ensures.done).2
+
+pub returns-clause-puts : goal.returns-clause-puts
+returns-clause-puts g c words long drawn =
+    let old = g.F.Flash.device c.args.flash.now in
+    let new = g.F.Flash.device c.program.new.self in
+    let side = other_of c.args.layout.now.side in
+    let formed = c.requires.layout.live.formed in
+    let puts = put_there _ _ _ old new (first_page old.size side + page_of_slot old.size c.args.count) (place_of_slot old.size c.args.count) _ formed
+    (page_in_device old.size side (page_of_slot old.size c.args.count) (page_in_range old c.args.count c.requires.free)) (place_in_range old c.args.count formed)
+    (cc (c.first_page.ensures, c.other.ensures, c.words-slots.ensures.value, c.shape.ensures)) (cc (c.words-slots.ensures.value, c.shape.ensures))
+    c.word.ensures.number c.in_ok-program.ensures.done in
+    slot_holds side old new (c.args.layout.now.generation + 1) (page_of_slot old.size c.args.count) c.args.count words _ long (same_size_of _ _ _ old new c.in_ok-program.ensures.done) puts drawn
+
+pub returns-clause-live_pages : goal.returns-clause-live_pages
+returns-clause-live_pages g c =
+    let old = g.F.Flash.device c.args.flash.now in
+    let new = g.F.Flash.device c.program.new.self in
+    let side = other_of c.args.layout.now.side in
+    let formed = c.requires.layout.live.formed in
+    let in_range = page_in_range old c.args.count c.requires.free in
+    let puts = put_there _ _ _ old new (first_page old.size side + page_of_slot old.size c.args.count) (place_of_slot old.size c.args.count) _ formed
+    (page_in_device old.size side (page_of_slot old.size c.args.count) in_range) (place_in_range old c.args.count formed)
+    (cc (c.first_page.ensures, c.other.ensures, c.words-slots.ensures.value, c.shape.ensures)) (cc (c.words-slots.ensures.value, c.shape.ensures))
+    c.word.ensures.number c.in_ok-program.ensures.done in
+    put_apart c.args.layout.now.side old new _ _ _ (same_size_of _ _ _ old new c.in_ok-program.ensures.done) (page_of_its_set old.size side (page_of_slot old.size c.args.count) in_range) puts

@@ -1,4 +1,10 @@
-use Rattle.std.proofs.Common.{refl}
+use Rattle.std.proofs.Common.{◌≡◌, ◌+◌, refl}
+use Rattle.ee_pages.proofs.Slots.{page_in_range}
+use Rattle.ee_pages.specs.Sets.{first_page, other as other_of, page_of_slot}
+use Rattle.ee_pages.specs.declared.state.Mark.TheVariants.{Receive}
+use Rattle.ee_store.proofs.Drawings.{page_of_its_set, put_apart, sets_mark_at}
+use Rattle.ee_store.proofs.FilledSets.{receive_opens}
+use Rattle.ee_store.proofs.SetPages.{page_in_device}
 use Rattle.ee_store.proofs.OtherSteps.{receive_cut, receive_done}
 use Rattle.ee_store.proofs.copying.receive.Goals as goal
 
@@ -25,3 +31,31 @@ returns-clause-same_slots g c =
     (receive_done (g.F.Flash.device c.args.flash.now) _ c.args.layout.now.side c.args.layout.now.generation c.args.count c.requires.layout.live c.requires.filling c.requires.free c.requires.generation _
     (cc (c.first_page.ensures, c.other.ensures, c.words-slots.ensures.value, c.shape.ensures))
     (λ e. (c.in_ok-mark.ensures.present e).1) c.in_ok-mark.ensures.on c.in_ok-mark.ensures.done).2
+
+pub returns-clause-opens : goal.returns-clause-opens
+returns-clause-opens g c words long drawn =
+    let old = g.F.Flash.device c.args.flash.now in
+    let new = g.F.Flash.device c.mark.new.flash in
+    let side = other_of c.args.layout.now.side in
+    let formed = c.requires.layout.live.formed in
+    let in_range = page_in_range old c.args.count c.requires.free in
+    let sizes : new.size ≡ old.size = (returns-clause-keeps g c).same_size in
+    let sets = sets_mark_at _ (first_page old.size side + page_of_slot old.size c.args.count) (Receive (c.args.layout.now.generation + 1)) old new formed
+    (page_in_device old.size side (page_of_slot old.size c.args.count) in_range)
+    (cc (c.first_page.ensures, c.other.ensures, c.words-slots.ensures.value, c.shape.ensures))
+    (λ set. (c.in_ok-mark.ensures.present set).1) c.in_ok-mark.ensures.done in
+    receive_opens side old new (c.args.layout.now.generation + 1) c.args.count words formed sizes in_range sets drawn
+
+pub returns-clause-live_pages : goal.returns-clause-live_pages
+returns-clause-live_pages g c =
+    let old = g.F.Flash.device c.args.flash.now in
+    let new = g.F.Flash.device c.mark.new.flash in
+    let side = other_of c.args.layout.now.side in
+    let formed = c.requires.layout.live.formed in
+    let in_range = page_in_range old c.args.count c.requires.free in
+    let sizes : new.size ≡ old.size = (returns-clause-keeps g c).same_size in
+    let sets = sets_mark_at _ (first_page old.size side + page_of_slot old.size c.args.count) (Receive (c.args.layout.now.generation + 1)) old new formed
+    (page_in_device old.size side (page_of_slot old.size c.args.count) in_range)
+    (cc (c.first_page.ensures, c.other.ensures, c.words-slots.ensures.value, c.shape.ensures))
+    (λ set. (c.in_ok-mark.ensures.present set).1) c.in_ok-mark.ensures.done in
+    put_apart c.args.layout.now.side old new _ _ _ sizes (page_of_its_set old.size side (page_of_slot old.size c.args.count) in_range) sets

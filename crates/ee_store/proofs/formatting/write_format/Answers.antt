@@ -1,9 +1,12 @@
-use Rattle.ee_store.proofs.FirstSet.{active_unset, first_layout, first_marked, first_state, unmarked}
-use Rattle.ee_pages.specs.declared.state.Mark.TheVariants.{Receive}
-use Rattle.std.proofs.Common.{◌≡◌, ◌<◌, arith, rules}
+use Rattle.std.proofs.Common.{◌≡◌, ◌<◌, ap, arith, rules}
+use Rattle.ee_flash.specs.Device.{Device}
 use Rattle.ee_store.specs.State.{Wears, not_blank_pages}
 use Rattle.ee_store.proofs.Wears.{wears_still}
 use Rattle.ee_flash.specs.Size.{page_count}
+use Rattle.ee_pages.specs.declared.state.Mark.TheVariants.{Active, Receive}
+use Rattle.ee_store.proofs.FirstSet.{active_unset, first_layout, first_marked, first_state, unmarked}
+use Rattle.ee_store.proofs.Drawings.{sets_mark}
+use Rattle.ee_store.proofs.MovedSets.{formats_first, formats_second}
 use Rattle.ee_store.proofs.formatting.write_format.Goals as goal
 
 pub returns-clause-layout : goal.returns-clause-layout
@@ -47,6 +50,40 @@ returns-clause-state g c =
     let whole = c.in_ok-mark.ensures.done unset in
     let next = active_unset blank mid formed all on whole in
     first_state blank mid formed all on whole new (c.in_ok-mark-2.ensures.on next) (c.in_ok-mark-2.ensures.done next)
+
+pub returns-clause-first_set : goal.returns-clause-first_set
+returns-clause-first_set g c =
+    let blank = g.F.Flash.device c.erase_all.new.flash in
+    let mid = g.F.Flash.device c.mark.new.flash in
+    let new = g.F.Flash.device c.mark-2.new.flash in
+    let formed = g.met.F.Flash.formed c.erase_all.new.flash in
+    let mid_formed = g.met.F.Flash.formed c.mark.new.flash in
+    let all = c.in_ok-erase_all.ensures.blank in
+    let h : 0 < page_count blank.size = omega (arith, formed.within_limits.some_pages) in
+    let next : 0 < page_count mid.size = omega (arith, mid_formed.within_limits.some_pages) in
+    let unset = unmarked blank 0 (Receive 1) formed all h in
+    let whole = c.in_ok-mark.ensures.done unset in
+    let active = active_unset blank mid formed all (c.in_ok-mark.ensures.on unset) whole in
+    formats_first blank mid new formed mid_formed (ap (λ (device : Device). device.size) whole) (ap (λ (device : Device). device.size) (c.in_ok-mark-2.ensures.done active)) all
+    (sets_mark 0 (Receive 1) blank mid formed h (λ set. (c.in_ok-mark.ensures.present set).1) c.in_ok-mark.ensures.done)
+    (sets_mark 0 Active mid new mid_formed next (λ set. (c.in_ok-mark-2.ensures.present set).1) c.in_ok-mark-2.ensures.done)
+
+pub returns-clause-second_set : goal.returns-clause-second_set
+returns-clause-second_set g c =
+    let blank = g.F.Flash.device c.erase_all.new.flash in
+    let mid = g.F.Flash.device c.mark.new.flash in
+    let new = g.F.Flash.device c.mark-2.new.flash in
+    let formed = g.met.F.Flash.formed c.erase_all.new.flash in
+    let mid_formed = g.met.F.Flash.formed c.mark.new.flash in
+    let all = c.in_ok-erase_all.ensures.blank in
+    let h : 0 < page_count blank.size = omega (arith, formed.within_limits.some_pages) in
+    let next : 0 < page_count mid.size = omega (arith, mid_formed.within_limits.some_pages) in
+    let unset = unmarked blank 0 (Receive 1) formed all h in
+    let whole = c.in_ok-mark.ensures.done unset in
+    let active = active_unset blank mid formed all (c.in_ok-mark.ensures.on unset) whole in
+    formats_second blank mid new formed mid_formed (ap (λ (device : Device). device.size) whole) (ap (λ (device : Device). device.size) (c.in_ok-mark-2.ensures.done active)) all
+    (sets_mark 0 (Receive 1) blank mid formed h (λ set. (c.in_ok-mark.ensures.present set).1) c.in_ok-mark.ensures.done)
+    (sets_mark 0 Active mid new mid_formed next (λ set. (c.in_ok-mark-2.ensures.present set).1) c.in_ok-mark-2.ensures.done)
 
 pub returns-clause-wear : goal.returns-clause-wear
 returns-clause-wear g c =

@@ -1,6 +1,8 @@
 use Rattle.std.proofs.Common.{refl, ◌∙◌}
 use Rattle.ee_pages.specs.Sets.{other}
 use Rattle.ee_store.proofs.LiveMarks.{layout_stays, live_marks_kept, old_marks_kept, stays_both}
+use Rattle.ee_store.proofs.MarkedSets.{shows}
+use Rattle.ee_store.specs.Finished.{last_used}
 use Rattle.ee_store.proofs.marking.finish.Goals as goal
 
 pub returns-clause-finished : goal.returns-clause-finished
@@ -23,6 +25,22 @@ returns-clause-no_step g c marked =
     let first = (c.mark_live_set.ensures.no_step marked.live).1 in
     (refl, (c.mark_old_set.ensures.no_step (old_marks_kept (other c.args.layout.now.side) old mid first marked.old)).1 ∙ first)
 
+pub returns-clause-stays : goal.returns-clause-stays
+returns-clause-stays g c =
+    let layout = c.args.layout.now in
+    stays_both (g.F.Flash.device c.args.flash.now) (g.F.Flash.device c.mark_live_set.new.flash) (g.F.Flash.device c.mark_old_set.new.flash) layout.side layout.generation c.mark_live_set.ensures.stays c.mark_old_set.ensures.stays
+
 pub returns-in_err-mark_old_set-clause-stays : goal.returns-in_err-mark_old_set-clause-stays
 returns-in_err-mark_old_set-clause-stays g c =
-    stays_both (g.F.Flash.device c.args.flash.now) (g.F.Flash.device c.mark_live_set.new.flash) (g.F.Flash.device c.mark_old_set.new.flash) c.args.layout.now.side c.args.layout.now.generation c.mark_live_set.ensures.stays c.mark_old_set.ensures.stays
+    let layout = c.args.layout.now in
+    stays_both (g.F.Flash.device c.args.flash.now) (g.F.Flash.device c.mark_live_set.new.flash) (g.F.Flash.device c.mark_old_set.new.flash) layout.side layout.generation c.mark_live_set.ensures.stays c.mark_old_set.ensures.stays
+
+pub returns-clause-shows : goal.returns-clause-shows
+returns-clause-shows g c =
+    let old = g.F.Flash.device c.args.flash.now in
+    let mid = g.F.Flash.device c.mark_live_set.new.flash in
+    let new = g.F.Flash.device c.mark_old_set.new.flash in
+    let layout = c.args.layout.now in
+    let both = shows layout.side old mid new (last_used old layout.side) c.mark_live_set.ensures.stays.keeps.same_size c.mark_old_set.ensures.stays.keeps.same_size
+    c.in_ok-mark_live_set.ensures.live_pages c.in_ok-mark_live_set.ensures.old_pages c.in_ok-mark_old_set.ensures.live_pages c.in_ok-mark_old_set.ensures.old_pages in
+    record { live_pages = both.0; old_pages = both.1 }

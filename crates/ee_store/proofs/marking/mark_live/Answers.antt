@@ -1,5 +1,6 @@
 use Rattle.std.proofs.Common.{◌<◌}
 use Rattle.ee_flash.specs.Size.{page_count}
+use Rattle.ee_store.proofs.Drawings.{sets_mark}
 use Rattle.ee_store.proofs.Marks.{live_mark_stays, mark_keeps_marks, marked_after, marks, page_in_device, proper_live}
 use Rattle.ee_store.proofs.marking.mark_live.Goals as goal
 
@@ -43,3 +44,10 @@ returns-clause-marked g c =
     let new = g.F.Flash.device c.mark.new.flash in
     let h : c.args.page < page_count old.size = page_in_device old c.args.layout.now.side c.args.page c.requires.from c.requires.behind.in_range in
     marked_after c.args.page c.args.kind old new (g.met.F.Flash.formed c.args.flash.now) h (proper_live c.args.kind c.requires.behind.active_or_valid) (λ set. (c.in_ok-mark.ensures.present set).1) c.in_ok-mark.ensures.on c.in_ok-mark.ensures.done
+
+pub returns-clause-sets : goal.returns-clause-sets
+returns-clause-sets g c =
+    let old = g.F.Flash.device c.args.flash.now in
+    let new = g.F.Flash.device c.mark.new.flash in
+    let h : c.args.page < page_count old.size = page_in_device old c.args.layout.now.side c.args.page c.requires.from c.requires.behind.in_range in
+    sets_mark c.args.page c.args.kind old new (g.met.F.Flash.formed c.args.flash.now) h (λ set. (c.in_ok-mark.ensures.present set).1) c.in_ok-mark.ensures.done

@@ -1,10 +1,12 @@
 use Rattle.std.proofs.Common.{◌≡◌, ℕ, ◌<◌, ◌+◌, ◌-◌, true}
 use Rattle.ee_flash.specs.Power.{GoesOn}
 use Rattle.ee_pages.specs.Page.{is_marked}
-use Rattle.ee_pages.specs.Sets.{first_page}
+use Rattle.ee_pages.specs.Sets.{first_page, other}
 use Rattle.ee_pages.specs.declared.state.Mark.TheVariants.{Valid}
 use Rattle.ee_store.specs.Finished.{IsLiveMarked}
-use Rattle.ee_store.specs.Parts.{Stays}
+use Rattle.ee_store.specs.Parts.{IsSameSet, Stays}
+use Rattle.ee_store.specs.Picture.{IsDrawn, picture_of}
+use Rattle.ee_store.proofs.Drawings.{valid_to}
 use Rattle.ee_store.proofs.marking.mark_live_set.Given as goal
 
 abbrev pub invariant-pages : goal.invariant-pages
@@ -15,5 +17,7 @@ invariant-pages g l =
       stays : Stays old now l.layout.side l.layout.generation;
       valid : (k : ℕ) → k < l.page - first_page old.size l.layout.side → is_marked now (first_page old.size l.layout.side + k) Valid ≡ true;
       no_step : IsLiveMarked old l.layout.side → now ≡ old;
+      drawn : IsDrawn l.layout.side now (valid_to (l.page - l.first) (picture_of l.layout.side old));
+      other : IsSameSet (other l.layout.side) old now;
       power : GoesOn old now;
     }

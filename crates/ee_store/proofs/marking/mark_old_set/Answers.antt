@@ -1,7 +1,12 @@
-use Rattle.std.proofs.Common.{◌≡◌, ◌<◌, ◌≤◌, ◌+◌, inr, ap, arith, ◌∙◌, sym, subst}
+use Rattle.std.proofs.Common.{◌≡◌, ◌<◌, ◌≤◌, ◌+◌, ◌-◌, inr, ap, arith, ◌∙◌, refl, sym, subst}
+use Rattle.std.proofs.lemmas.Bool.{true≢false}
+use Rattle.ee_flash.specs.Size.{Size}
+use Rattle.ee_pages.specs.Laws.{IsPageOf}
 use Rattle.ee_pages.specs.Sets.{first_page, other}
 use Rattle.ee_pages.specs.declared.side.Side.{Side}
-use Rattle.ee_store.proofs.AfterCalls.{goes_on_both}
+use Rattle.ee_store.proofs.AfterCalls.{goes_on_both, goes_on_same}
+use Rattle.ee_store.proofs.MarkedSets.{RetiresPage, live_stays, retired_end, retired_next, retired_start}
+use Rattle.ee_store.proofs.Marks.{same_stays}
 use Rattle.ee_store.proofs.LiveMarks.{IsPageDone, MarksPage, done_already, done_more, marked_from, marks_none, stays_both}
 use Rattle.ee_store.proofs.marking.mark_old_set.Goals.{then-not-is_blank+in_ok-mark_old, else-not-is_blank}
 use Rattle.ee_store.proofs.marking.mark_old_set.Goals as goal
@@ -40,7 +45,32 @@ pages-preserved g c =
       })
       | else-not-is_blank w ↦ rw w.flash-is (marks_none mid layout.side layout.generation c.pages.page c.pages.invariant.stays.keeps.live (sym c.is_blank.ensures ∙ w.if-not-is_blank.false))
     ] in
+    let retires : RetiresPage mid new c.pages.page = elim c.if-not-is_blank.branch [
+      | then-not-is_blank+in_ok-mark_old w ↦ rw w.flash-is (record {
+        sizes = w.mark_old.ensures.stays.keeps.same_size;
+        waiting = λ written. w.in_ok-mark_old.ensures.sets;
+        passed = λ blank. absurd (true≢false (sym blank ∙ sym c.is_blank.ensures ∙ w.if-not-is_blank.true));
+        others = w.mark_old.ensures.others;
+      })
+      | else-not-is_blank w ↦ rw w.flash-is (record {
+        sizes = refl;
+        waiting = λ written. absurd (true≢false (sym w.if-not-is_blank.false ∙ c.is_blank.ensures ∙ written));
+        passed = λ blank. refl;
+        others = λ k apart. refl;
+      })
+    ] in
+    let formed = g.met.F.Flash.formed c.pages.flash in
+    let sizes = c.pages.invariant.stays.keeps.same_size in
+    let counted = ap (λ (size : Size). size.pages) sizes in
+    let within : c.pages.page - c.first_page-first.result < mid.size.pages = omega (arith, counted, first, below, from) in
+    let of : IsPageOf mid.size side c.pages.page =
+    let there = ap (λ (size : Size). first_page size side) sizes in
+    record { from = omega (arith, there, from); below = omega (arith, there, counted, below) } in
     record {
+      drawn = retired_next side old c.first_page-first.result first mid new c.pages.page formed sizes c.pages.auto.page within
+          (c.pages.invariant.rest c.pages.page (omega arith)) retires c.pages.invariant.drawn;
+      live = live_stays layout.side old mid new c.pages.page formed (g.met.F.Flash.formed c.if-not-is_blank.flash) retires.sizes of retires.others c.pages.invariant.live;
+      rest = λ k h. retires.others k (λ e. omega (arith, e, h)) ∙ c.pages.invariant.rest k (omega (arith, h));
       stays = stays_both old mid new layout.side layout.generation c.pages.invariant.stays step.stays;
       marks = λ page mark was. step.marks page mark (c.pages.invariant.marks page mark was);
       done = done_more (first_page old.size side) c.pages.page mid new from c.pages.invariant.done step.others step.done;
@@ -53,3 +83,30 @@ pages-preserved g c =
 
 pub returns-in_err-mark_old-clause-marks : goal.returns-in_err-mark_old-clause-marks
 returns-in_err-mark_old-clause-marks g c page mark was = c.mark_old.ensures.marks page mark (c.pages.invariant.marks page mark was)
+
+pub pages-init : goal.pages-init
+pages-init g c =
+    let old = g.F.Flash.device c.args.flash.now in
+    let layout = c.args.layout.now in
+    let side = other layout.side in
+    let first : c.first_page-first.result ≡ first_page old.size side = c.first_page-first.ensures ∙ ap (λ (set : Side). first_page old.size set) c.other.ensures in
+    record {
+      stays = same_stays old old layout.side layout.generation c.requires.live refl;
+      marks = λ page mark was. was;
+      done = λ k below. absurd (omega (arith, first, below));
+      no_step = λ marked. refl;
+      drawn = retired_start side old c.first_page-first.result first c.first_page-first.result refl;
+      live = refl;
+      rest = λ k h. refl;
+      power = goes_on_same old;
+    }
+
+pub returns-clause-old_pages : goal.returns-clause-old_pages
+returns-clause-old_pages g c =
+    let old = g.F.Flash.device c.args.flash.now in
+    let new = g.F.Flash.device c.pages.flash in
+    let side = other c.args.layout.now.side in
+    let first : c.first_page-first.result ≡ first_page old.size side = c.first_page-first.ensures ∙ ap (λ (set : Side). first_page old.size set) c.other.ensures in
+    let pages = ap (λ (size : Size). size.pages) c.shape.ensures in
+    retired_end side old c.first_page-first.result first new c.pages.page c.pages.invariant.stays.keeps.same_size
+    (omega (arith, c.pages-2.ensures.value, pages, c.pages-test.false, c.pages.auto.page-end)) c.pages.invariant.drawn

@@ -1,8 +1,11 @@
-use Rattle.std.proofs.Common.{◌≡◌, ℕ, ◌<◌, ◌+◌, ◌-◌}
+use Rattle.std.proofs.Common.{◌≡◌, ℕ, ◌<◌, ◌≤◌, ◌+◌, ◌-◌}
+use Rattle.ee_flash.specs.Device.{page_at}
 use Rattle.ee_flash.specs.Power.{GoesOn}
 use Rattle.ee_pages.specs.Sets.{first_page, other}
 use Rattle.ee_store.specs.Finished.{IsOldMarked}
-use Rattle.ee_store.specs.Parts.{KeepsMarks, Stays}
+use Rattle.ee_store.specs.Parts.{IsSameSet, KeepsMarks, Stays}
+use Rattle.ee_store.specs.Picture.{IsDrawn}
+use Rattle.ee_store.proofs.MarkedSets.{retired_to}
 use Rattle.ee_store.proofs.LiveMarks.{IsPageDone}
 use Rattle.ee_store.proofs.marking.mark_old_set.Given as goal
 
@@ -16,5 +19,8 @@ invariant-pages g l =
       marks : KeepsMarks old now;
       done : (k : ℕ) → k < l.page - first → IsPageDone now (first + k);
       no_step : IsOldMarked old (other l.layout.side) → now ≡ old;
+      drawn : IsDrawn (other l.layout.side) now (retired_to (other l.layout.side) old (l.page - l.first));
+      live : IsSameSet l.layout.side old now;
+      rest : (k : ℕ) → l.page ≤ k → page_at now k ≡ page_at old k;
       power : GoesOn old now;
     }

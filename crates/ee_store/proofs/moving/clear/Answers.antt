@@ -23,6 +23,7 @@ pages-init g c =
       blank = λ page from below. absurd (omega (arith, from, below));
       rest = λ page from. refl;
       wear = none_wears (set_of (other_of c.args.layout.now.side) device) _ _ device (omega arith);
+      same = refl;
       goes = goes_on-same device;
     }
 
@@ -56,6 +57,7 @@ pages-preserved g c =
                 w.in_ok-erase_other.ensures.others page apart ∙ c.pages.invariant.rest page (omega (arith, from));
             wear = subst (λ n. Wears (not_blank_from c.first_page-first.result (take n (set_of set old))) old (g.F.Flash.device w.erase_other.new.flash)) next
                 (wears_next (set_of set old) c.first_page-first.result k c.pages.page old mid (g.F.Flash.device w.erase_other.new.flash) at within same so_far (written_wears c.pages.page (page_at mid c.pages.page) mid (g.F.Flash.device w.erase_other.new.flash) written w.in_ok-erase_other.ensures.wear));
+            same = w.in_ok-erase_other.ensures.same_set ∙ c.pages.invariant.same;
             goes = (calls_compose _ _ _ c.pages.invariant.goes).0 w.in_ok-erase_other.ensures.power.ok;
           })
       | else-not-is_blank w ↦
@@ -69,6 +71,7 @@ pages-preserved g c =
             rest = λ page from. c.pages.invariant.rest page (omega (arith, from));
             wear = subst (λ n. Wears (not_blank_from c.first_page-first.result (take n (set_of set old))) old mid) next
                 (wears_next (set_of set old) c.first_page-first.result k c.pages.page old mid mid at within same so_far (blank_wears c.pages.page (page_at mid c.pages.page) mid blank));
+            same = c.pages.invariant.same;
             goes = c.pages.invariant.goes;
           })
     ]

@@ -4,6 +4,7 @@ use Rattle.ee_flash.specs.Power.{GoesOn}
 use Rattle.ee_pages.specs.Laws.{Keeps}
 use Rattle.ee_pages.specs.Page.{is_blank}
 use Rattle.ee_pages.specs.Sets.{other as other_of, set_of}
+use Rattle.ee_store.specs.Parts.{IsSameSet}
 use Rattle.ee_store.specs.State.{Wears, not_blank_from}
 use Rattle.ee_store.proofs.moving.clear.Given as goal
 
@@ -16,5 +17,6 @@ invariant-pages g l =
       blank : (page : ℕ) → l.first ≤ page → page < l.page → is_blank (page_at now page) ≡ true;
       rest : (page : ℕ) → l.page ≤ page → page_at now page ≡ page_at old page;
       wear : Wears (not_blank_from l.first (take (l.page - l.first) (set_of (other_of l.layout.side) old))) old now;
+      same : IsSameSet l.layout.side old now;
       goes : GoesOn old now;
     }

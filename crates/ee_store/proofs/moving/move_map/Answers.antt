@@ -1,6 +1,12 @@
-use Rattle.std.proofs.Common.{inl, inr, sym, ◌∙◌}
+use Rattle.std.proofs.Common.{◌≡◌, ◌+◌, [], inl, inr, refl, subst, sym, ◌∙◌}
+use Rattle.std.proofs.Math.Path.{fun_ext}
 use Rattle.std.proofs.lemmas.Result.{err_from_is_err_and}
-use Rattle.ee_store.specs.Parts.{meant}
+use Rattle.ee_pages.specs.Meaning.{Map}
+use Rattle.ee_pages.specs.Sets.{other as other_of}
+use Rattle.ee_store.specs.Picture.{moved_words}
+use Rattle.ee_store.proofs.Drawings.{drawn_both, same_drawn}
+use Rattle.ee_store.proofs.MovedSets.{commits}
+use Rattle.ee_store.specs.Parts.{IsCommittedWith, map_in, meant}
 use Rattle.ee_store.proofs.MovingFacts.{has_moved, keeps_both}
 use Rattle.ee_store.proofs.moving.move_map.Goals as goal
 
@@ -20,3 +26,35 @@ returns-clause-moved g c =
     let old = g.F.Flash.device c.args.flash.now in
     let opened = keeps_both old (g.F.Flash.device c.clear.new.flash) (g.F.Flash.device c.open_set.new.flash) c.args.layout.now.side c.args.layout.now.generation c.in_ok-clear.ensures.keeps c.in_ok-open_set.ensures.keeps in
     has_moved old (g.F.Flash.device c.open_set.new.flash) (g.F.Flash.device c.fill_set.new.flash) (g.F.Flash.device c.commit.new.flash) c.args.layout.now.side c.args.layout.now.generation c.in_ok-count.count (meant c.args.change) opened c.in_ok-count.ensures.keeps (sym c.requires.layout.fill ∙ c.requires.all_used) c.in_ok-count.ensures.filling c.in_ok-count.ensures.map c.in_ok-count.ensures.each_once c.in_ok-commit.ensures.same_set c.in_ok-commit.ensures.committed
+
+pub returns-clause-new_pages : goal.returns-clause-new_pages
+returns-clause-new_pages g c =
+    let old = g.F.Flash.device c.args.flash.now in
+    let opened = g.F.Flash.device c.open_set.new.flash in
+    let filled = g.F.Flash.device c.fill_set.new.flash in
+    let new = g.F.Flash.device c.commit.new.flash in
+    let side = c.args.layout.now.side in
+    let generation = c.args.layout.now.generation + 1 in
+    let keeps = keeps_both old (g.F.Flash.device c.clear.new.flash) opened side c.args.layout.now.generation c.in_ok-clear.ensures.keeps c.in_ok-open_set.ensures.keeps in
+    let same : map_in side opened ≡ map_in side old = fun_ext keeps.same_map in
+    let holds = c.in_ok-count.ensures.adds.new_pages [] refl c.in_ok-open_set.ensures.holds in
+    let held = commits (other_of side) filled new generation (moved_words (meant c.args.change) (map_in side opened)) c.in_ok-count.ensures.keeps.live.formed c.in_ok-commit.ensures.committed.same_size c.in_ok-commit.ensures.sets holds in
+    subst (λ (map : Map). IsCommittedWith new (other_of side) generation (moved_words (meant c.args.change) map)) same held
+
+pub returns-clause-live_pages : goal.returns-clause-live_pages
+returns-clause-live_pages g c =
+    let old = g.F.Flash.device c.args.flash.now in
+    let cleared = g.F.Flash.device c.clear.new.flash in
+    let opened = g.F.Flash.device c.open_set.new.flash in
+    let filled = g.F.Flash.device c.fill_set.new.flash in
+    let new = g.F.Flash.device c.commit.new.flash in
+    let side = c.args.layout.now.side in
+    let first = c.in_ok-clear.ensures.keeps.same_size in
+    let second = c.in_ok-open_set.ensures.keeps.same_size in
+    let third = c.in_ok-count.ensures.keeps.same_size in
+    let last = c.in_ok-commit.ensures.committed.same_size in
+    drawn_both side old filled new (third ∙ second ∙ first) last
+    (drawn_both side old opened filled (second ∙ first) third
+    (drawn_both side old cleared opened first second (same_drawn side old cleared first c.in_ok-clear.ensures.live_pages) c.in_ok-open_set.ensures.live_pages)
+    c.in_ok-count.ensures.adds.live_pages)
+    (same_drawn side filled new last c.in_ok-commit.ensures.same_set)

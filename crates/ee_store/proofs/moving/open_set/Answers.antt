@@ -1,6 +1,10 @@
-use Rattle.std.proofs.Common.{◌≡◌, inl, inr}
+use Rattle.std.proofs.Common.{◌≡◌, ◌+◌, inl, inr}
+use Rattle.ee_pages.specs.declared.state.Mark.TheVariants.{Receive}
 use Rattle.ee_pages.specs.Sets.{first_page, other as other_of}
-use Rattle.ee_store.proofs.OtherSteps.{opening_done, opening_keeps, opening_unmarked}
+use Rattle.ee_store.proofs.Drawings.{sets_mark_at}
+use Rattle.ee_store.proofs.MovedSets.{opens_blank}
+use Rattle.ee_store.proofs.SetPages.{page_of_device}
+use Rattle.ee_store.proofs.OtherSteps.{first_in_set, opening_done, opening_keeps, opening_unmarked}
 use Rattle.ee_store.proofs.moving.open_set.Goals as goal
 
 pub returns-in_err-mark-clause-keeps : goal.returns-in_err-mark-clause-keeps
@@ -32,3 +36,14 @@ returns-clause-nothing g c =
     let unmarked = opening_unmarked device device c.args.layout.now.side c.args.layout.now.generation c.requires.layout.live c.requires.generation c.requires.blank _ page in
     (opening_done device _ c.args.layout.now.side c.args.layout.now.generation c.requires.layout.live c.requires.generation c.requires.blank _ page
     (c.in_ok-mark.ensures.on unmarked) (c.in_ok-mark.ensures.done unmarked)).1
+
+pub returns-clause-holds : goal.returns-clause-holds
+returns-clause-holds g c =
+    let old = g.F.Flash.device c.args.flash.now in
+    let new = g.F.Flash.device c.mark.new.flash in
+    let side = other_of c.args.layout.now.side in
+    let formed = c.requires.layout.live.formed in
+    let sets = sets_mark_at _ (first_page old.size side) (Receive (c.args.layout.now.generation + 1)) old new formed
+    (page_of_device old.size side (first_page old.size side) (first_in_set side old formed)) (cc (c.first_page-first.ensures, c.other.ensures))
+    (λ set. (c.in_ok-mark.ensures.present set).1) c.in_ok-mark.ensures.done in
+    opens_blank side old new (c.args.layout.now.generation + 1) formed (returns-clause-keeps g c).same_size c.requires.blank sets

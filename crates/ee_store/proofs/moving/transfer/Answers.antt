@@ -1,8 +1,13 @@
-use Rattle.std.proofs.Common.{inr}
+use Rattle.std.proofs.Common.{◌≡◌, ◌+◌, inr, length, sym, subst, ◌∙◌}
 use Rattle.std.proofs.lemmas.Result.{err_from_is_err_and}
-use Rattle.ee_pages.specs.Sets.{other as other_of}
-use Rattle.ee_store.specs.Parts.{meant}
-use Rattle.ee_store.proofs.MovingFacts.{moved_stays}
+use Rattle.ee_flash.specs.Size.{Size}
+use Rattle.ee_pages.specs.declared.side.Side.{Side}
+use Rattle.ee_pages.specs.Sets.{fill_of, other as other_of, set_of, slots_of}
+use Rattle.ee_store.proofs.MarkedSets.{waits}
+use Rattle.ee_store.proofs.MovedSets.{all_retired, filled_up}
+use Rattle.ee_store.specs.Picture.{IsDrawn, filled, moved_words, picture_of, retired}
+use Rattle.ee_store.specs.Parts.{map_in, meant}
+use Rattle.ee_store.proofs.MovingFacts.{moved_stays, other_other}
 use Rattle.ee_store.proofs.Wears.{front_all, wears_still}
 use Rattle.ee_store.specs.State.{not_blank_in}
 use Rattle.ee_store.proofs.moving.transfer.Goals as goal
@@ -30,3 +35,31 @@ returns-in_err-finish-clause-begun g c =
     let failed = err_from_is_err_and c.from_residual-in_err-finish.result c.from_residual-in_err-finish.ensures.1 in
     let pages = not_blank_in (other_of c.args.layout.now.side) old in
     rw failed.1 (front_all pages old new (wears_still pages old (g.F.Flash.device c.move_map.new.flash) new c.in_ok-count.ensures.wear c.in_err-finish.ensures.stays.same_wear))
+
+pub returns-clause-new_pages : goal.returns-clause-new_pages
+returns-clause-new_pages g c =
+    let old = g.F.Flash.device c.args.flash.now in
+    let mid = g.F.Flash.device c.move_map.new.flash in
+    let new = g.F.Flash.device c.finish.new.flash in
+    let side = c.args.layout.now.side in
+    let words = moved_words (meant c.args.change) (map_in side old) in
+    let moved = c.in_ok-count.ensures.moved in
+    let stays = rw c.other.ensures at c.in_ok-finish.ensures.stays in
+    let shows = rw c.other.ensures at c.in_ok-finish.ensures.shows in
+    let fill : fill_of (slots_of (set_of (other_of side) mid)) ≡ length words = moved.fill_is ∙ sym c.in_ok-count.ensures.each_once ∙ c.in_ok-count.ensures.as_many in
+    subst (λ (size : Size). IsDrawn (other_of side) new (filled size (c.args.layout.now.generation + 1) words)) moved.same_size
+    (filled_up (other_of side) mid new (c.args.layout.now.generation + 1) words stays.keeps.same_size c.in_ok-count.ensures.new_pages fill shows.live_pages)
+
+pub returns-clause-old_pages : goal.returns-clause-old_pages
+returns-clause-old_pages g c =
+    let old = g.F.Flash.device c.args.flash.now in
+    let mid = g.F.Flash.device c.move_map.new.flash in
+    let new = g.F.Flash.device c.finish.new.flash in
+    let side = c.args.layout.now.side in
+    let moved = c.in_ok-count.ensures.moved in
+    let stays = rw c.other.ensures at c.in_ok-finish.ensures.stays in
+    let shows = rw c.other.ensures at c.in_ok-finish.ensures.shows in
+    let drawn : IsDrawn side new (retired (waits side mid) (picture_of side mid)) =
+    subst (λ (set : Side). IsDrawn set new (retired (waits set mid) (picture_of set mid))) (other_other side) shows.old_pages in
+    all_retired side old mid new c.args.layout.now.generation c.requires.layout.live (sym c.requires.layout.fill ∙ c.requires.all_used) moved.live.formed moved.same_size stays.keeps.same_size
+    c.in_ok-count.ensures.live_pages drawn

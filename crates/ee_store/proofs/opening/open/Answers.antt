@@ -7,7 +7,7 @@ returns-in-Ok-finish-clause-opened g c =
     let old = g.F.Flash.device c.args.flash in
     let new = g.F.Flash.device c.finish.new.flash in
     let is = c.in-Ok.ensures.layout in
-    let done : Opens old new = opens c.in-Ok.layout old new is c.in-Ok-finish.ensures.stays c.in-Ok-finish.ensures.finished (λ marked. (c.finish.ensures.no_step marked).1) c.in-Ok-finish.ensures.power.ok in
+    let done : Opens old new = opens c.in-Ok.layout old new is c.in-Ok-finish.ensures.stays c.in-Ok-finish.ensures.finished c.in-Ok-finish.ensures.shows (λ marked. (c.finish.ensures.no_step marked).1) c.in-Ok-finish.ensures.power.ok in
     rw c.of.ensures done
 
 pub returns-in-Err-finish-clause-failed : goal.returns-in-Err-finish-clause-failed

@@ -1,4 +1,8 @@
 use Rattle.std.proofs.Common.{◌+◌, sym, ap, ◌∙◌}
+use Rattle.std.proofs.Math.Path.{fun_ext}
+use Rattle.ee_pages.specs.Meaning.{Map, changed}
+use Rattle.ee_store.proofs.MarkedSets.{appends_word}
+use Rattle.ee_store.specs.Parts.{meant, number_of}
 use Rattle.ee_store.proofs.KeptMarks.{appended_marked}
 use Rattle.ee_store.proofs.writing.append.Goals as goal
 
@@ -8,3 +12,20 @@ returns-clause-marked g c =
     let pushed = c.in_ok-push.ensures in
     let one_more = pushed.takes.one_more ∙ ap (λ n. n + 1) (opened.stays.keeps.same_fill ∙ sym c.requires.layout.fill) in
     appended_marked c.args.layout.now.side c.args.layout.now.fill (g.F.Flash.device c.args.flash.now) (g.F.Flash.device c.open_page.new.flash) (g.F.Flash.device c.push.new.flash) c.requires.layout.live.formed opened.stays.keeps.same_size pushed.takes.same_size one_more c.in_ok-open_page.ensures.ready c.push.ensures.marks opened.other c.push.ensures.other c.requires.marked
+
+pub returns-clause-takes : goal.returns-clause-takes
+returns-clause-takes g c =
+    let keeps = c.open_page.ensures.stays.keeps in
+    let takes = c.in_ok-push.ensures.takes in
+    record {
+      live = takes.live;
+      same_size = takes.same_size ∙ keeps.same_size;
+      one_more = takes.one_more ∙ ap (λ n. n + 1) keeps.same_fill;
+      map_is = λ address. takes.map_is address ∙ ap (λ (map : Map). changed (meant c.args.change) map address) (fun_ext keeps.same_map);
+    }
+
+pub returns-clause-drawn : goal.returns-clause-drawn
+returns-clause-drawn g c =
+    let layout = c.args.layout.now in
+    appends_word layout.side (g.F.Flash.device c.args.flash.now) (g.F.Flash.device c.open_page.new.flash) (g.F.Flash.device c.push.new.flash) layout.fill (number_of c.args.change)
+    c.open_page.ensures.stays.keeps.same_size c.in_ok-push.ensures.takes.same_size c.in_ok-open_page.ensures.drawn c.in_ok-push.ensures.puts
