@@ -1,40 +1,13 @@
 -- Every text is a script or has a first bad line: whether a good line stands at its front can be found out, since there
 -- are only so many addresses and values.
-use Rattle.std.proofs.Common.{◌≡◌, ◌≢◌, ◌⊎◌, ◌∙◌, ◌+◌, ◌<◌, ◌≤◌, ◌^◌, ◌++◌, ℕ, zero, suc, List, [], ◌∷◌, length, inl, inr, refl, sym, ap, subst, arith, append_assoc, length-append}
-use Rattle.std.proofs.lemmas.Bool.{cases_eq, cases_lt}
+use Rattle.std.proofs.Common.{◌≡◌, ◌⊎◌, ◌∙◌, ◌+◌, ◌<◌, ◌≤◌, ◌^◌, ◌++◌, ℕ, zero, suc, List, [], ◌∷◌, length, inl, inr, refl, sym, ap, arith, append_assoc, length-append}
+use Rattle.std.proofs.lemmas.Bool.{cases_lt}
 use Rattle.ee_text.specs.Line.{line_of}
+use Rattle.ee_text.proofs.Deciding.{begins_so, some_below}
 use Rattle.ee_script.specs.declared.command.Command.{Command}
 use Rattle.ee_script.specs.declared.command.Command.TheVariants.{Write, Read, Clean}
 use Rattle.ee_script.specs.Command.{IsCommand, spelling}
 use Rattle.ee_script.specs.Script.{script, NoLine, IsScript, IsFirstBadLine}
-
--- ---- what can be found out
-
--- whether one of the numbers below this one is such
-one_below : (P : ℕ → Type 0) → ((k : ℕ) → P k ⊎ (P k → ⊥)) → (n : ℕ) → ((k : ℕ) × P k) ⊎ ((k : ℕ) → k < n → P k → ⊥)
-one_below P found zero = inr (λ k below holds. omega arith)
-one_below P found (suc n) = elim (one_below P found n) [
-  | inl one ↦ inl one
-  | inr none ↦ elim (found n) [
-    | inl holds ↦ inl (n, holds)
-    | inr fails ↦ inr (λ k below holds. elim (cases_eq k n) [
-      | inl same ↦ fails (subst P same holds)
-      | inr other ↦ none k (omega arith) holds
-    ])
-  ]
-]
-
--- whether a text begins with another one
-begins_with : (front text : List ℕ) → ((more : List ℕ) × (text ≡ front ++ more)) ⊎ ((more : List ℕ) → text ≢ front ++ more)
-begins_with [] text = inl (text, refl)
-begins_with (x ∷ front) [] = inr (λ more e. omega (arith, ap length e))
-begins_with (x ∷ front) (y ∷ text) = elim (cases_eq y x) [
-  | inr other ↦ inr (λ more e. other (cc))
-  | inl same ↦ elim (begins_with front text) [
-    | inl more ↦ inl (more.0, (let rest : text ≡ front ++ more.0 = more.1 in cc))
-    | inr none ↦ inr (λ more e. none more (cc))
-  ]
-]
 
 -- ---- the line at the front
 
@@ -45,7 +18,7 @@ record BeginsWith (text : List ℕ) (command : Command) : Type 0 where
   text_is : text ≡ line_of (spelling command) ++ more
 
 stands : (text : List ℕ) (command : Command) → IsCommand command → BeginsWith text command ⊎ (BeginsWith text command → ⊥)
-stands text command proper = elim (begins_with (line_of (spelling command)) text) [
+stands text command proper = elim (begins_so (line_of (spelling command)) text) [
   | inl more ↦ inl record { proper = proper; more = more.0; text_is = more.1 }
   | inr none ↦ inr (λ begins. none begins.more begins.text_is)
 ]
@@ -72,8 +45,8 @@ stands_write text address value = elim (cases_lt 0 address) [
 ]
 
 some_value : (text : List ℕ) (address : ℕ) → ((value : ℕ) × BeginsWith text (Write address value)) ⊎ (((value : ℕ) × BeginsWith text (Write address value)) → ⊥)
-some_value text address = elim (one_below (λ value. BeginsWith text (Write address value)) (stands_write text address) (2 ^ 32)) [
-  | inl one ↦ inl one
+some_value text address = elim (some_below (λ value. BeginsWith text (Write address value)) (stands_write text address) (2 ^ 32)) [
+  | inl one ↦ inl (one.0, one.2)
   | inr none ↦ inr (λ begins. none begins.0 begins.1.proper.1 begins.1)
 ]
 
@@ -86,10 +59,10 @@ no_line text writes reads clean Clean more proper e = clean record { proper = pr
 
 -- whether a good line stands at the front, and which
 at_front : (text : List ℕ) → ((command : Command) × BeginsWith text command) ⊎ NoLine text
-at_front text = elim (one_below (λ address. (value : ℕ) × BeginsWith text (Write address value)) (some_value text) 65535) [
-  | inl write ↦ inl (Write write.0 write.1.0, write.1.1)
-  | inr writes ↦ elim (one_below (λ address. BeginsWith text (Read address)) (stands_read text) 65535) [
-    | inl read ↦ inl (Read read.0, read.1)
+at_front text = elim (some_below (λ address. (value : ℕ) × BeginsWith text (Write address value)) (some_value text) 65535) [
+  | inl write ↦ inl (Write write.0 write.2.0, write.2.1)
+  | inr writes ↦ elim (some_below (λ address. BeginsWith text (Read address)) (stands_read text) 65535) [
+    | inl read ↦ inl (Read read.0, read.2)
     | inr reads ↦ elim (stands text Clean tt) [
       | inl clean ↦ inl (Clean, clean)
       | inr none ↦ inr (no_line text writes reads none)

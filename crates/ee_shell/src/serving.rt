@@ -11,9 +11,7 @@ ghost use Rattle.ee_shell.specs.Trace.{accepted, written};
 
 use ee_check::Change;
 use ee_codec::Address;
-use ee_script::{
-    Answer, Command, ScriptFault, Serve, StreamFault, answer_reader, answer_script,
-};
+use ee_script::{Answer, Command, ScriptFault, Serve, StreamFault, answer_reader, answer_script};
 use ee_store::{Off, Variables, WriteFault, Written};
 use ee_words::MOST_READS;
 use std::alloc::{AllocError, Allocator, Global};

@@ -7,6 +7,7 @@ mod files;
 mod images;
 mod ledgers;
 mod memory;
+mod pieces;
 mod plans;
 mod scripts;
 mod settings;

@@ -1,7 +1,8 @@
 //! Worked lines and scripts, whole and in pieces.
 use ee_codec::Address;
 use ee_script::{
-    Answer, Command, ScriptFault, Serve, Session, answer_script, push_answer, read_command,
+    Answer, Command, ScriptFault, Serve, Session, StreamFault, answer_reader, answer_script,
+    push_answer, read_command,
 };
 use std::alloc::{AllocError, Global};
 use std::test::Fail;
@@ -140,4 +141,19 @@ fn the_first_bad_line_is_named(rt: HostRuntime) {
         );
     }
     assert!(rt; fault_of(rt.alloc(), b"").is_none());
+}
+
+#[test]
+fn an_end_at_the_last_read_call_is_an_end(rt: HostRuntime) -> Result<(), Fail> {
+    for (most, wanted) in [(2, Ok(())), (1, Err(StreamFault::Read))] {
+        let mut script: &[u8] = b"w 1 10\nr 1\n";
+        match answer_reader(rt.alloc(), LastValue(0), &mut script, most) {
+            Ok((_, report)) => {
+                assert_eq!(rt; wanted, Ok(()));
+                assert_eq!(rt; report.as_slice(), b"ok\n10\n".as_slice());
+            }
+            Err(fault) => assert_eq!(rt; wanted, Err(fault)),
+        }
+    }
+    Ok(())
 }

@@ -11,6 +11,8 @@ returns-in_err-image-clause-fault g c =
 
 pub returns-clause-run : goal.returns-clause-run
 returns-clause-run g c =
-    let served = c.in_ok-store.ensures.served in
-    (served.0, served.1,
-    is_run_on c.args.store c.in_ok-store.store _ _ _ _ served.2 c.into_flash.ensures.store c.into_flash.ensures.device c.in_ok-image.ensures)
+    let served = c.in_ok-store.ensures.served in (
+      served.0,
+      served.1,
+      is_run_on c.args.store c.in_ok-store.store _ _ _ _ served.2 c.into_flash.ensures.store c.into_flash.ensures.device c.in_ok-image.ensures,
+    )

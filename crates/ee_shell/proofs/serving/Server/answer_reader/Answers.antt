@@ -4,6 +4,8 @@ use Rattle.ee_shell.proofs.serving.Server.answer_reader.Goals as goal
 
 pub returns-clause-traced : goal.returns-clause-traced
 returns-clause-traced g c =
-    let all = c.in_ok-server.ensures.answered in
-    (all.text, record { given = all.given; ended = all.ended },
-    is_traced (λ server. traced (g.V.Variables.device server.store) server.trace.items) _ _ _ _ all.answered c.in_ok-server.server.powered)
+    let all = c.in_ok-server.ensures.answered in (
+      all.text,
+      record { given = all.given; ended = all.ended },
+      is_traced (λ server. traced (g.V.Variables.device server.store) server.trace.items) _ _ _ _ all.answered c.in_ok-server.server.powered,
+    )
