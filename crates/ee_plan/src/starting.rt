@@ -3,6 +3,7 @@ ghost use Rattle.std.specs.Prelude.{◌≡◌, length, IfOk, OnOk};
 ghost use Rattle.ee_flash.specs.Device.{IsOn};
 ghost use Rattle.ee_flash.specs.Size.{slot_count};
 ghost use Rattle.ee_pages.specs.Meaning.{live_in};
+ghost use Rattle.ee_store.specs.Finished.{IsStore};
 ghost use Rattle.ee_store.specs.State.{state_of};
 ghost use Rattle.ee_plan.specs.Start.{AreLive, IsStartOf, with_addresses};
 
@@ -26,8 +27,9 @@ pub fn start_of<A: Allocator + Copy, V: Variables>(
     store: &V,
 ) -> Result<Start<A>, AllocError>
     requires { IsOn (V.device store.now) }
-    ensures { IfOk result (IsStartOf (slot_count (V.device store.now).size)
+    ensures start { IfOk result (IsStartOf (slot_count (V.device store.now).size)
         (state_of (V.device store.now))) }
+    ensures store { OnOk result (IsStore (V.device store.now)) }
 {
     let live = live_addresses(alloc, store)?;
     let Some(start) = Start::new(store.slots() as u64, store.fill() as u64, live) else {

@@ -28,7 +28,7 @@ use Rattle.ee_plan.proofs.LiveLists.{live_after_put, live_count_is}
 -- ---- one step
 
 -- what leaves the map and the slots as they are leaves the start
-start_stays : (slots : ℕ) (old new : State) (start : Situation) → IsStartOf slots old start → new.map ≡ old.map
+pub start_stays : (slots : ℕ) (old new : State) (start : Situation) → IsStartOf slots old start → new.map ≡ old.map
     → new.fill ≡ old.fill
     → IsStartOf slots new start
 start_stays slots old new start is map fill = record {
@@ -51,7 +51,7 @@ option_cases None = inl refl
 option_cases (Some value) = inr (value, refl)
 
 -- a write that isn't refused as full leaves no more live addresses than there are slots
-write_fits : (slots : ℕ) (old : State) (start : Situation) (address value : ℕ) → IsAddress address → IsStartOf slots old start
+pub write_fits : (slots : ℕ) (old : State) (start : Situation) (address value : ℕ) → IsAddress address → IsStartOf slots old start
     → IsProper start
     → ¬ IsFull slots old address → length (changed start.live (changes.Write address)) ≤ start.slots
 write_fits slots old start address value proper is fits free =
@@ -152,18 +152,18 @@ carry_first slots start commands answers new address value used fits run = recor
 
 module _ (size : Size) where
   -- a step that changes neither the map nor the slots
-  stays : (old mid : State) (start : Situation) → mid ≡ old → IsStartOf (slot_count size) old start
+  pub stays : (old mid : State) (start : Situation) → mid ≡ old → IsStartOf (slot_count size) old start
       → IsStartOf (slot_count size) mid start
   stays old mid start same is = start_stays (slot_count size) old mid start is (ap (λ s. s.map) same) (ap (λ s. s.fill) same)
 
-  appends : (old mid : State) (start : Situation) (address value : ℕ) → IsAddress address → mid ≡ appended (Put address value) old
+  pub appends : (old mid : State) (start : Situation) (address value : ℕ) → IsAddress address → mid ≡ appended (Put address value) old
       → IsStartOf (slot_count size) old start
       → IsStartOf (slot_count size) mid (after_move start (Append (changes.Write address)))
   appends old mid start address value proper is from =
       subst (λ s. IsStartOf (slot_count size) s (after_move start (Append (changes.Write address)))) (sym is)
       (start_appends (slot_count size) old start address value proper from)
 
-  moves_on : (old mid : State) (start : Situation) (address value : ℕ) → IsAddress address
+  pub moves_on : (old mid : State) (start : Situation) (address value : ℕ) → IsAddress address
       → mid ≡ moved size.pages (Put address value) old
       → IsStartOf (slot_count size) old start → IsStartOf (slot_count size) mid (after_move start (Carry (changes.Write address)))
   moves_on old mid start address value proper is from =

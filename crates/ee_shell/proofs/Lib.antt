@@ -6,6 +6,7 @@ pub mod Named
 pub mod OneCause
 pub mod Pages
 pub mod Runs
+pub mod NotedRuns
 pub mod Stores
 pub mod Reported
 pub mod Late

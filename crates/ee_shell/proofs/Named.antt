@@ -48,7 +48,7 @@ use Rattle.ee_shell.specs.Images.{IsOpeningFault}
 use Rattle.ee_shell.specs.Machine.{Step}
 use Rattle.ee_shell.specs.Opening.{IsOpened}
 use Rattle.ee_shell.specs.Replaying.{IsOpenFault, IsStoreText, Spells}
-use Rattle.ee_shell.specs.Serving.{Serves, StaysOn}
+use Rattle.ee_shell.specs.Serving.{StaysOn, Steps}
 use Rattle.ee_shell.specs.Settings.{HasStore, HasTree, IsGetFault, IsRead, IsRefused, IsRefusedIn, IsSet, IsSetFault, IsSettingsFault, IsValueRefusal, IsWriteRefusal, IsWriteServed, IsWritten, SpellsSettings}
 
 -- ---- the text of the settings
@@ -183,7 +183,8 @@ is_written settings old new name value written.Appended on set = record {
   in_range = set.2;
   written = inl (
     record {
-      answers = record { step = (set.3.proceeds.accepted, set.3.free, set.3.state_is); same_size = set.3.goes_on.same_size };
+      step = (set.3.proceeds.accepted, set.3.free, set.3.state_is);
+      same_size = set.3.goes_on.same_size;
       erases = by_append old (Put set.0.numbers.address value) new set.3;
     },
     set.3.no_wear,
@@ -196,7 +197,8 @@ is_written settings old new name value written.Moved on set = record {
   in_range = set.2;
   written = inr (
     record {
-      answers = record { step = (set.3.proceeds.accepted, set.3.all_used, set.3.state_is); same_size = set.3.goes_on.same_size };
+      step = (set.3.proceeds.accepted, set.3.all_used, set.3.state_is);
+      same_size = set.3.goes_on.same_size;
       erases = by_move old (Put set.0.numbers.address value) new set.3;
     },
     set.3.wear,
@@ -205,13 +207,11 @@ is_written settings old new name value written.Moved on set = record {
 }
 
 -- what was served by an opened store was served by what its text spells
-from_text : (image : List ℕ) (store new : Device) (command : Command) (answer : Answer) (opened : IsOpened image store) → Serves store command answer new → Serves opened.device command answer new
+from_text : (image : List ℕ) (store new : Device) (command : Command) (answer : Answer) (opened : IsOpened image store) → Steps store command answer new → Steps opened.device command answer new
 from_text image store new command answer opened serves = record {
-  answers = record {
-    step = subst (λ (size : Size). Step size (state_of opened.device) command answer (state_of new)) opened.same_size
-        (subst (λ (state : State). Step store.size state command answer (state_of new)) opened.state_is serves.answers.step);
-    same_size = serves.answers.same_size ∙ opened.same_size;
-  };
+  step = subst (λ (size : Size). Step size (state_of opened.device) command answer (state_of new)) opened.same_size
+      (subst (λ (state : State). Step store.size state command answer (state_of new)) opened.state_is serves.step);
+  same_size = serves.same_size ∙ opened.same_size;
   erases = both opened.device store new 0 (erases_of opened.device.size answer) (erases_of opened.device.size answer) opened.erases
       (subst (λ (size : Size). ErasesRise (erases_of size answer) store new) opened.same_size serves.erases) (omega arith);
 }
@@ -225,8 +225,8 @@ served_from_text image store new address value opened (inr h) =
     )
 
 size_kept : (old new : Device) (address value : ℕ) → IsWriteServed old address value new → new.size ≡ old.size
-size_kept old new address value (inl h) = h.0.answers.same_size
-size_kept old new address value (inr h) = h.0.answers.same_size
+size_kept old new address value (inl h) = h.0.same_size
+size_kept old new address value (inr h) = h.0.same_size
 
 pub is_set : (image text name new_image line : List ℕ) (value : ℕ) (store new flash : Device) (settings : List Setting) → IsOpened image store → SpellsSettings text settings → IsWritten settings store name value new
     → IsStore new → flash ≡ new → Spells new_image flash → line ≡ line_of (codes "set") → IsSet image text name value new_image line
@@ -311,8 +311,8 @@ accepted_value setting size state value cause within accepted (inl h) = h.0 with
 accepted_value setting size state value cause within accepted (inr h) = accepted_write size state setting.numbers.address value cause accepted h.1
 
 accepted_by : (old new : Device) (address value : ℕ) → IsWriteServed old address value new → IsAccepted (slot_count old.size) (state_of old) (Put address value)
-accepted_by old new address value (inl h) = h.0.answers.step.0
-accepted_by old new address value (inr h) = h.0.answers.step.0
+accepted_by old new address value (inl h) = h.0.step.0
+accepted_by old new address value (inr h) = h.0.step.0
 
 written_good : (settings : List Setting) (old new : Device) (name : List ℕ) (value : ℕ) (cause : Fault) → HaveRisingNames settings → cause ≢ Memory → IsWritten settings old name value new
     → IsRefused settings old.size (state_of old) name value cause → ⊥

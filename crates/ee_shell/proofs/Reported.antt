@@ -1,15 +1,10 @@
 -- What a report says in the end.
-use Rattle.std.proofs.Common.{◌≡◌, ◌∙◌, ◌-◌, ◌≤◌, ◌++◌, ℕ, List, [], ap, append_assoc, codes, decimal, subst, sym}
+use Rattle.std.proofs.Common.{◌≡◌, ◌∙◌, ◌-◌, ◌≤◌, ◌++◌, ℕ, List, ap, append_assoc, codes, decimal, length, subst, sym}
 use Rattle.ee_flash.specs.Device.{Device}
 use Rattle.ee_flash.specs.Size.{Size, slot_count}
-use Rattle.ee_check.specs.declared.change.Change.{Change}
-use Rattle.ee_check.specs.Certificate.{Claim, IsTight, claim_of}
-use Rattle.ee_check.specs.Live.{KeepsWithin}
 use Rattle.ee_check.specs.Schedule.{IsProper, Situation}
 use Rattle.ee_check.specs.Text.{text_of}
-use Rattle.ee_plan.specs.Plan.{IsPlan}
 use Rattle.ee_plan.specs.Start.{IsStartOf}
-use Rattle.ee_plan.specs.declared.planned.Plan.{Plan}
 use Rattle.ee_script.specs.Answer.{report}
 use Rattle.ee_script.specs.Script.{IsFirstBadLine}
 use Rattle.ee_script.proofs.Reading.{scripts_are_good_lem}
@@ -19,9 +14,10 @@ use Rattle.ee_store.specs.State.{State, state_of}
 use Rattle.ee_store.proofs.Making.{few_within}
 use Rattle.ee_store.proofs.States.{state_is}
 use Rattle.ee_shell.specs.Report.{end_line, report_text}
-use Rattle.ee_shell.specs.Serving.{IsServed, IsTraced, traced}
-use Rattle.ee_shell.specs.Trace.{accepted, moves, written}
-use Rattle.ee_shell.proofs.Late.{all_put, run_count, run_fewest, run_keeps, run_room, values_are}
+use Rattle.ee_shell.specs.Serving.{IsServed, IsTraced, Notes, claim_noted}
+use Rattle.ee_shell.specs.Trace.{moves}
+use Rattle.ee_shell.proofs.Late.{all_put, run_count, run_fewest, run_room, values_are}
+use Rattle.ee_shell.proofs.Runs.{machine_run, whole_run}
 
 -- no more slots are used than there are
 pub fill_within : (device : Device) → IsStore device → (state_of device).fill ≤ slot_count device.size
@@ -49,36 +45,30 @@ end_written old one two three four five new slots transfers fill room live pendi
 
 -- ---- the whole report
 
--- what was accepted from this start, and the trace that was kept of it
-module _ (old new : Device) (text lines : List ℕ) (trace kept : List Change) (start : Situation) (run : IsTraced (traced old []) text (traced new trace) lines)
-    (is : IsStartOf (slot_count old.size) (state_of old) start) (proper : IsProper start) (same : kept ≡ trace) where
-  trace_is : kept ≡ written (accepted run.answered.commands run.answered.answers)
-  trace_is = same ∙ run.trace_is
-
-  -- it keeps within the slots
-  pub accepted_fits : KeepsWithin start.slots start.live kept
-  accepted_fits =
-      subst (KeepsWithin start.slots start.live) (sym trace_is)
-      (run_keeps old.size run.answered.commands run.answered.answers (state_of old) (state_of new) start run.answered.is_script.proper is proper run.answered.run)
-
+-- what was answered, and the certificate of what was noted
+module _ (old new : Device) (text lines : List ℕ) (notes : Notes) (start : Situation) (run : IsTraced old text new notes lines)
+    (is : IsStartOf (slot_count old.size) (state_of old) start) (proper : IsProper start) where
   -- the parts of the report, put together
-  report_is : (ended reported : List ℕ) (transfers : ℕ) (claim : Claim) → transfers ≡ moves run.answered.answers → ended ≡ lines ++ end_line (slot_count new.size) (state_of new) transfers
-      → reported ≡ ended ++ text_of claim → reported ≡ report_text (slot_count old.size) run.answered.answers (state_of new) claim
-  report_is ended reported transfers claim count end all =
+  report_is : (ended reported : List ℕ) (transfers : ℕ) → new.size ≡ old.size → transfers ≡ moves run.answered.answers
+      → ended ≡ lines ++ end_line (slot_count new.size) (state_of new) transfers → reported ≡ ended ++ text_of (claim_noted start notes)
+      → reported ≡ report_text (slot_count old.size) run.answered.answers (state_of new) (claim_noted start notes)
+  report_is ended reported transfers same_size count end all =
       let sized : end_line (slot_count new.size) (state_of new) transfers ≡ end_line (slot_count old.size) (state_of new) (moves run.answered.answers) =
-      ap (λ (size : Size). end_line (slot_count size) (state_of new) transfers) run.same_size ∙ ap (λ n. end_line (slot_count old.size) (state_of new) n) count in
-      all ∙ ap (λ l. l ++ text_of claim) (end ∙ ap (λ l. l ++ end_line (slot_count new.size) (state_of new) transfers) run.answered.report_is ∙ ap (λ l. report run.answered.answers ++ l) sized)
-      ∙ append_assoc (report run.answered.answers) (end_line (slot_count old.size) (state_of new) (moves run.answered.answers)) (text_of claim)
+      ap (λ (size : Size). end_line (slot_count size) (state_of new) transfers) same_size ∙ ap (λ n. end_line (slot_count old.size) (state_of new) n) count in
+      all ∙ ap (λ l. l ++ text_of (claim_noted start notes))
+      (end ∙ ap (λ l. l ++ end_line (slot_count new.size) (state_of new) transfers) run.answered.report_is ∙ ap (λ l. report run.answered.answers ++ l) sized)
+      ∙ append_assoc (report run.answered.answers) (end_line (slot_count old.size) (state_of new) (moves run.answered.answers)) (text_of (claim_noted start notes))
 
-  pub is_served : {A : Type 0} (plan : Plan A) (ended reported : List ℕ) → IsPlan start kept plan → ended ≡ lines ++ end_line (slot_count new.size) (state_of new) plan.transfers
-      → reported ≡ ended ++ text_of (claim_of plan.certificate) → IsServed old text new reported
-  is_served plan ended reported planned end all =
+  pub is_served : (ended reported : List ℕ) → ended ≡ lines ++ end_line (slot_count new.size) (state_of new) (length notes.stretches)
+      → reported ≡ ended ++ text_of (claim_noted start notes) → IsServed old text new reported
+  is_served ended reported end all =
       let commands = run.answered.commands in
       let answers = run.answered.answers in
       let are = run.answered.is_script.proper in
-      let claim = claim_of plan.certificate in
-      let tight : IsTight start (written (accepted commands answers)) claim = subst (λ t. IsTight start t claim) trace_is planned.tight in
-      let count = run_count old.size commands answers (state_of old) (state_of new) start claim are is proper run.answered.run tight in
+      let claim = claim_noted start notes in
+      let machine = machine_run old new commands answers run.answered.run in
+      let tight = run.tight start is proper in
+      let count = run_count old.size commands answers (state_of old) (state_of new) start claim are is proper machine.run tight in
       record {
         report = record {
           commands = commands;
@@ -86,19 +76,20 @@ module _ (old new : Device) (text lines : List ℕ) (trace kept : List Change) (
           start = start;
           claim = claim;
           is_script = run.answered.is_script;
-          run = run.answered.run;
+          run = machine.run;
           start_is = is;
-          fewest = run_fewest old.size commands answers (state_of old) (state_of new) start claim are is proper run.answered.run tight;
-          room = run_room old.size commands answers (state_of old) (state_of new) start claim are is proper run.answered.run tight;
-          values = values_are old.size commands answers (state_of old) (state_of new) run.answered.run;
-          all_accepted = all_put old.size commands answers (state_of old) (state_of new) start are is run.answered.run;
-          report_is = report_is ended reported plan.transfers claim (planned.transfers ∙ sym count) end all;
+          fewest = run_fewest old.size commands answers (state_of old) (state_of new) start claim are is proper machine.run tight;
+          room = run_room old.size commands answers (state_of old) (state_of new) start claim are is proper machine.run tight;
+          values = values_are old.size commands answers (state_of old) (state_of new) machine.run;
+          all_accepted = all_put old.size commands answers (state_of old) (state_of new) start are is machine.run;
+          report_is = report_is ended reported (length notes.stretches) machine.same_size (sym count) end all;
         };
-        erases = run.erases;
+        calls = whole_run old new commands answers run.answered.run;
+        erases = machine.erases;
         stays_on = run.stays_on;
-        same_size = run.same_size;
+        same_size = machine.same_size;
       }
 
 -- a script that was answered has no bad line
-pub no_bad_line : (old new : Device) (text lines : List ℕ) (trace : List Change) (n : ℕ) → IsTraced (traced old []) text (traced new trace) lines → IsFirstBadLine text n → ⊥
-no_bad_line old new text lines trace n run bad = scripts_are_good_lem text run.answered.commands n run.answered.is_script bad
+pub no_bad_line : (old new : Device) (text lines : List ℕ) (notes : Notes) (n : ℕ) → IsTraced old text new notes lines → IsFirstBadLine text n → ⊥
+no_bad_line old new text lines notes n run bad = scripts_are_good_lem text run.answered.commands n run.answered.is_script bad

@@ -1,91 +1,130 @@
--- A run of what serves a script is a run of the report machine.
-use Rattle.std.proofs.Common.{◌≡◌, ◌∙◌, ◌++◌, ℕ, List, [], ◌∷◌, ap, append_assoc, append-nil, refl, subst, sym}
+-- A run of calls that serve a script is a run of the report machine.
+use Rattle.std.proofs.Common.{◌≡◌, ◌∙◌, ◌++◌, ℕ, Option, Some, None, List, [], ◌∷◌, ap, false, refl, subst, sym}
+use Rattle.std.proofs.lemmas.List.Elements.{All-cons, All-nil}
 use Rattle.std.proofs.lemmas.List.Sums.{sum_by-cons}
+use Rattle.std.specs.List.{All}
+use Rattle.std.specs.Prelude.{IsSomeAnd}
+use Rattle.ee_flash.specs.Device.{Device}
 use Rattle.ee_flash.specs.Size.{Size}
+use Rattle.ee_pages.specs.Meaning.{Put}
+use Rattle.ee_store.specs.Runs.{Call, Follows, IsRun, IsWholeRun, is_cut}
 use Rattle.ee_store.specs.State.{state_of}
-use Rattle.ee_check.specs.declared.change.Change.{Change}
 use Rattle.ee_script.specs.declared.command.Command.{Command}
 use Rattle.ee_script.specs.declared.command.Command.TheVariants.{Write, Read, Clean}
 use Rattle.ee_script.specs.declared.answer.Answer.{Answer}
 use Rattle.ee_script.specs.declared.answer.Answer.TheVariants.{Appended, Moved, Full, Spent, Cleaned, Idle, Value, NoValue}
 use Rattle.ee_script.specs.Run.{Run}
-use Rattle.ee_script.specs.Whole.{IsAnswered}
-use Rattle.ee_script.proofs.Seen.{IsAnswered-seen}
 use Rattle.ee_shell.specs.Erases.{ErasesRise, erases_of, erases_of_all}
 use Rattle.ee_shell.specs.Machine.{Step}
-use Rattle.ee_shell.specs.Serving.{IsTraced, Records, StaysOn, Traced}
-use Rattle.ee_shell.specs.Trace.{accepted, written}
-use Rattle.ee_shell.proofs.Erasing.{as_before, both}
+use Rattle.ee_shell.specs.Serving.{Noted, Records, Serves, Steps, call_of, calls_of, with_call}
+use Rattle.ee_shell.proofs.Erasing.{as_before, both, by_append, by_clean, by_move}
 
-first_written : (command : Command) (commands : List Command) → written (command ∷ commands) ≡ written (command ∷ []) ++ written commands
-first_written (Write address value) commands = refl
-first_written (Read address) commands = refl
-first_written Clean commands = refl
+-- ---- one call
 
--- the changes that were accepted of a command and of those behind it
-first_accepted : (command : Command) (answer : Answer) (commands : List Command) (answers : List Answer)
-    → written (accepted (command ∷ commands) (answer ∷ answers)) ≡ written (accepted (command ∷ []) (answer ∷ [])) ++ written (accepted commands answers)
-first_accepted command Appended commands answers = first_written command (accepted commands answers)
-first_accepted command Moved commands answers = first_written command (accepted commands answers)
-first_accepted command Full commands answers = refl
-first_accepted command Spent commands answers = refl
-first_accepted command Cleaned commands answers = refl
-first_accepted command Idle commands answers = refl
-first_accepted command (Value value) commands answers = refl
-first_accepted command NoValue commands answers = refl
+-- the machine answers as the call does
+pub machine_step : (old new : Device) (command : Command) (answer : Answer) → Serves old command answer new → Steps old command answer new
+machine_step old new (Write address value) Appended serves = record {
+  step = (serves.proceeds.accepted, serves.free, serves.state_is);
+  same_size = serves.goes_on.same_size;
+  erases = by_append old (Put address value) new serves;
+}
+machine_step old new (Write address value) Moved serves = record {
+  step = (serves.proceeds.accepted, serves.all_used, serves.state_is);
+  same_size = serves.goes_on.same_size;
+  erases = by_move old (Put address value) new serves;
+}
+machine_step old new (Write address value) Full serves = record {
+  step = (serves.1, ap state_of serves.2);
+  same_size = ap (λ (device : Device). device.size) serves.2;
+  erases = as_before old new serves.2;
+}
+machine_step old new (Write address value) Spent serves = record {
+  step = (serves.1, serves.2, ap state_of serves.3);
+  same_size = ap (λ (device : Device). device.size) serves.3;
+  erases = as_before old new serves.3;
+}
+machine_step old new (Read address) (Value value) serves = record {
+  step = (sym serves.0.1, ap state_of serves.1);
+  same_size = ap (λ (device : Device). device.size) serves.1;
+  erases = as_before old new serves.1;
+}
+machine_step old new (Read address) NoValue serves = record {
+  step = (sym serves.0.1, ap state_of serves.1);
+  same_size = ap (λ (device : Device). device.size) serves.1;
+  erases = as_before old new serves.1;
+}
+machine_step old new Clean Cleaned serves = record {
+  step = (serves.some, serves.state_is);
+  same_size = serves.goes_on.same_size;
+  erases = by_clean old new serves;
+}
+machine_step old new Clean Idle serves = record {
+  step = (serves.1, ap state_of serves.2);
+  same_size = ap (λ (device : Device). device.size) serves.2;
+  erases = as_before old new serves.2;
+}
+machine_step old new command answer serves = absurd serves
 
--- what a run of what serves comes to: the machine goes from state to state, the size stays, each move leaves the pages of a
--- set to be erased, and the changes that were accepted join those before them
-record IsMachineRun (old new : Traced) (commands : List Command) (answers : List Answer) : Type 0 where
-  run : Run (Step old.device.size) (state_of old.device) commands answers (state_of new.device)
-  same_size : new.device.size ≡ old.device.size
-  erases : ErasesRise (erases_of_all old.device.size answers) old.device new.device
-  trace_is : new.trace ≡ old.trace ++ written (accepted commands answers)
+-- in none of them power is cut
+uncut_first : (command : Command) (answer : Answer) (calls : List Call) → All (λ made. is_cut made ≡ false) calls
+    → All (λ made. is_cut made ≡ false) (with_call (call_of command answer) calls)
+uncut_first (Write address value) Appended calls all = All-cons (λ made. is_cut made ≡ false) _ calls refl all
+uncut_first (Write address value) Moved calls all = All-cons (λ made. is_cut made ≡ false) _ calls refl all
+uncut_first (Write address value) Full calls all = All-cons (λ made. is_cut made ≡ false) _ calls refl all
+uncut_first (Write address value) Spent calls all = All-cons (λ made. is_cut made ≡ false) _ calls refl all
+uncut_first (Read address) (Value value) calls all = All-cons (λ made. is_cut made ≡ false) _ calls refl all
+uncut_first (Read address) NoValue calls all = All-cons (λ made. is_cut made ≡ false) _ calls refl all
+uncut_first Clean Cleaned calls all = All-cons (λ made. is_cut made ≡ false) _ calls refl all
+uncut_first Clean Idle calls all = All-cons (λ made. is_cut made ≡ false) _ calls refl all
+uncut_first command answer calls all = all
 
-machine_run : (old new : Traced) (commands : List Command) (answers : List Answer) → Run Records old commands answers new → IsMachineRun old new commands answers
+pub uncut : (commands : List Command) (answers : List Answer) → All (λ made. is_cut made ≡ false) (calls_of commands answers)
+uncut [] answers = All-nil (λ made. is_cut made ≡ false)
+uncut (command ∷ commands) [] = All-nil (λ made. is_cut made ≡ false)
+uncut (command ∷ commands) (answer ∷ answers) = uncut_first command answer (calls_of commands answers) (uncut commands answers)
+
+call_first : (found : Option Call) (calls : List Call) (old mid new : Device) → IsSomeAnd found (λ made. Follows made old mid) → IsRun calls mid new
+    → IsRun (with_call found calls) old new
+call_first None calls old mid new follows run = absurd follows
+call_first (Some made) calls old mid new follows run = (mid, follows, run)
+
+-- ---- a run
+
+-- what a run of calls comes to: the machine goes from state to state, the size stays, and each move leaves the pages of a
+-- set to be erased
+pub record IsMachineRun (old new : Device) (commands : List Command) (answers : List Answer) : Type 0 where
+  pub run : Run (Step old.size) (state_of old) commands answers (state_of new)
+  pub same_size : new.size ≡ old.size
+  pub erases : ErasesRise (erases_of_all old.size answers) old new
+  pub calls : IsRun (calls_of commands answers) old new
+
+pub machine_run : (old new : Device) (commands : List Command) (answers : List Answer) → Run Serves old commands answers new → IsMachineRun old new commands answers
 machine_run old new [] [] run = record {
-  run = ap (λ (t : Traced). state_of t.device) run;
-  same_size = ap (λ (t : Traced). t.device.size) run;
-  erases = as_before old.device new.device (ap (λ (t : Traced). t.device) run);
-  trace_is = ap (λ (t : Traced). t.trace) run ∙ sym (append-nil old.trace);
+  run = ap state_of run;
+  same_size = ap (λ (device : Device). device.size) run;
+  erases = as_before old new run;
+  calls = run;
 }
 machine_run old new [] (answer ∷ answers) run = absurd run
 machine_run old new (command ∷ commands) [] run = absurd run
 machine_run old new (command ∷ commands) (answer ∷ answers) run =
     let mid = run.0 in
-    let step = run.1.serves in
+    let here = machine_step old mid command answer run.1 in
     let rest = machine_run mid new commands answers run.2 in
-    let from = old.device.size in
     record {
-      run = (
-        state_of mid.device,
-        step.answers.step,
-        subst (λ (size : Size). Run (Step size) (state_of mid.device) commands answers (state_of new.device)) step.answers.same_size rest.run,
-      );
-      same_size = rest.same_size ∙ step.answers.same_size;
-      erases = both old.device mid.device new.device (erases_of from answer) (erases_of_all from answers) (erases_of_all from (answer ∷ answers)) step.erases
-          (subst (λ (size : Size). ErasesRise (erases_of_all size answers) mid.device new.device) step.answers.same_size rest.erases) (sum_by-cons (erases_of from) answer answers);
-      trace_is = rest.trace_is ∙ ap (λ (trace : List Change). trace ++ written (accepted commands answers)) run.1.trace_is
-          ∙ append_assoc old.trace (written (accepted (command ∷ []) (answer ∷ []))) (written (accepted commands answers))
-          ∙ ap (λ (trace : List Change). old.trace ++ trace) (sym (first_accepted command answer commands answers));
+      run = (state_of mid, here.step, subst (λ (size : Size). Run (Step size) (state_of mid) commands answers (state_of new)) here.same_size rest.run);
+      same_size = rest.same_size ∙ here.same_size;
+      erases = both old mid new (erases_of old.size answer) (erases_of_all old.size answers) (erases_of_all old.size (answer ∷ answers)) here.erases
+          (subst (λ (size : Size). ErasesRise (erases_of_all size answers) mid new) here.same_size rest.erases) (sum_by-cons (erases_of old.size) answer answers);
+      calls = call_first (call_of command answer) (calls_of commands answers) old mid new run.1 rest.calls;
     }
 
--- what serves, as its device and its changes are seen
-pub is_traced : {S : Type 0} (see : S → Traced) (old new : S) (text lines : List ℕ)
-    → IsAnswered (λ s command answer t. Records (see s) command answer (see t)) old text new lines → StaysOn (see new).device → IsTraced (see old) text (see new) lines
-is_traced see old new text lines answered stays_on =
-    let seen = IsAnswered-seen see Records old new text lines answered in
-    let run = machine_run (see old) (see new) seen.commands seen.answers seen.run in
-    record {
-      answered = record {
-        commands = seen.commands;
-        answers = seen.answers;
-        is_script = seen.is_script;
-        run = run.run;
-        report_is = seen.report_is;
-      };
-      trace_is = run.trace_is;
-      erases = run.erases;
-      stays_on = stays_on;
-      same_size = run.same_size;
-    }
+pub whole_run : (old new : Device) (commands : List Command) (answers : List Answer) → Run Serves old commands answers new → IsWholeRun (calls_of commands answers) old new
+whole_run old new commands answers run = record { run = (machine_run old new commands answers run).calls; without_cuts = uncut commands answers }
+
+-- without what is noted
+pub run_served : (old new : Noted) (commands : List Command) (answers : List Answer) → Run Records old commands answers new → Run Serves old.device commands answers new.device
+run_served old new [] [] run = ap (λ (noted : Noted). noted.device) run
+run_served old new [] (answer ∷ answers) run = absurd run
+run_served old new (command ∷ commands) [] run = absurd run
+run_served old new (command ∷ commands) (answer ∷ answers) run = (run.0.device, run.1.serves, run_served run.0 new commands answers run.2)

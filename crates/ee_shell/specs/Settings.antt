@@ -22,7 +22,7 @@ use Rattle.ee_words.specs.declared.fault.Fault.{Fault}
 use Rattle.ee_words.specs.declared.fault.Fault.TheVariants.{SettingsText, UnknownName, OutOfRange, Full, Spent, Memory}
 use Rattle.ee_shell.specs.Images.{IsOpeningFault}
 use Rattle.ee_shell.specs.Replaying.{IsStoreLeft, IsStoreText}
-use Rattle.ee_shell.specs.Serving.{Serves, StaysOn}
+use Rattle.ee_shell.specs.Serving.{StaysOn, Steps}
 
 -- ---- the text of the settings
 
@@ -80,8 +80,8 @@ pub record IsGot (image settings_text name line : List ℕ) : Type 0 where
 -- waited were erased, each once, and no other
 abbrev pub IsWriteServed : Device → ℕ → ℕ → Device → Type 0
 IsWriteServed old address value new =
-    (Serves old (Write address value) Appended new × (new.wear ≡ old.wear))
-    ⊎ (Serves old (Write address value) Moved new × Wears (pending_pages old) old new)
+    (Steps old (Write address value) Appended new × (new.wear ≡ old.wear))
+    ⊎ (Steps old (Write address value) Moved new × Wears (pending_pages old) old new)
 
 -- The value is in the range of the name's setting, and it was written at the setting's address, as the report machine
 -- answers a write.

@@ -13,6 +13,7 @@
 #![tactic(auto)]
 
 mod images;
+mod noting;
 mod opening;
 mod planning;
 mod replaying;

@@ -1,11 +1,9 @@
 //! The whole report of a script: its answers, how the store stands at the end, and the certificate that
 //! no store could have moved its live set less often.
 ghost use Rattle.std.specs.Prelude.{◌≡◌, ◌⊎◌, ◌++◌, ℕ, List, [], IfOk, IfErr, MatchResult, OnOk, decimal};
-ghost use Rattle.ee_check.specs.Live.{KeepsWithin};
 ghost use Rattle.ee_check.specs.Schedule.{IsProper};
 ghost use Rattle.ee_flash.specs.Device.{Device, IsOn};
 ghost use Rattle.ee_flash.specs.Size.{slot_count};
-ghost use Rattle.ee_plan.specs.Plan.{IsPlan};
 ghost use Rattle.ee_plan.specs.Start.{IsStartOf};
 ghost use Rattle.ee_script.specs.Reading.{IsStreamFault};
 ghost use Rattle.ee_script.specs.Script.{IsFirstBadLine};
@@ -13,11 +11,11 @@ ghost use Rattle.ee_script.specs.Whole.{IsScriptFault};
 ghost use Rattle.ee_store.specs.State.{state_of};
 ghost use Rattle.ee_shell.specs.Report.{end_line};
 ghost use Rattle.ee_shell.specs.Reading.{IsGiven};
-ghost use Rattle.ee_shell.specs.Serving.{IsServed, IsTraced, StaysOn, traced};
+ghost use Rattle.ee_shell.specs.Serving.{IsServed, IsTraced, StaysOn};
 
 use super::serving::{Traced, trace_on, trace_reader};
-use ee_check::{Change, Start, write_certificate};
-use ee_plan::{Plan, PlanFault, plan, start_of};
+use ee_check::{Start, write_certificate};
+use ee_plan::start_of;
 use ee_script::{ScriptFault, StreamFault};
 use ee_store::Variables;
 use ee_text::push_number;
@@ -49,7 +47,7 @@ pub fn answer_on<A: Allocator + Copy, V: Variables + Drop>(
 {
     let start = start_of(alloc, &store)?;
     let left = trace_on(alloc, store, script)?;
-    let done = report_on(alloc, &start, left)?;
+    let done = report_on(&start, left)?;
     Ok(done)
 }
 
@@ -73,47 +71,30 @@ pub(crate) fn answer_reader_on<A: Allocator + Copy, V: Variables + Drop, R: Read
 {
     let start = start_of(alloc, &store)?;
     let left = trace_reader(alloc, store, reader)?;
-    let done = report_on(alloc, &start, left)?;
+    let done = report_on(&start, left)?;
     Ok(done)
 }
 
 /// The whole report of what a script left, and the store.
-fn report_on<A: Allocator + Copy, V: Variables + Drop>(
-    alloc: A,
-    start: &Start<A>,
+fn report_on<A: Allocator, B: Allocator, V: Variables + Drop>(
+    start: &Start<B>,
     left: Traced<V, A>,
 ) -> Result<(V, Vec<u8, A>), AllocError>
-    requires { (old : Device) × (script : List ℕ)
-        × IsTraced (traced old []) script
-        (traced (V.device left.store) left.trace.items) left.lines.items
-        × IsStartOf (slot_count old.size) (state_of old) start.now × IsProper start.now }
+    requires { StaysOn (V.device left.store) }
     ensures { IfOk result (λ done. (old : Device) (script : List ℕ)
-        → IsTraced (traced old []) script
-        (traced (V.device left.store) left.trace.items) left.lines.items
-        → IsStartOf (slot_count old.size) (state_of old) start.now
+        → IsTraced old script (V.device left.store) left.notes left.lines.items
+        → IsStartOf (slot_count old.size) (state_of old) start.now → IsProper start.now
         → IsServed old script (V.device done.0) done.1.items) }
 {
-    let plan = plan_accepted(alloc, start, left.trace.as_slice())?;
-    let mut report = left.lines;
-    push_end(&left.store, plan.transfers, &mut report)?;
-    write_certificate(&plan.certificate, &mut report)?;
-    Ok((left.store, report))
-}
-
-/// The plan of changes that a store accepted.
-fn plan_accepted<A: Allocator + Copy>(
-    alloc: A,
-    start: &Start<A>,
-    trace: &[Change],
-) -> Result<Plan<A>, AllocError>
-    requires { KeepsWithin start.now.slots start.now.live trace.now }
-    ensures { IfOk result (IsPlan start.now trace.now) }
-{
-    match plan(alloc, start, trace) {
-        Ok(plan) => Ok(plan),
-        Err(PlanFault::NotFitting(_)) => unreachable!("each change that was accepted fits"),
-        Err(PlanFault::Memory) => Err(AllocError),
-    }
+    let Traced {
+        store,
+        notes,
+        lines,
+    } = left;
+    let mut report = lines;
+    push_end(&store, notes.transfers(), &mut report)?;
+    write_certificate(&notes.into_certificate(start), &mut report)?;
+    Ok((store, report))
 }
 
 /// Writes how a store stands, and how often it moved. After an error there may be a part of the line.

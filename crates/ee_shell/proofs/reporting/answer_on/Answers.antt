@@ -3,8 +3,9 @@ use Rattle.ee_check.specs.Schedule.{IsProper}
 use Rattle.ee_shell.proofs.Reported.{no_bad_line}
 use Rattle.ee_shell.proofs.reporting.answer_on.Goals as goal
 
-pub report_on-requires : goal.report_on-requires
-report_on-requires g c = (_, _, c.in_ok-left.ensures.traced, c.in_ok-start.ensures, subst IsProper c.start.view_is c.start.invariant.proper)
+pub returns-clause-served : goal.returns-clause-served
+returns-clause-served g c =
+    c.in_ok-done.ensures _ _ c.in_ok-left.ensures.traced c.in_ok-start.ensures.start (subst IsProper c.start.view_is c.start.invariant.proper)
 
 pub returns-clause-bad : goal.returns-clause-bad
 returns-clause-bad g c = λ n bad. no_bad_line _ _ _ _ _ n c.in_ok-left.ensures.traced bad

@@ -1,0 +1,293 @@
+-- What is noted of a store's changes is the tight certificate of its trace.
+use Rattle.std.proofs.Common.{◌≡◌, ◌∙◌, ◌++◌, ℕ, ◌+◌, ◌*◌, ◌^◌, ◌<◌, ◌≤◌, List, [], ◌∷◌, length, get_or, ap, arith, inl, inr, refl, subst, sym, append_assoc, append-nil, length-append, add-mul, one-mul, mul-le-mul}
+use Rattle.std.proofs.Math.Seq.{get_or-append_seam}
+use Rattle.ee_flash.specs.Device.{Device}
+use Rattle.ee_flash.specs.Size.{Size, slot_count}
+use Rattle.ee_codec.specs.Words.{IsAddress}
+use Rattle.ee_pages.specs.Meaning.{Put}
+use Rattle.ee_store.specs.Changes.{IsAccepted, greatest_generation}
+use Rattle.ee_store.specs.Finished.{IsStore}
+use Rattle.ee_store.specs.State.{State, appended, moved, state_of}
+use Rattle.ee_store.proofs.Making.{generation_proper}
+use Rattle.ee_store.proofs.MovingFacts.{few_slots}
+use Rattle.ee_store.proofs.States.{state_is}
+use Rattle.ee_check.specs.declared.change.Change.{Change}
+use Rattle.ee_check.specs.declared.change.Change.TheVariants as changes
+use Rattle.ee_check.specs.Certificate.{IsHeader, IsTight}
+use Rattle.ee_check.specs.Schedule.{Append, Carry, IsProper, Situation, after_move}
+use Rattle.ee_check.proofs.Sizes.{changed-le}
+use Rattle.ee_plan.specs.LateStore.{HasMade}
+use Rattle.ee_plan.specs.Start.{IsStartOf}
+use Rattle.ee_plan.proofs.Following.{made_more, made_none}
+use Rattle.ee_plan.proofs.Whole.{whole_tight}
+use Rattle.ee_script.specs.Run.{Run}
+use Rattle.ee_script.specs.Script.{AreCommands}
+use Rattle.ee_script.specs.Whole.{IsAnswered}
+use Rattle.ee_script.specs.declared.answer.Answer.{Answer}
+use Rattle.ee_script.specs.declared.answer.Answer.TheVariants.{Appended, Moved, Full, Spent, Cleaned, Idle, Value, NoValue}
+use Rattle.ee_script.specs.declared.command.Command.{Command}
+use Rattle.ee_script.specs.declared.command.Command.TheVariants.{Write, Read, Clean}
+use Rattle.ee_script.proofs.Seen.{IsAnswered-seen}
+use Rattle.ee_shell.specs.Serving.{IsCounted, IsTraced, Noted, Notes, Records, Serves, StaysOn, claim_noted, no_notes, noted, with_notes}
+use Rattle.ee_shell.specs.Trace.{accepted, written}
+use Rattle.ee_shell.proofs.Late.{appends, moves_on, start_stays, stays, write_fits}
+use Rattle.ee_shell.proofs.Runs.{run_served}
+
+-- ---- one change
+
+-- What is noted after n changes of the trace is the late store's, and the state is such a store's.
+record AreNoted (slots : ℕ) (start : Situation) (trace : List Change) (n : ℕ) (state : State) (notes : Notes) : Type 0 where
+  now : Situation
+  is : IsStartOf slots state now
+  made : HasMade start trace n record { now = now; from = notes.from; stretches = notes.stretches }
+  counted : notes.changes ≡ n
+
+module _ (size : Size) (start : Situation) (trace : List Change) (n : ℕ) (below : n < length trace) (old new : State) (address value : ℕ) (proper : IsAddress address)
+    (here : changes.Write address ≡ get_or trace n (changes.Write address)) (notes : Notes) (so_far : AreNoted (slot_count size) start trace n old notes) where
+  fits_now : IsProper so_far.now
+  fits_now = record { held = so_far.made.held; fits = let a = so_far.made.fits in let b = so_far.made.slots in omega arith }
+
+  note_append : old.fill < slot_count size → new ≡ appended (Put address value) old → (fill : ℕ) → AreNoted (slot_count size) start trace (n + 1) new (noted Appended fill notes)
+  note_append free is fill =
+      let now = so_far.now in
+      let next = after_move now (Append (changes.Write address)) in
+      let room : now.fill < now.slots = let a = so_far.is.fill_is in let b = so_far.is.slots_are in omega arith in
+      let more = changed-le now.live (changes.Write address) in
+      let held = so_far.made.held in
+      record {
+        now = next;
+        is = appends size old new now address value proper is so_far.is;
+        made = made_more start trace n (n + 1) (changes.Write address) _ record { now = next; from = notes.from; stretches = notes.stretches } refl below so_far.made here
+            (inl (record { free = room; new_is = refl })) (omega arith);
+        counted = ap (λ m. m + 1) so_far.counted;
+      }
+
+  note_move : IsAccepted (slot_count size) old (Put address value) → old.fill ≡ slot_count size → new ≡ moved size.pages (Put address value) old
+      → AreNoted (slot_count size) start trace (n + 1) new (noted Moved new.fill notes)
+  note_move allowed used is =
+      let now = so_far.now in
+      let next = after_move now (Carry (changes.Write address)) in
+      let all : now.slots ≤ now.fill = let a = so_far.is.fill_is in let b = so_far.is.slots_are in omega arith in
+      let fits = write_fits (slot_count size) old now address value proper so_far.is fits_now allowed.has_place in
+      let there = moves_on size old new now address value proper is so_far.is in
+      let from : next.fill ≡ new.fill = there.fill_is in
+      let made = made_more start trace n (n + 1) (changes.Write address) _ record { now = next; from = next.fill; stretches = notes.stretches ++ record { to = n + 1; from = notes.from } ∷ [] }
+      refl below so_far.made here (inr (record { used = all; new_is = refl })) fits in
+      record {
+        now = next;
+        is = there;
+        made = subst (λ m. HasMade start trace (n + 1) record { now = next; from = new.fill; stretches = notes.stretches ++ record { to = m + 1; from = notes.from } ∷ [] }) (sym so_far.counted)
+            (subst (λ m. HasMade start trace (n + 1) record { now = next; from = m; stretches = notes.stretches ++ record { to = n + 1; from = notes.from } ∷ [] }) from made);
+        counted = ap (λ m. m + 1) so_far.counted;
+      }
+
+-- what leaves the map and the slots as they are is not noted
+note_none : (slots : ℕ) (start : Situation) (trace : List Change) (n : ℕ) (old new : State) (notes : Notes) → new.map ≡ old.map → new.fill ≡ old.fill
+    → AreNoted slots start trace n old notes → AreNoted slots start trace n new notes
+note_none slots start trace n old new notes map fill so_far = record {
+  now = so_far.now;
+  is = start_stays slots old new so_far.now so_far.is map fill;
+  made = so_far.made;
+  counted = so_far.counted;
+}
+
+-- a call that leaves the device and the notes as they were
+unchanged : (slots : ℕ) (start : Situation) (trace : List Change) (n : ℕ) (old new : Noted) → new.device ≡ old.device → new.notes ≡ old.notes
+    → AreNoted slots start trace n (state_of old.device) old.notes → AreNoted slots start trace n (state_of new.device) new.notes
+unchanged slots start trace n old new device notes so_far =
+    subst (λ (d : Device). AreNoted slots start trace n (state_of d) new.notes) (sym device)
+    (subst (λ (kept : Notes). AreNoted slots start trace n (state_of old.device) kept) (sym notes) so_far)
+
+-- ---- a run
+
+module _ (size : Size) (start : Situation) (trace : List Change) where
+  -- the change here, with so many before it
+  there : (before : List Change) (address : ℕ) (rest : List Change) → trace ≡ before ++ changes.Write address ∷ rest
+      → (length before < length trace) × (changes.Write address ≡ get_or trace (length before) (changes.Write address))
+  there before address rest parts = (
+    omega (arith, ap length parts, length-append before (changes.Write address ∷ rest)),
+    sym (ap (λ l. get_or l (length before) (changes.Write address)) parts ∙ get_or-append_seam before (changes.Write address) rest (changes.Write address)),
+  )
+
+  one_longer : (before : List Change) (change : Change) → length (before ++ change ∷ []) ≡ length before + 1
+  one_longer before change = length-append before (change ∷ [])
+
+  -- with the change among those before
+  passed : (before : List Change) (change : Change) (rest : List Change) → trace ≡ before ++ change ∷ rest → trace ≡ (before ++ change ∷ []) ++ rest
+  passed before change rest parts = parts ∙ sym (append_assoc before (change ∷ []) rest)
+
+  notes_of_run : (commands : List Command) (answers : List Answer) (old new : Noted) (before : List Change) → AreCommands commands
+      → trace ≡ before ++ written (accepted commands answers) → old.device.size ≡ size → Run Records old commands answers new
+      → AreNoted (slot_count size) start trace (length before) (state_of old.device) old.notes
+      → AreNoted (slot_count size) start trace (length trace) (state_of new.device) new.notes
+  notes_of_run [] [] old new before are parts sized run so_far =
+      let whole : length before ≡ length trace = ap length (sym (parts ∙ append-nil before)) in
+      subst (λ (seen : Noted). AreNoted (slot_count size) start trace (length trace) (state_of seen.device) seen.notes) (sym run)
+      (subst (λ m. AreNoted (slot_count size) start trace m (state_of old.device) old.notes) whole so_far)
+  notes_of_run [] (answer ∷ answers) old new before are parts sized run so_far = absurd run
+  notes_of_run (command ∷ commands) [] old new before are parts sized run so_far = absurd run
+  notes_of_run (Write address value ∷ commands) (Appended ∷ answers) old new before are parts sized run so_far =
+      let mid = run.0 in
+      let call = run.1.serves in
+      let rest = written (accepted commands answers) in
+      let at = there before address rest parts in
+      let free = subst (λ (s : Size). (state_of old.device).fill < slot_count s) sized call.free in
+      let next = note_append size start trace (length before) at.0 (state_of old.device) (state_of mid.device) address value are.0.0 at.1 old.notes so_far free call.state_is (state_of mid.device).fill in
+      let here = subst (λ (notes : Notes). AreNoted (slot_count size) start trace (length before + 1) (state_of mid.device) notes) (sym run.1.notes_are) next in
+      notes_of_run commands answers mid new (before ++ changes.Write address ∷ []) are.1 (passed before (changes.Write address) rest parts) (call.goes_on.same_size ∙ sized) run.2
+      (subst (λ m. AreNoted (slot_count size) start trace m (state_of mid.device) mid.notes) (sym (one_longer before (changes.Write address))) here)
+  notes_of_run (Write address value ∷ commands) (Moved ∷ answers) old new before are parts sized run so_far =
+      let mid = run.0 in
+      let call = run.1.serves in
+      let rest = written (accepted commands answers) in
+      let at = there before address rest parts in
+      let allowed = subst (λ (s : Size). IsAccepted (slot_count s) (state_of old.device) (Put address value)) sized call.proceeds.accepted in
+      let used = subst (λ (s : Size). (state_of old.device).fill ≡ slot_count s) sized call.all_used in
+      let state = subst (λ (s : Size). state_of mid.device ≡ moved s.pages (Put address value) (state_of old.device)) sized call.state_is in
+      let next = note_move size start trace (length before) at.0 (state_of old.device) (state_of mid.device) address value are.0.0 at.1 old.notes so_far allowed used state in
+      let here = subst (λ (notes : Notes). AreNoted (slot_count size) start trace (length before + 1) (state_of mid.device) notes) (sym run.1.notes_are) next in
+      notes_of_run commands answers mid new (before ++ changes.Write address ∷ []) are.1 (passed before (changes.Write address) rest parts) (call.goes_on.same_size ∙ sized) run.2
+      (subst (λ m. AreNoted (slot_count size) start trace m (state_of mid.device) mid.notes) (sym (one_longer before (changes.Write address))) here)
+  notes_of_run (Write address value ∷ commands) (Full ∷ answers) old new before are parts sized run so_far =
+      notes_of_run commands answers run.0 new before are.1 parts (ap (λ (device : Device). device.size) run.1.serves.2 ∙ sized) run.2
+      (unchanged (slot_count size) start trace (length before) old run.0 run.1.serves.2 run.1.notes_are so_far)
+  notes_of_run (Write address value ∷ commands) (Spent ∷ answers) old new before are parts sized run so_far =
+      notes_of_run commands answers run.0 new before are.1 parts (ap (λ (device : Device). device.size) run.1.serves.3 ∙ sized) run.2
+      (unchanged (slot_count size) start trace (length before) old run.0 run.1.serves.3 run.1.notes_are so_far)
+  notes_of_run (Read address ∷ commands) (Value value ∷ answers) old new before are parts sized run so_far =
+      notes_of_run commands answers run.0 new before are.1 parts (ap (λ (device : Device). device.size) run.1.serves.1 ∙ sized) run.2
+      (unchanged (slot_count size) start trace (length before) old run.0 run.1.serves.1 run.1.notes_are so_far)
+  notes_of_run (Read address ∷ commands) (NoValue ∷ answers) old new before are parts sized run so_far =
+      notes_of_run commands answers run.0 new before are.1 parts (ap (λ (device : Device). device.size) run.1.serves.1 ∙ sized) run.2
+      (unchanged (slot_count size) start trace (length before) old run.0 run.1.serves.1 run.1.notes_are so_far)
+  notes_of_run (Clean ∷ commands) (Idle ∷ answers) old new before are parts sized run so_far =
+      notes_of_run commands answers run.0 new before are.1 parts (ap (λ (device : Device). device.size) run.1.serves.2 ∙ sized) run.2
+      (unchanged (slot_count size) start trace (length before) old run.0 run.1.serves.2 run.1.notes_are so_far)
+  notes_of_run (Clean ∷ commands) (Cleaned ∷ answers) old new before are parts sized run so_far =
+      let mid = run.0 in
+      let call = run.1.serves in
+      let next = note_none (slot_count size) start trace (length before) (state_of old.device) (state_of mid.device) old.notes (ap (λ (s : State). s.map) call.state_is)
+      (ap (λ (s : State). s.fill) call.state_is) so_far in
+      notes_of_run commands answers mid new before are.1 parts (call.goes_on.same_size ∙ sized) run.2
+      (subst (λ (notes : Notes). AreNoted (slot_count size) start trace (length before) (state_of mid.device) notes) (sym run.1.notes_are) next)
+  notes_of_run (command ∷ commands) (answer ∷ answers) old new before are parts sized run so_far = absurd run.1.serves
+
+-- ---- a script
+
+-- what was noted of a run is the tight certificate of its trace
+noted_tight : (old new : Noted) (commands : List Command) (answers : List Answer) (start : Situation) → AreCommands commands
+    → old.notes ≡ no_notes (state_of old.device).fill → Run Records old commands answers new
+    → IsStartOf (slot_count old.device.size) (state_of old.device) start → IsProper start
+    → IsTight start (written (accepted commands answers)) (claim_noted start new.notes)
+noted_tight old new commands answers start are fresh run is proper =
+    let trace = written (accepted commands answers) in
+    let begun : AreNoted (slot_count old.device.size) start trace 0 (state_of old.device) (no_notes (state_of old.device).fill) = record {
+      now = start;
+      is = is;
+      made = made_none start trace _ proper (ap (λ m. record { now = start; from = m; stretches = [] }) (sym is.fill_is));
+      counted = refl;
+    } in
+    let first = subst (λ (notes : Notes). AreNoted (slot_count old.device.size) start trace 0 (state_of old.device) notes) (sym fresh) begun in
+    let last = notes_of_run old.device.size start trace commands answers old new [] are refl refl run first in
+    let header : IsHeader start trace (claim_noted start new.notes) = record { slots = refl; fill = refl; live = refl; writes = last.counted } in
+    whole_tight start trace record { now = last.now; from = new.notes.from; stretches = new.notes.stretches } (claim_noted start new.notes) last.made refl header
+
+-- what serves, as its device and its notes are seen
+pub is_traced : {S : Type 0} (see : S → Noted) (old new : S) (text lines : List ℕ)
+    → IsAnswered (λ s command answer t. Records (see s) command answer (see t)) old text new lines → (see old).notes ≡ no_notes (state_of (see old).device).fill
+    → StaysOn (see new).device → IsTraced (see old).device text (see new).device (see new).notes lines
+is_traced see old new text lines answered fresh stays_on =
+    let seen = IsAnswered-seen see Records old new text lines answered in
+    record {
+      answered = record {
+        commands = seen.commands;
+        answers = seen.answers;
+        is_script = seen.is_script;
+        run = run_served (see old) (see new) seen.commands seen.answers seen.run;
+        report_is = seen.report_is;
+      };
+      tight = λ start is proper. noted_tight (see old) (see new) seen.commands seen.answers start seen.is_script.proper fresh seen.run is proper;
+      stays_on = stays_on;
+    }
+
+-- ---- how many changes are counted
+
+count_one : (counted generation slots fill next wide full : ℕ) → next ≡ generation → wide ≡ slots → full ≡ fill + 1 → counted ≤ generation * (slots + 1) + fill
+    → counted + 1 ≤ next * (wide + 1) + full
+count_one counted generation slots fill next wide full a b c h = rw (a, b, c) (omega (arith, h))
+
+count_turn : (counted generation slots fill next wide full : ℕ) → next ≡ generation + 1 → wide ≡ slots → fill ≡ slots → counted ≤ generation * (slots + 1) + fill
+    → counted + 1 ≤ next * (wide + 1) + full
+count_turn counted generation slots fill next wide full a b c h =
+    let more : (generation + 1) * (slots + 1) ≡ generation * (slots + 1) + (slots + 1) = add-mul generation 1 (slots + 1) ∙ ap (λ n. generation * (slots + 1) + n) (one-mul (slots + 1)) in
+    rw (a, b) (omega (arith, h, c, more))
+
+pub count_small : (counted generation slots fill : ℕ) → slots ≤ 32512 → generation ≤ greatest_generation → fill ≤ slots → counted ≤ generation * (slots + 1) + fill → counted + 1 < 2 ^ 64
+count_small counted generation slots fill few last within h =
+    let wide : slots + 1 ≤ 32513 = omega (arith, few) in
+    let most : generation * (slots + 1) ≤ 4294967294 * 32513 = mul-le-mul last wide in
+    omega (arith, h, most, few, within)
+
+-- the count is small before a change that is accepted
+pub small_before : (old new : Device) (command : Command) (answer : Answer) (notes : Notes) → Serves old command answer new → (state_of old).fill ≤ slot_count old.size → IsCounted old notes
+    → notes.changes + 1 < 2 ^ 64
+small_before old new command answer notes serves within counted =
+    count_small notes.changes (state_of old).generation (slot_count old.size) (state_of old).fill counted.slots counted.generation within counted.changes
+
+same_count : (old new : Device) (notes : Notes) → new ≡ old → IsCounted old notes → IsCounted new notes
+same_count old new notes same counted = subst (λ (device : Device). IsCounted device notes) (sym same) counted
+
+pub counted_on : (old new : Device) (command : Command) (answer : Answer) (notes : Notes) (fill : ℕ) → Serves old command answer new → IsCounted old notes → IsCounted new (noted answer fill notes)
+counted_on old new (Write address value) Appended notes fill serves counted =
+    let sized = ap slot_count serves.goes_on.same_size in
+    let same : (state_of new).generation ≡ (state_of old).generation = ap (λ (s : State). s.generation) serves.state_is in
+    record {
+      slots = let a = counted.slots in omega arith;
+      generation = let a = counted.generation in omega arith;
+      changes = count_one notes.changes (state_of old).generation (slot_count old.size) (state_of old).fill (state_of new).generation (slot_count new.size) (state_of new).fill same sized
+          (ap (λ (s : State). s.fill) serves.state_is) counted.changes;
+    }
+counted_on old new (Write address value) Moved notes fill serves counted =
+    let sized = ap slot_count serves.goes_on.same_size in
+    let one : (state_of new).generation ≡ (state_of old).generation + 1 = ap (λ (s : State). s.generation) serves.state_is in
+    let not_last : (state_of old).generation ≡ greatest_generation → ⊥ = λ last. serves.proceeds.accepted.not_spent (record { all_used = serves.all_used; last_generation = last }) in
+    record {
+      slots = let a = counted.slots in omega arith;
+      generation = let a = counted.generation in omega arith;
+      changes = count_turn notes.changes (state_of old).generation (slot_count old.size) (state_of old).fill (state_of new).generation (slot_count new.size) (state_of new).fill one sized
+          serves.all_used counted.changes;
+    }
+counted_on old new (Write address value) Full notes fill serves counted = same_count old new notes serves.2 counted
+counted_on old new (Write address value) Spent notes fill serves counted = same_count old new notes serves.3 counted
+counted_on old new (Read address) (Value value) notes fill serves counted = same_count old new notes serves.1 counted
+counted_on old new (Read address) NoValue notes fill serves counted = same_count old new notes serves.1 counted
+counted_on old new Clean Idle notes fill serves counted = same_count old new notes serves.2 counted
+counted_on old new Clean Cleaned notes fill serves counted =
+    let sized = ap slot_count serves.goes_on.same_size in
+    let same : (state_of new).generation ≡ (state_of old).generation = ap (λ (s : State). s.generation) serves.state_is in
+    let filled : (state_of new).fill ≡ (state_of old).fill = ap (λ (s : State). s.fill) serves.state_is in
+    record {
+      slots = let a = counted.slots in omega arith;
+      generation = let a = counted.generation in omega arith;
+      changes = rw (same, sized, filled) counted.changes;
+    }
+counted_on old new command answer notes fill serves counted = absurd serves
+
+not_fewer : (answer : Answer) (notes : Notes) (fill : ℕ) → notes.changes ≤ (noted answer fill notes).changes
+not_fewer Appended notes fill = omega arith
+not_fewer Moved notes fill = omega arith
+not_fewer answer notes fill = omega arith
+
+-- after a move that could not be noted, for want of memory
+pub counted_behind : (old new : Device) (command : Command) (answer : Answer) (notes : Notes) → Serves old command answer new → IsCounted old notes → IsCounted new notes
+counted_behind old new command answer notes serves counted =
+    let on = counted_on old new command answer notes 0 serves counted in
+    record { slots = on.slots; generation = on.generation; changes = let less = not_fewer answer notes 0 in let most = on.changes in omega arith }
+
+-- and before the first change
+pub counted_none : (device : Device) → IsStore device → IsCounted device (no_notes (state_of device).fill)
+counted_none device store =
+    let live = store.legal in
+    let generation : (state_of device).generation ≡ live.1 = ap (λ (s : State). s.generation) (state_is device live.0 live.1 live.2) in
+    let proper = generation_proper device live.0 live.1 live.2 in
+    record { slots = few_slots device live.2.formed; generation = omega (arith, generation, proper.1); changes = omega arith }
