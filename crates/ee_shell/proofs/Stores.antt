@@ -13,6 +13,7 @@ use Rattle.ee_store.proofs.NotBlank.{length-not_blank}
 use Rattle.ee_store.proofs.Wears.{no_wear, wears_rise}
 use Rattle.ee_store.specs.Finished.{IsStore}
 use Rattle.ee_store.specs.Openings.{IsFormatted, Opens}
+use Rattle.ee_store.specs.Runs.{IsWholeRun}
 use Rattle.ee_store.specs.State.{State, formatted, not_blank_pages, state_of}
 use Rattle.ee_image.specs.Text.{at_rest, image_text}
 use Rattle.ee_image.specs.declared.fault.ImageFault.TheVariants as image
@@ -22,7 +23,7 @@ use Rattle.ee_shell.specs.Erases.{ErasesRise, erases_of_all}
 use Rattle.ee_shell.specs.Images.{AreStates, IsFormattedText, IsReadingFault, state_lines}
 use Rattle.ee_shell.specs.Opening.{IsNewStore, IsOpened, IsRunOn}
 use Rattle.ee_shell.specs.Replaying.{IsReplayed, IsRun, IsTried, Spells}
-use Rattle.ee_shell.specs.Serving.{IsServed, StaysOn}
+use Rattle.ee_shell.specs.Serving.{IsServed, StaysOn, calls_of}
 use Rattle.ee_shell.proofs.Erasing.{both, by_wear, unworn, wear_since}
 
 -- a device in memory is formed
@@ -41,6 +42,7 @@ is_opened text old new rest spelled opens =
     record {
       device = old;
       old = record { spelled = record { formed = opens.legal.2.formed; text_is = spelled }; legal = opens.legal };
+      opens = opens;
       stays_on = stays old new kept opens.goes_on.same_power opens.goes_on.same_cuts_left;
       same_size = opens.goes_on.same_size;
       state_is = opens.state_is;
@@ -56,12 +58,15 @@ is_run_on old new flash text image reported served store same spelled = record {
     left = record { spelled = subst (Spells image) same spelled; store = store; stays_on = served.stays_on; same_size = served.same_size };
     report = served.report;
   };
+  calls = served.calls;
   erases = served.erases;
 }
 
 -- a run of the machine of this size from this state, on this store
 abbrev RunFrom : Size → State → List ℕ → List ℕ → List ℕ → Device → Type 0
-RunFrom size start text image reported store = (run : IsRun size start text image reported) × ErasesRise (erases_of_all size run.report.answers) store run.last
+RunFrom size start text image reported store =
+    (run : IsRun size start text image reported) × ErasesRise (erases_of_all size run.report.answers) store run.last
+    × IsWholeRun (calls_of run.report.commands run.report.answers) store run.last
 
 -- the same run, of a machine that is known by another size and state
 from_there : (size other : Size) (start from : State) (text image reported : List ℕ) (store : Device) → size ≡ other → start ≡ from
@@ -73,22 +78,28 @@ from_there size other start from text image reported store sizes starts run =
 pub is_replayed : (old_image text image reported : List ℕ) (store : Device) → IsOpened old_image store → IsRunOn store text image reported
     → IsReplayed old_image text image reported
 is_replayed old_image text image reported store opened on =
-    let there = from_there store.size opened.device.size (state_of store) (state_of opened.device) text image reported store opened.same_size opened.state_is (on.run, on.erases) in
+    let there = from_there store.size opened.device.size (state_of store) (state_of opened.device) text image reported store opened.same_size opened.state_is (on.run, on.erases, on.calls) in
     let pages = erases_of_all opened.device.size there.0.report.answers in
     record {
       device = opened.device;
       old = opened.old;
       run = there.0;
+      opened = store;
+      opens = opened.opens;
+      calls = there.2;
       erases = both opened.device store there.0.last 0 pages pages opened.erases there.1 (omega arith);
     }
 
 -- a run from what was formatted
 pub is_tried : (size : Size) (text image reported : List ℕ) (store : Device) → IsNewStore size store → IsRunOn store text image reported → IsTried size text image reported
 is_tried size text image reported store new on =
-    let there = from_there store.size size (state_of store) formatted text image reported store new.size_is new.state_is (on.run, on.erases) in
+    let there = from_there store.size size (state_of store) formatted text image reported store new.size_is new.state_is (on.run, on.erases, on.calls) in
     let pending : (state_of store).pending ≡ 0 = ap (λ (s : State). s.pending) new.state_is in
     record {
       run = there.0;
+      fresh = store;
+      formats = new.formats;
+      calls = there.2;
       erased = there.1.erased;
       wear = wear_since store (blank_device size) there.0.last there.1.erased new.no_wear there.1.wear;
       rise = omega (arith, there.1.rise, pending);
@@ -113,6 +124,7 @@ is_new size old new blank made =
     let none : length (not_blank_pages old) ≡ 0 = length-not_blank old.image 0 ∙ ap (λ (d : Device). pending_of d.image) blank ∙ none_pending size in
     let fresh : old.wear ≡ replicate (page_count size) 0 = ap (λ (d : Device). d.wear) blank in
     record {
+      formats = subst (λ (device : Device). IsFormatted device new) blank made;
       stays_on = stays old new kept made.goes_on.same_power made.goes_on.same_cuts_left;
       size_is = made.goes_on.same_size ∙ ap (λ (d : Device). d.size) blank;
       state_is = made.state_is;

@@ -1,16 +1,19 @@
 -- The stores that the commands work on.
 use Rattle.std.specs.Prelude.{◌≡◌, List, ℕ, replicate}
-use Rattle.ee_flash.specs.Device.{Device}
+use Rattle.ee_flash.specs.Device.{Device, blank_device}
 use Rattle.ee_flash.specs.Size.{Size, page_count}
+use Rattle.ee_store.specs.Openings.{IsFormatted, Opens}
+use Rattle.ee_store.specs.Runs.{IsWholeRun}
 use Rattle.ee_store.specs.State.{formatted, pending_pages, state_of}
 use Rattle.ee_shell.specs.Erases.{ErasesRise, erases_of_all}
 use Rattle.ee_shell.specs.Replaying.{IsRun, IsStoreText}
-use Rattle.ee_shell.specs.Serving.{StaysOn}
+use Rattle.ee_shell.specs.Serving.{StaysOn, calls_of}
 
 -- the store of the image that the text spells, with its state; the same pages wait, and none was erased
 pub record IsOpened (text : List ℕ) (new : Device) : Type 0 where
   pub device : Device
   pub old : IsStoreText text device
+  pub opens : Opens device new
   pub stays_on : StaysOn new
   pub same_size : new.size ≡ device.size
   pub state_is : state_of new ≡ state_of device
@@ -20,12 +23,14 @@ pub record IsOpened (text : List ℕ) (new : Device) : Type 0 where
 
 -- a store with nothing in it, on a device of this size that no page of was erased
 pub record IsNewStore (size : Size) (new : Device) : Type 0 where
+  pub formats : IsFormatted (blank_device size) new
   pub stays_on : StaysOn new
   pub size_is : new.size ≡ size
   pub state_is : state_of new ≡ formatted
   pub no_wear : new.wear ≡ replicate (page_count size) 0
 
--- the script was run on this store
+-- the script was run on this store, each line by a call of it
 pub record IsRunOn (store : Device) (text new_image reported : List ℕ) : Type 0 where
   pub run : IsRun store.size (state_of store) text new_image reported
+  pub calls : IsWholeRun (calls_of run.report.commands run.report.answers) store run.last
   pub erases : ErasesRise (erases_of_all store.size run.report.answers) store run.last

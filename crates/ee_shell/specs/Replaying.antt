@@ -5,6 +5,8 @@ use Rattle.ee_flash.specs.Size.{Size}
 use Rattle.ee_pages.specs.Layout.{IsScanFault}
 use Rattle.ee_pages.specs.Legal.{IsLegal}
 use Rattle.ee_store.specs.Finished.{IsStore}
+use Rattle.ee_store.specs.Openings.{IsFormatted, Opens}
+use Rattle.ee_store.specs.Runs.{IsWholeRun}
 use Rattle.ee_store.specs.State.{State, WearRises, formatted, state_of}
 use Rattle.ee_image.specs.Text.{image_text}
 use Rattle.ee_image.specs.Fault.{IsTextFault}
@@ -13,7 +15,7 @@ use Rattle.ee_words.specs.declared.replay_fault.ReplayFault.{ReplayFault}
 use Rattle.ee_words.specs.declared.replay_fault.ReplayFault.TheVariants.{Image, Open, Script, Memory, Read}
 use Rattle.ee_shell.specs.Erases.{ErasesRise, erases_of_all}
 use Rattle.ee_shell.specs.Report.{IsReported}
-use Rattle.ee_shell.specs.Serving.{StaysOn}
+use Rattle.ee_shell.specs.Serving.{StaysOn, calls_of}
 
 -- this device's text is the text
 pub record Spells (text : List ℕ) (device : Device) : Type 0 where
@@ -39,18 +41,26 @@ pub record IsRun (size : Size) (start : State) (text new_image reported : List �
   pub left : IsStoreLeft size new_image last
   pub report : IsReported size start text (state_of last) reported
 
--- The script was run on the store whose image the first text spells; each move left the pages of a set to be erased, and
--- nothing else did.
+-- The script was run on the store that was opened of the device whose image the first text spells: each line by a call of
+-- the store, in none of which power was cut. So the new image is, word for word and erase for erase, what these calls
+-- leave. Each move left the pages of a set to be erased, and nothing else did.
 pub record IsReplayed (old_image text new_image reported : List ℕ) : Type 0 where
   pub device : Device
   pub old : IsStoreText old_image device
   pub run : IsRun device.size (state_of device) text new_image reported
+  pub opened : Device
+  pub opens : Opens device opened
+  pub calls : IsWholeRun (calls_of run.report.commands run.report.answers) opened run.last
   pub erases : ErasesRise (erases_of_all device.size run.report.answers) device run.last
 
--- The script was run on a store with nothing in it, on a device of this size of which no page was erased; each move left
--- the pages of a set to be erased, and nothing else did.
+-- The script was run on a store with nothing in it, just formatted, on a device of this size of which no page was erased:
+-- each line by a call of the store, in none of which power was cut. Each move left the pages of a set to be erased, and
+-- nothing else did.
 pub record IsTried (size : Size) (text new_image reported : List ℕ) : Type 0 where
   pub run : IsRun size formatted text new_image reported
+  pub fresh : Device
+  pub formats : IsFormatted (blank_device size) fresh
+  pub calls : IsWholeRun (calls_of run.report.commands run.report.answers) fresh run.last
   pub erased : ℕ
   pub wear : WearRises erased (blank_device size) run.last
   pub rise : erased + (state_of run.last).pending ≡ erases_of_all size run.report.answers

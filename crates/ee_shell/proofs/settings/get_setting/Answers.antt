@@ -1,4 +1,5 @@
-use Rattle.std.proofs.Common.{inl, inr}
+use Rattle.std.proofs.Common.{inl, inr, refl}
+use Rattle.std.proofs.lemmas.Result.{err_from_is_err_and}
 use Rattle.ee_shell.proofs.Named.{get_unknown, get_unopened, get_unspelled, got_good}
 use Rattle.ee_shell.proofs.settings.get_setting.Goals as goal
 
@@ -22,3 +23,9 @@ returns-in-None-clause-names g c = λ cause some applies.
 pub returns-clause-names : goal.returns-clause-names
 returns-clause-names g c = λ cause some applies.
     got_good c.args.image.now c.args.settings.now c.args.name.now c.in-Ok.store c.in-Ok-read_schema.schema c.in-Some.reading cause c.in-Ok.ensures.opened c.in-Ok-read_schema.ensures.spelled c.in-Some.ensures.found some applies
+
+pub returns-in_err-push_reading-clause-fault : goal.returns-in_err-push_reading-clause-fault
+returns-in_err-push_reading-clause-fault g c =
+    let opened = c.in-Ok.ensures.opened in
+    let p = err_from_is_err_and c.from_residual.result c.from_residual.ensures.1 in
+    rw p.1 (rw p.2 (inr (inl ((opened.device, opened.old), inr (inr refl)))))
