@@ -73,12 +73,8 @@ fn leading_write(text: &[u8]) -> Option<(Command, &[u8])>
     let Some((address, [b' ', value @ ..])) = leading_address(text) else {
         return None;
     };
-    let (value, behind) = leading_number(value, u64::from(u32::MAX))?;
-    let command = Command::Write {
-        address,
-        value: value as u32,
-    };
-    Some((command, behind))
+    let (value, behind) = leading_number(value, u32::MAX)?;
+    Some((Command::Write { address, value }, behind))
 }
 
 /// The address at the front of a text.
@@ -89,6 +85,6 @@ fn leading_address(text: &[u8]) -> Option<(Address, &[u8])>
         → StartsWithNoDigit behind → text.now ≡ decimal address ++ behind
         → IsSomeAnd result (λ parts. (parts.0 ≡ address) × (parts.1.now ≡ behind)) }
 {
-    let (number, behind) = leading_number(text, u64::from(u16::MAX))?;
+    let (number, behind) = leading_number(text, u32::from(u16::MAX))?;
     Some((Address::new(number as u16)?, behind))
 }

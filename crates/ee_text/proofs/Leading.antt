@@ -1,12 +1,13 @@
 -- Numbers that stand at the front of a text.
-use Rattle.std.proofs.Common.{◌≡◌, ◌≢◌, ◌⊎◌, ◌∙◌, ℕ, ◌+◌, ◌-◌, ◌*◌, ◌^◌, ◌<◌, ◌≤◌, ◌++◌, List, [], ◌∷◌, length, get_or, take, drop, inl, inr, refl, sym, ap, subst, arith, decimal, length-drop, take-append-drop}
+use Rattle.std.proofs.Common.{◌≡◌, ◌≢◌, ◌⊎◌, ◌∙◌, ℕ, zero, suc, ◌+◌, ◌-◌, ◌*◌, ◌^◌, ◌<◌, ◌≤◌, ◌++◌, List, [], ◌∷◌, length, get_or, min, take, drop, inl, inr, refl, sym, ap, subst, arith, decimal, length-drop, take-append-drop}
 use Rattle.std.specs.Char.{digit_value}
 use Rattle.std.specs.Str.Parse.{AllDigits, digits_value}
-use Rattle.std.proofs.lemmas.Fmt.{decimal-digits_value, decimal_is_IsNumeral, decimal_nonempty}
+use Rattle.std.proofs.lemmas.Fmt.{decimal-digits_value, decimal_is_IsNumeral, decimal_nonempty, length-decimal-le}
+use Rattle.std.proofs.lemmas.Bool.{cases_lt}
 use Rattle.std.proofs.lemmas.Grind.{common_steps}
 use Rattle.std.proofs.lemmas.Int.Digits.{digits_value_more}
-use Rattle.std.proofs.lemmas.List.{take_all, take_more}
-use Rattle.std.proofs.lemmas.Str.Parse.{digits_value-take-le}
+use Rattle.std.proofs.lemmas.List.{drop-take, length-take, length-take-le, take-take, take_all, take_more}
+use Rattle.std.proofs.lemmas.Str.Parse.{digits_value_short}
 use Rattle.ee_text.specs.Number.{IsWorth, StartsWithNoDigit}
 use Rattle.ee_text.proofs.Digits.{own, zero_alone}
 
@@ -65,13 +66,54 @@ front_of (x ∷ xs) ys (d ∷ ds) rest all are stop e =
     let others = same.1 in
     (omega (arith, same.0), cc)
 
--- digits that are worth too much stand at the front of no number
-pub no_number : (text behind : List ℕ) (count value n : ℕ) → IsWorth text count value → 2 ^ 64 ≤ value → n < 2 ^ 64 → StartsWithNoDigit behind → text ≡ decimal n ++ behind → ⊥
-no_number text behind count value n worth large fits ends e =
-    let numeral = decimal_is_IsNumeral n fits in
-    let front = front_of (take count text) (drop count text) (decimal n) behind worth.digits numeral.0.1 ends (take-append-drop count text ∙ e) in
-    let below : digits_value 10 (take (length (take count text)) (decimal n)) ≤ digits_value 10 (decimal n) = digits_value-take-le 10 (decimal n) (length (take count text)) (omega arith) in
-    omega (arith, worth.value_is, ap (digits_value 10) front.1, below, numeral.1)
+-- so many digits stand at the front of no number that 32 bits hold
+pub no_number : (text behind : List ℕ) (value n : ℕ) → IsWorth text 19 value → n < 2 ^ 32 → StartsWithNoDigit behind → text ≡ decimal n ++ behind → ⊥
+no_number text behind value n worth fits ends e =
+    let numeral = decimal_is_IsNumeral n (omega arith) in
+    let front = front_of (take 19 text) (drop 19 text) (decimal n) behind worth.digits numeral.0.1 ends (take-append-drop 19 text ∙ e) in
+    let short : length (decimal n) ≤ 10 = length-decimal-le 10 n (omega arith) (omega arith) (omega arith) in
+    omega (arith, front.0, short, length-take-le 19 text worth.within)
+
+-- what fewer digits are worth, 64 bits hold with one digit more
+pub room_for_one : (text : List ℕ) (count value : ℕ) → IsWorth text count value → count < 19 → value < 10 ^ 18
+room_for_one text count value worth few =
+    let long : length (take count text) ≤ 18 = omega (arith, length-take-le count text worth.within) in
+    omega (arith, worth.value_is, digits_value_short own (take count text) 18 worth.digits long)
+
+-- digits at the front of a front
+pub worth_in_front : (text : List ℕ) (most count value : ℕ) → IsWorth (take most text) count value → IsWorth text count value
+worth_in_front text most count value worth =
+    let short : count ≤ most = omega (arith, worth.within, length-take most text) in
+    let same : take count (take most text) ≡ take count text = take-take count most text short in
+    record {
+      within = omega (arith, worth.within, length-take most text);
+      digits = subst (AllDigits 10) same worth.digits;
+      value_is = worth.value_is ∙ ap (digits_value 10) same;
+    }
+
+starts_so : (n : ℕ) (ys : List ℕ) → 0 < n → StartsWithNoDigit (take n ys) → StartsWithNoDigit ys
+starts_so zero ys some ends = absurd (omega arith)
+starts_so (suc n) [] some ends = tt
+starts_so (suc n) (y ∷ ys) some ends = ends
+
+-- and if they don't fill it, no digit follows
+pub ends_in_front : (text : List ℕ) (most count : ℕ) → count < most → StartsWithNoDigit (drop count (take most text)) → StartsWithNoDigit (drop count text)
+ends_in_front text most count few ends =
+    let parts : count + (most - count) ≡ most = omega arith in
+    let taken : drop count (take most text) ≡ take (most - count) (drop count text) =
+    subst (λ n. drop count (take n text) ≡ take (most - count) (drop count text)) parts (drop-take count (most - count) text) in
+    starts_so (most - count) (drop count text) (omega arith) (subst StartsWithNoDigit taken ends)
+
+-- the front that is looked at
+pub front_is : (text : List ℕ) (bound : ℕ) → bound ≡ min (length text) 19 → take bound text ≡ take 19 text
+front_is text bound e = elim (cases_lt (length text) 19) [
+  | inl short ↦
+      let all : bound ≡ length text = omega (arith, e) in
+      rw all (take_all (length text) text (omega arith) ∙ sym (take_all 19 text (omega arith)))
+  | inr long ↦
+      let all : bound ≡ 19 = omega (arith, e) in
+      rw all refl
+]
 
 -- the number at the front is what the digits there are worth
 pub one_number : (text behind : List ℕ) (count value n : ℕ) → IsWorth text count value → StartsWithNoDigit (drop count text) → n < 2 ^ 64 → StartsWithNoDigit behind → text ≡ decimal n ++ behind
@@ -92,7 +134,7 @@ spelled text count value worth fits some alone =
 -- and others are none
 pub not_spelled : (digits : List ℕ) (n : ℕ) → n < 2 ^ 64 → (length digits ≡ 0) ⊎ ((get_or digits 0 0 ≡ 48) × (1 < length digits)) → digits ≡ decimal n → ⊥
 not_spelled digits n fits (inl none) e = omega (arith, decimal_nonempty n fits, ap length e)
-not_spelled digits n fits (inr zero) e = omega (arith, zero_alone n fits (ap (λ l. get_or l 0 0) (sym e) ∙ zero.0), ap length e, zero.1)
+not_spelled digits n fits (inr first) e = omega (arith, zero_alone n fits (ap (λ l. get_or l 0 0) (sym e) ∙ first.0), ap length e, first.1)
 
 -- the rest of a text, as a slice takes it
 pub rest_is : (text : List ℕ) (count : ℕ) → take (length text - count) (drop count text) ≡ drop count text

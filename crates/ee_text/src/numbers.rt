@@ -8,6 +8,9 @@ ghost use Rattle.std.specs.Str.Parse.{AllDigits, digits_value};
 use itoa::Buffer;
 use std::alloc::{AllocError, Allocator};
 
+/// 64 bits hold what so many digits are worth.
+const MOST_DIGITS: usize = 19;
+
 /// The number that the field writes. None where it writes no number, or one above `u64::MAX`.
 #[tactic(auto, using(crate::proofs::Digits::only, crate::proofs::Digits::not_empty))]
 pub fn number(field: &[u8]) -> Option<u64>
@@ -33,7 +36,7 @@ pub fn number_up_to(field: &[u8], greatest: u64) -> Option<u64>
 
 /// The number that stands at the front of a text, up to the first byte that is no digit, and what
 /// stands behind it. None where no number stands there, or one above `greatest`.
-pub fn leading_number(text: &[u8], greatest: u64) -> Option<(u64, &[u8])>
+pub fn leading_number(text: &[u8], greatest: u32) -> Option<(u32, &[u8])>
     // What is read is written there, and no digit follows.
     ensures found { IfSome result (λ parts. (parts.0 ≤ greatest)
         × (text.now ≡ decimal parts.0 ++ parts.1.now) × StartsWithNoDigit parts.1.now) }
@@ -46,10 +49,10 @@ pub fn leading_number(text: &[u8], greatest: u64) -> Option<(u64, &[u8])>
     if !is_plain(&text[..count]) {
         return None;
     }
-    if value > greatest {
+    if value > u64::from(greatest) {
         return None;
     }
-    Some((value, &text[count..]))
+    Some((value as u32, &text[count..]))
 }
 
 /// Writes the number at the end. An `Err` leaves `out` as it was.
@@ -76,23 +79,35 @@ fn value_of_digits(digits: &[u8]) -> Option<u64>
     Some(value)
 }
 
-// What the digits at the front of a text are worth, and how many they are. None where that is above
-// `u64::MAX`.
+// What the digits at the front of a text are worth, and how many they are. None where they are so
+// many that 64 bits may not hold what they are worth.
 fn leading_digits(text: &[u8]) -> Option<(u64, usize)>
     ensures found { IfSome result (λ parts. IsWorth text.now parts.1 parts.0
         × StartsWithNoDigit (drop parts.1 text.now)) }
-    ensures too_large { IfNone result ((count : ℕ) × (value : ℕ) × IsWorth text.now count value
-        × (2 ^ 64 ≤ value)) }
+    ensures too_many { IfNone result ((value : ℕ) × IsWorth text.now 19 value) }
+{
+    let (value, count) = few_digits(&text[..text.len().min(MOST_DIGITS)]);
+    if count == MOST_DIGITS {
+        return None;
+    }
+    Some((value, count))
+}
+
+// The same of a text so short that no digit has to be tried for an overflow.
+fn few_digits(text: &[u8]) -> (u64, usize)
+    requires { length text.now ≤ 19 }
+    ensures worth { IsWorth text.now result.1 result.0 }
+    ensures all { StartsWithNoDigit (drop result.1 text.now) }
 {
     let mut value: u64 = 0;
     for (count, byte) in text.iter().enumerate() {
         let digit = match *byte {
             b'0'..=b'9' => *byte - b'0',
-            _ => return Some((value, count)),
+            _ => return (value, count),
         };
-        value = value.checked_mul(10)?.checked_add(u64::from(digit))?;
+        value = value * 10 + u64::from(digit);
     }
-    Some((value, text.len()))
+    (value, text.len())
 }
 
 // Whether there are digits, with no zero in front of others.

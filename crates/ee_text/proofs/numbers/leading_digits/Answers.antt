@@ -1,19 +1,15 @@
-use Rattle.std.proofs.Common.{◌≡◌, ◌+◌, ◌-◌, ◌*◌, ◌^◌, ◌≤◌, arith, get_or, subst}
-use Rattle.ee_text.specs.Number.{IsWorth}
-use Rattle.ee_text.proofs.Leading.{worth_more}
+use Rattle.std.proofs.Common.{◌≡◌, ◌<◌, arith, drop, length, subst, take}
+use Rattle.std.proofs.lemmas.List.{length-take}
+use Rattle.ee_text.specs.Number.{IsWorth, StartsWithNoDigit}
+use Rattle.ee_text.proofs.Leading.{ends_in_front, front_is, worth_in_front}
 use Rattle.ee_text.proofs.numbers.leading_digits.Goals as goal
 
-pub returns-in_err-checked_mul-clause-too_large : goal.returns-in_err-checked_mul-clause-too_large
-returns-in_err-checked_mul-clause-too_large c =
-    rw c.from_residual.ensures
-    (_, _, worth_more c.args.text.now c.loop-count.count c.loop-count.value (omega arith) (omega arith) (omega arith) c.loop-count.invariant, omega (arith, c.in_err-checked_mul.ensures))
-
-pub returns-in_err-value-clause-too_large : goal.returns-in_err-value-clause-too_large
-returns-in_err-value-clause-too_large c =
-    rw c.from_residual-in_err-value.ensures
-    (_, _, worth_more c.args.text.now c.loop-count.count c.loop-count.value (omega arith) (omega arith) (omega arith) c.loop-count.invariant, omega (arith, c.in_err-value.ensures))
-
-pub loop-count-preserved : goal.loop-count-preserved
-loop-count-preserved c =
-    let value : c.in_ok-value.value ≡ c.loop-count.value * 10 + (get_or c.args.text.now c.loop-count.count 0 - 48) = omega arith in
-    rw value (worth_more c.args.text.now c.loop-count.count c.loop-count.value (omega arith) (omega arith) (omega arith) c.loop-count.invariant)
+pub returns-clause-found : goal.returns-clause-found
+returns-clause-found c =
+    let text = c.args.text.now in
+    let count = c.few_digits-value.result.1 in
+    let front = front_is text c.min.result c.min.ensures in
+    let worth : IsWorth (take 19 text) count c.few_digits-value.result.0 = subst (λ l. IsWorth l count c.few_digits-value.result.0) front c.few_digits-value.ensures.worth in
+    let ends : StartsWithNoDigit (drop count (take 19 text)) = subst (λ l. StartsWithNoDigit (drop count l)) front c.few_digits-value.ensures.all in
+    let few : count < 19 = let within = worth.within in omega (arith, length-take 19 text) in
+    (worth_in_front text 19 count c.few_digits-value.result.0 worth, ends_in_front text 19 count few ends)

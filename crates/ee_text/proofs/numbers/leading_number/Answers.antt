@@ -5,16 +5,16 @@ use Rattle.ee_text.proofs.numbers.leading_number.Goals as goal
 
 pub returns-in_err-value-clause-only : goal.returns-in_err-value-clause-only
 returns-in_err-value-clause-only c = λ n behind small ends e.
-    let large = c.in_err-value.ensures.too_large in
-    absurd (no_number c.args.text.now behind large.0 large.1 n large.2 large.3 (omega arith) ends e)
+    let many = c.in_err-value.ensures.too_many in
+    absurd (no_number c.args.text.now behind many.0 n many.1 (omega arith) ends e)
 
 pub returns-then-not-is_plain-clause-only : goal.returns-then-not-is_plain-clause-only
 returns-then-not-is_plain-clause-only c = λ n behind small ends e.
     let one = one_number c.args.text.now behind c.in_ok-value.count c.in_ok-value.value n c.in_ok-value.ensures.found.0 c.in_ok-value.ensures.found.1 (omega arith) ends e in
     absurd (not_spelled _ n (omega arith) c.if-not-is_plain.ensures.not_plain one.2)
 
-pub returns-then-value-greatest-clause-only : goal.returns-then-value-greatest-clause-only
-returns-then-value-greatest-clause-only c = λ n behind small ends e.
+pub returns-then-value-from-clause-only : goal.returns-then-value-from-clause-only
+returns-then-value-from-clause-only c = λ n behind small ends e.
     let one = one_number c.args.text.now behind c.in_ok-value.count c.in_ok-value.value n c.in_ok-value.ensures.found.0 c.in_ok-value.ensures.found.1 (omega arith) ends e in
     absurd (omega (arith, one.0))
 
