@@ -5,7 +5,7 @@ use Rattle.std.proofs.lemmas.Bool.{cases_lt}
 use Rattle.ee_text.specs.Line.{line_of}
 use Rattle.ee_text.proofs.Deciding.{begins_so, some_below}
 use Rattle.ee_script.specs.declared.command.Command.{Command}
-use Rattle.ee_script.specs.declared.command.Command.TheVariants.{Write, Read, Clean}
+use Rattle.ee_script.specs.declared.command.Command.TheVariants.{Write, Read, Forget, Clean}
 use Rattle.ee_script.specs.Command.{IsCommand, spelling}
 use Rattle.ee_script.specs.Script.{script, NoLine, IsScript, IsFirstBadLine}
 
@@ -32,6 +32,15 @@ stands_read text address = elim (cases_lt 0 address) [
   ]
 ]
 
+stands_forget : (text : List ℕ) (address : ℕ) → BeginsWith text (Forget address) ⊎ (BeginsWith text (Forget address) → ⊥)
+stands_forget text address = elim (cases_lt 0 address) [
+  | inr low ↦ inr (λ begins. omega (arith, begins.proper))
+  | inl above ↦ elim (cases_lt address 65535) [
+    | inr high ↦ inr (λ begins. omega (arith, begins.proper))
+    | inl below ↦ stands text (Forget address) (above, below)
+  ]
+]
+
 stands_write : (text : List ℕ) (address value : ℕ) → BeginsWith text (Write address value) ⊎ (BeginsWith text (Write address value) → ⊥)
 stands_write text address value = elim (cases_lt 0 address) [
   | inr low ↦ inr (λ begins. omega (arith, begins.proper))
@@ -50,12 +59,14 @@ some_value text address = elim (some_below (λ value. BeginsWith text (Write add
   | inr none ↦ inr (λ begins. none begins.0 begins.1.proper.1 begins.1)
 ]
 
--- no line of a write, of a read, of a clean step
+-- no line of a write, of a read, of a forgetting, of a clean step
 no_line : (text : List ℕ) → ((address : ℕ) → address < 65535 → ((value : ℕ) × BeginsWith text (Write address value)) → ⊥)
-    → ((address : ℕ) → address < 65535 → BeginsWith text (Read address) → ⊥) → (BeginsWith text Clean → ⊥) → NoLine text
-no_line text writes reads clean (Write address value) more proper e = writes address proper.0.1 (value, record { proper = proper; more = more; text_is = e })
-no_line text writes reads clean (Read address) more proper e = reads address proper.1 record { proper = proper; more = more; text_is = e }
-no_line text writes reads clean Clean more proper e = clean record { proper = proper; more = more; text_is = e }
+    → ((address : ℕ) → address < 65535 → BeginsWith text (Read address) → ⊥)
+    → ((address : ℕ) → address < 65535 → BeginsWith text (Forget address) → ⊥) → (BeginsWith text Clean → ⊥) → NoLine text
+no_line text writes reads forgets clean (Write address value) more proper e = writes address proper.0.1 (value, record { proper = proper; more = more; text_is = e })
+no_line text writes reads forgets clean (Read address) more proper e = reads address proper.1 record { proper = proper; more = more; text_is = e }
+no_line text writes reads forgets clean (Forget address) more proper e = forgets address proper.1 record { proper = proper; more = more; text_is = e }
+no_line text writes reads forgets clean Clean more proper e = clean record { proper = proper; more = more; text_is = e }
 
 -- whether a good line stands at the front, and which
 at_front : (text : List ℕ) → ((command : Command) × BeginsWith text command) ⊎ NoLine text
@@ -63,9 +74,12 @@ at_front text = elim (some_below (λ address. (value : ℕ) × BeginsWith text (
   | inl write ↦ inl (Write write.0 write.2.0, write.2.1)
   | inr writes ↦ elim (some_below (λ address. BeginsWith text (Read address)) (stands_read text) 65535) [
     | inl read ↦ inl (Read read.0, read.2)
-    | inr reads ↦ elim (stands text Clean tt) [
-      | inl clean ↦ inl (Clean, clean)
-      | inr none ↦ inr (no_line text writes reads none)
+    | inr reads ↦ elim (some_below (λ address. BeginsWith text (Forget address)) (stands_forget text) 65535) [
+      | inl forget ↦ inl (Forget forget.0, forget.2)
+      | inr forgets ↦ elim (stands text Clean tt) [
+        | inl clean ↦ inl (Clean, clean)
+        | inr none ↦ inr (no_line text writes reads forgets none)
+      ]
     ]
   ]
 ]

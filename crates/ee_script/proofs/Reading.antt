@@ -8,7 +8,7 @@ use Rattle.ee_text.specs.Line.{line_of}
 use Rattle.ee_text.proofs.Lacking.{first_place, Lacks-decimal}
 use Rattle.ee_text.proofs.LineFeeds.{first_line}
 use Rattle.ee_script.specs.declared.command.Command.{Command}
-use Rattle.ee_script.specs.declared.command.Command.TheVariants.{Write, Read, Clean}
+use Rattle.ee_script.specs.declared.command.Command.TheVariants.{Write, Read, Forget, Clean}
 use Rattle.ee_script.specs.Command.{IsCommand, spelling}
 use Rattle.ee_script.specs.Script.{script, AreCommands, NoLine, IsScript, IsFirstBadLine}
 use Rattle.ee_script.proofs.Spelling.{Lacks-spelling}
@@ -28,14 +28,23 @@ spelling_injective (Write a v) (Write b w) h k e =
     let second = same.1 in
     cc
 spelling_injective (Write a v) (Read b) h k e = absurd (omega (arith, ap (λ l. get_or l 0 0) e))
+spelling_injective (Write a v) (Forget b) h k e = absurd (omega (arith, ap (λ l. get_or l 0 0) e))
 spelling_injective (Write a v) Clean h k e = absurd (omega (arith, ap (λ l. get_or l 0 0) e))
 spelling_injective (Read a) (Write b w) h k e = absurd (omega (arith, ap (λ l. get_or l 0 0) e))
 spelling_injective (Read a) (Read b) h k e =
     let rest : decimal a ≡ decimal b = cc in
     ap Read (decimal_injective a b (omega arith) (omega arith) rest)
+spelling_injective (Read a) (Forget b) h k e = absurd (omega (arith, ap (λ l. get_or l 0 0) e))
 spelling_injective (Read a) Clean h k e = absurd (omega (arith, ap (λ l. get_or l 0 0) e))
+spelling_injective (Forget a) (Write b w) h k e = absurd (omega (arith, ap (λ l. get_or l 0 0) e))
+spelling_injective (Forget a) (Read b) h k e = absurd (omega (arith, ap (λ l. get_or l 0 0) e))
+spelling_injective (Forget a) (Forget b) h k e =
+    let rest : decimal a ≡ decimal b = cc in
+    ap Forget (decimal_injective a b (omega arith) (omega arith) rest)
+spelling_injective (Forget a) Clean h k e = absurd (omega (arith, ap (λ l. get_or l 0 0) e))
 spelling_injective Clean (Write b w) h k e = absurd (omega (arith, ap (λ l. get_or l 0 0) e))
 spelling_injective Clean (Read b) h k e = absurd (omega (arith, ap (λ l. get_or l 0 0) e))
+spelling_injective Clean (Forget b) h k e = absurd (omega (arith, ap (λ l. get_or l 0 0) e))
 spelling_injective Clean Clean h k e = refl
 
 -- ---- the good lines at the front of a text

@@ -6,7 +6,7 @@ use Rattle.ee_codec.specs.Words.{IsAddress}
 use Rattle.ee_text.specs.Field.{IsField, Lacks}
 use Rattle.ee_text.proofs.Lacking.{Lacks-append, Lacks-decimal, first_place}
 use Rattle.ee_script.specs.declared.command.Command.{Command}
-use Rattle.ee_script.specs.declared.command.Command.TheVariants.{Write, Read, Clean}
+use Rattle.ee_script.specs.declared.command.Command.TheVariants.{Write, Read, Forget, Clean}
 use Rattle.ee_script.specs.Command.{IsCommand, spelling}
 
 -- no spelling has a line feed
@@ -16,6 +16,7 @@ Lacks-spelling (Write address value) h =
     (Lacks-append 10 (decimal address) (codes " " ++ decimal value) (Lacks-decimal 10 address (inl (omega arith)) (omega arith))
     (Lacks-append 10 (codes " ") (decimal value) refl (Lacks-decimal 10 value (inl (omega arith)) (omega arith))))
 Lacks-spelling (Read address) h = Lacks-append 10 (codes "r ") (decimal address) refl (Lacks-decimal 10 address (inl (omega arith)) (omega arith))
+Lacks-spelling (Forget address) h = Lacks-append 10 (codes "f ") (decimal address) refl (Lacks-decimal 10 address (inl (omega arith)) (omega arith))
 Lacks-spelling Clean h = refl
 
 -- no spelling has more than 24 bytes
@@ -25,6 +26,9 @@ length-spelling (Write address value) h =
     let v : length (decimal value) ≤ 10 = length-decimal-le 10 value (omega arith) (omega arith) (omega arith) in
     simp length-append (omega arith)
 length-spelling (Read address) h =
+    let a : length (decimal address) ≤ 5 = length-decimal-le 5 address (omega arith) (omega arith) (omega arith) in
+    omega arith
+length-spelling (Forget address) h =
     let a : length (decimal address) ≤ 5 = length-decimal-le 5 address (omega arith) (omega arith) (omega arith) in
     omega arith
 length-spelling Clean h = omega arith

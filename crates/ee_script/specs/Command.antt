@@ -3,16 +3,18 @@ use Rattle.std.specs.Prelude.{ℕ, List, [], ◌∷◌, decimal, codes}
 use Rattle.ee_codec.specs.Words.{IsAddress, IsValue}
 use Rattle.ee_text.specs.Field.{joined}
 use Rattle.ee_script.specs.declared.command.Command.{Command}
-use Rattle.ee_script.specs.declared.command.Command.TheVariants.{Write, Read, Clean}
+use Rattle.ee_script.specs.declared.command.Command.TheVariants.{Write, Read, Forget, Clean}
 
 -- its address is proper and its value fits
 abbrev pub IsCommand : Command → Type 0
 IsCommand (Write address value) = IsAddress address × IsValue value
 IsCommand (Read address) = IsAddress address
+IsCommand (Forget address) = IsAddress address
 IsCommand Clean = Unit {0}
 
 -- what its line says: its fields in a row
 abbrev pub spelling : Command → List ℕ
 spelling (Write address value) = joined (codes "w" ∷ decimal address ∷ decimal value ∷ [])
 spelling (Read address) = joined (codes "r" ∷ decimal address ∷ [])
+spelling (Forget address) = joined (codes "f" ∷ decimal address ∷ [])
 spelling Clean = codes "c"

@@ -7,9 +7,9 @@ use std::alloc::{AllocError, Allocator};
 /// What a report says on one line.
 #[derive(Clone, Copy, Debug, PartialEq, Eq)]
 pub enum Answer {
-    /// `ok`: the write was appended.
+    /// `ok`: the change was appended.
     Appended,
-    /// `moved`: no slot was free, and all values were moved to the other set with the write.
+    /// `moved`: no slot was free, and all values were moved to the other set with the change.
     Moved,
     /// `full`: the address has no value, and there is no room for one more.
     Full,
@@ -21,8 +21,10 @@ pub enum Answer {
     Idle,
     /// The value that was read.
     Value(u32),
-    /// `none`: the address has no value.
+    /// `none`: the address has no value to read.
     NoValue,
+    /// `absent`: the address has no value to forget.
+    Absent,
 }
 
 /// Writes the answer's line at the end of a report. After an error the report has what it had, and
@@ -43,5 +45,6 @@ pub fn push_answer<A: Allocator>(out: &mut Vec<u8, A>, answer: Answer) -> Result
             out.extend_from_slice(b"\n")
         }
         Answer::NoValue => out.extend_from_slice(b"none\n"),
+        Answer::Absent => out.extend_from_slice(b"absent\n"),
     }
 }

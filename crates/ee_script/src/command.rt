@@ -7,6 +7,8 @@ pub enum Command {
     Write { address: Address, value: u32 },
     /// `r A`: read address A.
     Read { address: Address },
+    /// `f A`: forget address A.
+    Forget { address: Address },
     /// `c`: one clean step.
     Clean,
 }

@@ -55,6 +55,10 @@ fn leading_command(text: &[u8]) -> Option<(Command, &[u8])>
             Some((address, behind)) => Some((Command::Read { address }, behind)),
             None => None,
         },
+        [b'f', b' ', field @ ..] => match leading_address(field) {
+            Some((address, behind)) => Some((Command::Forget { address }, behind)),
+            None => None,
+        },
         [b'c', behind @ ..] => Some((Command::Clean, behind)),
         _ => None,
     }

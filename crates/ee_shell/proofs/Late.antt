@@ -1,5 +1,7 @@
 -- A run of the report machine is the store that transfers exactly when each slot is used.
 use Rattle.std.proofs.Common.{◌≡◌, ◌≢◌, ◌⊎◌, inl, inr, ℕ, ◌+◌, ◌<◌, ◌≤◌, Option, Some, None, List, [], ◌∷◌, length, map, refl, sym, subst, ap, ◌∙◌, arith, cond, is_some}
+use Rattle.std.specs.BTreeMap.{is_at}
+use Rattle.std.specs.Ordering.{nat_cmp}
 use Rattle.ee_flash.specs.Size.{Size, slot_count}
 use Rattle.ee_codec.specs.Words.{IsAddress}
 use Rattle.ee_pages.specs.Meaning.{Map, Put, changed_by, live_in}
@@ -7,23 +9,25 @@ use Rattle.ee_pages.specs.Meaning as meaning
 use Rattle.ee_pages.proofs.LiveCounts.{change_counts}
 use Rattle.ee_store.specs.State.{State, appended, moved}
 use Rattle.ee_store.specs.Changes.{IsFull}
+use Rattle.ee_check.specs.declared.change.Change.{Change}
 use Rattle.ee_check.specs.declared.change.Change.TheVariants as changes
 use Rattle.ee_check.specs.declared.certificate.Stretch.{Stretch}
 use Rattle.ee_check.specs.Certificate.{Claim, IsTight, used_at_end}
 use Rattle.ee_check.specs.Live.{KeepsWithin, changed}
 use Rattle.ee_check.specs.Schedule.{Append, Carry, EachMove, IsLate, IsProper, Move, Situation, after_move, after_moves, carried_at, changes_of}
-use Rattle.ee_check.proofs.Sizes.{changed-le}
+use Rattle.ee_check.proofs.Sizes.{changed-le, remove_key-le}
 use Rattle.ee_check.proofs.Bounds.{certificates_bound_schedules_lem, certificates_dominate_lem, late_stores_meet_it_lem, tight_are_certificates_lem, tight_is_met_lem}
 use Rattle.ee_plan.specs.Start.{AreLive, IsStartOf}
 use Rattle.ee_script.specs.Run.{Run}
 use Rattle.ee_script.specs.Script.{AreCommands}
 use Rattle.ee_script.specs.declared.answer.Answer.{Answer}
-use Rattle.ee_script.specs.declared.answer.Answer.TheVariants.{Appended, Moved, Full, Spent, Cleaned, Idle, Value, NoValue}
+use Rattle.ee_script.specs.declared.answer.Answer.TheVariants.{Appended, Moved, Full, Spent, Cleaned, Idle, Value, NoValue, Absent}
 use Rattle.ee_script.specs.declared.command.Command.{Command}
-use Rattle.ee_script.specs.declared.command.Command.TheVariants.{Write, Read, Clean}
+use Rattle.ee_script.specs.declared.command.Command.TheVariants.{Write, Read, Forget, Clean}
 use Rattle.ee_shell.specs.Machine.{Step}
-use Rattle.ee_shell.specs.Trace.{AreFewest, Fits, NoneEndsWithMoreRoom, accepted, moved_at, moves, puts, written}
-use Rattle.ee_plan.proofs.LiveLists.{live_after_put, live_count_is}
+use Rattle.ee_shell.specs.Trace.{AreFewest, Fits, ForgetsWhatIsHeld, NoneEndsWithMoreRoom, accepted, moved_at, moves, map_changes, trace_of}
+use Rattle.ee_plan.proofs.Fitting.{keeps_more, keeps_tail}
+use Rattle.ee_plan.proofs.LiveLists.{live_after_forget, live_after_put, live_count_is}
 
 -- ---- one step
 
@@ -78,32 +82,42 @@ not_full slots old start address proper is fits = λ full.
     let s = is.slots_are in
     absurd (omega (arith, rw new at e))
 
-start_appends : (slots : ℕ) (old : State) (start : Situation) (address value : ℕ) → IsAddress address → IsStartOf slots old start
-    → IsStartOf slots (appended (Put address value) old) (after_move start (Append (changes.Write address)))
-start_appends slots old start address value proper is = record {
+start_appends : (slots : ℕ) (old : State) (start : Situation) (change : Change) (meant : meaning.Change)
+    → AreLive (meaning.changed meant old.map) (changed start.live change)
+    → IsStartOf slots old start
+    → IsStartOf slots (appended meant old) (after_move start (Append change))
+start_appends slots old start change meant live is = record {
   slots_are = is.slots_are;
   fill_is = ap (λ n. n + 1) is.fill_is;
-  are_live = live_after_put old.map start.live address value proper is.are_live;
+  are_live = live;
 }
 
-start_moves : (slots pages : ℕ) (old : State) (start : Situation) (address value : ℕ) → IsAddress address
+start_moves : (slots pages : ℕ) (old : State) (start : Situation) (change : Change) (meant : meaning.Change)
+    → AreLive (meaning.changed meant old.map) (changed start.live change)
     → IsStartOf slots old start
-    → IsStartOf slots (moved pages (Put address value) old) (after_move start (Carry (changes.Write address)))
-start_moves slots pages old start address value proper is =
-    let are = live_after_put old.map start.live address value proper is.are_live in
-    record { slots_are = is.slots_are; fill_is = sym (live_count_is _ _ are); are_live = are }
+    → IsStartOf slots (moved pages meant old) (after_move start (Carry change))
+start_moves slots pages old start change meant live is =
+    record { slots_are = is.slots_are; fill_is = sym (live_count_is _ _ live); are_live = live }
+
+-- a forgetting leaves no more live addresses than before
+pub forgetting_fits : (start : Situation) (address : ℕ) → IsProper start → length (changed start.live (changes.Forget address)) ≤ start.slots
+forgetting_fits start address fits =
+    let less = remove_key-le (is_at (nat_cmp address)) start.live in
+    let held = fits.held in
+    let within = fits.fits in
+    omega arith
 
 -- ---- a run
 
 -- The run of these commands with these answers is this: the changes that are accepted, made by moves of the late store.
 pub record IsLateRun (slots : ℕ) (start : Situation) (commands : List Command) (answers : List Answer) (new : State) : Type 0 where
   pub moves : List Move
-  pub changes_are : changes_of moves ≡ written (accepted commands answers)
+  pub changes_are : changes_of moves ≡ trace_of (accepted commands answers)
   pub late : EachMove IsLate start moves
   pub carried : (n : ℕ) → carried_at n moves ≡ moved_at n answers
   pub end : IsStartOf slots new (after_moves start moves)
   pub proper : IsProper (after_moves start moves)
-  pub keeps : KeepsWithin start.slots start.live (written (accepted commands answers))
+  pub keeps : KeepsWithin start.slots start.live (trace_of (accepted commands answers))
 
 -- a command that changes neither the map nor the slots goes before
 no_move : (slots : ℕ) (start : Situation) (commands : List Command) (answers : List Answer) (new : State) (command : Command) (answer : Answer)
@@ -112,43 +126,51 @@ no_move : (slots : ℕ) (start : Situation) (commands : List Command) (answers :
     → IsLateRun slots start commands answers new → IsLateRun slots start (command ∷ commands) (answer ∷ answers) new
 no_move slots start commands answers new command answer same same_moved run = record {
   moves = run.moves;
-  changes_are = run.changes_are ∙ ap written (sym same);
+  changes_are = run.changes_are ∙ ap trace_of (sym same);
   late = run.late;
   carried = λ n. run.carried n ∙ sym (same_moved n);
   end = run.end;
   proper = run.proper;
-  keeps = subst (λ l. KeepsWithin start.slots start.live (written l)) (sym same) run.keeps;
+  keeps = subst (λ l. KeepsWithin start.slots start.live (trace_of l)) (sym same) run.keeps;
 }
+
+-- the command asks for this change
+abbrev AsksFor : Command → Change → Type 0
+AsksFor command change = (commands : List Command) → trace_of (command ∷ commands) ≡ change ∷ trace_of commands
 
 -- an append goes before
-append_first : (slots : ℕ) (start : Situation) (commands : List Command) (answers : List Answer) (new : State) (address value : ℕ)
-    → start.fill < start.slots → length (changed start.live (changes.Write address)) ≤ start.slots
-    → IsLateRun slots (after_move start (Append (changes.Write address))) commands answers new
-    → IsLateRun slots start (Write address value ∷ commands) (Appended ∷ answers) new
-append_first slots start commands answers new address value free fits run = record {
-  moves = Append (changes.Write address) ∷ run.moves;
-  changes_are = ap (λ l. changes.Write address ∷ l) run.changes_are;
-  late = (free, run.late);
-  carried = λ n. run.carried (n + 1);
-  end = run.end;
-  proper = run.proper;
-  keeps = (fits, run.keeps);
-}
+append_first : (slots : ℕ) (start : Situation) (commands : List Command) (answers : List Answer) (new : State) (command : Command) (change : Change)
+    → AsksFor command change → start.fill < start.slots → length (changed start.live change) ≤ start.slots
+    → IsLateRun slots (after_move start (Append change)) commands answers new
+    → IsLateRun slots start (command ∷ commands) (Appended ∷ answers) new
+append_first slots start commands answers new command change asks free fits run =
+    let one = asks (accepted commands answers) in
+    record {
+      moves = Append change ∷ run.moves;
+      changes_are = ap (λ l. change ∷ l) run.changes_are ∙ sym one;
+      late = (free, run.late);
+      carried = λ n. run.carried (n + 1);
+      end = run.end;
+      proper = run.proper;
+      keeps = subst (λ l. KeepsWithin start.slots start.live l) (sym one) (keeps_more start.slots start.live change (trace_of (accepted commands answers)) fits run.keeps);
+    }
 
 -- a move goes before
-carry_first : (slots : ℕ) (start : Situation) (commands : List Command) (answers : List Answer) (new : State) (address value : ℕ)
-    → start.fill ≡ start.slots → length (changed start.live (changes.Write address)) ≤ start.slots
-    → IsLateRun slots (after_move start (Carry (changes.Write address))) commands answers new
-    → IsLateRun slots start (Write address value ∷ commands) (Moved ∷ answers) new
-carry_first slots start commands answers new address value used fits run = record {
-  moves = Carry (changes.Write address) ∷ run.moves;
-  changes_are = ap (λ l. changes.Write address ∷ l) run.changes_are;
-  late = (used, run.late);
-  carried = λ n. ap (λ l. (n + 1) ∷ l) (run.carried (n + 1));
-  end = run.end;
-  proper = run.proper;
-  keeps = (fits, run.keeps);
-}
+carry_first : (slots : ℕ) (start : Situation) (commands : List Command) (answers : List Answer) (new : State) (command : Command) (change : Change)
+    → AsksFor command change → start.fill ≡ start.slots → length (changed start.live change) ≤ start.slots
+    → IsLateRun slots (after_move start (Carry change)) commands answers new
+    → IsLateRun slots start (command ∷ commands) (Moved ∷ answers) new
+carry_first slots start commands answers new command change asks used fits run =
+    let one = asks (accepted commands answers) in
+    record {
+      moves = Carry change ∷ run.moves;
+      changes_are = ap (λ l. change ∷ l) run.changes_are ∙ sym one;
+      late = (used, run.late);
+      carried = λ n. ap (λ l. (n + 1) ∷ l) (run.carried (n + 1));
+      end = run.end;
+      proper = run.proper;
+      keeps = subst (λ l. KeepsWithin start.slots start.live l) (sym one) (keeps_more start.slots start.live change (trace_of (accepted commands answers)) fits run.keeps);
+    }
 
 module _ (size : Size) where
   -- a step that changes neither the map nor the slots
@@ -156,19 +178,47 @@ module _ (size : Size) where
       → IsStartOf (slot_count size) mid start
   stays old mid start same is = start_stays (slot_count size) old mid start is (ap (λ s. s.map) same) (ap (λ s. s.fill) same)
 
-  pub appends : (old mid : State) (start : Situation) (address value : ℕ) → IsAddress address → mid ≡ appended (Put address value) old
-      → IsStartOf (slot_count size) old start
-      → IsStartOf (slot_count size) mid (after_move start (Append (changes.Write address)))
-  appends old mid start address value proper is from =
-      subst (λ s. IsStartOf (slot_count size) s (after_move start (Append (changes.Write address)))) (sym is)
-      (start_appends (slot_count size) old start address value proper from)
+  pub appends : (old mid : State) (start : Situation) (change : Change) (meant : meaning.Change) → mid ≡ appended meant old
+      → AreLive (meaning.changed meant old.map) (changed start.live change) → IsStartOf (slot_count size) old start
+      → IsStartOf (slot_count size) mid (after_move start (Append change))
+  appends old mid start change meant is live from =
+      subst (λ s. IsStartOf (slot_count size) s (after_move start (Append change))) (sym is)
+      (start_appends (slot_count size) old start change meant live from)
 
-  pub moves_on : (old mid : State) (start : Situation) (address value : ℕ) → IsAddress address
-      → mid ≡ moved size.pages (Put address value) old
-      → IsStartOf (slot_count size) old start → IsStartOf (slot_count size) mid (after_move start (Carry (changes.Write address)))
-  moves_on old mid start address value proper is from =
-      subst (λ s. IsStartOf (slot_count size) s (after_move start (Carry (changes.Write address)))) (sym is)
-      (start_moves (slot_count size) size.pages old start address value proper from)
+  pub moves_on : (old mid : State) (start : Situation) (change : Change) (meant : meaning.Change) → mid ≡ moved size.pages meant old
+      → AreLive (meaning.changed meant old.map) (changed start.live change) → IsStartOf (slot_count size) old start
+      → IsStartOf (slot_count size) mid (after_move start (Carry change))
+  moves_on old mid start change meant is live from =
+      subst (λ s. IsStartOf (slot_count size) s (after_move start (Carry change))) (sym is)
+      (start_moves (slot_count size) size.pages old start change meant live from)
+
+  -- an append and what follows
+  append_on : (commands : List Command) (answers : List Answer) (old mid new : State) (start : Situation) (command : Command) (change : Change) (meant : meaning.Change)
+      → AsksFor command change → old.fill < slot_count size → mid ≡ appended meant old
+      → AreLive (meaning.changed meant old.map) (changed start.live change) → IsStartOf (slot_count size) old start → IsProper start
+      → (IsStartOf (slot_count size) mid (after_move start (Append change)) → IsProper (after_move start (Append change))
+      → IsLateRun (slot_count size) (after_move start (Append change)) commands answers new)
+      → IsLateRun (slot_count size) start (command ∷ commands) (Appended ∷ answers) new
+  append_on commands answers old mid new start command change meant asks less is live from proper rest =
+      let free : start.fill < start.slots = let a = from.fill_is in let b = from.slots_are in omega arith in
+      let more = changed-le start.live change in
+      let held = proper.held in
+      let kept : IsProper (after_move start (Append change)) = record { held = omega arith; fits = omega arith } in
+      append_first (slot_count size) start commands answers new command change asks free (omega arith)
+      (rest (appends old mid start change meant is live from) kept)
+
+  -- a move and what follows
+  carry_on : (commands : List Command) (answers : List Answer) (old mid new : State) (start : Situation) (command : Command) (change : Change) (meant : meaning.Change)
+      → AsksFor command change → old.fill ≡ slot_count size → mid ≡ moved size.pages meant old → length (changed start.live change) ≤ start.slots
+      → AreLive (meaning.changed meant old.map) (changed start.live change) → IsStartOf (slot_count size) old start
+      → (IsStartOf (slot_count size) mid (after_move start (Carry change)) → IsProper (after_move start (Carry change))
+      → IsLateRun (slot_count size) (after_move start (Carry change)) commands answers new)
+      → IsLateRun (slot_count size) start (command ∷ commands) (Moved ∷ answers) new
+  carry_on commands answers old mid new start command change meant asks all is fits live from rest =
+      let used : start.fill ≡ start.slots = let a = from.fill_is in let b = from.slots_are in omega arith in
+      let kept : IsProper (after_move start (Carry change)) = record { held = omega arith; fits = fits } in
+      carry_first (slot_count size) start commands answers new command change asks used fits
+      (rest (moves_on old mid start change meant is live from) kept)
 
   pub late_run : (commands : List Command) (answers : List Answer) (old new : State) (start : Situation) → AreCommands commands
       → IsStartOf (slot_count size) old start → IsProper start → Run (Step size) old commands answers new
@@ -185,24 +235,29 @@ module _ (size : Size) where
   late_run [] (answer ∷ answers) old new start are is proper run = absurd run
   late_run (command ∷ commands) [] old new start are is proper run = absurd run
   late_run (Write address value ∷ commands) (Appended ∷ answers) old new start are is proper run =
-      let step = run.1 in
-      let next = after_move start (Append (changes.Write address)) in
-      let free : start.fill < start.slots = let a = is.fill_is in let b = is.slots_are in let c = step.1 in omega arith in
-      let here : IsStartOf (slot_count size) run.0 next = appends old run.0 start address value are.0.0 step.2 is in
-      let more = changed-le start.live (changes.Write address) in
-      let held = proper.held in
-      let kept : IsProper next = record { held = omega arith; fits = omega arith } in
-      append_first (slot_count size) start commands answers new address value free (omega arith)
-      (late_run commands answers run.0 new next are.1 here kept run.2)
+      append_on commands answers old run.0 new start (Write address value) (changes.Write address) (Put address value) (λ rest. refl) run.1.1 run.1.2
+      (live_after_put old.map start.live address value are.0.0 is.are_live) is proper
+      (λ here kept. late_run commands answers run.0 new (after_move start (Append (changes.Write address))) are.1 here kept run.2)
   late_run (Write address value ∷ commands) (Moved ∷ answers) old new start are is proper run =
-      let step = run.1 in
-      let next = after_move start (Carry (changes.Write address)) in
-      let used : start.fill ≡ start.slots = let a = is.fill_is in let b = is.slots_are in let c = step.1 in omega arith in
-      let here : IsStartOf (slot_count size) run.0 next = moves_on old run.0 start address value are.0.0 step.2 is in
-      let fits = write_fits (slot_count size) old start address value are.0.0 is proper step.0.has_place in
-      let kept : IsProper next = record { held = omega arith; fits = fits } in
-      carry_first (slot_count size) start commands answers new address value used fits
-      (late_run commands answers run.0 new next are.1 here kept run.2)
+      carry_on commands answers old run.0 new start (Write address value) (changes.Write address) (Put address value) (λ rest. refl) run.1.1 run.1.2
+      (write_fits (slot_count size) old start address value are.0.0 is proper run.1.0.has_place)
+      (live_after_put old.map start.live address value are.0.0 is.are_live) is
+      (λ here kept. late_run commands answers run.0 new (after_move start (Carry (changes.Write address))) are.1 here kept run.2)
+  late_run (Forget address ∷ commands) (Appended ∷ answers) old new start are is proper run =
+      append_on commands answers old run.0 new start (Forget address) (changes.Forget address) (meaning.Forget address) (λ rest. refl) run.1.1 run.1.2
+      (live_after_forget old.map start.live address is.are_live) is proper
+      (λ here kept. late_run commands answers run.0 new (after_move start (Append (changes.Forget address))) are.1 here kept run.2)
+  late_run (Forget address ∷ commands) (Moved ∷ answers) old new start are is proper run =
+      carry_on commands answers old run.0 new start (Forget address) (changes.Forget address) (meaning.Forget address) (λ rest. refl) run.1.1 run.1.2
+      (forgetting_fits start address proper)
+      (live_after_forget old.map start.live address is.are_live) is
+      (λ here kept. late_run commands answers run.0 new (after_move start (Carry (changes.Forget address))) are.1 here kept run.2)
+  late_run (Forget address ∷ commands) (Absent ∷ answers) old new start are is proper run =
+      no_move (slot_count size) start commands answers new (Forget address) Absent refl (λ n. refl)
+      (late_run commands answers run.0 new start are.1 (stays old run.0 start run.1.1 is) proper run.2)
+  late_run (Forget address ∷ commands) (Spent ∷ answers) old new start are is proper run =
+      no_move (slot_count size) start commands answers new (Forget address) Spent refl (λ n. refl)
+      (late_run commands answers run.0 new start are.1 (stays old run.0 start run.1.2 is) proper run.2)
   late_run (Write address value ∷ commands) (Full ∷ answers) old new start are is proper run =
       no_move (slot_count size) start commands answers new (Write address value) Full refl (λ n. refl)
       (late_run commands answers run.0 new start are.1 (stays old run.0 start run.1.1 is) proper run.2)
@@ -233,10 +288,10 @@ length_map (stretch ∷ stretches) = omega (arith, length_map stretches)
 
 -- the moves of a late run of this trace stand where the tight certificate's stretches end
 fewest_moves : (slots : ℕ) (start : Situation) (commands : List Command) (answers : List Answer) (new : State) (claim : Claim)
-    → IsProper start → IsLateRun slots start commands answers new → IsTight start (written (accepted commands answers)) claim
-    → AreFewest start (written (accepted commands answers)) answers claim
+    → IsProper start → IsLateRun slots start commands answers new → IsTight start (trace_of (accepted commands answers)) claim
+    → AreFewest start (trace_of (accepted commands answers)) answers claim
 fewest_moves slots start commands answers new claim proper run tight =
-    let trace = written (accepted commands answers) in
+    let trace = trace_of (accepted commands answers) in
     let met = late_stores_meet_it_lem start trace claim run.moves proper tight run.changes_are run.late in
     let positions : moved_at 0 answers ≡ map (λ stretch. stretch.to) claim.stretches = sym (run.carried 0) ∙ met.0 in
     let count : moves answers ≡ length claim.stretches = ap length positions ∙ length_map claim.stretches in
@@ -256,13 +311,13 @@ fewest_moves slots start commands answers new claim proper run tight =
 
 module _ (size : Size) where
   put_first : (old mid : State) (commands : List Command) (answers : List Answer) (new : State) (change : meaning.Change)
-      → mid.map ≡ meaning.changed change old.map → new.map ≡ changed_by (puts (accepted commands answers)) mid.map
-      → new.map ≡ changed_by (puts (accepted commands answers)) (meaning.changed change old.map)
-  put_first old mid commands answers new change is rest = rest ∙ ap (λ m. changed_by (puts (accepted commands answers)) m) is
+      → mid.map ≡ meaning.changed change old.map → new.map ≡ changed_by (map_changes (accepted commands answers)) mid.map
+      → new.map ≡ changed_by (map_changes (accepted commands answers)) (meaning.changed change old.map)
+  put_first old mid commands answers new change is rest = rest ∙ ap (λ m. changed_by (map_changes (accepted commands answers)) m) is
 
   -- the map at the end has what was written last
   pub values_are : (commands : List Command) (answers : List Answer) (old new : State) → Run (Step size) old commands answers new
-      → new.map ≡ changed_by (puts (accepted commands answers)) old.map
+      → new.map ≡ changed_by (map_changes (accepted commands answers)) old.map
   values_are [] [] old new run = ap (λ s. s.map) run
   values_are [] (answer ∷ answers) old new run = absurd run
   values_are (command ∷ commands) [] old new run = absurd run
@@ -273,76 +328,112 @@ module _ (size : Size) where
       put_first old run.0 commands answers new (Put address value) (ap (λ s. s.map) run.1.2)
       (values_are commands answers run.0 new run.2)
   values_are (Write address value ∷ commands) (Full ∷ answers) old new run =
-      values_are commands answers run.0 new run.2 ∙ ap (λ s. changed_by (puts (accepted commands answers)) s.map) run.1.1
+      values_are commands answers run.0 new run.2 ∙ ap (λ s. changed_by (map_changes (accepted commands answers)) s.map) run.1.1
   values_are (Write address value ∷ commands) (Spent ∷ answers) old new run =
-      values_are commands answers run.0 new run.2 ∙ ap (λ s. changed_by (puts (accepted commands answers)) s.map) run.1.2
+      values_are commands answers run.0 new run.2 ∙ ap (λ s. changed_by (map_changes (accepted commands answers)) s.map) run.1.2
+  values_are (Forget address ∷ commands) (Appended ∷ answers) old new run =
+      put_first old run.0 commands answers new (meaning.Forget address) (ap (λ s. s.map) run.1.2)
+      (values_are commands answers run.0 new run.2)
+  values_are (Forget address ∷ commands) (Moved ∷ answers) old new run =
+      put_first old run.0 commands answers new (meaning.Forget address) (ap (λ s. s.map) run.1.2)
+      (values_are commands answers run.0 new run.2)
+  values_are (Forget address ∷ commands) (Absent ∷ answers) old new run =
+      values_are commands answers run.0 new run.2 ∙ ap (λ s. changed_by (map_changes (accepted commands answers)) s.map) run.1.1
+  values_are (Forget address ∷ commands) (Spent ∷ answers) old new run =
+      values_are commands answers run.0 new run.2 ∙ ap (λ s. changed_by (map_changes (accepted commands answers)) s.map) run.1.2
   values_are (Read address ∷ commands) (Value value ∷ answers) old new run =
-      values_are commands answers run.0 new run.2 ∙ ap (λ s. changed_by (puts (accepted commands answers)) s.map) run.1.1
+      values_are commands answers run.0 new run.2 ∙ ap (λ s. changed_by (map_changes (accepted commands answers)) s.map) run.1.1
   values_are (Read address ∷ commands) (NoValue ∷ answers) old new run =
-      values_are commands answers run.0 new run.2 ∙ ap (λ s. changed_by (puts (accepted commands answers)) s.map) run.1.1
+      values_are commands answers run.0 new run.2 ∙ ap (λ s. changed_by (map_changes (accepted commands answers)) s.map) run.1.1
   values_are (Clean ∷ commands) (Cleaned ∷ answers) old new run =
-      values_are commands answers run.0 new run.2 ∙ ap (λ s. changed_by (puts (accepted commands answers)) s.map) run.1.1
+      values_are commands answers run.0 new run.2 ∙ ap (λ s. changed_by (map_changes (accepted commands answers)) s.map) run.1.1
   values_are (Clean ∷ commands) (Idle ∷ answers) old new run =
-      values_are commands answers run.0 new run.2 ∙ ap (λ s. changed_by (puts (accepted commands answers)) s.map) run.1.1
+      values_are commands answers run.0 new run.2 ∙ ap (λ s. changed_by (map_changes (accepted commands answers)) s.map) run.1.1
   values_are (command ∷ commands) (answer ∷ answers) old new run = absurd run.1
 
-  -- ---- where all writes fit
+  -- ---- where all changes fit
 
-  -- after a command that writes nothing and takes no generation the others fit
+  -- after a command that changes nothing and takes no generation the others fit
   fits_on : (old mid : State) (start : Situation) (command : Command) (commands : List Command)
-      → written (command ∷ commands) ≡ written commands
-      → mid.generation ≡ old.generation → Fits start old (command ∷ commands) → Fits start mid commands
-  fits_on old mid start command commands none same fits = record {
+      → trace_of (command ∷ commands) ≡ trace_of commands
+      → (ForgetsWhatIsHeld old.map (command ∷ commands) → ForgetsWhatIsHeld old.map commands)
+      → mid.generation ≡ old.generation → mid.map ≡ old.map → Fits start old (command ∷ commands) → Fits start mid commands
+  fits_on old mid start command commands none held same map fits = record {
     keeps = subst (λ l. KeepsWithin start.slots start.live l) none fits.keeps;
+    held = subst (λ m. ForgetsWhatIsHeld m commands) (sym map) (held fits.held);
     generations = let g = fits.generations in let e = ap length none in omega arith;
   }
 
-  -- after a write that takes one generation at most, the other writes fit
-  fits_after : (old mid : State) (start next : Situation) (address value : ℕ) (commands : List Command)
-      → mid.generation ≤ old.generation + 1
-      → next.slots ≡ start.slots → next.live ≡ changed start.live (changes.Write address)
-      → Fits start old (Write address value ∷ commands) → Fits next mid commands
-  fits_after old mid start next address value commands later slots live fits = record {
-    keeps = subst (λ l. KeepsWithin next.slots l (written commands)) (sym live)
-        (subst (λ n. KeepsWithin n (changed start.live (changes.Write address)) (written commands)) (sym slots) fits.keeps.1);
-    generations = let g = fits.generations in omega arith;
-  }
+  -- after a change that takes one generation at most, the other changes fit
+  fits_after : (old mid : State) (start next : Situation) (command : Command) (change : Change) (meant : meaning.Change) (commands : List Command)
+      → AsksFor command change → mid.generation ≤ old.generation + 1 → mid.map ≡ meaning.changed meant old.map
+      → next.slots ≡ start.slots → next.live ≡ changed start.live change
+      → ForgetsWhatIsHeld (meaning.changed meant old.map) commands
+      → Fits start old (command ∷ commands) → Fits next mid commands
+  fits_after old mid start next command change meant commands asks later map slots live held fits =
+      let one = asks commands in
+      let keeps = subst (λ l. KeepsWithin start.slots start.live l) one fits.keeps in
+      record {
+        keeps = subst (λ l. KeepsWithin next.slots l (trace_of commands)) (sym live)
+            (subst (λ n. KeepsWithin n (changed start.live change) (trace_of commands)) (sym slots) (keeps_tail start.slots start.live change (trace_of commands) keeps));
+        held = subst (λ m. ForgetsWhatIsHeld m commands) (sym map) held;
+        generations = let g = fits.generations in let e = ap length one in omega arith;
+      }
 
   pub all_put : (commands : List Command) (answers : List Answer) (old new : State) (start : Situation) → AreCommands commands
       → IsStartOf (slot_count size) old start → Run (Step size) old commands answers new → Fits start old commands
-      → puts (accepted commands answers) ≡ puts commands
+      → map_changes (accepted commands answers) ≡ map_changes commands
   all_put [] [] old new start are is run fits = refl
   all_put [] (answer ∷ answers) old new start are is run fits = absurd run
   all_put (command ∷ commands) [] old new start are is run fits = absurd run
   all_put (Write address value ∷ commands) (Appended ∷ answers) old new start are is run fits =
       let next = after_move start (Append (changes.Write address)) in
-      let here : IsStartOf (slot_count size) run.0 next = appends size old run.0 start address value are.0.0 run.1.2 is in
+      let live = live_after_put old.map start.live address value are.0.0 is.are_live in
+      let here : IsStartOf (slot_count size) run.0 next = appends size old run.0 start (changes.Write address) (Put address value) run.1.2 live is in
       let same : run.0.generation ≡ old.generation = ap (λ s. s.generation) run.1.2 in
       ap (λ l. Put address value ∷ l) (all_put commands answers run.0 new next are.1 here run.2
-      (fits_after old run.0 start next address value commands (omega arith) refl refl fits))
+      (fits_after old run.0 start next (Write address value) (changes.Write address) (Put address value) commands (λ rest. refl) (omega arith) (ap (λ s. s.map) run.1.2) refl refl fits.held fits))
   all_put (Write address value ∷ commands) (Moved ∷ answers) old new start are is run fits =
       let next = after_move start (Carry (changes.Write address)) in
-      let here : IsStartOf (slot_count size) run.0 next = moves_on size old run.0 start address value are.0.0 run.1.2 is in
+      let live = live_after_put old.map start.live address value are.0.0 is.are_live in
+      let here : IsStartOf (slot_count size) run.0 next = moves_on size old run.0 start (changes.Write address) (Put address value) run.1.2 live is in
       let one : run.0.generation ≡ old.generation + 1 = ap (λ s. s.generation) run.1.2 in
       ap (λ l. Put address value ∷ l) (all_put commands answers run.0 new next are.1 here run.2
-      (fits_after old run.0 start next address value commands (omega arith) refl refl fits))
+      (fits_after old run.0 start next (Write address value) (changes.Write address) (Put address value) commands (λ rest. refl) (omega arith) (ap (λ s. s.map) run.1.2) refl refl fits.held fits))
   all_put (Write address value ∷ commands) (Full ∷ answers) old new start are is run fits =
       absurd (not_full (slot_count size) old start address are.0.0 is fits.keeps.0 run.1.0)
   all_put (Write address value ∷ commands) (Spent ∷ answers) old new start are is run fits =
       absurd (let g = fits.generations in let last = run.1.1.last_generation in omega arith)
+  all_put (Forget address ∷ commands) (Appended ∷ answers) old new start are is run fits =
+      let next = after_move start (Append (changes.Forget address)) in
+      let live = live_after_forget old.map start.live address is.are_live in
+      let here : IsStartOf (slot_count size) run.0 next = appends size old run.0 start (changes.Forget address) (meaning.Forget address) run.1.2 live is in
+      let same : run.0.generation ≡ old.generation = ap (λ s. s.generation) run.1.2 in
+      ap (λ l. meaning.Forget address ∷ l) (all_put commands answers run.0 new next are.1 here run.2
+      (fits_after old run.0 start next (Forget address) (changes.Forget address) (meaning.Forget address) commands (λ rest. refl) (omega arith) (ap (λ s. s.map) run.1.2) refl refl fits.held.1 fits))
+  all_put (Forget address ∷ commands) (Moved ∷ answers) old new start are is run fits =
+      let next = after_move start (Carry (changes.Forget address)) in
+      let live = live_after_forget old.map start.live address is.are_live in
+      let here : IsStartOf (slot_count size) run.0 next = moves_on size old run.0 start (changes.Forget address) (meaning.Forget address) run.1.2 live is in
+      let one : run.0.generation ≡ old.generation + 1 = ap (λ s. s.generation) run.1.2 in
+      ap (λ l. meaning.Forget address ∷ l) (all_put commands answers run.0 new next are.1 here run.2
+      (fits_after old run.0 start next (Forget address) (changes.Forget address) (meaning.Forget address) commands (λ rest. refl) (omega arith) (ap (λ s. s.map) run.1.2) refl refl fits.held.1 fits))
+  all_put (Forget address ∷ commands) (Absent ∷ answers) old new start are is run fits = absurd (fits.held.0 run.1.0)
+  all_put (Forget address ∷ commands) (Spent ∷ answers) old new start are is run fits =
+      absurd (let g = fits.generations in let last = run.1.1.last_generation in omega arith)
   all_put (Read address ∷ commands) (Value value ∷ answers) old new start are is run fits =
       all_put commands answers run.0 new start are.1 (stays size old run.0 start run.1.1 is) run.2
-      (fits_on old run.0 start (Read address) commands refl (ap (λ s. s.generation) run.1.1) fits)
+      (fits_on old run.0 start (Read address) commands refl (λ h. h) (ap (λ s. s.generation) run.1.1) (ap (λ s. s.map) run.1.1) fits)
   all_put (Read address ∷ commands) (NoValue ∷ answers) old new start are is run fits =
       all_put commands answers run.0 new start are.1 (stays size old run.0 start run.1.1 is) run.2
-      (fits_on old run.0 start (Read address) commands refl (ap (λ s. s.generation) run.1.1) fits)
+      (fits_on old run.0 start (Read address) commands refl (λ h. h) (ap (λ s. s.generation) run.1.1) (ap (λ s. s.map) run.1.1) fits)
   all_put (Clean ∷ commands) (Cleaned ∷ answers) old new start are is run fits =
       let here = start_stays (slot_count size) old run.0 start is (ap (λ s. s.map) run.1.1) (ap (λ s. s.fill) run.1.1) in
       all_put commands answers run.0 new start are.1 here run.2
-      (fits_on old run.0 start Clean commands refl (ap (λ s. s.generation) run.1.1) fits)
+      (fits_on old run.0 start Clean commands refl (λ h. h) (ap (λ s. s.generation) run.1.1) (ap (λ s. s.map) run.1.1) fits)
   all_put (Clean ∷ commands) (Idle ∷ answers) old new start are is run fits =
       all_put commands answers run.0 new start are.1 (stays size old run.0 start run.1.1 is) run.2
-      (fits_on old run.0 start Clean commands refl (ap (λ s. s.generation) run.1.1) fits)
+      (fits_on old run.0 start Clean commands refl (λ h. h) (ap (λ s. s.generation) run.1.1) (ap (λ s. s.map) run.1.1) fits)
   all_put (command ∷ commands) (answer ∷ answers) old new start are is run fits = absurd run.1
 
 -- ---- the run of a script, together
@@ -351,15 +442,15 @@ module _ (size : Size) where
   -- what a run's accepted writes leave live has room in the slots
   pub run_keeps : (commands : List Command) (answers : List Answer) (old new : State) (start : Situation) → AreCommands commands
       → IsStartOf (slot_count size) old start → IsProper start → Run (Step size) old commands answers new
-      → KeepsWithin start.slots start.live (written (accepted commands answers))
+      → KeepsWithin start.slots start.live (trace_of (accepted commands answers))
   run_keeps commands answers old new start are is proper run = (late_run size commands answers old new start are is proper run).keeps
 
   -- and its moves are the fewest
   pub run_fewest : (commands : List Command) (answers : List Answer) (old new : State) (start : Situation) (claim : Claim)
       → AreCommands commands
       → IsStartOf (slot_count size) old start → IsProper start → Run (Step size) old commands answers new
-      → IsTight start (written (accepted commands answers)) claim
-      → AreFewest start (written (accepted commands answers)) answers claim
+      → IsTight start (trace_of (accepted commands answers)) claim
+      → AreFewest start (trace_of (accepted commands answers)) answers claim
   run_fewest commands answers old new start claim are is proper run tight =
       fewest_moves (slot_count size) start commands answers new claim proper
       (late_run size commands answers old new start are is proper run) tight
@@ -368,7 +459,7 @@ module _ (size : Size) where
   pub run_count : (commands : List Command) (answers : List Answer) (old new : State) (start : Situation) (claim : Claim)
       → AreCommands commands
       → IsStartOf (slot_count size) old start → IsProper start → Run (Step size) old commands answers new
-      → IsTight start (written (accepted commands answers)) claim → moves answers ≡ length claim.stretches
+      → IsTight start (trace_of (accepted commands answers)) claim → moves answers ≡ length claim.stretches
   run_count commands answers old new start claim are is proper run tight =
       let fewest = run_fewest commands answers old new start claim are is proper run tight in
       ap length fewest.positions ∙ length_map claim.stretches
@@ -377,21 +468,21 @@ module _ (size : Size) where
   pub run_fill : (commands : List Command) (answers : List Answer) (old new : State) (start : Situation) (claim : Claim)
       → AreCommands commands
       → IsStartOf (slot_count size) old start → IsProper start → Run (Step size) old commands answers new
-      → IsTight start (written (accepted commands answers)) claim
-      → new.fill ≡ used_at_end start (written (accepted commands answers)) claim.stretches
+      → IsTight start (trace_of (accepted commands answers)) claim
+      → new.fill ≡ used_at_end start (trace_of (accepted commands answers)) claim.stretches
   run_fill commands answers old new start claim are is proper run tight =
       let late = late_run size commands answers old new start are is proper run in
-      let met = late_stores_meet_it_lem start (written (accepted commands answers)) claim late.moves proper tight late.changes_are late.late in
+      let met = late_stores_meet_it_lem start (trace_of (accepted commands answers)) claim late.moves proper tight late.changes_are late.late in
       sym late.end.fill_is ∙ met.1
 
   -- so each store makes more transfers, or as many, and ends with no more room
   pub run_room : (commands : List Command) (answers : List Answer) (old new : State) (start : Situation) (claim : Claim)
       → AreCommands commands
       → IsStartOf (slot_count size) old start → IsProper start → Run (Step size) old commands answers new
-      → IsTight start (written (accepted commands answers)) claim
-      → NoneEndsWithMoreRoom start (written (accepted commands answers)) (moves answers) new.fill
+      → IsTight start (trace_of (accepted commands answers)) claim
+      → NoneEndsWithMoreRoom start (trace_of (accepted commands answers)) (moves answers) new.fill
   run_room commands answers old new start claim are is proper run tight = λ schedule scheduled.
-      let trace = written (accepted commands answers) in
+      let trace = trace_of (accepted commands answers) in
       let count = run_count commands answers old new start claim are is proper run tight in
       let fill = run_fill commands answers old new start claim are is proper run tight in
       let certificate = tight_are_certificates_lem start trace claim tight in

@@ -5,7 +5,8 @@ use Rattle.ee_flash.specs.Device.{Device}
 use Rattle.ee_flash.specs.Size.{Size, slot_count}
 use Rattle.ee_codec.specs.Words.{IsAddress}
 use Rattle.ee_pages.specs.Meaning.{Put}
-use Rattle.ee_store.specs.Changes.{IsAccepted, greatest_generation}
+use Rattle.ee_pages.specs.Meaning as meaning
+use Rattle.ee_store.specs.Changes.{Appends, IsAccepted, Moves, greatest_generation}
 use Rattle.ee_store.specs.Finished.{IsStore}
 use Rattle.ee_store.specs.State.{State, appended, moved, state_of}
 use Rattle.ee_store.proofs.Making.{generation_proper}
@@ -14,23 +15,25 @@ use Rattle.ee_store.proofs.States.{state_is}
 use Rattle.ee_check.specs.declared.change.Change.{Change}
 use Rattle.ee_check.specs.declared.change.Change.TheVariants as changes
 use Rattle.ee_check.specs.Certificate.{IsHeader, IsTight}
+use Rattle.ee_check.specs.Live.{changed}
 use Rattle.ee_check.specs.Schedule.{Append, Carry, IsProper, Situation, after_move}
 use Rattle.ee_check.proofs.Sizes.{changed-le}
 use Rattle.ee_plan.specs.LateStore.{HasMade}
-use Rattle.ee_plan.specs.Start.{IsStartOf}
+use Rattle.ee_plan.specs.Start.{AreLive, IsStartOf}
 use Rattle.ee_plan.proofs.Following.{made_more, made_none}
+use Rattle.ee_plan.proofs.LiveLists.{live_after_forget, live_after_put}
 use Rattle.ee_plan.proofs.Whole.{whole_tight}
 use Rattle.ee_script.specs.Run.{Run}
 use Rattle.ee_script.specs.Script.{AreCommands}
 use Rattle.ee_script.specs.Whole.{IsAnswered}
 use Rattle.ee_script.specs.declared.answer.Answer.{Answer}
-use Rattle.ee_script.specs.declared.answer.Answer.TheVariants.{Appended, Moved, Full, Spent, Cleaned, Idle, Value, NoValue}
+use Rattle.ee_script.specs.declared.answer.Answer.TheVariants.{Appended, Moved, Full, Spent, Cleaned, Idle, Value, NoValue, Absent}
 use Rattle.ee_script.specs.declared.command.Command.{Command}
-use Rattle.ee_script.specs.declared.command.Command.TheVariants.{Write, Read, Clean}
+use Rattle.ee_script.specs.declared.command.Command.TheVariants.{Write, Read, Forget, Clean}
 use Rattle.ee_script.proofs.Seen.{IsAnswered-seen}
 use Rattle.ee_shell.specs.Serving.{IsCounted, IsTraced, Noted, Notes, Records, Serves, StaysOn, claim_noted, no_notes, noted, with_notes}
-use Rattle.ee_shell.specs.Trace.{accepted, written}
-use Rattle.ee_shell.proofs.Late.{appends, moves_on, start_stays, stays, write_fits}
+use Rattle.ee_shell.specs.Trace.{accepted, trace_of}
+use Rattle.ee_shell.proofs.Late.{appends, forgetting_fits, moves_on, start_stays, write_fits}
 use Rattle.ee_shell.proofs.Runs.{run_served}
 
 -- ---- one change
@@ -42,36 +45,33 @@ record AreNoted (slots : ℕ) (start : Situation) (trace : List Change) (n : ℕ
   made : HasMade start trace n record { now = now; from = notes.from; stretches = notes.stretches }
   counted : notes.changes ≡ n
 
-module _ (size : Size) (start : Situation) (trace : List Change) (n : ℕ) (below : n < length trace) (old new : State) (address value : ℕ) (proper : IsAddress address)
-    (here : changes.Write address ≡ get_or trace n (changes.Write address)) (notes : Notes) (so_far : AreNoted (slot_count size) start trace n old notes) where
-  fits_now : IsProper so_far.now
-  fits_now = record { held = so_far.made.held; fits = let a = so_far.made.fits in let b = so_far.made.slots in omega arith }
-
-  note_append : old.fill < slot_count size → new ≡ appended (Put address value) old → (fill : ℕ) → AreNoted (slot_count size) start trace (n + 1) new (noted Appended fill notes)
+module _ (size : Size) (start : Situation) (trace : List Change) (n : ℕ) (below : n < length trace) (old new : State) (change : Change) (meant : meaning.Change)
+    (here : change ≡ get_or trace n change) (notes : Notes) (so_far : AreNoted (slot_count size) start trace n old notes)
+    (live : AreLive (meaning.changed meant old.map) (changed so_far.now.live change)) where
+  note_append : old.fill < slot_count size → new ≡ appended meant old → (fill : ℕ) → AreNoted (slot_count size) start trace (n + 1) new (noted Appended fill notes)
   note_append free is fill =
       let now = so_far.now in
-      let next = after_move now (Append (changes.Write address)) in
+      let next = after_move now (Append change) in
       let room : now.fill < now.slots = let a = so_far.is.fill_is in let b = so_far.is.slots_are in omega arith in
-      let more = changed-le now.live (changes.Write address) in
+      let more = changed-le now.live change in
       let held = so_far.made.held in
       record {
         now = next;
-        is = appends size old new now address value proper is so_far.is;
-        made = made_more start trace n (n + 1) (changes.Write address) _ record { now = next; from = notes.from; stretches = notes.stretches } refl below so_far.made here
+        is = appends size old new now change meant is live so_far.is;
+        made = made_more start trace n (n + 1) change _ record { now = next; from = notes.from; stretches = notes.stretches } refl below so_far.made here
             (inl (record { free = room; new_is = refl })) (omega arith);
         counted = ap (λ m. m + 1) so_far.counted;
       }
 
-  note_move : IsAccepted (slot_count size) old (Put address value) → old.fill ≡ slot_count size → new ≡ moved size.pages (Put address value) old
+  note_move : length (changed so_far.now.live change) ≤ so_far.now.slots → old.fill ≡ slot_count size → new ≡ moved size.pages meant old
       → AreNoted (slot_count size) start trace (n + 1) new (noted Moved new.fill notes)
-  note_move allowed used is =
+  note_move fits used is =
       let now = so_far.now in
-      let next = after_move now (Carry (changes.Write address)) in
+      let next = after_move now (Carry change) in
       let all : now.slots ≤ now.fill = let a = so_far.is.fill_is in let b = so_far.is.slots_are in omega arith in
-      let fits = write_fits (slot_count size) old now address value proper so_far.is fits_now allowed.has_place in
-      let there = moves_on size old new now address value proper is so_far.is in
+      let there = moves_on size old new now change meant is live so_far.is in
       let from : next.fill ≡ new.fill = there.fill_is in
-      let made = made_more start trace n (n + 1) (changes.Write address) _ record { now = next; from = next.fill; stretches = notes.stretches ++ record { to = n + 1; from = notes.from } ∷ [] }
+      let made = made_more start trace n (n + 1) change _ record { now = next; from = next.fill; stretches = notes.stretches ++ record { to = n + 1; from = notes.from } ∷ [] }
       refl below so_far.made here (inr (record { used = all; new_is = refl })) fits in
       record {
         now = next;
@@ -80,6 +80,10 @@ module _ (size : Size) (start : Situation) (trace : List Change) (n : ℕ) (belo
             (subst (λ m. HasMade start trace (n + 1) record { now = next; from = m; stretches = notes.stretches ++ record { to = n + 1; from = notes.from } ∷ [] }) from made);
         counted = ap (λ m. m + 1) so_far.counted;
       }
+
+-- what is so far is proper
+proper_now : (slots : ℕ) (start : Situation) (trace : List Change) (n : ℕ) (state : State) (notes : Notes) (so_far : AreNoted slots start trace n state notes) → IsProper so_far.now
+proper_now slots start trace n state notes so_far = record { held = so_far.made.held; fits = let a = so_far.made.fits in let b = so_far.made.slots in omega arith }
 
 -- what leaves the map and the slots as they are is not noted
 note_none : (slots : ℕ) (start : Situation) (trace : List Change) (n : ℕ) (old new : State) (notes : Notes) → new.map ≡ old.map → new.fill ≡ old.fill
@@ -102,11 +106,11 @@ unchanged slots start trace n old new device notes so_far =
 
 module _ (size : Size) (start : Situation) (trace : List Change) where
   -- the change here, with so many before it
-  there : (before : List Change) (address : ℕ) (rest : List Change) → trace ≡ before ++ changes.Write address ∷ rest
-      → (length before < length trace) × (changes.Write address ≡ get_or trace (length before) (changes.Write address))
-  there before address rest parts = (
-    omega (arith, ap length parts, length-append before (changes.Write address ∷ rest)),
-    sym (ap (λ l. get_or l (length before) (changes.Write address)) parts ∙ get_or-append_seam before (changes.Write address) rest (changes.Write address)),
+  there : (before : List Change) (change : Change) (rest : List Change) → trace ≡ before ++ change ∷ rest
+      → (length before < length trace) × (change ≡ get_or trace (length before) change)
+  there before change rest parts = (
+    omega (arith, ap length parts, length-append before (change ∷ rest)),
+    sym (ap (λ l. get_or l (length before) change) parts ∙ get_or-append_seam before change rest change),
   )
 
   one_longer : (before : List Change) (change : Change) → length (before ++ change ∷ []) ≡ length before + 1
@@ -116,8 +120,36 @@ module _ (size : Size) (start : Situation) (trace : List Change) where
   passed : (before : List Change) (change : Change) (rest : List Change) → trace ≡ before ++ change ∷ rest → trace ≡ (before ++ change ∷ []) ++ rest
   passed before change rest parts = parts ∙ sym (append_assoc before (change ∷ []) rest)
 
+  -- an appended change, and what was noted of it
+  appended_noted : (before : List Change) (old mid : Noted) (change : Change) (meant : meaning.Change) (rest : List Change) → trace ≡ before ++ change ∷ rest
+      → old.device.size ≡ size → Appends old.device meant mid.device → mid.notes ≡ noted Appended (state_of mid.device).fill old.notes
+      → (so_far : AreNoted (slot_count size) start trace (length before) (state_of old.device) old.notes)
+      → AreLive (meaning.changed meant (state_of old.device).map) (changed so_far.now.live change)
+      → AreNoted (slot_count size) start trace (length (before ++ change ∷ [])) (state_of mid.device) mid.notes
+  appended_noted before old mid change meant rest parts sized call notes so_far live =
+      let at = there before change rest parts in
+      let free = subst (λ (s : Size). (state_of old.device).fill < slot_count s) sized call.free in
+      let next = note_append size start trace (length before) at.0 (state_of old.device) (state_of mid.device) change meant at.1 old.notes so_far live free call.state_is (state_of mid.device).fill in
+      let here = subst (λ (kept : Notes). AreNoted (slot_count size) start trace (length before + 1) (state_of mid.device) kept) (sym notes) next in
+      subst (λ m. AreNoted (slot_count size) start trace m (state_of mid.device) mid.notes) (sym (one_longer before change)) here
+
+  -- a change that was moved with the map
+  moved_noted : (before : List Change) (old mid : Noted) (change : Change) (meant : meaning.Change) (rest : List Change) → trace ≡ before ++ change ∷ rest
+      → old.device.size ≡ size → Moves old.device meant mid.device → mid.notes ≡ noted Moved (state_of mid.device).fill old.notes
+      → (so_far : AreNoted (slot_count size) start trace (length before) (state_of old.device) old.notes)
+      → AreLive (meaning.changed meant (state_of old.device).map) (changed so_far.now.live change)
+      → length (changed so_far.now.live change) ≤ so_far.now.slots
+      → AreNoted (slot_count size) start trace (length (before ++ change ∷ [])) (state_of mid.device) mid.notes
+  moved_noted before old mid change meant rest parts sized call notes so_far live fits =
+      let at = there before change rest parts in
+      let used = subst (λ (s : Size). (state_of old.device).fill ≡ slot_count s) sized call.all_used in
+      let state = subst (λ (s : Size). state_of mid.device ≡ moved s.pages meant (state_of old.device)) sized call.state_is in
+      let next = note_move size start trace (length before) at.0 (state_of old.device) (state_of mid.device) change meant at.1 old.notes so_far live fits used state in
+      let here = subst (λ (kept : Notes). AreNoted (slot_count size) start trace (length before + 1) (state_of mid.device) kept) (sym notes) next in
+      subst (λ m. AreNoted (slot_count size) start trace m (state_of mid.device) mid.notes) (sym (one_longer before change)) here
+
   notes_of_run : (commands : List Command) (answers : List Answer) (old new : Noted) (before : List Change) → AreCommands commands
-      → trace ≡ before ++ written (accepted commands answers) → old.device.size ≡ size → Run Records old commands answers new
+      → trace ≡ before ++ trace_of (accepted commands answers) → old.device.size ≡ size → Run Records old commands answers new
       → AreNoted (slot_count size) start trace (length before) (state_of old.device) old.notes
       → AreNoted (slot_count size) start trace (length trace) (state_of new.device) new.notes
   notes_of_run [] [] old new before are parts sized run so_far =
@@ -127,31 +159,39 @@ module _ (size : Size) (start : Situation) (trace : List Change) where
   notes_of_run [] (answer ∷ answers) old new before are parts sized run so_far = absurd run
   notes_of_run (command ∷ commands) [] old new before are parts sized run so_far = absurd run
   notes_of_run (Write address value ∷ commands) (Appended ∷ answers) old new before are parts sized run so_far =
-      let mid = run.0 in
-      let call = run.1.serves in
-      let rest = written (accepted commands answers) in
-      let at = there before address rest parts in
-      let free = subst (λ (s : Size). (state_of old.device).fill < slot_count s) sized call.free in
-      let next = note_append size start trace (length before) at.0 (state_of old.device) (state_of mid.device) address value are.0.0 at.1 old.notes so_far free call.state_is (state_of mid.device).fill in
-      let here = subst (λ (notes : Notes). AreNoted (slot_count size) start trace (length before + 1) (state_of mid.device) notes) (sym run.1.notes_are) next in
-      notes_of_run commands answers mid new (before ++ changes.Write address ∷ []) are.1 (passed before (changes.Write address) rest parts) (call.goes_on.same_size ∙ sized) run.2
-      (subst (λ m. AreNoted (slot_count size) start trace m (state_of mid.device) mid.notes) (sym (one_longer before (changes.Write address))) here)
+      let rest = trace_of (accepted commands answers) in
+      let live = live_after_put (state_of old.device).map so_far.now.live address value are.0.0 so_far.is.are_live in
+      notes_of_run commands answers run.0 new (before ++ changes.Write address ∷ []) are.1 (passed before (changes.Write address) rest parts) (run.1.serves.goes_on.same_size ∙ sized) run.2
+      (appended_noted before old run.0 (changes.Write address) (Put address value) rest parts sized run.1.serves run.1.notes_are so_far live)
   notes_of_run (Write address value ∷ commands) (Moved ∷ answers) old new before are parts sized run so_far =
-      let mid = run.0 in
-      let call = run.1.serves in
-      let rest = written (accepted commands answers) in
-      let at = there before address rest parts in
-      let allowed = subst (λ (s : Size). IsAccepted (slot_count s) (state_of old.device) (Put address value)) sized call.proceeds.accepted in
-      let used = subst (λ (s : Size). (state_of old.device).fill ≡ slot_count s) sized call.all_used in
-      let state = subst (λ (s : Size). state_of mid.device ≡ moved s.pages (Put address value) (state_of old.device)) sized call.state_is in
-      let next = note_move size start trace (length before) at.0 (state_of old.device) (state_of mid.device) address value are.0.0 at.1 old.notes so_far allowed used state in
-      let here = subst (λ (notes : Notes). AreNoted (slot_count size) start trace (length before + 1) (state_of mid.device) notes) (sym run.1.notes_are) next in
-      notes_of_run commands answers mid new (before ++ changes.Write address ∷ []) are.1 (passed before (changes.Write address) rest parts) (call.goes_on.same_size ∙ sized) run.2
-      (subst (λ m. AreNoted (slot_count size) start trace m (state_of mid.device) mid.notes) (sym (one_longer before (changes.Write address))) here)
+      let rest = trace_of (accepted commands answers) in
+      let live = live_after_put (state_of old.device).map so_far.now.live address value are.0.0 so_far.is.are_live in
+      let place = subst (λ (s : Size). IsAccepted (slot_count s) (state_of old.device) (Put address value)) sized run.1.serves.proceeds.accepted in
+      let fits = write_fits (slot_count size) (state_of old.device) so_far.now address value are.0.0 so_far.is
+      (proper_now (slot_count size) start trace (length before) (state_of old.device) old.notes so_far) place.has_place in
+      notes_of_run commands answers run.0 new (before ++ changes.Write address ∷ []) are.1 (passed before (changes.Write address) rest parts) (run.1.serves.goes_on.same_size ∙ sized) run.2
+      (moved_noted before old run.0 (changes.Write address) (Put address value) rest parts sized run.1.serves run.1.notes_are so_far live fits)
+  notes_of_run (Forget address ∷ commands) (Appended ∷ answers) old new before are parts sized run so_far =
+      let rest = trace_of (accepted commands answers) in
+      let live = live_after_forget (state_of old.device).map so_far.now.live address so_far.is.are_live in
+      notes_of_run commands answers run.0 new (before ++ changes.Forget address ∷ []) are.1 (passed before (changes.Forget address) rest parts) (run.1.serves.goes_on.same_size ∙ sized) run.2
+      (appended_noted before old run.0 (changes.Forget address) (meaning.Forget address) rest parts sized run.1.serves run.1.notes_are so_far live)
+  notes_of_run (Forget address ∷ commands) (Moved ∷ answers) old new before are parts sized run so_far =
+      let rest = trace_of (accepted commands answers) in
+      let live = live_after_forget (state_of old.device).map so_far.now.live address so_far.is.are_live in
+      let fits = forgetting_fits so_far.now address (proper_now (slot_count size) start trace (length before) (state_of old.device) old.notes so_far) in
+      notes_of_run commands answers run.0 new (before ++ changes.Forget address ∷ []) are.1 (passed before (changes.Forget address) rest parts) (run.1.serves.goes_on.same_size ∙ sized) run.2
+      (moved_noted before old run.0 (changes.Forget address) (meaning.Forget address) rest parts sized run.1.serves run.1.notes_are so_far live fits)
   notes_of_run (Write address value ∷ commands) (Full ∷ answers) old new before are parts sized run so_far =
       notes_of_run commands answers run.0 new before are.1 parts (ap (λ (device : Device). device.size) run.1.serves.2 ∙ sized) run.2
       (unchanged (slot_count size) start trace (length before) old run.0 run.1.serves.2 run.1.notes_are so_far)
   notes_of_run (Write address value ∷ commands) (Spent ∷ answers) old new before are parts sized run so_far =
+      notes_of_run commands answers run.0 new before are.1 parts (ap (λ (device : Device). device.size) run.1.serves.3 ∙ sized) run.2
+      (unchanged (slot_count size) start trace (length before) old run.0 run.1.serves.3 run.1.notes_are so_far)
+  notes_of_run (Forget address ∷ commands) (Absent ∷ answers) old new before are parts sized run so_far =
+      notes_of_run commands answers run.0 new before are.1 parts (ap (λ (device : Device). device.size) run.1.serves.2 ∙ sized) run.2
+      (unchanged (slot_count size) start trace (length before) old run.0 run.1.serves.2 run.1.notes_are so_far)
+  notes_of_run (Forget address ∷ commands) (Spent ∷ answers) old new before are parts sized run so_far =
       notes_of_run commands answers run.0 new before are.1 parts (ap (λ (device : Device). device.size) run.1.serves.3 ∙ sized) run.2
       (unchanged (slot_count size) start trace (length before) old run.0 run.1.serves.3 run.1.notes_are so_far)
   notes_of_run (Read address ∷ commands) (Value value ∷ answers) old new before are parts sized run so_far =
@@ -178,9 +218,9 @@ module _ (size : Size) (start : Situation) (trace : List Change) where
 noted_tight : (old new : Noted) (commands : List Command) (answers : List Answer) (start : Situation) → AreCommands commands
     → old.notes ≡ no_notes (state_of old.device).fill → Run Records old commands answers new
     → IsStartOf (slot_count old.device.size) (state_of old.device) start → IsProper start
-    → IsTight start (written (accepted commands answers)) (claim_noted start new.notes)
+    → IsTight start (trace_of (accepted commands answers)) (claim_noted start new.notes)
 noted_tight old new commands answers start are fresh run is proper =
-    let trace = written (accepted commands answers) in
+    let trace = trace_of (accepted commands answers) in
     let begun : AreNoted (slot_count old.device.size) start trace 0 (state_of old.device) (no_notes (state_of old.device).fill) = record {
       now = start;
       is = is;
@@ -257,8 +297,29 @@ counted_on old new (Write address value) Moved notes fill serves counted =
       changes = count_turn notes.changes (state_of old).generation (slot_count old.size) (state_of old).fill (state_of new).generation (slot_count new.size) (state_of new).fill one sized
           serves.all_used counted.changes;
     }
+counted_on old new (Forget address) Appended notes fill serves counted =
+    let sized = ap slot_count serves.goes_on.same_size in
+    let same : (state_of new).generation ≡ (state_of old).generation = ap (λ (s : State). s.generation) serves.state_is in
+    record {
+      slots = let a = counted.slots in omega arith;
+      generation = let a = counted.generation in omega arith;
+      changes = count_one notes.changes (state_of old).generation (slot_count old.size) (state_of old).fill (state_of new).generation (slot_count new.size) (state_of new).fill same sized
+          (ap (λ (s : State). s.fill) serves.state_is) counted.changes;
+    }
+counted_on old new (Forget address) Moved notes fill serves counted =
+    let sized = ap slot_count serves.goes_on.same_size in
+    let one : (state_of new).generation ≡ (state_of old).generation + 1 = ap (λ (s : State). s.generation) serves.state_is in
+    let not_last : (state_of old).generation ≡ greatest_generation → ⊥ = λ last. serves.proceeds.accepted.not_spent (record { all_used = serves.all_used; last_generation = last }) in
+    record {
+      slots = let a = counted.slots in omega arith;
+      generation = let a = counted.generation in omega arith;
+      changes = count_turn notes.changes (state_of old).generation (slot_count old.size) (state_of old).fill (state_of new).generation (slot_count new.size) (state_of new).fill one sized
+          serves.all_used counted.changes;
+    }
 counted_on old new (Write address value) Full notes fill serves counted = same_count old new notes serves.2 counted
 counted_on old new (Write address value) Spent notes fill serves counted = same_count old new notes serves.3 counted
+counted_on old new (Forget address) Absent notes fill serves counted = same_count old new notes serves.2 counted
+counted_on old new (Forget address) Spent notes fill serves counted = same_count old new notes serves.3 counted
 counted_on old new (Read address) (Value value) notes fill serves counted = same_count old new notes serves.1 counted
 counted_on old new (Read address) NoValue notes fill serves counted = same_count old new notes serves.1 counted
 counted_on old new Clean Idle notes fill serves counted = same_count old new notes serves.2 counted

@@ -42,7 +42,7 @@ use Rattle.ee_words.specs.declared.replay_fault.ReplayFault.TheVariants as repla
 use Rattle.ee_shell.specs.Opening.{IsOpened}
 use Rattle.ee_shell.specs.Planning.{IsCertificateFault, IsCheckingFault, IsImageStart, IsPlanningFault, IsRefusal, IsTask, IsTaskFault, IsTrace}
 use Rattle.ee_shell.specs.Replaying.{IsOpenFault, IsStoreText, Spells}
-use Rattle.ee_shell.specs.Trace.{written}
+use Rattle.ee_shell.specs.Trace.{trace_of}
 use Rattle.ee_shell.proofs.OneCause.{one_open_fault, store_is_good}
 
 -- ---- one start
@@ -100,7 +100,7 @@ one_start image start other first second =
 
 pub one_trace : (text : List ℕ) (trace other : List Change) → IsTrace text trace → IsTrace text other → trace ≡ other
 one_trace text trace other first second =
-    first.trace_is ∙ ap written (one_script_lem text first.commands second.commands first.is_script second.is_script) ∙ sym second.trace_is
+    first.trace_is ∙ ap trace_of (one_script_lem text first.commands second.commands first.is_script second.is_script) ∙ sym second.trace_is
 
 -- ---- names
 

@@ -7,12 +7,13 @@ use Rattle.std.specs.Prelude.{IsSomeAnd}
 use Rattle.ee_flash.specs.Device.{Device}
 use Rattle.ee_flash.specs.Size.{Size}
 use Rattle.ee_pages.specs.Meaning.{Put}
+use Rattle.ee_pages.specs.Meaning as meaning
 use Rattle.ee_store.specs.Runs.{Call, Follows, IsRun, IsWholeRun, is_cut}
 use Rattle.ee_store.specs.State.{state_of}
 use Rattle.ee_script.specs.declared.command.Command.{Command}
-use Rattle.ee_script.specs.declared.command.Command.TheVariants.{Write, Read, Clean}
+use Rattle.ee_script.specs.declared.command.Command.TheVariants.{Write, Read, Forget, Clean}
 use Rattle.ee_script.specs.declared.answer.Answer.{Answer}
-use Rattle.ee_script.specs.declared.answer.Answer.TheVariants.{Appended, Moved, Full, Spent, Cleaned, Idle, Value, NoValue}
+use Rattle.ee_script.specs.declared.answer.Answer.TheVariants.{Appended, Moved, Full, Spent, Cleaned, Idle, Value, NoValue, Absent}
 use Rattle.ee_script.specs.Run.{Run}
 use Rattle.ee_shell.specs.Erases.{ErasesRise, erases_of, erases_of_all}
 use Rattle.ee_shell.specs.Machine.{Step}
@@ -39,6 +40,26 @@ machine_step old new (Write address value) Full serves = record {
   erases = as_before old new serves.2;
 }
 machine_step old new (Write address value) Spent serves = record {
+  step = (serves.1, serves.2, ap state_of serves.3);
+  same_size = ap (λ (device : Device). device.size) serves.3;
+  erases = as_before old new serves.3;
+}
+machine_step old new (Forget address) Appended serves = record {
+  step = (serves.proceeds.accepted, serves.free, serves.state_is);
+  same_size = serves.goes_on.same_size;
+  erases = by_append old (meaning.Forget address) new serves;
+}
+machine_step old new (Forget address) Moved serves = record {
+  step = (serves.proceeds.accepted, serves.all_used, serves.state_is);
+  same_size = serves.goes_on.same_size;
+  erases = by_move old (meaning.Forget address) new serves;
+}
+machine_step old new (Forget address) Absent serves = record {
+  step = (serves.1, ap state_of serves.2);
+  same_size = ap (λ (device : Device). device.size) serves.2;
+  erases = as_before old new serves.2;
+}
+machine_step old new (Forget address) Spent serves = record {
   step = (serves.1, serves.2, ap state_of serves.3);
   same_size = ap (λ (device : Device). device.size) serves.3;
   erases = as_before old new serves.3;
@@ -72,6 +93,10 @@ uncut_first (Write address value) Appended calls all = All-cons (λ made. is_cut
 uncut_first (Write address value) Moved calls all = All-cons (λ made. is_cut made ≡ false) _ calls refl all
 uncut_first (Write address value) Full calls all = All-cons (λ made. is_cut made ≡ false) _ calls refl all
 uncut_first (Write address value) Spent calls all = All-cons (λ made. is_cut made ≡ false) _ calls refl all
+uncut_first (Forget address) Appended calls all = All-cons (λ made. is_cut made ≡ false) _ calls refl all
+uncut_first (Forget address) Moved calls all = All-cons (λ made. is_cut made ≡ false) _ calls refl all
+uncut_first (Forget address) Absent calls all = All-cons (λ made. is_cut made ≡ false) _ calls refl all
+uncut_first (Forget address) Spent calls all = All-cons (λ made. is_cut made ≡ false) _ calls refl all
 uncut_first (Read address) (Value value) calls all = All-cons (λ made. is_cut made ≡ false) _ calls refl all
 uncut_first (Read address) NoValue calls all = All-cons (λ made. is_cut made ≡ false) _ calls refl all
 uncut_first Clean Cleaned calls all = All-cons (λ made. is_cut made ≡ false) _ calls refl all

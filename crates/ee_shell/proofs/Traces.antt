@@ -6,29 +6,30 @@ use Rattle.ee_check.specs.declared.change.Change.{Change}
 use Rattle.ee_check.specs.declared.change.Change.TheVariants as change
 use Rattle.ee_text.specs.Line.{line_of, IsLine}
 use Rattle.ee_script.specs.declared.command.Command.{Command}
-use Rattle.ee_script.specs.declared.command.Command.TheVariants.{Write, Read, Clean}
+use Rattle.ee_script.specs.declared.command.Command.TheVariants.{Write, Read, Forget, Clean}
 use Rattle.ee_script.specs.Command.{IsCommand, spelling}
 use Rattle.ee_script.specs.Script.{AreCommands, IsFirstBadLine, NoLine, script}
 use Rattle.ee_script.proofs.Steps.{no_line_at_feed}
 use Rattle.ee_shell.specs.Planning.{IsTrace}
-use Rattle.ee_shell.specs.Trace.{written}
+use Rattle.ee_shell.specs.Trace.{trace_of}
 
 -- The lines of some commands were read off the text, and so much is left; their writes are the trace so far.
 pub record HasRead (text rest : List ℕ) (trace : List Change) (lines : ℕ) : Type 0 where
   pub commands : List Command
   pub proper : AreCommands commands
   pub text_is : text ≡ script commands ++ rest
-  pub trace_is : trace ≡ written commands
+  pub trace_is : trace ≡ trace_of commands
   pub lines_are : lines ≡ length commands
 
 pub nothing_read : (text : List ℕ) (trace : List Change) → trace ≡ [] → HasRead text text trace 0
 nothing_read text trace empty = record { commands = []; proper = tt; text_is = refl; trace_is = empty; lines_are = refl }
 
-written_append : (commands more : List Command) → written (commands ++ more) ≡ written commands ++ written more
-written_append [] more = refl
-written_append (Write address value ∷ commands) more = ap (λ l. change.Write address ∷ l) (written_append commands more)
-written_append (Read address ∷ commands) more = written_append commands more
-written_append (Clean ∷ commands) more = written_append commands more
+trace_of-append : (commands more : List Command) → trace_of (commands ++ more) ≡ trace_of commands ++ trace_of more
+trace_of-append [] more = refl
+trace_of-append (Write address value ∷ commands) more = ap (λ l. change.Write address ∷ l) (trace_of-append commands more)
+trace_of-append (Forget address ∷ commands) more = ap (λ l. change.Forget address ∷ l) (trace_of-append commands more)
+trace_of-append (Read address ∷ commands) more = trace_of-append commands more
+trace_of-append (Clean ∷ commands) more = trace_of-append commands more
 
 script_append : (commands : List Command) (command : Command) (rest : List ℕ) → script commands ++ (line_of (spelling command) ++ rest) ≡ script (commands ++ command ∷ []) ++ rest
 script_append [] command rest = ap (λ l. l ++ rest) (sym (append-nil (line_of (spelling command))))
@@ -43,12 +44,12 @@ proper_append (first ∷ commands) command proper one = (proper.0, proper_append
 
 -- one line more is read
 pub one_line_more : (text rest more : List ℕ) (old new : List Change) (lines number : ℕ) (command : Command) → HasRead text rest old lines → number ≡ lines + 1
-    → IsCommand command × (rest ≡ line_of (spelling command) ++ more) → new ≡ old ++ written (command ∷ []) → HasRead text more new number
+    → IsCommand command × (rest ≡ line_of (spelling command) ++ more) → new ≡ old ++ trace_of (command ∷ []) → HasRead text more new number
 one_line_more text rest more old new lines number command read counted found pushed = record {
   commands = read.commands ++ command ∷ [];
   proper = proper_append read.commands command read.proper found.0;
   text_is = read.text_is ∙ ap (λ l. script read.commands ++ l) found.1 ∙ script_append read.commands command more;
-  trace_is = pushed ∙ ap (λ l. l ++ written (command ∷ [])) read.trace_is ∙ sym (written_append read.commands (command ∷ []));
+  trace_is = pushed ∙ ap (λ l. l ++ trace_of (command ∷ [])) read.trace_is ∙ sym (trace_of-append read.commands (command ∷ []));
   lines_are = let a = read.lines_are in omega (arith, length-append read.commands (command ∷ []));
 }
 

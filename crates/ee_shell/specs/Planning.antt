@@ -21,7 +21,7 @@ use Rattle.ee_words.specs.Fault.{fault_of_certificate, fault_of_check, fault_of_
 use Rattle.ee_words.specs.declared.fault.Fault.{Fault}
 use Rattle.ee_shell.specs.Images.{IsOpeningFault}
 use Rattle.ee_shell.specs.Replaying.{IsStoreText}
-use Rattle.ee_shell.specs.Trace.{written}
+use Rattle.ee_shell.specs.Trace.{trace_of}
 
 -- this is what the store of the image that the text spells gives a trace to start from
 pub record IsImageStart (image : List ℕ) (start : Situation) : Type 0 where
@@ -29,11 +29,11 @@ pub record IsImageStart (image : List ℕ) (start : Situation) : Type 0 where
   pub store : IsStoreText image device
   pub start_is : IsStartOf (slot_count device.size) (state_of device) start
 
--- these are the writes of the script that the text is; what it reads and what it cleans changes no value
+-- these are the writes and forgettings of the script that the text is; what it reads and what it cleans changes no value
 pub record IsTrace (text : List ℕ) (trace : List Change) : Type 0 where
   pub commands : List Command
   pub is_script : IsScript text commands
-  pub trace_is : trace ≡ written commands
+  pub trace_is : trace ≡ trace_of commands
 
 -- the start that the image gives, and the trace of the script
 pub record IsTask (image text : List ℕ) (start : Situation) (trace : List Change) : Type 0 where

@@ -3,24 +3,26 @@ use Rattle.std.specs.Prelude.{◌≡◌, ◌≤◌, ◌+◌, ◌*◌, ℕ, List,
 use Rattle.ee_flash.specs.Device.{Device, IsOn}
 use Rattle.ee_flash.specs.Size.{slot_count}
 use Rattle.ee_store.specs.Changes.{greatest_generation}
-use Rattle.ee_store.specs.Runs.{Call, Wrote, DidRead, Follows, IsWholeRun}
+use Rattle.ee_store.specs.Runs.{Call, Wrote, Forgot, DidRead, Follows, IsWholeRun}
 use Rattle.ee_store.specs.Runs as call
 use Rattle.ee_store.specs.State.{state_of}
+use Rattle.ee_store.specs.declared.variables.ForgetFault.TheVariants as forgetting
 use Rattle.ee_store.specs.declared.variables.WriteFault.TheVariants as fault
-use Rattle.ee_store.specs.declared.variables.Written.TheVariants as stored
+use Rattle.ee_store.specs.declared.variables.Written.{Written}
+use Rattle.ee_store.specs.declared.variables.Written.TheVariants as written
 use Rattle.ee_check.specs.declared.certificate.Stretch.{Stretch}
 use Rattle.ee_check.specs.Certificate.{Claim, IsTight}
 use Rattle.ee_check.specs.Schedule.{IsProper, Situation}
 use Rattle.ee_plan.specs.Start.{IsStartOf}
 use Rattle.ee_script.specs.declared.command.Command.{Command}
-use Rattle.ee_script.specs.declared.command.Command.TheVariants.{Write, Read, Clean}
+use Rattle.ee_script.specs.declared.command.Command.TheVariants.{Write, Read, Forget, Clean}
 use Rattle.ee_script.specs.declared.answer.Answer.{Answer}
-use Rattle.ee_script.specs.declared.answer.Answer.TheVariants.{Appended, Moved, Full, Spent, Cleaned, Idle, Value, NoValue}
+use Rattle.ee_script.specs.declared.answer.Answer.TheVariants.{Appended, Moved, Full, Spent, Cleaned, Idle, Value, NoValue, Absent}
 use Rattle.ee_script.specs.Whole.{IsAnswered}
 use Rattle.ee_shell.specs.Erases.{ErasesRise, erases_of, erases_of_all}
 use Rattle.ee_shell.specs.Machine.{Step}
 use Rattle.ee_shell.specs.Report.{IsReported}
-use Rattle.ee_shell.specs.Trace.{accepted, written}
+use Rattle.ee_shell.specs.Trace.{accepted, trace_of}
 
 -- power is on and is never cut
 pub record StaysOn (device : Device) : Type 0 where
@@ -29,10 +31,14 @@ pub record StaysOn (device : Device) : Type 0 where
 
 -- the call of a store that serves a command, as the answer tells of it
 abbrev pub call_of : Command → Answer → Option Call
-call_of (Write address value) Appended = Some (Wrote address value (Ok stored.Appended))
-call_of (Write address value) Moved = Some (Wrote address value (Ok stored.Moved))
+call_of (Write address value) Appended = Some (Wrote address value (Ok written.Appended))
+call_of (Write address value) Moved = Some (Wrote address value (Ok written.Moved))
 call_of (Write address value) Full = Some (Wrote address value (Err fault.Full))
 call_of (Write address value) Spent = Some (Wrote address value (Err fault.Spent))
+call_of (Forget address) Appended = Some (Forgot address (Ok written.Appended))
+call_of (Forget address) Moved = Some (Forgot address (Ok written.Moved))
+call_of (Forget address) Absent = Some (Forgot address (Err forgetting.Absent))
+call_of (Forget address) Spent = Some (Forgot address (Err forgetting.Spent))
 call_of (Read address) (Value value) = Some (DidRead address (Ok (Some value)))
 call_of (Read address) NoValue = Some (DidRead address (Ok None))
 call_of Clean Cleaned = Some (call.Cleaned (Ok true))
@@ -59,6 +65,11 @@ pub record Steps (old : Device) (command : Command) (answer : Answer) (new : Dev
   pub step : Step old.size (state_of old) command answer (state_of new)
   pub same_size : new.size ≡ old.size
   pub erases : ErasesRise (erases_of old.size answer) old new
+
+-- the answer to a change that was stored
+abbrev pub stored : Written → Answer
+stored written.Appended = Appended
+stored written.Moved = Moved
 
 -- what is noted of the changes that were accepted: how many they are, how many slots were used where the stretch of the
 -- certificate that goes on began, and the stretches that have ended
@@ -115,7 +126,7 @@ pub record IsCounted (device : Device) (notes : Notes) : Type 0 where
 pub record IsTraced (old : Device) (text : List ℕ) (new : Device) (notes : Notes) (lines : List ℕ) : Type 0 where
   pub answered : IsAnswered Serves old text new lines
   pub tight : (start : Situation) → IsStartOf (slot_count old.size) (state_of old) start → IsProper start
-      → IsTight start (written (accepted answered.commands answered.answers)) (claim_noted start notes)
+      → IsTight start (trace_of (accepted answered.commands answered.answers)) (claim_noted start notes)
   pub stays_on : StaysOn new
 
 -- A script was answered from one device to another, with the whole report of a run from the one's state to the other's;

@@ -1,5 +1,5 @@
 -- The changes that a script makes, as a trace, and what is shown of the moves among them: none of them could be spared.
-use Rattle.std.specs.Prelude.{◌≡◌, ◌⊎◌, ◌+◌, ◌<◌, ◌≤◌, ℕ, List, [], ◌∷◌, length, map}
+use Rattle.std.specs.Prelude.{◌≡◌, ◌≢◌, ◌⊎◌, ◌+◌, ◌<◌, ◌≤◌, ℕ, List, [], ◌∷◌, None, length, map}
 use Rattle.ee_pages.specs.Meaning as meaning
 use Rattle.ee_store.specs.Changes.{greatest_generation}
 use Rattle.ee_store.specs.State.{State}
@@ -9,15 +9,16 @@ use Rattle.ee_check.specs.Certificate.{Claim, IsCertificate, IsTight}
 use Rattle.ee_check.specs.Live.{KeepsWithin}
 use Rattle.ee_check.specs.Schedule.{IsSchedule, Move, Situation, after_moves, cost}
 use Rattle.ee_script.specs.declared.command.Command.{Command}
-use Rattle.ee_script.specs.declared.command.Command.TheVariants.{Write}
+use Rattle.ee_script.specs.declared.command.Command.TheVariants.{Write, Forget}
 use Rattle.ee_script.specs.declared.answer.Answer.{Answer}
 use Rattle.ee_script.specs.declared.answer.Answer.TheVariants.{Appended, Moved}
 
--- each write of a script, as a change of a trace
-abbrev pub written : List Command → List Change
-written [] = []
-written (Write address value ∷ commands) = change.Write address ∷ written commands
-written (command ∷ commands) = written commands
+-- each write and each forgetting of a script, as a change of a trace
+abbrev pub trace_of : List Command → List Change
+trace_of [] = []
+trace_of (Write address value ∷ commands) = change.Write address ∷ trace_of commands
+trace_of (Forget address ∷ commands) = change.Forget address ∷ trace_of commands
+trace_of (command ∷ commands) = trace_of commands
 
 -- the commands that changed the map: those answered `ok` or `moved`
 abbrev pub accepted : List Command → List Answer → List Command
@@ -37,17 +38,26 @@ moved_at n (answer ∷ answers) = moved_at n answers
 abbrev pub moves : List Answer → ℕ
 moves answers = length (moved_at 0 answers)
 
--- the values that commands write, as changes of a map
-abbrev pub puts : List Command → List meaning.Change
-puts [] = []
-puts (Write address value ∷ commands) = meaning.Put address value ∷ puts commands
-puts (command ∷ commands) = puts commands
+-- what commands write and what they forget, as changes of a map
+abbrev pub map_changes : List Command → List meaning.Change
+map_changes [] = []
+map_changes (Write address value ∷ commands) = meaning.Put address value ∷ map_changes commands
+map_changes (Forget address ∷ commands) = meaning.Forget address ∷ map_changes commands
+map_changes (command ∷ commands) = map_changes commands
 
--- Each write of the script finds room: never are more addresses live than there are slots, and a generation is left for
--- each write, were it to move.
+-- each forgetting is of an address that has a value: in this map of values, changed by what stands before it
+abbrev pub ForgetsWhatIsHeld : meaning.Map → List Command → Type 0
+ForgetsWhatIsHeld values [] = Unit {0}
+ForgetsWhatIsHeld values (Write address value ∷ commands) = ForgetsWhatIsHeld (meaning.changed (meaning.Put address value) values) commands
+ForgetsWhatIsHeld values (Forget address ∷ commands) = (values address ≢ None) × ForgetsWhatIsHeld (meaning.changed (meaning.Forget address) values) commands
+ForgetsWhatIsHeld values (command ∷ commands) = ForgetsWhatIsHeld values commands
+
+-- Each change of the script is made: never are more addresses live than there are slots, each forgetting is of an address
+-- that has a value, and a generation is left for each change, were it to move.
 pub record Fits (start : Situation) (state : State) (commands : List Command) : Type 0 where
-  pub keeps : KeepsWithin start.slots start.live (written commands)
-  pub generations : state.generation + length (written commands) ≤ greatest_generation
+  pub keeps : KeepsWithin start.slots start.live (trace_of commands)
+  pub held : ForgetsWhatIsHeld state.map commands
+  pub generations : state.generation + length (trace_of commands) ≤ greatest_generation
 
 -- From a start, the moves among the answers are the fewest: they stand exactly where the stretches of the trace's one
 -- tight certificate end, which the checker accepts; some store that transfers when it likes makes as many transfers, and

@@ -1,10 +1,12 @@
 //! The certificate of the changes that a store accepts, noted as it accepts them.
-ghost use Rattle.std.specs.Prelude.{◌≡◌, ◌<◌, ◌+◌, ◌^◌, OnErr, OnOk, length};
+ghost use Rattle.std.specs.Prelude.{◌≡◌, ◌<◌, ◌+◌, ◌^◌, IfOk, OnErr, OnOk, length};
 ghost use Rattle.ee_check.specs.Certificate.{claim_of};
-ghost use Rattle.ee_shell.specs.Serving.{claim_noted, no_notes, noted};
+ghost use Rattle.ee_shell.specs.Serving.{claim_noted, no_notes, noted, stored};
 ghost use Rattle.ee_script.specs.declared.answer.Answer.TheVariants.{Appended, Moved};
 
 use ee_check::{Certificate, Start, Stretch};
+use ee_script::Answer;
+use ee_store::Written;
 use std::alloc::{AllocError, Allocator, Global};
 use std::marker::Model;
 
@@ -40,8 +42,27 @@ impl<A: Allocator> Notes<A> {
         }
     }
 
+    /// Notes how a change was stored, behind which so many slots are used, and gives the answer to it.
+    pub(crate) fn note(&mut self, written: Written, fill: u64) -> Result<Answer, AllocError>
+        requires { self.old.changes + 1 < 2 ^ 64 }
+        ensures answer { IfOk result (λ answer. answer ≡ stored written) }
+        ensures noted { OnOk result (self.new ≡ noted (stored written) fill self.old) }
+        ensures err { OnErr result (self.new ≡ self.old) }
+    {
+        match written {
+            Written::Appended => {
+                self.append();
+                Ok(Answer::Appended)
+            }
+            Written::Moved => {
+                self.transfer(fill)?;
+                Ok(Answer::Moved)
+            }
+        }
+    }
+
     /// A change was appended.
-    pub(crate) fn append(&mut self)
+    fn append(&mut self)
         requires { self.old.changes + 1 < 2 ^ 64 }
         ensures { self.new ≡ noted Appended 0 self.old }
     {
@@ -49,7 +70,7 @@ impl<A: Allocator> Notes<A> {
     }
 
     /// A change was moved with the map, and so many slots are used behind it.
-    pub(crate) fn transfer(&mut self, fill: u64) -> Result<(), AllocError>
+    fn transfer(&mut self, fill: u64) -> Result<(), AllocError>
         requires { self.old.changes + 1 < 2 ^ 64 }
         ensures ok { OnOk result (self.new ≡ noted Moved fill self.old) }
         ensures err { OnErr result (self.new ≡ self.old) }

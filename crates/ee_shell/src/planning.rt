@@ -3,7 +3,7 @@ ghost use Rattle.std.specs.Prelude.{◌≡◌, ◌≢◌, ◌⊎◌, ◌++◌, �
 ghost use Rattle.ee_text.specs.Line.{line_of};
 ghost use Rattle.ee_script.specs.Whole.{IsScriptFault};
 ghost use Rattle.ee_shell.specs.Planning.{IsCheckingFault, IsPlanned, IsPlanningFault, IsProved, IsTask, IsTaskFault, IsTrace, proved_text};
-ghost use Rattle.ee_shell.specs.Trace.{written};
+ghost use Rattle.ee_shell.specs.Trace.{trace_of};
 
 use super::opening::open_image;
 use ee_check::{Change, Start, check, read_certificate, write_certificate};
@@ -93,7 +93,7 @@ fn read_task<A: Allocator + Copy>(
     Ok((start, trace))
 }
 
-/// The writes of a script.
+/// The writes and forgettings of a script.
 fn read_trace<A: Allocator + Copy>(alloc: A, script: &[u8]) -> Result<Vec<Change, A>, ScriptFault>
     ensures trace { IfOk result (λ trace. IsTrace script.now trace.items) }
     ensures fault { IfErr result (IsScriptFault script.now) }
@@ -106,21 +106,19 @@ fn read_trace<A: Allocator + Copy>(alloc: A, script: &[u8]) -> Result<Vec<Change
         let Some((command, more)) = next_command(rest) else {
             return Err(ScriptFault::BadLine(line));
         };
-        push_written(&mut trace, command)?;
+        push_change(&mut trace, command)?;
         rest = more;
     }
     Ok(trace)
 }
 
-/// Puts a command at the end of a trace, if it is a write.
-fn push_written<A: Allocator>(
-    trace: &mut Vec<Change, A>,
-    command: Command,
-) -> Result<(), AllocError>
-    ensures { OnOk result (trace.new.items ≡ trace.old.items ++ written (command ∷ [])) }
+/// Puts a command at the end of a trace, if it is a change.
+fn push_change<A: Allocator>(trace: &mut Vec<Change, A>, command: Command) -> Result<(), AllocError>
+    ensures { OnOk result (trace.new.items ≡ trace.old.items ++ trace_of (command ∷ [])) }
 {
     match command {
         Command::Write { address, .. } => trace.push(Change::Write(address))?,
+        Command::Forget { address } => trace.push(Change::Forget(address))?,
         Command::Read { .. } | Command::Clean => {}
     }
     Ok(())

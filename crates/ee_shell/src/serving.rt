@@ -2,7 +2,7 @@
 ghost use Rattle.std.specs.Prelude.{◌≡◌, ◌⊎◌, ℕ, List, IfOk, IfErr, MatchResult};
 ghost use Rattle.ee_script.specs.Script.{IsFirstBadLine};
 ghost use Rattle.ee_script.specs.Whole.{IsScriptFault};
-ghost use Rattle.ee_script.specs.declared.command.Command.TheVariants.{Write, Read, Clean};
+ghost use Rattle.ee_script.specs.declared.command.Command.TheVariants.{Write, Read, Forget, Clean};
 ghost use Rattle.ee_script.specs.Reading.{IsStreamFault};
 ghost use Rattle.ee_store.specs.Finished.{IsStore};
 ghost use Rattle.ee_store.specs.State.{state_of};
@@ -12,7 +12,7 @@ ghost use Rattle.ee_shell.specs.Serving.{IsCounted, IsTraced, Serves, StaysOn, n
 use super::noting::Notes;
 use ee_codec::Address;
 use ee_script::{Answer, Command, ScriptFault, Serve, StreamFault, answer_reader, answer_script};
-use ee_store::{Off, Variables, WriteFault, Written};
+use ee_store::{ForgetFault, Off, Variables, WriteFault};
 use ee_words::MOST_READS;
 use std::alloc::{AllocError, Allocator, Global};
 use std::io::Read;
@@ -46,18 +46,32 @@ impl<V: Variables + Drop, A: Allocator> Server<V, A> {
             ≡ noted answer (state_of (V.device self.new.store)).fill self.old.notes) }
     {
         match self.store.write(address, value) {
-            Ok(Written::Appended) => {
-                self.notes.append();
-                Ok(Answer::Appended)
-            }
-            Ok(Written::Moved) => {
-                self.notes.transfer(self.store.fill() as u64)?;
-                Ok(Answer::Moved)
+            Ok(written) => {
+                let fill = self.store.fill();
+                self.notes.note(written, fill as u64)
             }
             Err(WriteFault::Full) => Ok(Answer::Full),
             Err(WriteFault::Spent) => Ok(Answer::Spent),
             Err(WriteFault::Memory) => Err(AllocError),
             Err(WriteFault::Off | WriteFault::Cut) => unreachable!("power stays on"),
+        }
+    }
+
+    /// Forgets, as a line of a script says. An error says that memory ran out.
+    fn forget(&mut self, address: Address) -> Result<Answer, AllocError>
+        ensures serves { IfOk result (λ answer. Serves (V.device self.old.store)
+            (Forget address) answer (V.device self.new.store)) }
+        ensures notes { IfOk result (λ answer. self.new.notes
+            ≡ noted answer (state_of (V.device self.new.store)).fill self.old.notes) }
+    {
+        match self.store.forget(address) {
+            Ok(written) => {
+                let fill = self.store.fill();
+                self.notes.note(written, fill as u64)
+            }
+            Err(ForgetFault::Absent) => Ok(Answer::Absent),
+            Err(ForgetFault::Spent) => Ok(Answer::Spent),
+            Err(ForgetFault::Off | ForgetFault::Cut) => unreachable!("power stays on"),
         }
     }
 
@@ -97,6 +111,7 @@ impl<V: Variables + Drop, A: Allocator> Serve for Server<V, A> {
     fn serve(&mut self, command: Command) -> Result<Answer, AllocError> {
         match command {
             Command::Write { address, value } => self.write(address, value),
+            Command::Forget { address } => self.forget(address),
             Command::Read { address } => Ok(self.read(address)),
             Command::Clean => Ok(self.clean()),
         }

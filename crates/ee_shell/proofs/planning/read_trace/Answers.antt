@@ -21,7 +21,7 @@ lines-preserved g c =
     let longer = line_is_longer c.lines.rest.now c.in-Some.more.now c.in-Some.command c.in-Some.ensures.found.1 in
     record {
       read = one_line_more c.args.script.now c.lines.rest.now c.in-Some.more.now c.lines.trace.items _ c.lines.line _ c.in-Some.command c.lines.invariant.read
-          (omega arith) c.in-Some.ensures.found c.in_ok-push_written.ensures;
+          (omega arith) c.in-Some.ensures.found c.in_ok-push_change.ensures;
       counted = omega arith;
     }
 
