@@ -22,6 +22,7 @@ impl Serve for LastValue {
                 self.0 = value;
                 Answer::Appended
             }
+            Command::Forget { .. } => Answer::Absent,
             Command::Read { .. } => Answer::Value(self.0),
             Command::Clean => Answer::Idle,
         })
@@ -48,13 +49,17 @@ fn good_lines_are_commands(rt: HostRuntime) -> Result<(), Fail> {
         read_command(b"r 65534"),
         Some(Command::Read { address: last })
     );
+    assert_eq!(rt;
+        read_command(b"f 1"),
+        Some(Command::Forget { address: first })
+    );
     assert_eq!(rt; read_command(b"c"), Some(Command::Clean));
     Ok(())
 }
 
 #[test]
 fn bad_lines_are_none(rt: HostRuntime) {
-    let lines: [&[u8]; 16] = [
+    let lines: [&[u8]; 18] = [
         b"",
         b"w 0 1",
         b"w 65535 1",
@@ -67,6 +72,8 @@ fn bad_lines_are_none(rt: HostRuntime) {
         b"w 1 +1",
         b"r",
         b"r 1 1",
+        b"f",
+        b"f 1 1",
         b"c ",
         b"W 1 1",
         b"c\r",
@@ -76,7 +83,7 @@ fn bad_lines_are_none(rt: HostRuntime) {
         assert!(rt; read_command(line).is_none(), "{line:?}");
     }
     // These commands come later.
-    let later: [&[u8]; 3] = [b"f 1", b"x 1 t", b"p"];
+    let later: [&[u8]; 2] = [b"x 1 t", b"p"];
     for line in later {
         assert!(rt; read_command(line).is_none(), "{line:?}");
     }
@@ -94,12 +101,13 @@ fn answers_are_lines(rt: HostRuntime) -> Result<(), Fail> {
         Answer::Idle,
         Answer::Value(4_294_967_295),
         Answer::NoValue,
+        Answer::Absent,
     ] {
         push_answer(&mut out, answer)?;
     }
     assert_eq!(rt;
         out.as_slice(),
-        b"ok\nmoved\nfull\nspent\nclean\nidle\n4294967295\nnone\n".as_slice()
+        b"ok\nmoved\nfull\nspent\nclean\nidle\n4294967295\nnone\nabsent\n".as_slice()
     );
     Ok(())
 }

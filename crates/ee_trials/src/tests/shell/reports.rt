@@ -243,3 +243,62 @@ fn clean_steps(rt: HostRuntime) -> Result<(), Fail> {
     };
     assert_proved(&rt, rt.alloc(), &worked, b"proved 1\n")
 }
+
+#[test]
+fn forget(rt: HostRuntime) -> Result<(), Fail> {
+    let worked = Worked {
+        image: FORMATTED,
+        script: b"w 1 10\nw 2 5\nw 3 1\nf 1\nr 1\nw 3 1\n",
+        lines: b"ok\nok\nfull\nmoved\nnone\nok\nend fill 2 room 0 live 2 pending 1 transfers 1\n",
+        certificate: b"slots 2 fill 0 live 0 writes 4\nto 3 from 0\ntransfers 1\n",
+        after: b"ee 1 6
+0 aaaaaaaa00000001 aaaaaaaaaaaaaaaa - aaaaaaaaaaaaaaaa 0000000a00000001 0000000500000002
+0 aaaaaaaa00000002 aaaaaaaaaaaaaaaa - - 0000000500000002 0000000100000003
+",
+    };
+    assert_replayed(&rt, rt.alloc(), &worked)
+}
+
+#[test]
+fn forget_absent(rt: HostRuntime) -> Result<(), Fail> {
+    let worked = Worked {
+        image: FORMATTED,
+        script: b"w 1 10\nf 1\nf 1\nw 1 11\nr 1\n",
+        lines: b"ok\nok\nabsent\nmoved\n11\nend fill 1 room 1 live 1 pending 1 transfers 1\n",
+        certificate: b"slots 2 fill 0 live 0 writes 3\nto 3 from 0\ntransfers 1\n",
+        after: b"ee 1 6
+0 aaaaaaaa00000001 aaaaaaaaaaaaaaaa - aaaaaaaaaaaaaaaa 0000000a00000001 0000000a00010001
+0 aaaaaaaa00000002 aaaaaaaaaaaaaaaa - - 0000000b00000001 -
+",
+    };
+    assert_replayed(&rt, rt.alloc(), &worked)
+}
+
+#[test]
+fn forget_last(rt: HostRuntime) -> Result<(), Fail> {
+    let shape = Shape::new(1, 5).ok_or("no shape")?;
+    let image = format_image(rt.alloc(), shape).ok().ok_or("not formatted")?;
+    let worked = Worked {
+        image: image.as_slice(),
+        script: b"w 1 1\nf 1\nw 2 2\nf 2\n",
+        lines: b"ok\nmoved\nok\nmoved\nend fill 0 room 1 live 0 pending 1 transfers 2\n",
+        certificate: b"slots 1 fill 0 live 0 writes 4\nto 2 from 0\nto 4 from 0\ntransfers 2\n",
+        after: b"ee 1 5
+1 aaaaaaaa00000003 aaaaaaaaaaaaaaaa - - -
+0 aaaaaaaa00000002 aaaaaaaaaaaaaaaa - aaaaaaaaaaaaaaaa 0000000200000002
+",
+    };
+    assert_proved(&rt, rt.alloc(), &worked, b"proved 2\n")
+}
+
+#[test]
+fn forget_spent(rt: HostRuntime) -> Result<(), Fail> {
+    let worked = Worked {
+        image: SPENT,
+        script: b"f 1\nf 2\n",
+        lines: b"spent\nabsent\nend fill 2 room 0 live 1 pending 0 transfers 0\n",
+        certificate: b"slots 2 fill 2 live 1 writes 0\ntransfers 0\n",
+        after: SPENT,
+    };
+    assert_replayed(&rt, rt.alloc(), &worked)
+}
