@@ -284,7 +284,7 @@ does_turn turn old new taken = does old.serving turn.event turn.answer turn.foun
 
 -- ---- turns one after another
 
-kept_changes-cons : (turn : Turn) (turns : List Turn) → kept_changes (turn ∷ turns) ≡ kept_changes (turn ∷ []) ++ kept_changes turns
+pub kept_changes-cons : (turn : Turn) (turns : List Turn) → kept_changes (turn ∷ turns) ≡ kept_changes (turn ∷ []) ++ kept_changes turns
 kept_changes-cons turn turns = filter_map-append (λ (one : Turn). change_kept one.event one.answer one.found) (turn ∷ []) turns
 
 kept : (turns : List Turn) (old new : Point) → AreTurns turns old new → IsLegal old.device → WasKept turns old.device new.device

@@ -33,3 +33,4 @@ pub mod CutMaps
 pub mod TurnByTurn
 pub mod KeptChanges
 pub mod WholeDrives
+pub mod StayingChanges

@@ -1,11 +1,12 @@
 -- What is kept of the changes that events ask for: those that were answered as done, and of those in which power was cut
 -- the ones that were found.
-use Rattle.std.specs.Prelude.{◌≡◌, Bool, true, false, Option, Some, None, List, [], ◌∷◌}
+use Rattle.std.specs.Prelude.{◌≡◌, ◌==◌, ◌++◌, ℕ, Bool, true, false, Option, Some, None, List, [], ◌∷◌}
 use Rattle.std.specs.List.{All, filter_map}
 use Rattle.ee_flash.specs.Device.{Device}
 use Rattle.ee_pages.specs.Legal.{IsLegal}
 use Rattle.ee_pages.specs.Meaning as meaning
 use Rattle.ee_pages.specs.Meaning.{Change, Map, changed_by}
+use Rattle.ee_pages.specs.Pending.{address_of}
 use Rattle.ee_store.specs.Events.{AreTold, AreTurns, Point, Turn, WasDone}
 use Rattle.ee_store.specs.State.{state_of}
 use Rattle.ee_store.specs.declared.event.Answer.{Answer}
@@ -61,3 +62,22 @@ pub record Drives (old : Device) (events : List Event) (log : List Answer) (kept
 abbrev pub NoAnsweredChangeIsLost : Type 0
 NoAnsweredChangeIsLost =
     (turns : List Turn) (old new : Point) → AreTurns turns old new → IsLegal old.device → WasKept turns old.device new.device
+
+-- the event asks for a change of the address
+abbrev pub asks_change_of : ℕ → Event → Bool
+asks_change_of address (Put named value) = named == address
+asks_change_of address (Forget named) = named == address
+asks_change_of address event = false
+
+-- the map has the change: its address has the value, or has none
+abbrev pub HasChange : Change → Map → Type 0
+HasChange (meaning.Put address value) map = map address ≡ Some value
+HasChange (meaning.Forget address) map = map address ≡ None
+
+-- A change that was kept stays, whatever is cut later, however often, in calls and in openings: as long as no further
+-- change of its address is asked for, the image has it.
+abbrev pub AKeptChangeStays : Type 0
+AKeptChangeStays =
+    (turns later : List Turn) (turn : Turn) (change : Change) (old new : Point) → AreTurns (turns ++ turn ∷ later) old new
+    → IsLegal old.device → change_kept turn.event turn.answer turn.found ≡ Some change
+    → All (λ one. asks_change_of (address_of change) one.event ≡ false) later → HasChange change (state_of new.device).map

@@ -33,6 +33,16 @@ impl Note {
             found: None,
         }
     }
+
+    // With what the image was found to have.
+    fn looked(answer: Answer, found: bool) -> Note
+        ensures { result ≡ record { answer = answer; found = Some found } }
+    {
+        Note {
+            answer,
+            found: Some(found),
+        }
+    }
 }
 
 /// A device, with a store open on it or without.
@@ -96,14 +106,8 @@ fn put<F: Flash + Drop>(store: Store<F>, address: Address, value: u32) -> (Bench
         Err(WriteFault::Cut) => {
             let flash = store.into_flash();
             let found = value_in(&flash, address) == Some(value);
-            let answer = Answer::Refused(WriteFault::Cut);
-            (
-                Bench::Bare(flash),
-                Note {
-                    answer,
-                    found: Some(found),
-                },
-            )
+            let note = Note::looked(Answer::Refused(WriteFault::Cut), found);
+            (Bench::Bare(flash), note)
         }
         Err(fault) => (Bench::of(store), Note::of(Answer::Refused(fault))),
     }
@@ -120,14 +124,8 @@ fn forget<F: Flash + Drop>(store: Store<F>, address: Address) -> (Bench<F>, Note
         Err(ForgetFault::Cut) => {
             let flash = store.into_flash();
             let found = value_in(&flash, address).is_none();
-            let answer = Answer::NotForgotten(ForgetFault::Cut);
-            (
-                Bench::Bare(flash),
-                Note {
-                    answer,
-                    found: Some(found),
-                },
-            )
+            let note = Note::looked(Answer::NotForgotten(ForgetFault::Cut), found);
+            (Bench::Bare(flash), note)
         }
         Err(fault) => (Bench::of(store), Note::of(Answer::NotForgotten(fault))),
     }
