@@ -56,7 +56,8 @@ abbrev pub Idles : Answer → Device → Device → Type 0
 Idles Off old new = new ≡ old
 Idles answer old new = ⊥
 
--- what the event is answered, and what it leaves
+-- What the event is answered, and what it leaves, by whether a store is open on a device that is on: a reopening opens;
+-- each other event makes its call, or is answered that it is off.
 abbrev pub Happens : Bool → Event → Answer → Device → Device → Type 0
 Happens serving Reopen answer old new = Reopens answer old new
 Happens true event answer old new = IsCalled (call_of event answer) old new

@@ -179,8 +179,12 @@ fn value_in<F: Flash>(flash: &F, address: Address) -> Option<u32>
     }
 }
 
-/// Drives a store by events, through power cuts and openings. No store is open at the start. All but
-/// `Reopen` are answered `Off` without an open store, or on a device that is off.
+/// Drives a store by events, one after another, through power cuts and openings. No store is open at
+/// the start, whether the device is on or off. Without an open store, or on a device that is off, all
+/// but `Reopen` are answered `Off`. Memory for the answers is taken before the first event.
+///
+/// From any legal image no change that was answered as done is lost, and of each that met a cut
+/// `kept` says whether the image has it.
 ///
 /// Source: ours.
 ///

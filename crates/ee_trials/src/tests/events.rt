@@ -52,7 +52,12 @@ fn each_request_refused(rt: HostRuntime) -> Result<(), Fail> {
 }
 
 // Cuts the erase of the first set's page as the list says, in a clean step or in a put that transfers.
-fn cut_the_erase(rt: &impl Abort, alloc: Global, is_put: bool, list: &[Left; 5]) -> Result<(), Fail> {
+fn cut_the_erase(
+    rt: &impl Abort,
+    alloc: Global,
+    is_put: bool,
+    list: &[Left; 5],
+) -> Result<(), Fail> {
     let one = Address::new(1).ok_or("no address")?;
     let put = Event::Put {
         address: one,

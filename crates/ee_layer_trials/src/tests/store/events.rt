@@ -83,7 +83,15 @@ fn cut_each_step<R: Abort + AllocGlobal>(rt: &R, trial: &Trial) -> Result<(), Fa
             let values = if is_kept { trial.with } else { trial.without };
             let flash = replay(rt, formatted(rt.alloc(), pages, words)?, trial.before)?;
             let fuse = Fuse { after, tear };
-            cut_in(rt, flash, fuse, trial.event, trial.cut, Some(is_kept), values)?;
+            cut_in(
+                rt,
+                flash,
+                fuse,
+                trial.event,
+                trial.cut,
+                Some(is_kept),
+                values,
+            )?;
         }
     }
     Ok(())
@@ -140,7 +148,15 @@ fn a_cut_append(rt: HostRuntime) -> Result<(), Fail> {
             (false, 12)
         };
         let fuse = Fuse { after: 0, tear };
-        cut_in(&rt, flash, fuse, put, cut, Some(is_kept), [Some(value), None])?;
+        cut_in(
+            &rt,
+            flash,
+            fuse,
+            put,
+            cut,
+            Some(is_kept),
+            [Some(value), None],
+        )?;
     }
     Ok(())
 }
@@ -235,7 +251,11 @@ fn the_opening_after_nine_steps(rt: HostRuntime) -> Result<(), Fail> {
             let mut flash = replay(&rt, formatted(rt.alloc(), 2, 5)?, &before)?;
             flash.arm(Fuse { after, tear });
             let driven = driven(rt.alloc(), flash, &events)?;
-            assert_eq!(rt; driven.log.as_slice(), answers.as_slice(), "{after} {tear:?}");
+            assert_eq!(rt;
+                driven.log.as_slice(),
+                answers.as_slice(),
+                "{after} {tear:?}"
+            );
             assert!(rt; driven.kept.is_empty());
         }
     }
