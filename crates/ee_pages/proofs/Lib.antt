@@ -2,6 +2,7 @@ pub mod Slots
 pub mod Front
 pub mod Legal
 pub mod Scans
+pub mod ScanFaults
 pub mod LastSaid
 pub mod Counts
 pub mod OtherSet

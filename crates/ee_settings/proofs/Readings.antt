@@ -1,19 +1,11 @@
 -- What a changed map makes of the readings.
-use Rattle.std.proofs.Common.{◌⊎◌, inl, inr, ◌≤◌, length, filter, ◌≡◌, ◌≢◌, ℕ, List, Option, Some, None, Ok, ap, sym, ◌∙◌, arith}
+use Rattle.std.proofs.Common.{◌≡◌, ◌≢◌, ℕ, List, Some, Ok, ap, sym, ◌∙◌, arith}
 use Rattle.std.specs.List.{Contains}
 use Rattle.std.proofs.lemmas.Bool.Decides.{nat_tests}
-use Rattle.std.proofs.lemmas.Bool.{cases_lt}
-use Rattle.std.proofs.lemmas.List.Sums.{count_by-le-length, length-filter}
-use Rattle.ee_flash.specs.Device.{Device, IsFormed}
-use Rattle.ee_flash.specs.Size.{slot_count}
-use Rattle.ee_pages.specs.Page.{is_written}
-use Rattle.ee_pages.specs.Sets.{live_of, set_of, slots_of}
-use Rattle.ee_pages.specs.declared.side.Side.{Side}
-use Rattle.ee_pages.proofs.Slots.{length-slots}
-use Rattle.ee_store.specs.Changes.{IsCutAppend, IsCutChange, IsCutMove}
+use Rattle.ee_flash.specs.Device.{Device}
 use Rattle.ee_pages.specs.Meaning.{Map, Put, changed}
 use Rattle.ee_store.specs.Calls.{Writes}
-use Rattle.ee_store.specs.State.{State, capacity, state_in, state_of}
+use Rattle.ee_store.specs.State.{state_of}
 use Rattle.ee_store.specs.declared.variables.Written.{Written}
 use Rattle.ee_store.specs.declared.variables.Written.TheVariants.{Appended, Moved}
 use Rattle.ee_settings.specs.Calls.{IsNamed}
@@ -54,30 +46,3 @@ addresses_apart settings own name setting other named inside ne e = ne (ap (λ (
 pub written_map : (old new : Device) (address value : ℕ) (written : Written) → Writes old address value (Ok written) new → (state_of new).map ≡ changed (Put address value) (state_of old).map
 written_map old new address value Appended w = ap (λ s. s.map) w.state_is
 written_map old new address value Moved w = ap (λ s. s.map) w.state_is
-
-fill_in : (device : Device) (live : Option (Side × ℕ)) → IsFormed device → (state_in device live).fill ≤ capacity device
-fill_in device None formed = omega arith
-fill_in device (Some live) formed =
-    let slots = slots_of (set_of live.0 device) in
-    let whole : length slots ≡ slot_count device.size = length-slots live.0 device formed in
-    let some : length (filter is_written slots) ≤ length slots = rw (length-filter is_written slots) (count_by-le-length is_written slots) in
-    omega arith
-
--- no more slots are used than there are
-pub fill_within : (device : Device) → IsFormed device → (state_of device).fill ≤ capacity device
-fill_within device formed = fill_in device (live_of device) formed
-
--- after a cut the map is as it was or has the value
-pub cut_map : (old new : State) (pages address value : ℕ) → IsCutAppend old (Put address value) new ⊎ IsCutMove pages old (Put address value) new → (new.map ≡ old.map) ⊎ (new.map ≡ changed (Put address value) old.map)
-cut_map old new pages address value (inl (inl e)) = inl (ap (λ s. s.map) e)
-cut_map old new pages address value (inl (inr (inl e))) = inl (ap (λ s. s.map) e)
-cut_map old new pages address value (inl (inr (inr e))) = inr (ap (λ s. s.map) e)
-cut_map old new pages address value (inr (inl e)) = inl (ap (λ s. s.map) e.2)
-cut_map old new pages address value (inr (inr e)) = inr (ap (λ s. s.map) e)
-
-pub cut_cases : (old new : Device) (address value : ℕ) → IsFormed old → IsCutChange old (Put address value) new → IsCutAppend (state_of old) (Put address value) (state_of new) ⊎ IsCutMove old.size.pages (state_of old) (Put address value) (state_of new)
-cut_cases old new address value formed cut =
-    elim (cases_lt (state_of old).fill (capacity old)) [
-      | inl h ↦ inl (cut.free h)
-      | inr h ↦ (let within = fill_within old formed in let e : (state_of old).fill ≡ capacity old = omega arith in inr (cut.all_used e))
-    ]

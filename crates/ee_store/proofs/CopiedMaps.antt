@@ -52,10 +52,10 @@ map_to-below map last address h = ap (λ (b : Bool). cond b (map address) None) 
 map_to-above : (map : Map) (last address : ℕ) → last < address → map_to map last address ≡ None
 map_to-above map last address h = ap (λ (b : Bool). cond b (map address) None) (lt-leb address last h)
 
-put-at : (map : Map) (named value address : ℕ) → address ≡ named → changed (Put named value) map address ≡ Some value
+pub put-at : (map : Map) (named value address : ℕ) → address ≡ named → changed (Put named value) map address ≡ Some value
 put-at map named value address e = ap (λ (b : Bool). cond b (Some value) (map address)) (eq-eqb named address (sym e))
 
-put-other : (map : Map) (named value address : ℕ) → (address ≡ named → ⊥) → changed (Put named value) map address ≡ map address
+pub put-other : (map : Map) (named value address : ℕ) → (address ≡ named → ⊥) → changed (Put named value) map address ≡ map address
 put-other map named value address other = ap (λ (b : Bool). cond b (Some value) (map address)) (ne_eqb named address (λ e. other (sym e)))
 
 -- up to the next live address no other has a value

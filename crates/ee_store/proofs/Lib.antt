@@ -29,3 +29,8 @@ pub mod MovedSets
 pub mod MarkedSets
 pub mod ShownStates
 pub mod PageWears
+pub mod CutMaps
+pub mod TurnByTurn
+pub mod KeptChanges
+pub mod WholeDrives
+pub mod StayingChanges

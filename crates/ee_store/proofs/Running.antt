@@ -22,15 +22,15 @@ use Rattle.ee_store.specs.declared.variables.Written.TheVariants.{Appended, Move
 -- ---- one call
 
 -- so many pages more are erased or wait, where wear is counted
-abbrev Adds : ℕ → Device → Device → Type 0
+abbrev pub Adds : ℕ → Device → Device → Type 0
 Adds more old new = CountsWear new → CountsWear old × (total_wear_of new + (state_of new).pending ≡ total_wear_of old + (state_of old).pending + more)
 
 -- the pages of a set for a transfer, none for another call
-abbrev cost : Bool → Device → ℕ
+abbrev pub cost : Bool → Device → ℕ
 cost transfer device = cond transfer device.size.pages 0
 
 -- what a call does where power is not cut in it
-record Goes (transfer : Bool) (changes : List Change) (old new : Device) : Type 0 where
+pub record Goes (transfer : Bool) (changes : List Change) (old new : Device) : Type 0 where
   pub power : GoesOn old new
   pub adds : Adds (cost transfer old) old new
   pub map_is : (state_of new).map ≡ changed_by changes (state_of old).map
@@ -78,7 +78,7 @@ erases old new done = record {
   map_is = ap (λ (state : State). state.map) done.state_is;
 }
 
-goes : (call : Call) (old new : Device) → is_cut call ≡ false → Follows call old new → Goes (is_transfer call) (changes_of call) old new
+pub goes : (call : Call) (old new : Device) → is_cut call ≡ false → Follows call old new → Goes (is_transfer call) (changes_of call) old new
 goes (Wrote address value (Ok Appended)) old new whole done = assumption (appends old new (Put address value) done)
 goes (Wrote address value (Ok Moved)) old new whole done = assumption (moves old new (Put address value) done)
 goes (Wrote address value (Err write.Off)) old new whole done = nothing old new done.1
@@ -124,7 +124,7 @@ sum_of_more : (transfer : Bool) (pages later_pages rest all start middle end : �
 sum_of_more true pages later_pages rest all start middle end same is first more = rw (more, first, is, same) (grind arith)
 sum_of_more false pages later_pages rest all start middle end same is first more = rw (more, first, is, same) (grind arith)
 
-changed_by-append : (changes more : List Change) (map : Map) → changed_by (changes ++ more) map ≡ changed_by more (changed_by changes map)
+pub changed_by-append : (changes more : List Change) (map : Map) → changed_by (changes ++ more) map ≡ changed_by more (changed_by changes map)
 changed_by-append [] more map = refl
 changed_by-append (change ∷ changes) more map = changed_by-append changes more (changed change map)
 

@@ -8,3 +8,6 @@ pub mod Parts
 pub mod Course
 pub mod Runs
 pub mod PageStates
+pub mod Events
+pub mod Outcome
+pub mod Bench

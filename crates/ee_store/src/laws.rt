@@ -1,5 +1,7 @@
 //! Laws of calls of any `Variables` in which power is not cut, over any run of them and of the images
-//! that they leave, each the contract of a function that does nothing.
+//! that they leave, and of events that drive a store through power cuts and openings; each the
+//! contract of a function that does nothing.
+ghost use Rattle.ee_store.specs.Outcome.{AKeptChangeStays, NoAnsweredChangeIsLost};
 ghost use Rattle.ee_store.specs.PageStates.{MovedWordsAreLive, PicturesTellImages, StatesAfterAppend, StatesAfterClean, StatesAfterFormat, StatesAfterOpening, StatesAfterTransfer};
 ghost use Rattle.ee_store.specs.Runs.{CleanRunsEraseSets, EachPageWearsEverySecondTransfer, EachTransferErasesASet, NoPageWearsMore, NoPageWearsMuchMore, RunsGoOn, TheStoreIsAMap};
 
@@ -78,4 +80,16 @@ pub fn moved_words_are_live()
 /// The pictures of its two sets say all of a device's image.
 pub fn pictures_tell_images()
     ensures { PicturesTellImages }
+{}
+
+/// Whatever is cut, and however often, no change that was answered is lost; of the changes in which
+/// power was cut it is known which were kept, and there are no others.
+pub fn no_answered_change_is_lost()
+    ensures { NoAnsweredChangeIsLost }
+{}
+
+/// A change that was kept stays, whatever is cut later, and however often, until a further change of
+/// its address is asked for.
+pub fn a_kept_change_stays()
+    ensures { AKeptChangeStays }
 {}

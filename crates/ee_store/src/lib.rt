@@ -3,18 +3,22 @@
 //!
 //! `specs/State.antt` says what a store is to its users, `specs/Changes.antt` and `specs/Calls.antt`
 //! what each call answers and leaves, cuts included, `specs/Openings.antt` how a store comes to be,
-//! `specs/Finished.antt` which marks an opening sets, and `specs/Picture.antt` how the image is drawn
-//! that a call leaves.
+//! `specs/Finished.antt` which marks an opening sets, `specs/Picture.antt` how the image is drawn that
+//! a call leaves, and `specs/Events.antt` and `specs/Outcome.antt` what becomes of a list of events,
+//! power cuts and openings among them.
 //!
 //! The layers above may use: the contract of `Variables`, which is one relation for each call over
-//! the device before and after; `open` and `format`; and that a store's image is legal, always.
-//! Nothing here takes memory.
+//! the device before and after; `open` and `format`; that a store's image is legal, always; and
+//! `drive`, by which a test bench, a simulator or a fuzzer drives a store through power cuts.
+//! Nothing here takes memory but `drive`, for its answers.
 #![tactic(auto)]
 
 mod change;
 mod changing;
 mod cleaning;
 mod copying;
+mod driving;
+mod event;
 mod formatting;
 pub mod laws;
 mod marking;
@@ -24,7 +28,9 @@ mod store;
 mod variables;
 mod writing;
 
+pub use driving::drive;
 pub use ee_pages::LiveBatch;
+pub use event::{Answer, Driven, Event};
 pub use opening::{OpenFault, format, open};
 pub use store::Store;
 pub use variables::{ForgetFault, Off, Variables, WriteFault, Written};

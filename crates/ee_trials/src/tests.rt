@@ -3,6 +3,7 @@
 mod certificates;
 mod commands;
 mod cuts;
+mod events;
 mod files;
 mod images;
 mod ledgers;

@@ -2,6 +2,7 @@
 mod batches;
 mod cuts;
 mod each_cut;
+mod events;
 mod forgetting;
 mod image;
 mod many_pages;

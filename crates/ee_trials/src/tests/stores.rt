@@ -27,7 +27,7 @@ fn opened<F: Flash + Drop>(mut flash: F) -> Result<Store<F>, Fail> {
 /// A device with so many pages a set and one slot a page. Address 1 was written with 1 in each slot
 /// and then with 2 in each: the second set is live and full, and the pages of the first wait to be
 /// erased.
-fn moved_once<'a>(
+pub fn moved_once<'a>(
     rt: &impl Abort,
     alloc: Global,
     pages: usize,
@@ -148,7 +148,7 @@ fn write_through<F: Flash + Drop>(
 
 // A transfer is cut in its erase, and what follows in one later step after another,
 // each as one of three mixes of words says.
-fn fates_of<'a>(mixes: &'a [[Left; 5]; 3]) -> [Fate<'a>; 17] {
+pub fn fates_of<'a>(mixes: &'a [[Left; 5]; 3]) -> [Fate<'a>; 17] {
     [
         Fate::Cut(&mixes[0]),
         Fate::Cut(&mixes[1]),

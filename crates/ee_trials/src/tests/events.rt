@@ -1,0 +1,150 @@
+//! Events that drive a store: with each request for memory refused, and with erases that are cut in every mix of words,
+//! one cut after another.
+use super::cuts::mix_of;
+use super::stores::{fates_of, moved_once};
+use super::trial::with_each_refusal;
+use crate::{Fate, Left};
+use ee_codec::Address;
+use ee_flash::{Flash, MemFlash, Shape};
+use ee_store::{Answer, Event, OpenFault, WriteFault, Written, drive, format};
+use std::alloc::Global;
+use std::process::Abort;
+use std::test::Fail;
+
+// A formatted device of two slots.
+fn formatted(alloc: Global) -> Option<MemFlash> {
+    let flash = MemFlash::blank(alloc, Shape::new(1, 6)?).ok()?;
+    let store = format(flash).ok()?;
+    Some(store.into_flash())
+}
+
+#[test]
+fn each_request_refused(rt: HostRuntime) -> Result<(), Fail> {
+    let one = Address::new(1).ok_or("no address")?;
+    let events = [
+        Event::Reopen,
+        Event::Put {
+            address: one,
+            value: 10,
+        },
+        Event::Forget { address: one },
+        Event::Get { address: one },
+    ];
+    let answers = [
+        Answer::Opened,
+        Answer::Done(Written::Appended),
+        Answer::Done(Written::Appended),
+        Answer::Value(None),
+    ];
+    let requests = with_each_refusal(&rt, rt.alloc(), &true, |alloc| {
+        let flash = formatted(rt.alloc())?;
+        let steps = flash.steps();
+        match drive(alloc, flash, &events) {
+            Ok(driven) => Some(driven.log.as_slice() == answers.as_slice()),
+            Err((flash, _)) => {
+                assert_eq!(rt; (flash.is_on(), flash.steps()), (true, steps));
+                None
+            }
+        }
+    });
+    assert_eq!(rt; requests, 2);
+    Ok(())
+}
+
+// Cuts the erase of the first set's page as the list says, in a clean step or in a put that transfers.
+fn cut_the_erase(
+    rt: &impl Abort,
+    alloc: Global,
+    is_put: bool,
+    list: &[Left; 5],
+) -> Result<(), Fail> {
+    let one = Address::new(1).ok_or("no address")?;
+    let put = Event::Put {
+        address: one,
+        value: 3,
+    };
+    let fates = [Fate::Cut(list)];
+    let mut flash = moved_once(rt, alloc, 1, one)?;
+    flash.set_fates(&fates);
+    let get = Event::Get { address: one };
+    let cut = if is_put { put } else { Event::Clean };
+    let events = [Event::Reopen, cut, Event::Reopen, get, put, get];
+    let answers = [
+        Answer::Opened,
+        Answer::Refused(WriteFault::Cut),
+        Answer::Opened,
+        Answer::Value(Some(2)),
+        Answer::Done(Written::Moved),
+        Answer::Value(Some(3)),
+    ];
+    let Ok(driven) = drive(alloc, flash, &events) else {
+        return Err(Fail::from("no memory"));
+    };
+    assert_eq!(rt; driven.log.as_slice(), answers.as_slice(), "{list:?}");
+    let kept: &[bool] = if is_put { &[false] } else { &[] };
+    assert_eq!(rt; driven.kept.as_slice(), kept, "{list:?}");
+    Ok(())
+}
+
+#[test]
+fn each_mix_of_a_cut_erase(rt: HostRuntime) -> Result<(), Fail> {
+    for mix in 0..243usize {
+        cut_the_erase(&rt, rt.alloc(), false, &mix_of(mix))?;
+        cut_the_erase(&rt, rt.alloc(), true, &mix_of(mix))?;
+    }
+    Ok(())
+}
+
+fn is_cut(answer: &Answer) -> bool {
+    matches!(
+        answer,
+        Answer::Refused(WriteFault::Cut) | Answer::NotOpened(OpenFault::Cut)
+    )
+}
+
+// Opens the store and puts a value, again and again, through the cuts of the list; then reads it. Gives how many cuts
+// there were.
+fn drive_through(
+    rt: &impl Abort,
+    alloc: Global,
+    pages: usize,
+    mixes: &[[Left; 5]; 3],
+) -> Result<usize, Fail> {
+    let one = Address::new(1).ok_or("no address")?;
+    let put = Event::Put {
+        address: one,
+        value: 3,
+    };
+    let fates = fates_of(mixes);
+    let mut flash = moved_once(rt, alloc, pages, one)?;
+    flash.set_fates(&fates);
+    let mut events = Vec::new(alloc);
+    for _ in 0..10 {
+        events.push(Event::Reopen)?;
+        events.push(put)?;
+    }
+    events.push(Event::Reopen)?;
+    events.push(Event::Get { address: one })?;
+    let Ok(driven) = drive(alloc, flash, &events) else {
+        return Err(Fail::from("no memory"));
+    };
+    let cuts = driven.log.iter().filter(|answer| is_cut(answer)).count();
+    assert_eq!(rt; driven.flash.cuts(), cuts as u64);
+    assert_eq!(rt;
+        driven.log.as_slice().last().copied(),
+        Some(Answer::Value(Some(3)))
+    );
+    Ok(cuts)
+}
+
+#[test]
+fn cuts_one_after_another(rt: HostRuntime) -> Result<(), Fail> {
+    for number in 0..81usize {
+        let mixes = [mix_of(number), mix_of(number * 3), mix_of(242 - number)];
+        for pages in [1, 2] {
+            let cuts = drive_through(&rt, rt.alloc(), pages, &mixes)?;
+            assert!(rt; cuts >= 3, "{number}: {cuts}");
+        }
+    }
+    Ok(())
+}
