@@ -16,6 +16,7 @@ ghost use Rattle.ee_store.specs.Parts.{AddsWords, map_in, meant, number_of, open
 ghost use Rattle.ee_store.specs.Picture.{IsDrawn, elements_of, moved_words, picture_of};
 
 use crate::change::Change;
+use crate::live_cursor::LiveCursor;
 use ee_codec::Address;
 use ee_flash::{Cut, Flash};
 use ee_pages::{Layout, LiveBatch, Mark, first_page, mark, next_batch};
@@ -56,18 +57,17 @@ impl Cursor {
             given: 0,
         }
     }
+}
 
-    /// The next live address, with its value. `None` if there is none.
-    pub(crate) fn next<F: Flash>(&mut self, flash: &F, layout: &Layout) -> Option<(Address, u32)>
-        requires layout { IsLayout (F.device flash.now) layout.now }
-        requires over { GoesOver (map_in layout.now.side (F.device flash.now)) self.old }
-        ensures next { IsNextLive (map_in layout.now.side (F.device flash.now)) self.old.after
-            result }
-        ensures proper { IfSome result (λ found. IsAddress found.0) }
-        ensures moved { IfSome result (λ found. self.new.after ≡ found.0) }
-        ensures over { OnSome result
-            (GoesOver (map_in layout.now.side (F.device flash.now)) self.new) }
-    {
+impl LiveCursor for Cursor {
+    ghost use Rattle.ee_pages.specs.Meaning.{meaning};
+    ghost use Rattle.ee_store.specs.Course.{GoesOver};
+
+    ghost behind = { λ cursor. cursor.after };
+
+    ghost goes_over = { λ cursor slots. GoesOver (meaning slots) cursor };
+
+    fn next<F: Flash>(&mut self, flash: &F, layout: &Layout) -> Option<(Address, u32)> {
         if self.given >= self.batch.found.len() {
             let Some(through) = self.batch.through else {
                 return None;

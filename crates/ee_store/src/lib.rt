@@ -17,6 +17,7 @@ mod cleaning;
 mod copying;
 mod formatting;
 pub mod laws;
+mod live_cursor;
 mod marking;
 mod moving;
 mod opening;
