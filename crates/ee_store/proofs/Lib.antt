@@ -29,3 +29,4 @@ pub mod MovedSets
 pub mod MarkedSets
 pub mod ShownStates
 pub mod PageWears
+pub mod Indexing

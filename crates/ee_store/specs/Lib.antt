@@ -6,5 +6,6 @@ pub mod Calls
 pub mod Openings
 pub mod Parts
 pub mod Course
+pub mod Index
 pub mod Runs
 pub mod PageStates

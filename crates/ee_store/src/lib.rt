@@ -16,6 +16,7 @@ mod changing;
 mod cleaning;
 mod copying;
 mod formatting;
+mod index;
 pub mod laws;
 mod live_cursor;
 mod marking;

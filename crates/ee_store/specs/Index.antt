@@ -1,0 +1,64 @@
+-- The index of a store that keeps one: the slots in which the live addresses stand.
+use Rattle.std.specs.Prelude.{◌≡◌, ℕ, ◌==◌, ◌&&◌, if◌then◌else◌, is_some, Option, Some, None, List, slice_index_or}
+use Rattle.std.specs.BTreeMap.{is_at}
+use Rattle.std.specs.Map.{lookup}
+use Rattle.std.specs.Option.{option_map}
+use Rattle.std.specs.Ordering.{nat_cmp}
+use Rattle.std.specs.declared.ops.Bound.{Bound}
+use Rattle.std.specs.declared.ops.Bound.TheVariants.{Excluded, Unbounded}
+use Rattle.ee_flash.specs.declared.word.Word.{Word}
+use Rattle.ee_flash.specs.declared.word.Word.TheVariants.{Erased}
+use Rattle.ee_codec.specs.declared.slot.Slot.{Slot}
+use Rattle.ee_codec.specs.declared.slot.Slot.TheVariants.{Free, Spoiled, Element, Forgotten, Foreign}
+use Rattle.ee_pages.specs.Meaning.{Change, Map, Put, Forget, changed, meaning, says}
+
+-- the slot that these entries have for an address
+abbrev pub slot_for : List (ℕ × ℕ) → Map
+slot_for entries address = lookup (is_at (nat_cmp address)) entries
+
+-- what the slot that an index has for an address says of it
+abbrev pub said_at : List Word → Option ℕ → ℕ → Option (Option (Option ℕ))
+said_at slots slot address = option_map (λ number. says (slice_index_or slots number Erased) address) slot
+
+-- that it has this value, or nothing where it has none
+abbrev pub says_value : Option ℕ → Option (Option (Option ℕ))
+says_value value = option_map (λ value. Some (Some value)) value
+
+-- It is an index of these slots: it has a slot for each address that has a value, which says so, and for no other address.
+abbrev pub IsIndex : List Word → Map → Type 0
+IsIndex slots index = (address : ℕ) → said_at slots (index address) address ≡ says_value (meaning slots address)
+
+-- an index after a change whose word stands in the slot of this number
+abbrev pub indexed : Change → ℕ → Map → Map
+indexed (Put address value) number index = changed (Put address number) index
+indexed (Forget address) number index = changed (Forget address) index
+
+-- after a slot of this number that says so
+abbrev pub entered : Slot → ℕ → Map → Map
+entered (Element address value) number index = changed (Put address number) index
+entered (Forgotten address value) number index = changed (Forget address) index
+entered Free number index = index
+entered Spoiled number index = index
+entered Foreign number index = index
+
+-- with another slot for an address that it has
+abbrev pub repointed : ℕ → ℕ → Map → Map
+repointed named number index address = if (named == address) && is_some (index address) then Some number else index address
+
+-- with the slot of this number for the address of which it says a value, if the index has it
+abbrev pub followed : Slot → ℕ → Map → Map
+followed (Element address value) number index = repointed address number index
+followed (Forgotten address value) number index = index
+followed Free number index = index
+followed Spoiled number index = index
+followed Foreign number index = index
+
+-- without an address that is hidden, if there is one
+abbrev pub shown : Option ℕ → Map → Map
+shown None index = index
+shown (Some hidden) index = changed (Forget hidden) index
+
+-- where a reader of an index begins: behind this address, or at the first of all
+abbrev pub bound_above : Option ℕ → Bound ℕ
+bound_above None = Unbounded
+bound_above (Some address) = Excluded address
