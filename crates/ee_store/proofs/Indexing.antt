@@ -1,9 +1,9 @@
 -- How an index of the live addresses is read, made and kept.
 use Rattle.std.proofs.Common.{if◌then◌else◌, ◌==◌, ◌&&◌, ◌≡◌, inl, inr, ℕ, ◌+◌, ◌<◌, ◌≤◌, true, Option, Some, None, is_some, List, [], ◌∷◌, length, take, drop, get_or, refl, sym, ap, ◌∙◌, arith, suc}
 use Rattle.std.proofs.Math.Seq.{take-suc}
-use Rattle.std.proofs.lemmas.Bool.{cases_eq}
+use Rattle.std.proofs.lemmas.Bool.{cases_eq, cases_lt}
 use Rattle.std.proofs.lemmas.Grind.{common_steps}
-use Rattle.std.proofs.lemmas.List.{take-append-drop}
+use Rattle.std.proofs.lemmas.List.{get_or_past, take-append-drop}
 use Rattle.std.proofs.lemmas.Map.Keys.{le_from_not_gt}
 use Rattle.std.specs.BTreeMap.{BTreeMap}
 use Rattle.std.specs.BTreeMap.Range.{IsFromStart, IsRangeOf}
@@ -186,3 +186,49 @@ numbers_all device layout index count found e kept address =
 
 pub numbers_none : (slots : List Word) (index : Map) → ((address : ℕ) → is_some (index address) ≡ is_some (meaning slots address)) → NumbersTo slots 0 index
 numbers_none slots index same = record { addresses = same; numbers = λ address live some. absurd (cc some) }
+
+-- ---- what an index tells of the map
+
+-- a slot that an index has
+pub record Stands (slots : List Word) (address number : ℕ) : Type 0 where
+  pub value : ℕ
+  pub held : meaning slots address ≡ Some value
+  pub says_so : says (get_or slots number Erased) address ≡ Some (Some value)
+  pub listed : number < length slots
+
+listed_if_said : (slots : List Word) (address number value : ℕ) → says (get_or slots number Erased) address ≡ Some (Some value) → number < length slots
+listed_if_said slots address number value e = elim (cases_lt number (length slots)) [
+  | inl within ↦ within
+  | inr past ↦
+      let erased : get_or slots number Erased ≡ Erased = get_or_past slots number Erased past in
+      let silent : says (get_or slots number Erased) address ≡ None = ap (λ (word : Word). says word address) erased in
+      absurd (cc (e, silent))
+]
+
+stands_if : (slots : List Word) (address number : ℕ) (held : Option ℕ) → meaning slots address ≡ held → said_at slots (Some number) address ≡ says_value held → Stands slots address number
+stands_if slots address number None is e = absurd (cc e)
+stands_if slots address number (Some value) is e =
+    let said : says (get_or slots number Erased) address ≡ Some (Some value) = cc e in
+    record { value = value; held = is; says_so = said; listed = listed_if_said slots address number value said }
+
+nothing_if : (slots : List Word) (address : ℕ) (held : Option ℕ) → said_at slots None address ≡ says_value held → held ≡ None
+nothing_if slots address None e = refl
+nothing_if slots address (Some value) e = absurd (cc e)
+
+module _ (slots : List Word) (index : Map) (indexes : IsIndex slots index) where
+  pub stands : (address number : ℕ) → index address ≡ Some number → Stands slots address number
+  stands address number e = stands_if slots address number (meaning slots address) refl (ap (λ slot. said_at slots slot address) (sym e) ∙ indexes address)
+
+  pub has_none : (address : ℕ) → index address ≡ None → meaning slots address ≡ None
+  has_none address e = nothing_if slots address (meaning slots address) (ap (λ slot. said_at slots slot address) (sym e) ∙ indexes address)
+
+  pub next_none : (above : ℕ) → IsNextLive index above None → IsNextLive (meaning slots) above None
+  next_none above next address high = has_none address (next address high)
+
+  pub next_some : (above address number value : ℕ) → IsNextLive index above (Some (address, number)) → ((named said : ℕ) → says (get_or slots number Erased) named ≡ Some (Some said) → value ≡ said) → IsNextLive (meaning slots) above (Some (address, value))
+  next_some above address number value next is =
+      let here = stands address number next.1 in (
+        next.0,
+        here.held ∙ ap (λ (n : ℕ). Some n) (sym (is address here.value here.says_so)),
+        λ between high low. has_none between (next.2 between high low),
+      )

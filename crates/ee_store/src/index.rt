@@ -1,10 +1,13 @@
-ghost use Rattle.std.specs.Prelude.{◌≡◌, ◌<◌, ℕ, IfOk, OnOk, None, Some, is_some, slice_index_or};
+ghost use Rattle.std.specs.Prelude.{◌≡◌, ◌<◌, ℕ, IfOk, IfSome, OnOk, None, Some, is_some, slice_index_or};
+ghost use Rattle.ee_codec.specs.Words.{IsAddress};
 ghost use Rattle.ee_flash.specs.Size.{slot_count};
 ghost use Rattle.ee_pages.specs.Layout.{IsLayout};
 ghost use Rattle.ee_pages.specs.Meaning.{IsNextLive, above_of, meaning, says};
 ghost use Rattle.ee_pages.specs.Sets.{set_of, slots_of};
 ghost use Rattle.ee_store.specs.Index.{IsIndex, bound_above, entered, followed, repointed, shown, slot_for};
+ghost use Rattle.ee_store.specs.Parts.{map_in};
 
+use crate::live_cursor::LiveCursor;
 use ee_codec::{Address, Slot, read_slot};
 use ee_flash::{Flash, Word};
 use ee_pages::{Layout, slot_word};
@@ -144,5 +147,76 @@ fn start_above(after: Option<Address>) -> Bound<Address>
     match after {
         None => Bound::Unbounded,
         Some(address) => Bound::Excluded(address),
+    }
+}
+
+/// The next live address above `after`, or the first of all if `after` is `None`, with its value, by
+/// an index of the live set. A hidden address, which has no value yet, is passed over.
+pub(crate) fn next_indexed<F: Flash, A: Allocator>(
+    index: &Index<A>,
+    hidden: Option<Address>,
+    flash: &F,
+    layout: &Layout,
+    after: Option<Address>,
+) -> Option<(Address, u32)>
+    requires layout { IsLayout (F.device flash.now) layout.now }
+    requires index { let slots = slots_of (set_of layout.now.side (F.device flash.now)) in
+        IsIndex slots (shown hidden (slot_for index.now.entries)) }
+    ensures next { IsNextLive (map_in layout.now.side (F.device flash.now)) (above_of after)
+        result }
+    ensures proper { IfSome result (λ found. IsAddress found.0) }
+{
+    let Some((address, number)) = next_entry(index, hidden, after) else {
+        return None;
+    };
+    Some((address, value_in(flash, layout, number)))
+}
+
+/// Goes over the live addresses by an index. A hidden address, which has no value yet, is passed
+/// over.
+#[derive(Drop)]
+pub(crate) struct IndexCursor<'a, A: Allocator> {
+    index: &'a Index<A>,
+    hidden: Option<Address>,
+    /// The address given last.
+    after: Option<Address>,
+}
+
+impl<'a, A: Allocator> IndexCursor<'a, A> {
+    /// Before the first.
+    pub(crate) fn new(index: &'a Index<A>, hidden: Option<Address>) -> IndexCursor<'a, A>
+        ensures index { result.index.now.entries ≡ index.now.entries }
+        ensures hidden { result.hidden ≡ hidden }
+        ensures first { result.after ≡ None }
+    {
+        IndexCursor {
+            index,
+            hidden,
+            after: None,
+        }
+    }
+}
+
+impl<'a, A: Allocator> LiveCursor for IndexCursor<'a, A> {
+    ghost use Rattle.ee_pages.specs.Meaning.{above_of};
+    ghost use Rattle.ee_store.specs.Index.{IsIndex, shown, slot_for};
+
+    ghost behind = { λ cursor. above_of cursor.after };
+
+    ghost goes_over = { λ cursor slots.
+        IsIndex slots (shown cursor.hidden (slot_for cursor.index.now.entries)) };
+
+    fn next<F: Flash>(&mut self, flash: &F, layout: &Layout) -> Option<(Address, u32)> {
+        let Some((address, value)) = next_indexed(
+            self.index,
+            self.hidden,
+            flash,
+            layout,
+            self.after,
+        ) else {
+            return None;
+        };
+        self.after = Some(address);
+        Some((address, value))
     }
 }
