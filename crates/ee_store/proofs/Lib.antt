@@ -30,3 +30,4 @@ pub mod MarkedSets
 pub mod ShownStates
 pub mod PageWears
 pub mod Indexing
+pub mod IndexedAppends

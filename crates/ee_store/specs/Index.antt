@@ -1,5 +1,5 @@
 -- The index of a store that keeps one: the slots in which the live addresses stand.
-use Rattle.std.specs.Prelude.{◌≡◌, ℕ, ◌==◌, ◌&&◌, if◌then◌else◌, is_some, Option, Some, None, List, slice_index_or}
+use Rattle.std.specs.Prelude.{◌≡◌, ℕ, ◌==◌, ◌&&◌, if◌then◌else◌, is_some, true, Option, Some, None, List, slice_index_or}
 use Rattle.std.specs.BTreeMap.{is_at}
 use Rattle.std.specs.Map.{lookup}
 use Rattle.std.specs.Option.{option_map}
@@ -28,12 +28,7 @@ says_value value = option_map (λ value. Some (Some value)) value
 abbrev pub IsIndex : List Word → Map → Type 0
 IsIndex slots index = (address : ℕ) → said_at slots (index address) address ≡ says_value (meaning slots address)
 
--- an index after a change whose word stands in the slot of this number
-abbrev pub indexed : Change → ℕ → Map → Map
-indexed (Put address value) number index = changed (Put address number) index
-indexed (Forget address) number index = changed (Forget address) index
-
--- after a slot of this number that says so
+-- an index after a slot of this number says so
 abbrev pub entered : Slot → ℕ → Map → Map
 entered (Element address value) number index = changed (Put address number) index
 entered (Forgotten address value) number index = changed (Forget address) index
@@ -52,6 +47,15 @@ followed (Forgotten address value) number index = index
 followed Free number index = index
 followed Spoiled number index = index
 followed Foreign number index = index
+
+-- after a change whose word stands in the slot of this number; an address that is put is in the index already
+abbrev pub noted : Change → ℕ → Map → Map
+noted (Put address value) number index = repointed address number index
+noted (Forget address) number index = changed (Forget address) index
+
+abbrev pub HasPut : Change → Map → Type 0
+HasPut (Put address value) index = is_some (index address) ≡ true
+HasPut (Forget address) index = Unit {0}
 
 -- without an address that is hidden, if there is one
 abbrev pub shown : Option ℕ → Map → Map

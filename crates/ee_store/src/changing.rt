@@ -3,11 +3,14 @@ ghost use Rattle.ee_codec.specs.Words.{IsAddress};
 ghost use Rattle.ee_flash.specs.Device.{IsOn};
 ghost use Rattle.ee_flash.specs.Size.{slot_count};
 ghost use Rattle.ee_pages.specs.Layout.{IsLayout};
+ghost use Rattle.ee_pages.specs.Meaning.{Spells, changed};
 ghost use Rattle.ee_pages.specs.Pending.{address_of};
-ghost use Rattle.ee_pages.specs.Sets.{set_of, slots_of};
+ghost use Rattle.ee_pages.specs.Pushing.{Takes};
+ghost use Rattle.ee_pages.specs.Sets.{other as other_of, set_of, slots_of};
 ghost use Rattle.ee_store.specs.Changes.{Appends, IsCutChange, Moves, Proceeds};
 ghost use Rattle.ee_store.specs.Finished.{IsMarked, IsStore};
-ghost use Rattle.ee_store.specs.Parts.{ForgetsHeld, meant};
+ghost use Rattle.ee_store.specs.Parts.{ForgetsHeld, HasMoved, map_in, meant, number_of};
+ghost use Rattle.ee_store.specs.Picture.{IsDrawn, picture_of, with_change};
 ghost use Rattle.ee_store.specs.State.{state_of};
 
 use crate::change::Change;
@@ -63,6 +66,17 @@ pub(crate) fn append_change<F: Flash>(
     requires free { layout.old.fill < slot_count (F.device flash.old).size }
     ensures appended { OnOk result
         (Appends (F.device flash.old) (meant change) (F.device flash.new)) }
+    ensures takes { OnOk result (
+        Takes (F.device flash.old) (F.device flash.new) layout.old.side layout.old.generation
+        (changed (meant change)
+        (map_in layout.old.side (F.device flash.old)))) }
+    ensures spells { OnOk result (Spells (number_of change) (meant change)) }
+    ensures drawn { OnOk result
+        (IsDrawn layout.old.side (F.device flash.new)
+        (with_change (F.device flash.old).size layout.old.fill (number_of change)
+        (picture_of layout.old.side (F.device flash.old)))) }
+    ensures found { OnOk result (IsLayout (F.device flash.new) layout.new) }
+    ensures same_set { OnOk result (layout.new.side ≡ layout.old.side) }
     ensures cut { OnErr result
         (IsCutChange (F.device flash.old) (meant change) (F.device flash.new)) }
     ensures store { IsStore (F.device flash.new) }
@@ -88,6 +102,11 @@ pub(crate) fn move_change<F: Flash, C: LiveCursor + Drop>(
     requires over { C.goes_over cursor (slots_of (set_of layout.old.side (F.device flash.old))) }
     ensures moved { OnOk result
         (Moves (F.device flash.old) (meant change) (F.device flash.new)) }
+    ensures has_moved { OnOk result
+        (HasMoved (F.device flash.old) (F.device flash.new) layout.old.side layout.old.generation
+        (meant change)) }
+    ensures found { OnOk result (IsLayout (F.device flash.new) layout.new) }
+    ensures other_set { OnOk result (layout.new.side ≡ other_of layout.old.side) }
     ensures cut { OnErr result
         (IsCutChange (F.device flash.old) (meant change) (F.device flash.new)) }
     ensures store { IsStore (F.device flash.new) }

@@ -17,6 +17,7 @@ mod cleaning;
 mod copying;
 mod formatting;
 mod index;
+mod index_changing;
 pub mod laws;
 mod live_cursor;
 mod marking;
