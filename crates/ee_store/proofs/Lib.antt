@@ -31,3 +31,4 @@ pub mod ShownStates
 pub mod PageWears
 pub mod Indexing
 pub mod IndexedAppends
+pub mod IndexedBatches

@@ -1,16 +1,18 @@
 ghost use Rattle.std.specs.Prelude.{◌≡◌, ◌<◌, ℕ, IfOk, IfSome, OnOk, None, Some, is_some, slice_index_or};
+ghost use Rattle.std.specs.List.{All};
 ghost use Rattle.ee_codec.specs.Words.{IsAddress};
 ghost use Rattle.ee_flash.specs.Size.{slot_count};
 ghost use Rattle.ee_pages.specs.Layout.{IsLayout};
-ghost use Rattle.ee_pages.specs.Meaning.{IsNextLive, above_of, meaning, says};
+ghost use Rattle.ee_pages.specs.Meaning.{AreLiveThrough, IsNextLive, above_of, meaning, says};
 ghost use Rattle.ee_pages.specs.Sets.{set_of, slots_of};
 ghost use Rattle.ee_store.specs.Index.{IsIndex, bound_above, entered, followed, repointed, shown, slot_for};
 ghost use Rattle.ee_store.specs.Parts.{map_in};
 
 use crate::live_cursor::LiveCursor;
+use arrayvec::ArrayVec;
 use ee_codec::{Address, Slot, read_slot};
 use ee_flash::{Flash, Word};
-use ee_pages::{Layout, slot_word};
+use ee_pages::{Layout, LiveBatch, slot_word};
 use std::alloc::{AllocError, Allocator};
 use std::collections::BTreeMap;
 use std::ops::Bound;
@@ -170,6 +172,39 @@ pub(crate) fn next_indexed<F: Flash, A: Allocator>(
         return None;
     };
     Some((address, value_in(flash, layout, number)))
+}
+
+/// The next live addresses above `after`, or the first of all if `after` is `None`, with their
+/// values, by an index of the live set: as many as a batch takes.
+pub(crate) fn batch_indexed<F: Flash, A: Allocator>(
+    index: &Index<A>,
+    flash: &F,
+    layout: &Layout,
+    after: Option<Address>,
+) -> LiveBatch
+    requires layout { IsLayout (F.device flash.now) layout.now }
+    requires index { let slots = slots_of (set_of layout.now.side (F.device flash.now)) in
+        IsIndex slots (slot_for index.now.entries) }
+    ensures live { AreLiveThrough (map_in layout.now.side (F.device flash.now)) (above_of after)
+        result.found.items result.through }
+    ensures proper { All (λ found. IsAddress found.0) result.found.items }
+{
+    let mut found = ArrayVec::new();
+    let mut behind = after;
+    'batch: while !found.is_full() {
+        let Some((address, value)) = next_indexed(index, None, flash, layout, behind) else {
+            return LiveBatch {
+                found,
+                through: None,
+            };
+        };
+        found.push((address, value));
+        behind = Some(address);
+    }
+    LiveBatch {
+        found,
+        through: behind,
+    }
 }
 
 /// Goes over the live addresses by an index. A hidden address, which has no value yet, is passed
