@@ -32,3 +32,4 @@ pub mod PageWears
 pub mod Indexing
 pub mod IndexedAppends
 pub mod IndexedBatches
+pub mod IndexedStores

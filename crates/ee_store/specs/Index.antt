@@ -6,11 +6,15 @@ use Rattle.std.specs.Option.{option_map}
 use Rattle.std.specs.Ordering.{nat_cmp}
 use Rattle.std.specs.declared.ops.Bound.{Bound}
 use Rattle.std.specs.declared.ops.Bound.TheVariants.{Excluded, Unbounded}
+use Rattle.ee_flash.specs.Device.{Device}
 use Rattle.ee_flash.specs.declared.word.Word.{Word}
 use Rattle.ee_flash.specs.declared.word.Word.TheVariants.{Erased}
 use Rattle.ee_codec.specs.declared.slot.Slot.{Slot}
 use Rattle.ee_codec.specs.declared.slot.Slot.TheVariants.{Free, Spoiled, Element, Forgotten, Foreign}
+use Rattle.ee_pages.specs.Layout.{IsLayout}
 use Rattle.ee_pages.specs.Meaning.{Change, Map, Put, Forget, changed, meaning, says}
+use Rattle.ee_pages.specs.Sets.{set_of, slots_of}
+use Rattle.ee_pages.specs.declared.find.Layout.{Layout}
 
 -- the slot that these entries have for an address
 abbrev pub slot_for : List (ℕ × ℕ) → Map
@@ -66,3 +70,8 @@ shown (Some hidden) index = changed (Forget hidden) index
 abbrev pub bound_above : Option ℕ → Bound ℕ
 bound_above None = Unbounded
 bound_above (Some address) = Excluded address
+
+-- what a store with an index keeps beside its device, which is on: where the live set is, and its index
+pub record IsKept (device : Device) (layout : Layout) (entries : List (ℕ × ℕ)) : Type 0 where
+  pub found : IsLayout device layout
+  pub indexes : IsIndex (slots_of (set_of layout.side device)) (slot_for entries)

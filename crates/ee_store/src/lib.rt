@@ -8,7 +8,7 @@
 //!
 //! The layers above may use: the contract of `Variables`, which is one relation for each call over
 //! the device before and after; `open` and `format`; and that a store's image is legal, always.
-//! Nothing here takes memory.
+//! `Store` takes no memory. `IndexedStore` keeps an index of the live addresses (`specs/Index.antt`).
 #![tactic(auto)]
 
 mod change;
@@ -18,6 +18,7 @@ mod copying;
 mod formatting;
 mod index;
 mod index_changing;
+mod indexed;
 pub mod laws;
 mod live_cursor;
 mod marking;
@@ -28,6 +29,7 @@ mod variables;
 mod writing;
 
 pub use ee_pages::LiveBatch;
+pub use indexed::{IndexedFault, IndexedStore};
 pub use opening::{OpenFault, format, open};
 pub use store::Store;
 pub use variables::{ForgetFault, Off, Variables, WriteFault, Written};
