@@ -1,4 +1,5 @@
-use Rattle.std.proofs.Common.{sym, subst}
+use Rattle.std.proofs.Common.{rules, ◌≡◌, ℕ, sym, subst}
+use Rattle.ee_pages.specs.Meaning.{Map}
 use Rattle.ee_pages.specs.Sets.{set_of, slots_of}
 use Rattle.ee_pages.specs.declared.side.Side.{Side}
 use Rattle.ee_store.specs.Index.{IsIndex, noted, slot_for}
@@ -20,5 +21,6 @@ returns-clause-index g c =
     (slot_was_free layout.side old new layout.generation layout.fill (number_of c.args.change) live done.takes.live.formed done.takes.same_size c.requires.layout.fill c.requires.free done.drawn)
     (other_slots layout.side old new layout.generation layout.fill (number_of c.args.change) live done.takes.live.formed done.takes.same_size c.requires.layout.fill c.requires.free done.drawn)
     c.requires.index (meant c.args.change) c.requires.hidden c.requires.there (says_spelled c.args.change _ filled done.spells) done.takes.map_is in
-    let noting : IsIndex (slots_of (set_of layout.side new)) (slot_for c.note.new.index.entries) = index_as _ (noted (meant c.args.change) layout.fill before) _ c.note.ensures indexes in
-    search (subst (λ (side : Side). IsIndex (slots_of (set_of side new)) (slot_for c.note.new.index.entries)) (sym done.same_set) noting)
+    let follows : (after : Map) → ((address : ℕ) → after address ≡ noted (meant c.args.change) layout.fill before address) → IsIndex (slots_of (set_of c.append_change.new.layout.side new)) after =
+    λ after is. subst (λ (side : Side). IsIndex (slots_of (set_of side new)) after) (sym done.same_set) (index_as _ (noted (meant c.args.change) layout.fill before) after is indexes) in
+    search (rules, follows)
