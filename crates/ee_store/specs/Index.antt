@@ -20,19 +20,22 @@ use Rattle.ee_pages.specs.declared.find.Layout.{Layout}
 abbrev pub slot_for : List (ℕ × ℕ) → Map
 slot_for entries address = lookup (is_at (nat_cmp address)) entries
 
--- what the slot that an index has for an address says of it
+-- what a slot says of an address, if there is one
 abbrev pub said_at : List Word → Option ℕ → ℕ → Option (Option (Option ℕ))
 said_at slots slot address = option_map (λ number. says (slice_index_or slots number Erased) address) slot
 
--- that it has this value, or nothing where it has none
+-- that it has this value; nothing where it has none
 abbrev pub says_value : Option ℕ → Option (Option (Option ℕ))
 says_value value = option_map (λ value. Some (Some value)) value
 
--- It is an index of these slots: it has a slot for each address that has a value, which says so, and for no other address.
+-- It is an index of these slots: for each address that has a value it has a slot, which says that value, and it has no
+-- other address.
 abbrev pub IsIndex : List Word → Map → Type 0
 IsIndex slots index = (address : ℕ) → said_at slots (index address) address ≡ says_value (meaning slots address)
 
--- an index after a slot of this number says so
+-- ---- how an index changes
+
+-- a slot of this number, behind those that were entered, says so
 abbrev pub entered : Slot → ℕ → Map → Map
 entered (Element address value) number index = changed (Put address number) index
 entered (Forgotten address value) number index = changed (Forget address) index
@@ -40,11 +43,11 @@ entered Free number index = index
 entered Spoiled number index = index
 entered Foreign number index = index
 
--- with another slot for an address that it has
+-- an address that the index has gets another slot
 abbrev pub repointed : ℕ → ℕ → Map → Map
 repointed named number index address = if (named == address) && is_some (index address) then Some number else index address
 
--- with the slot of this number for the address of which it says a value, if the index has it
+-- so does the address of which the slot of this number says a value
 abbrev pub followed : Slot → ℕ → Map → Map
 followed (Element address value) number index = repointed address number index
 followed (Forgotten address value) number index = index
@@ -52,16 +55,19 @@ followed Free number index = index
 followed Spoiled number index = index
 followed Foreign number index = index
 
--- after a change whose word stands in the slot of this number; an address that is put is in the index already
+-- the word of a change stands in the slot of this number; an address that is put is in the index already
 abbrev pub noted : Change → ℕ → Map → Map
 noted (Put address value) number index = repointed address number index
 noted (Forget address) number index = changed (Forget address) index
 
+-- it is
 abbrev pub HasPut : Change → Map → Type 0
 HasPut (Put address value) index = is_some (index address) ≡ true
 HasPut (Forget address) index = Unit {0}
 
--- without an address that is hidden, if there is one
+-- ---- how it is gone over
+
+-- what is seen of an index while an address of it is hidden, if one is
 abbrev pub shown : Option ℕ → Map → Map
 shown None index = index
 shown (Some hidden) index = changed (Forget hidden) index
