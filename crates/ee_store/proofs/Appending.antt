@@ -69,7 +69,7 @@ slot_keeps_marks page place value old new taken there mark was =
     ap is_written (program_keeps_words page (4 + place) value old new taken there (place_of_mark mark) other) ∙ was
 
 -- the first free slot is erased
-slot_erased : (side : Side) (generation fill : ℕ) (old : Device) → IsLive old side generation → fill ≡ fill_of (slots_of (set_of side old)) → fill < slot_count old.size → word_at old (first_page old.size side + page_of_slot old.size fill) (place_of_slot old.size fill) ≡ Erased
+pub slot_erased : (side : Side) (generation fill : ℕ) (old : Device) → IsLive old side generation → fill ≡ fill_of (slots_of (set_of side old)) → fill < slot_count old.size → word_at old (first_page old.size side + page_of_slot old.size fill) (place_of_slot old.size fill) ≡ Erased
 slot_erased side generation fill old live fill_is free =
     let slots = slots_of (set_of side old) in
     let front = fill-front side old generation live.formed live.allowed in

@@ -34,3 +34,7 @@ pub mod TurnByTurn
 pub mod KeptChanges
 pub mod WholeDrives
 pub mod StayingChanges
+pub mod Indexing
+pub mod IndexedAppends
+pub mod IndexedBatches
+pub mod IndexedStores

@@ -19,7 +19,7 @@ use Rattle.ee_store.proofs.States.{other_twice}
 use Rattle.ee_store.proofs.Wears.{times, times_few, worn_at_most}
 use Rattle.ee_store.specs.Calls.{ErasesOne}
 use Rattle.ee_store.specs.Changes.{Appends, Moves}
-use Rattle.ee_store.specs.Runs.{Call, Wrote, Forgot, Cleaned, DidRead, EachPageWearsEverySecondTransfer, Follows, IsRun, IsWholeRun, NoPageWearsMore, NoPageWearsMuchMore, WearsAtMost, is_cut, is_transfer, transfers, wear_at}
+use Rattle.ee_store.specs.Runs.{Call, Wrote, Forgot, Cleaned, DidRead, Follows, IsRun, IsWholeRun, WearsAtMost, is_cut, is_transfer, transfers, wear_at}
 use Rattle.ee_store.specs.State.{pending_pages, pending_pages_in, state_of, turned}
 use Rattle.ee_store.specs.declared.variables.ForgetFault.TheVariants as forget
 use Rattle.ee_store.specs.declared.variables.WriteFault.TheVariants as write

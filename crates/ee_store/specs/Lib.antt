@@ -6,6 +6,7 @@ pub mod Calls
 pub mod Openings
 pub mod Parts
 pub mod Course
+pub mod Index
 pub mod Runs
 pub mod PageStates
 pub mod Events

@@ -11,6 +11,8 @@ use Rattle.ee_pages.specs.declared.side.Side.TheVariants.{First, Second}
 use Rattle.ee_store.specs.Finished.{IsFinished, IsStore, last_used}
 use Rattle.ee_store.specs.Picture.{IsDrawn, OfLive, blank, filled, marked_to, picture_of, retired}
 use Rattle.ee_store.specs.State.{Wears, formatted, not_blank_pages, pending_pages, state_of}
+use Rattle.ee_store.specs.declared.indexed.IndexedFault.{IndexedFault}
+use Rattle.ee_store.specs.declared.indexed.IndexedFault.TheVariants as indexed
 use Rattle.ee_store.specs.declared.opening.OpenFault.{OpenFault}
 use Rattle.ee_store.specs.declared.opening.OpenFault.TheVariants.{Scan, Cut}
 
@@ -46,6 +48,12 @@ pub record IsCutOpening (old new : Device) : Type 0 where
 abbrev pub OpenFails : Device → OpenFault → Device → Type 0
 OpenFails old (Scan fault) new = IsScanFault old fault × (new ≡ old)
 OpenFails old Cut new = IsCutOpening old new
+
+-- The same of a store with an index. Want of memory comes before the first step.
+abbrev pub IndexedOpenFails : Device → IndexedFault → Device → Type 0
+IndexedOpenFails old (indexed.Scan fault) new = IsScanFault old fault × (new ≡ old)
+IndexedOpenFails old indexed.Memory new = IsLegal old × (new ≡ old)
+IndexedOpenFails old indexed.Cut new = IsCutOpening old new
 
 -- a store with nothing in it, whose live set is the first, with generation 1; each page that was not blank was
 -- erased, each once, and no other

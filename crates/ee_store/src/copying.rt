@@ -16,6 +16,7 @@ ghost use Rattle.ee_store.specs.Parts.{AddsWords, map_in, meant, number_of, open
 ghost use Rattle.ee_store.specs.Picture.{IsDrawn, elements_of, moved_words, picture_of};
 
 use crate::change::Change;
+use crate::live_cursor::LiveCursor;
 use ee_codec::Address;
 use ee_flash::{Cut, Flash};
 use ee_pages::{Layout, LiveBatch, Mark, first_page, mark, next_batch};
@@ -56,18 +57,17 @@ impl Cursor {
             given: 0,
         }
     }
+}
 
-    /// The next live address, with its value. `None` if there is none.
-    pub(crate) fn next<F: Flash>(&mut self, flash: &F, layout: &Layout) -> Option<(Address, u32)>
-        requires layout { IsLayout (F.device flash.now) layout.now }
-        requires over { GoesOver (map_in layout.now.side (F.device flash.now)) self.old }
-        ensures next { IsNextLive (map_in layout.now.side (F.device flash.now)) self.old.after
-            result }
-        ensures proper { IfSome result (λ found. IsAddress found.0) }
-        ensures moved { IfSome result (λ found. self.new.after ≡ found.0) }
-        ensures over { OnSome result
-            (GoesOver (map_in layout.now.side (F.device flash.now)) self.new) }
-    {
+impl LiveCursor for Cursor {
+    ghost use Rattle.ee_pages.specs.Meaning.{meaning};
+    ghost use Rattle.ee_store.specs.Course.{GoesOver};
+
+    ghost behind = { λ cursor. cursor.after };
+
+    ghost goes_over = { λ cursor slots. GoesOver (meaning slots) cursor };
+
+    fn next<F: Flash>(&mut self, flash: &F, layout: &Layout) -> Option<(Address, u32)> {
         if self.given >= self.batch.found.len() {
             let Some(through) = self.batch.through else {
                 return None;
@@ -108,12 +108,15 @@ fn batch_behind<F: Flash>(flash: &F, layout: &Layout, after: Address) -> LiveBat
 
 /// Fills the other set, which was opened, with the map after a change: a value that is written
 /// comes first, and then each other live address, rising. Gives how many slots that takes.
-pub(crate) fn fill_set<F: Flash>(
+pub(crate) fn fill_set<F: Flash, C: LiveCursor + Drop>(
     flash: &mut F,
     layout: &Layout,
     change: Change,
+    cursor: C,
 ) -> Result<usize, Cut>
     requires layout { IsLayout (F.device flash.old) layout.now }
+    requires first { C.behind cursor ≡ 0 }
+    requires over { C.goes_over cursor (slots_of (set_of layout.now.side (F.device flash.old))) }
     requires generation { IsGeneration (layout.now.generation + 1) }
     requires filling { IsFilling (F.device flash.old) (other_of layout.now.side)
         (layout.now.generation + 1) 0 }
@@ -141,7 +144,7 @@ pub(crate) fn fill_set<F: Flash>(
 {
     let address = change.address();
     let first = put_first(flash, layout, change)?;
-    let count = copy_others(flash, layout, address, first)?;
+    let count = copy_others(flash, layout, address, first, cursor)?;
     Ok(count)
 }
 
@@ -179,13 +182,16 @@ fn put_first<F: Flash>(flash: &mut F, layout: &Layout, change: Change) -> Result
 
 // Copies each live address but this one to the other set, of which so many slots are written. Gives
 // how many are then.
-fn copy_others<F: Flash>(
+fn copy_others<F: Flash, C: LiveCursor + Drop>(
     flash: &mut F,
     layout: &Layout,
     except: Address,
     count: usize,
+    cursor: C,
 ) -> Result<usize, Cut>
     requires layout { IsLayout (F.device flash.old) layout.now }
+    requires first { C.behind cursor ≡ 0 }
+    requires over { C.goes_over cursor (slots_of (set_of layout.now.side (F.device flash.old))) }
     requires generation { IsGeneration (layout.now.generation + 1) }
     requires filling { IsFilling (F.device flash.old) (other_of layout.now.side)
         (layout.now.generation + 1) count }
@@ -218,7 +224,7 @@ fn copy_others<F: Flash>(
     ensures power { Ends result (F.device flash.old) (F.device flash.new) }
 {
     let mut count = count;
-    let mut cursor = Cursor::new(flash, layout);
+    let mut cursor = cursor;
     'live: while let Some((address, value)) = cursor.next(flash, layout) {
         count = copy_one(flash, layout, except, count, address, value)?;
     }

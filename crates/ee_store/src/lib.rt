@@ -10,7 +10,8 @@
 //! The layers above may use: the contract of `Variables`, which is one relation for each call over
 //! the device before and after; `open` and `format`; that a store's image is legal, always; and
 //! `drive`, by which a test bench, a simulator or a fuzzer drives a store through power cuts.
-//! Nothing here takes memory but `drive`, for its answers.
+//! `Store` takes no memory, `drive` takes some for its answers, and `IndexedStore` keeps an index of
+//! the live addresses (`specs/Index.antt`).
 #![tactic(auto)]
 
 mod change;
@@ -20,7 +21,11 @@ mod copying;
 mod driving;
 mod event;
 mod formatting;
+mod index;
+mod index_changing;
+mod indexed;
 pub mod laws;
+mod live_cursor;
 mod marking;
 mod moving;
 mod opening;
@@ -31,6 +36,7 @@ mod writing;
 pub use driving::drive;
 pub use ee_pages::LiveBatch;
 pub use event::{Answer, Driven, Event};
+pub use indexed::{IndexedFault, IndexedStore};
 pub use opening::{OpenFault, format, open};
 pub use store::Store;
 pub use variables::{ForgetFault, Off, Variables, WriteFault, Written};

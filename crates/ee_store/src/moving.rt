@@ -17,18 +17,23 @@ ghost use Rattle.ee_store.specs.State.{Wears, WearsFront, not_blank_in};
 use crate::change::Change;
 use crate::cleaning::erase_other;
 use crate::copying::fill_set;
+use crate::live_cursor::LiveCursor;
 use crate::marking::finish;
 use ee_flash::{Cut, Flash};
 use ee_pages::{Layout, Mark, first_page, is_blank as page_is_blank, mark};
 
 /// Moves the map, with a change, from a live set of which every slot is used to the other set, and
-/// makes that one live. The layout follows.
-pub(crate) fn transfer<F: Flash>(
+/// makes that one live. The cursor, which is before the first, goes over the live addresses. The
+/// layout follows.
+pub(crate) fn transfer<F: Flash, C: LiveCursor + Drop>(
     flash: &mut F,
     layout: &mut Layout,
     change: Change,
+    cursor: C,
 ) -> Result<(), Cut>
     requires layout { IsLayout (F.device flash.old) layout.old }
+    requires first { C.behind cursor ≡ 0 }
+    requires over { C.goes_over cursor (slots_of (set_of layout.old.side (F.device flash.old))) }
     requires all_used { layout.old.fill ≡ slot_count (F.device flash.old).size }
     requires generation { IsGeneration (layout.old.generation + 1) }
     requires fits { live_in (changed (meant change) (map_in layout.old.side (F.device flash.old)))
@@ -58,7 +63,7 @@ pub(crate) fn transfer<F: Flash>(
         (meant change)) }
     ensures power { Ends result (F.device flash.old) (F.device flash.new) }
 {
-    let count = move_map(flash, layout, change)?;
+    let count = move_map(flash, layout, change, cursor)?;
     let slots = flash.shape().words() - 4;
     *layout = Layout {
         side: layout.side.other(),
@@ -72,8 +77,15 @@ pub(crate) fn transfer<F: Flash>(
 
 // Moves the map, with a change, to the other set, and makes that one live. Gives how many slots it
 // takes there.
-fn move_map<F: Flash>(flash: &mut F, layout: &Layout, change: Change) -> Result<usize, Cut>
+fn move_map<F: Flash, C: LiveCursor + Drop>(
+    flash: &mut F,
+    layout: &Layout,
+    change: Change,
+    cursor: C,
+) -> Result<usize, Cut>
     requires layout { IsLayout (F.device flash.old) layout.now }
+    requires first { C.behind cursor ≡ 0 }
+    requires over { C.goes_over cursor (slots_of (set_of layout.now.side (F.device flash.old))) }
     requires all_used { layout.now.fill ≡ slot_count (F.device flash.old).size }
     requires generation { IsGeneration (layout.now.generation + 1) }
     requires fits { live_in (changed (meant change) (map_in layout.now.side (F.device flash.old)))
@@ -106,7 +118,7 @@ fn move_map<F: Flash>(flash: &mut F, layout: &Layout, change: Change) -> Result<
 {
     clear(flash, layout)?;
     open_set(flash, layout)?;
-    let count = fill_set(flash, layout, change)?;
+    let count = fill_set(flash, layout, change, cursor)?;
     commit(flash, layout)?;
     Ok(count)
 }

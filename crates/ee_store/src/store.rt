@@ -20,7 +20,7 @@ use ee_pages::{Layout, LiveBatch, latest, live_count, next_batch, next_live};
 use std::marker::Model;
 
 /// The greatest generation of a set.
-const GREATEST_GENERATION: u32 = 4_294_967_294;
+pub(crate) const GREATEST_GENERATION: u32 = 4_294_967_294;
 
 /// Variables in a flash device. It keeps in memory where the live set is and how far it is used, and
 /// reads all else from the flash.

@@ -4,7 +4,7 @@ ghost use Rattle.ee_flash.specs.Size.{slot_count};
 ghost use Rattle.ee_flash.specs.declared.word.Word.TheVariants.{Held};
 ghost use Rattle.ee_pages.specs.Laws.{Keeps};
 ghost use Rattle.ee_pages.specs.Layout.{IsLayout};
-ghost use Rattle.ee_pages.specs.Meaning.{changed, meaning};
+ghost use Rattle.ee_pages.specs.Meaning.{Spells, changed, meaning};
 ghost use Rattle.ee_pages.specs.Pushing.{Takes};
 ghost use Rattle.ee_pages.specs.Sets.{first_page as first_of, other as other_of, page_of_slot, place_of_slot, set_of, slots_of};
 ghost use Rattle.ee_store.specs.Finished.{IsMarked};
@@ -40,6 +40,7 @@ pub(crate) fn append<F: Flash>(
         ⊎ Takes (F.device flash.old) (F.device flash.new) layout.old.side layout.old.generation
         (changed (meant change)
         (map_in layout.old.side (F.device flash.old)))) }
+    ensures spells { OnOk result (Spells (number_of change) (meant change)) }
     ensures drawn { OnOk result
         (IsDrawn layout.old.side (F.device flash.new)
         (with_change (F.device flash.old).size layout.old.fill (number_of change)
@@ -96,6 +97,7 @@ fn push<F: Flash>(flash: &mut F, layout: &Layout, change: Change) -> Result<(), 
         ⊎ Takes (F.device flash.old) (F.device flash.new) layout.now.side layout.now.generation
         (changed (meant change)
         (map_in layout.now.side (F.device flash.old)))) }
+    ensures spells { OnOk result (Spells (number_of change) (meant change)) }
     ensures marks { KeepsMarks (F.device flash.old) (F.device flash.new) }
     ensures puts { let old = F.device flash.old in OnOk result
         (PutsWord (first_of old.size layout.now.side + page_of_slot old.size layout.now.fill)

@@ -17,13 +17,13 @@ live-init g c =
     let start = meaning (slots_of (set_of (other_of c.args.layout.now.side) device)) in
     let map = meaning (slots_of (set_of c.args.layout.now.side device)) in
     let first : (address : ℕ) → start address ≡ replaced start c.args.except (map_to map 0) address = at_first start map c.args.except (meaning-zero (slots_of (set_of c.args.layout.now.side device))) c.requires.only in
-    rw c.new-cursor.ensures.first (record {
+    rw c.requires.first (record {
       keeps = keeps_same device c.args.layout.now c.requires.layout;
       filling = c.requires.filling;
       map = first;
       count = c.requires.each_once ∙ same_counts _ _ first;
       below = omega arith;
-      over = rw c.new-cursor.ensures.first at c.new-cursor.ensures.over;
+      over = c.requires.over;
       adds = rw (no_words map c.args.except) (adds_none device c.args.layout.now.side (c.args.layout.now.generation + 1) c.args.count);
       as_many = rw (no_words map c.args.except) (omega arith);
       wear = refl;
@@ -37,7 +37,7 @@ copy_one-requires-clause-free g c =
     let map = meaning (slots_of (set_of c.args.layout.now.side device)) in
     let next = rw c.live.invariant.keeps.same_slots at c.in-Some.ensures.next in
     λ apart.
-    let free : c.live.count < slot_count device.size = room start map c.args.except c.live.cursor.after _ _ c.live.count (slot_count device.size) next apart c.in-Some.ensures.proper c.live.invariant.count c.requires.fits in
+    let free : c.live.count < slot_count device.size = room start map c.args.except (g.C.LiveCursor.behind c.live.cursor) _ _ c.live.count (slot_count device.size) next apart c.in-Some.ensures.proper c.live.invariant.count c.requires.fits in
     omega (arith, ap slot_count c.live.invariant.keeps.same_size)
 
 pub live-preserved : goal.live-preserved
@@ -46,10 +46,10 @@ live-preserved g c =
     let start = meaning (slots_of (set_of (other_of c.args.layout.now.side) device)) in
     let map = meaning (slots_of (set_of c.args.layout.now.side device)) in
     let next = rw c.live.invariant.keeps.same_slots at c.in-Some.ensures.next in
-    let after = taken_up start map c.args.except c.live.cursor.after _ _ next c.in-Some.ensures.proper _ _ c.live.count c.in_ok-count.count c.live.invariant.map c.live.invariant.count
+    let after = taken_up start map c.args.except (g.C.LiveCursor.behind c.live.cursor) _ _ next c.in-Some.ensures.proper _ _ c.live.count c.in_ok-count.count c.live.invariant.map c.live.invariant.count
     (λ same. (let e = (c.in_ok-count.ensures.passed same).0 in cc, λ address. ap (λ (at : Device). meaning (slots_of (set_of (other_of c.args.layout.now.side) at)) address) (c.in_ok-count.ensures.passed same).1))
     (λ apart. (c.in_ok-count.ensures.one_more apart, c.in_ok-count.ensures.map apart)) in
-    let words = adds_next map c.args.except c.live.cursor.after _ _ device (g.F.Flash.device c.live.flash) (g.F.Flash.device c.copy_one.new.flash) c.args.layout.now.side (c.args.layout.now.generation + 1) c.args.count c.live.count c.in_ok-count.count
+    let words = adds_next map c.args.except (g.C.LiveCursor.behind c.live.cursor) _ _ device (g.F.Flash.device c.live.flash) (g.F.Flash.device c.copy_one.new.flash) c.args.layout.now.side (c.args.layout.now.generation + 1) c.args.count c.live.count c.in_ok-count.count
     c.live.invariant.keeps.same_size c.in_ok-count.ensures.keeps.same_size next c.live.invariant.adds c.live.invariant.as_many
     (λ same. (let e = (c.in_ok-count.ensures.passed same).0 in cc, (c.in_ok-count.ensures.passed same).1))
     (λ apart. (c.in_ok-count.ensures.one_more apart, c.in_ok-count.ensures.adds apart)) in
@@ -59,7 +59,7 @@ live-preserved g c =
       map = after.1;
       count = after.0;
       below = c.in-Some.ensures.proper.1;
-      over = rw (c.live.invariant.keeps.same_slots, c.in-Some.ensures.moved) at c.in-Some.ensures.over;
+      over = rw c.live.invariant.keeps.same_slots at c.in-Some.ensures.over;
       adds = words.0;
       as_many = words.1;
       wear = c.in_ok-count.ensures.wear ∙ c.live.invariant.wear;
@@ -71,19 +71,19 @@ returns-clause-each_once g c =
     let device = g.F.Flash.device c.args.flash.now in
     let start = meaning (slots_of (set_of (other_of c.args.layout.now.side) device)) in
     let map = meaning (slots_of (set_of c.args.layout.now.side device)) in
-    let none = subst (λ slots. IsNextLive (meaning slots) c.live.cursor.after None) c.live.invariant.keeps.same_slots c.in_default.ensures.next in
-    c.live.invariant.count ∙ same_counts _ _ (at_last start map c.args.except c.live.cursor.after none)
+    let none = subst (λ slots. IsNextLive (meaning slots) (g.C.LiveCursor.behind c.live.cursor) None) c.live.invariant.keeps.same_slots c.in_default.ensures.next in
+    c.live.invariant.count ∙ same_counts _ _ (at_last start map c.args.except (g.C.LiveCursor.behind c.live.cursor) none)
 
 pub returns-clause-adds : goal.returns-clause-adds
 returns-clause-adds g c =
     let device = g.F.Flash.device c.args.flash.now in
     let map = meaning (slots_of (set_of c.args.layout.now.side device)) in
-    let none = subst (λ slots. IsNextLive (meaning slots) c.live.cursor.after None) c.live.invariant.keeps.same_slots c.in_default.ensures.next in
-    rw (all_words map c.args.except c.live.cursor.after c.live.invariant.below none) c.live.invariant.adds
+    let none = subst (λ slots. IsNextLive (meaning slots) (g.C.LiveCursor.behind c.live.cursor) None) c.live.invariant.keeps.same_slots c.in_default.ensures.next in
+    rw (all_words map c.args.except (g.C.LiveCursor.behind c.live.cursor) c.live.invariant.below none) c.live.invariant.adds
 
 pub returns-clause-as_many : goal.returns-clause-as_many
 returns-clause-as_many g c =
     let device = g.F.Flash.device c.args.flash.now in
     let map = meaning (slots_of (set_of c.args.layout.now.side device)) in
-    let none = subst (λ slots. IsNextLive (meaning slots) c.live.cursor.after None) c.live.invariant.keeps.same_slots c.in_default.ensures.next in
-    rw (all_words map c.args.except c.live.cursor.after c.live.invariant.below none) c.live.invariant.as_many
+    let none = subst (λ slots. IsNextLive (meaning slots) (g.C.LiveCursor.behind c.live.cursor) None) c.live.invariant.keeps.same_slots c.in_default.ensures.next in
+    rw (all_words map c.args.except (g.C.LiveCursor.behind c.live.cursor) c.live.invariant.below none) c.live.invariant.as_many

@@ -4,7 +4,6 @@ use Rattle.ee_pages.specs.Filling.{IsFilling}
 use Rattle.ee_pages.specs.Laws.{Keeps}
 use Rattle.ee_pages.specs.Meaning.{Forget, changed, live_in, meaning}
 use Rattle.ee_pages.specs.Sets.{other as other_of, set_of, slots_of}
-use Rattle.ee_store.specs.Course.{GoesOver}
 use Rattle.ee_store.specs.Parts.{AddsWords, map_to, replaced}
 use Rattle.ee_store.specs.Picture.{elements_to}
 use Rattle.ee_store.proofs.copying.copy_others.Given as goal
@@ -13,15 +12,15 @@ abbrev pub invariant-live : goal.invariant-live
 invariant-live g l = record {
   keeps : Keeps (g.F.Flash.device l.fn.flash) (g.F.Flash.device l.flash) l.layout.side l.layout.generation;
   filling : IsFilling (g.F.Flash.device l.flash) (other_of l.layout.side) (l.layout.generation + 1) l.count;
-  map : (address : ℕ) → meaning (slots_of (set_of (other_of l.layout.side) (g.F.Flash.device l.flash))) address ≡ replaced (meaning (slots_of (set_of (other_of l.layout.side) (g.F.Flash.device l.fn.flash)))) l.except (map_to (meaning (slots_of (set_of l.layout.side (g.F.Flash.device l.fn.flash)))) l.cursor.after) address;
-  count : l.count ≡ live_in (replaced (meaning (slots_of (set_of (other_of l.layout.side) (g.F.Flash.device l.fn.flash)))) l.except (map_to (meaning (slots_of (set_of l.layout.side (g.F.Flash.device l.fn.flash)))) l.cursor.after));
-  below : l.cursor.after < 65535;
-  over : GoesOver (meaning (slots_of (set_of l.layout.side (g.F.Flash.device l.fn.flash)))) l.cursor;
-  adds : AddsWords (g.F.Flash.device l.fn.flash) (g.F.Flash.device l.flash) l.layout.side (l.layout.generation + 1) l.fn.count (elements_to (changed (Forget l.except) (meaning (slots_of (set_of l.layout.side (g.F.Flash.device l.fn.flash))))) l.cursor.after);
-  as_many : l.count ≡ l.fn.count + length (elements_to (changed (Forget l.except) (meaning (slots_of (set_of l.layout.side (g.F.Flash.device l.fn.flash))))) l.cursor.after);
+  map : (address : ℕ) → meaning (slots_of (set_of (other_of l.layout.side) (g.F.Flash.device l.flash))) address ≡ replaced (meaning (slots_of (set_of (other_of l.layout.side) (g.F.Flash.device l.fn.flash)))) l.except (map_to (meaning (slots_of (set_of l.layout.side (g.F.Flash.device l.fn.flash)))) (g.C.LiveCursor.behind l.cursor)) address;
+  count : l.count ≡ live_in (replaced (meaning (slots_of (set_of (other_of l.layout.side) (g.F.Flash.device l.fn.flash)))) l.except (map_to (meaning (slots_of (set_of l.layout.side (g.F.Flash.device l.fn.flash)))) (g.C.LiveCursor.behind l.cursor)));
+  below : g.C.LiveCursor.behind l.cursor < 65535;
+  over : g.C.LiveCursor.goes_over l.cursor (slots_of (set_of l.layout.side (g.F.Flash.device l.fn.flash)));
+  adds : AddsWords (g.F.Flash.device l.fn.flash) (g.F.Flash.device l.flash) l.layout.side (l.layout.generation + 1) l.fn.count (elements_to (changed (Forget l.except) (meaning (slots_of (set_of l.layout.side (g.F.Flash.device l.fn.flash))))) (g.C.LiveCursor.behind l.cursor));
+  as_many : l.count ≡ l.fn.count + length (elements_to (changed (Forget l.except) (meaning (slots_of (set_of l.layout.side (g.F.Flash.device l.fn.flash))))) (g.C.LiveCursor.behind l.cursor));
   wear : (g.F.Flash.device l.flash).wear ≡ (g.F.Flash.device l.fn.flash).wear;
   goes : GoesOn (g.F.Flash.device l.fn.flash) (g.F.Flash.device l.flash);
 }
 
 abbrev pub decreases-live : goal.decreases-live
-decreases-live g l = 65535 - l.cursor.after
+decreases-live g l = 65535 - g.C.LiveCursor.behind l.cursor

@@ -3,9 +3,9 @@ use Rattle.ee_store.specs.Course.{Course, GoesOver}
 use Rattle.ee_store.specs.Parts.{map_in}
 use Rattle.ee_store.specs.declared.copying.Cursor.TheInside.{Inside}
 use Rattle.ee_store.proofs.Courses.{Taken, further, one_taken}
-use Rattle.ee_store.proofs.copying.Cursor.next.Given
-use Rattle.ee_store.proofs.copying.Cursor.next.Goals as goal
-use Rattle.ee_store.proofs.copying.Cursor.next.Goals.{then-self-len+in-Some, else-self-len}
+use Rattle.ee_store.proofs.copying.CursorLiveCursor.next.Given
+use Rattle.ee_store.proofs.copying.CursorLiveCursor.next.Goals as goal
+use Rattle.ee_store.proofs.copying.CursorLiveCursor.next.Goals.{then-self-len+in-Some, else-self-len}
 
 -- where it is, behind this address
 abbrev behind : ℕ → Inside → Course

@@ -1,0 +1,15 @@
+use Rattle.std.proofs.Common.{◌-◌, length}
+use Rattle.std.specs.List.{All}
+use Rattle.ee_codec.specs.Words.{IsAddress}
+use Rattle.ee_store.specs.Parts.{map_in}
+use Rattle.ee_store.proofs.IndexedBatches.{ReachesTo}
+use Rattle.ee_store.proofs.index.batch_indexed.Given as goal
+
+abbrev pub invariant-batch : goal.invariant-batch
+invariant-batch g l = record {
+  reaches : ReachesTo (map_in l.layout.side (g.F.Flash.device l.flash)) l.fn.after l.behind l.found.items;
+  proper : All (λ found. IsAddress found.0) l.found.items;
+}
+
+abbrev pub decreases-batch : goal.decreases-batch
+decreases-batch g l = 64 - length l.found.items
