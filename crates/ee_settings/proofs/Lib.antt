@@ -1,5 +1,9 @@
 pub mod Trees
 pub mod Readings
+pub mod Addresses
+pub mod Proper
+pub mod Stored
+pub mod Outdated
 pub mod Entries
 pub mod Names
 pub mod Once

@@ -1,4 +1,5 @@
 pub mod Setting
 pub mod File
 pub mod Calls
+pub mod Stale
 pub mod Laws

@@ -17,7 +17,10 @@ mod numbers;
 mod reading;
 mod schema;
 mod setting;
+mod settings;
+mod stale;
 
-pub use fault::{GetFault, SchemaFault, SetFault};
+pub use fault::{GetFault, SchemaFault, SetFault, StaleFault};
 pub use reading::Reading;
 pub use schema::Schema;
+pub use stale::Stale;
