@@ -4,6 +4,9 @@ pub mod Addresses
 pub mod Proper
 pub mod Stored
 pub mod Outdated
+pub mod Forgetting
+pub mod Unnamed
+pub mod Tidied
 pub mod Entries
 pub mod Names
 pub mod Once

@@ -19,8 +19,9 @@ mod schema;
 mod setting;
 mod settings;
 mod stale;
+mod tidying;
 
-pub use fault::{GetFault, SchemaFault, SetFault, StaleFault};
+pub use fault::{GetFault, SchemaFault, SetFault, StaleFault, TidyFault};
 pub use reading::Reading;
 pub use schema::Schema;
 pub use stale::Stale;

@@ -7,7 +7,6 @@ use crate::entry::read_entries;
 use crate::fault::{GetFault, SchemaFault, SetFault};
 use crate::numbers::Numbers;
 use crate::reading::Reading;
-use crate::setting::Setting;
 use crate::settings::Settings;
 use ee_store::{Variables, Written};
 use std::alloc::{Allocator, Global};
@@ -142,10 +141,10 @@ impl<A: Allocator> Schema<A> {
     }
 
     /// The settings, by rising name.
-    pub(crate) fn settings(&self) -> &[Setting<A>]
+    pub(crate) fn settings(&self) -> &Settings<A>
         ensures { result.now ≡ self.now }
     {
-        self.settings.as_slice()
+        &self.settings
     }
 
     /// The numbers of the setting of this name, if there is one.

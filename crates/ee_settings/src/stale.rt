@@ -83,7 +83,7 @@ impl<A: Allocator> Schema<A> {
             Err(_) => return Err(StaleFault::Memory),
         };
         let mut stale = Vec::new(alloc);
-        for (index, setting) in self.settings().iter().enumerate() {
+        for (index, setting) in self.settings().as_slice().iter().enumerate() {
             let numbers = setting.numbers();
             let value = stored.get(&numbers.address).copied();
             match push_stale(&mut stale, index as u64 + 1, numbers, value) {

@@ -8,5 +8,5 @@ pub loop-index-preserved : goal.loop-index-preserved
 loop-index-preserved g c =
     let stored = (state_of (g.V.Variables.device c.args.store.now)).map in
     let found : c.copied-value.result ≡ stored c.numbers-numbers.result.address = c.copied-value.ensures ∙ c.get.ensures.value ∙ ap (λ (values : Map). values c.numbers-numbers.result.address) c.in-Ok.ensures in
-    one_further stored c.settings-setting-items.result.now c.loop-index.index c.setting-item.result c.numbers-numbers.result c.copied-value.result c.loop-index.stale.items c.push_stale.new.stale.items _
+    one_further stored c.as_slice-setting-items.result.now c.loop-index.index c.setting-item.result c.numbers-numbers.result c.copied-value.result c.loop-index.stale.items c.push_stale.new.stale.items _
     c.loop-index-test.true c.setting-item.is c.numbers-numbers.ensures.numbers found c.in-Ok-push_stale.ensures c.loop-index.invariant
