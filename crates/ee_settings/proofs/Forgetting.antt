@@ -1,12 +1,12 @@
 -- Addresses forgotten one after another: how such runs join, and what they leave.
-use Rattle.std.proofs.Common.{◌≡◌, ◌≢◌, ◌∙◌, ◌<◌, ℕ, Bool, true, false, cond, None, arith, List, [], ◌∷◌, ◌++◌, Ok, Err, refl, sym, ap, subst, append_assoc}
+use Rattle.std.proofs.Common.{◌≡◌, ◌≢◌, ◌∙◌, ◌<◌, ℕ, false, arith, List, [], ◌∷◌, ◌++◌, Ok, Err, refl, sym, ap, subst, append_assoc}
 use Rattle.std.specs.List.{All}
-use Rattle.std.proofs.lemmas.Bool.{ne_eqb}
 use Rattle.std.proofs.lemmas.List.Elements.{All-head, All-tail}
 use Rattle.ee_flash.specs.Device.{Device, IsOn}
 use Rattle.ee_flash.specs.Power.{GoesOn}
-use Rattle.ee_pages.specs.Meaning.{AreNextLive, Forget, IsNextLive, Map, changed}
+use Rattle.ee_pages.specs.Meaning.{AreNextLive, Forget, Map, changed}
 use Rattle.ee_store.proofs.AfterCalls.{goes_on_both, goes_on_same}
+use Rattle.ee_store.proofs.CopiedMaps.{forget-other}
 use Rattle.ee_store.specs.Calls.{Forgets}
 use Rattle.ee_store.specs.State.{State, state_of}
 use Rattle.ee_store.specs.declared.variables.ForgetFault.{ForgetFault}
@@ -27,9 +27,6 @@ map_without old new address Moved done = ap (λ (state : State). state.map) done
 forgetting_goes_on : (old new : Device) (address : ℕ) (written : Written) → Forgets old address (Ok written) new → GoesOn old new
 forgetting_goes_on old new address Appended done = done.goes_on
 forgetting_goes_on old new address Moved done = done.goes_on
-
-elsewhere : (map : Map) (named address : ℕ) → (named ≡ address → ⊥) → changed (Forget named) map address ≡ map address
-elsewhere map named address other = ap (λ (b : Bool). cond b None (map address)) (ne_eqb named address other)
 
 -- ---- a run of them
 
@@ -53,7 +50,7 @@ each_keeps (one ∷ addresses) old new address done others =
     let apart : one ≢ address = All-head (λ a. a ≢ address) one addresses others in
     each_keeps addresses done.1 new address done.3 (All-tail (λ a. a ≢ address) one addresses others)
     ∙ ap (λ (map : Map). map address) (map_without old done.1 one done.0 done.2)
-    ∙ elsewhere (state_of old).map one address apart
+    ∙ forget-other (state_of old).map one address (λ e. apart (sym e))
 
 -- ---- where one stops
 

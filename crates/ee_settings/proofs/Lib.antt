@@ -7,6 +7,7 @@ pub mod Outdated
 pub mod Forgetting
 pub mod Unnamed
 pub mod Tidied
+pub mod TidiedMaps
 pub mod Entries
 pub mod Names
 pub mod Once

@@ -1,5 +1,5 @@
 -- Only proper addresses have values.
-use Rattle.std.proofs.Common.{◌≡◌, ℕ, Bool, true, false, cond, Option, Some, None, List, [], ◌∷◌, inl, inr, refl, ap, arith}
+use Rattle.std.proofs.Common.{◌≡◌, ◌⊎◌, ℕ, Bool, true, false, cond, Option, Some, None, List, [], ◌∷◌, inl, inr, refl, ap, arith}
 use Rattle.std.specs.Prelude.{◌&&◌, ◌==◌, ◌/◌, ◌%◌, ◌^◌, nat_lt}
 use Rattle.std.proofs.lemmas.Bool.{cases_eq, cases_lt, ne_eqb}
 use Rattle.std.proofs.lemmas.Bool.Decides.{nat_tests}
@@ -57,3 +57,9 @@ in_state device (Some live) address outside = ap value_said (latest_outside (slo
 
 pub none_outside : (device : Device) (address : ℕ) → ¬ IsAddress address → (state_of device).map address ≡ None
 none_outside device address outside = in_state device (live_of device) address (not_proper address outside)
+
+pub proper_or_not : (address : ℕ) → IsAddress address ⊎ ¬ IsAddress address
+proper_or_not address = elim (cases_lt 0 address) [
+  | inr none ↦ inr (λ proper. let some = proper.0 in omega arith)
+  | inl some ↦ elim (cases_lt address 65535) [ inl few ↦ inl (some, few) | inr many ↦ inr (λ proper. let low = proper.1 in omega arith) ]
+]

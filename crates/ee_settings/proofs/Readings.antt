@@ -11,7 +11,7 @@ use Rattle.ee_pages.specs.Sets.{live_of, set_of, slots_of}
 use Rattle.ee_pages.specs.declared.side.Side.{Side}
 use Rattle.ee_pages.proofs.Slots.{length-slots}
 use Rattle.ee_store.specs.Changes.{IsCutAppend, IsCutChange, IsCutMove}
-use Rattle.ee_pages.specs.Meaning.{Map, Put, changed}
+use Rattle.ee_pages.specs.Meaning.{Change, Map, Put, changed}
 use Rattle.ee_store.specs.Calls.{Writes}
 use Rattle.ee_store.specs.State.{State, capacity, state_in, state_of}
 use Rattle.ee_store.specs.declared.variables.Written.{Written}
@@ -25,10 +25,10 @@ use Rattle.ee_settings.specs.declared.reading.Reading.TheVariants.{Stored}
 in_range_read : (numbers : Numbers) (value : ℕ) → IsInRange numbers value → reading_of numbers (Some value) ≡ Stored value
 in_range_read numbers value h = let a = h.0 in let b = h.1 in grind (arith, nat_tests)
 
-changed_here : (address value : ℕ) (map : Map) → changed (Put address value) map address ≡ Some value
+pub changed_here : (address value : ℕ) (map : Map) → changed (Put address value) map address ≡ Some value
 changed_here address value map = grind (arith, nat_tests)
 
-changed_elsewhere : (address value other : ℕ) (map : Map) → address ≢ other → changed (Put address value) map other ≡ map other
+pub changed_elsewhere : (address value other : ℕ) (map : Map) → address ≢ other → changed (Put address value) map other ≡ map other
 changed_elsewhere address value other map apart = grind (arith, nat_tests)
 
 -- the setting whose value was put reads as that value
@@ -67,17 +67,17 @@ fill_in device (Some live) formed =
 pub fill_within : (device : Device) → IsFormed device → (state_of device).fill ≤ capacity device
 fill_within device formed = fill_in device (live_of device) formed
 
--- after a cut the map is as it was or has the value
-pub cut_map : (old new : State) (pages address value : ℕ) → IsCutAppend old (Put address value) new ⊎ IsCutMove pages old (Put address value) new → (new.map ≡ old.map) ⊎ (new.map ≡ changed (Put address value) old.map)
-cut_map old new pages address value (inl (inl e)) = inl (ap (λ s. s.map) e)
-cut_map old new pages address value (inl (inr (inl e))) = inl (ap (λ s. s.map) e)
-cut_map old new pages address value (inl (inr (inr e))) = inr (ap (λ s. s.map) e)
-cut_map old new pages address value (inr (inl e)) = inl (ap (λ s. s.map) e.2)
-cut_map old new pages address value (inr (inr e)) = inr (ap (λ s. s.map) e)
+-- after a cut the map is as it was or is changed
+pub cut_map : (old new : State) (pages : ℕ) (change : Change) → IsCutAppend old change new ⊎ IsCutMove pages old change new → (new.map ≡ old.map) ⊎ (new.map ≡ changed change old.map)
+cut_map old new pages change (inl (inl e)) = inl (ap (λ s. s.map) e)
+cut_map old new pages change (inl (inr (inl e))) = inl (ap (λ s. s.map) e)
+cut_map old new pages change (inl (inr (inr e))) = inr (ap (λ s. s.map) e)
+cut_map old new pages change (inr (inl e)) = inl (ap (λ s. s.map) e.2)
+cut_map old new pages change (inr (inr e)) = inr (ap (λ s. s.map) e)
 
-pub cut_cases : (old new : Device) (address value : ℕ) → IsFormed old → IsCutChange old (Put address value) new → IsCutAppend (state_of old) (Put address value) (state_of new) ⊎ IsCutMove old.size.pages (state_of old) (Put address value) (state_of new)
-cut_cases old new address value formed cut =
+pub cut_cases : (old new : Device) (change : Change) → (state_of old).fill ≤ capacity old → IsCutChange old change new → IsCutAppend (state_of old) change (state_of new) ⊎ IsCutMove old.size.pages (state_of old) change (state_of new)
+cut_cases old new change within cut =
     elim (cases_lt (state_of old).fill (capacity old)) [
       | inl h ↦ inl (cut.free h)
-      | inr h ↦ (let within = fill_within old formed in let e : (state_of old).fill ≡ capacity old = omega arith in inr (cut.all_used e))
+      | inr h ↦ (let e : (state_of old).fill ≡ capacity old = omega arith in inr (cut.all_used e))
     ]

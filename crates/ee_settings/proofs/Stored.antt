@@ -1,7 +1,7 @@
 -- The values of a map, gathered by rising address.
 use Rattle.std.proofs.Common.{◌≡◌, ◌∙◌, ◌<◌, ◌≤◌, ℕ, Bool, cond, Some, None, List, [], ◌∷◌, inl, inr, refl, sym, ap, arith, nat_cmp}
 use Rattle.std.proofs.Math.Path.{fun_ext}
-use Rattle.std.proofs.lemmas.Bool.{cases_eq, cases_lt, eq-eqb, le-leb, lt-leb, ne_eqb}
+use Rattle.std.proofs.lemmas.Bool.{cases_eq, cases_lt, le-leb, lt-leb}
 use Rattle.std.specs.BTreeMap.{BTreeMap, Updates, get}
 use Rattle.ee_flash.specs.Device.{Device}
 use Rattle.ee_pages.specs.Meaning.{AreLiveThrough, AreNextLive, IsNextLive, IsNoneLive, Map, Put, changed, last_of}
@@ -9,6 +9,7 @@ use Rattle.ee_store.specs.Parts.{map_to}
 use Rattle.ee_store.specs.State.{state_of}
 use Rattle.ee_settings.proofs.Addresses.{at_is}
 use Rattle.ee_settings.proofs.Proper.{none_outside}
+use Rattle.ee_settings.proofs.Readings.{changed_elsewhere, changed_here}
 use Rattle.ee_settings.specs.Stale.{with_found}
 
 pub put_one : (old new : BTreeMap ℕ ℕ) (address value : ℕ) → Updates nat_cmp old new address (Some value) → get nat_cmp new ≡ changed (Put address value) (get nat_cmp old)
@@ -20,18 +21,12 @@ below map last address h = ap (λ (b : Bool). cond b (map address) None) (le-leb
 above : (map : Map) (last address : ℕ) → last < address → map_to map last address ≡ None
 above map last address h = ap (λ (b : Bool). cond b (map address) None) (lt-leb address last h)
 
-put_here : (map : Map) (named value address : ℕ) → named ≡ address → changed (Put named value) map address ≡ Some value
-put_here map named value address e = ap (λ (b : Bool). cond b (Some value) (map address)) (eq-eqb named address e)
-
-put_elsewhere : (map : Map) (named value address : ℕ) → (named ≡ address → ⊥) → changed (Put named value) map address ≡ map address
-put_elsewhere map named value address other = ap (λ (b : Bool). cond b (Some value) (map address)) (ne_eqb named address other)
-
 one_further : (map : Map) (last next value : ℕ) → IsNextLive map last (Some (next, value)) → (address : ℕ) → changed (Put next value) (map_to map last) address ≡ map_to map next address
 one_further map last next value is address = elim (cases_eq next address) [
   | inl here ↦
       let low : address ≤ next = omega arith in
-      put_here (map_to map last) next value address here ∙ sym is.1 ∙ ap map here ∙ sym (below map next address low)
-  | inr other ↦ put_elsewhere (map_to map last) next value address other ∙ elim (cases_lt next address) [
+      ap (changed (Put next value) (map_to map last)) (sym here) ∙ changed_here next value (map_to map last) ∙ sym is.1 ∙ ap map here ∙ sym (below map next address low)
+  | inr other ↦ changed_elsewhere next value address (map_to map last) other ∙ elim (cases_lt next address) [
     | inl high ↦ above map last address (omega (arith, is.0)) ∙ sym (above map next address high)
     | inr low ↦ elim (cases_lt last address) [
       | inl between ↦ above map last address between ∙ sym (is.2 address between (omega (arith, other))) ∙ sym (below map next address low)

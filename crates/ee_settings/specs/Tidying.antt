@@ -1,10 +1,12 @@
 -- Forgetting each address that has a value and that no setting has.
-use Rattle.std.specs.Prelude.{◌≡◌, ◌&&◌, ℕ, Bool, not, is_some, if◌then◌else◌, zero, suc, List, [], ◌∷◌, ◌++◌, length, Result, Ok, Err}
+use Rattle.std.specs.Prelude.{◌≡◌, ◌⊎◌, ◌&&◌, ◌==◌, ℕ, None, Bool, not, is_some, if◌then◌else◌, zero, suc, List, [], ◌∷◌, ◌++◌, length, Result, Ok, Err}
 use Rattle.std.specs.List.{flat_map}
 use Rattle.ee_flash.specs.Device.{Device, IsOff, IsOn}
-use Rattle.ee_pages.specs.Meaning.{Map}
+use Rattle.ee_flash.specs.Size.{Size, slot_count}
+use Rattle.ee_pages.specs.Meaning.{Forget, Map}
 use Rattle.ee_store.specs.Calls.{Forgets}
-use Rattle.ee_store.specs.State.{state_of}
+use Rattle.ee_store.specs.Changes.{IsSpent}
+use Rattle.ee_store.specs.State.{State, appended, moved, state_of}
 use Rattle.ee_store.specs.declared.variables.ForgetFault.{ForgetFault}
 use Rattle.ee_store.specs.declared.variables.ForgetFault.TheVariants as forget
 use Rattle.ee_store.specs.declared.variables.Written.{Written}
@@ -56,6 +58,30 @@ Tidies settings old (Ok count) new =
     × ForgetsEach (unnamed_in settings (state_of old).map) old new
 Tidies settings old (Err tidy.Off) new = IsOff old × (new ≡ old)
 Tidies settings old (Err fault) new = Stops (unnamed_in settings (state_of old).map) old fault new
+
+-- what is left of a map for these settings: the values of their addresses
+abbrev pub kept : List Setting → Map → Map
+kept settings map address = if has_address settings address then map address else None
+
+-- ---- when the store is spent
+
+-- what forgetting an address leaves: appended, or moved where no slot is free
+abbrev pub after_forgetting : Size → ℕ → State → State
+after_forgetting size address state =
+    if state.fill == slot_count size then moved size.pages (Forget address) state else appended (Forget address) state
+
+-- and what forgetting these leaves, one after another
+abbrev pub after_forgettings : Size → List ℕ → State → State
+after_forgettings size [] state = state
+after_forgettings size (address ∷ addresses) state = after_forgettings size addresses (after_forgetting size address state)
+
+-- where these are forgotten, one after another, the store is spent before the last of them
+abbrev pub IsSpentAmong : Size → List ℕ → State → Type 0
+IsSpentAmong size [] state = ⊥
+IsSpentAmong size (address ∷ addresses) state =
+    IsSpent (slot_count size) state ⊎ IsSpentAmong size addresses (after_forgetting size address state)
+
+-- ---- for the functions within
 
 -- the address, if no setting has it
 abbrev pub unnamed_of : List Setting → ℕ → List ℕ
