@@ -13,3 +13,4 @@ pub mod Traces
 pub mod OneTask
 pub mod Planned
 pub mod Given
+pub mod TidiedImages
