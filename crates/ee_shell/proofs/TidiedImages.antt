@@ -1,15 +1,12 @@
 -- What is told and tidied by a later schema, and that one cause at most applies for which it is not.
-use Rattle.std.proofs.Common.{◌≡◌, ◌≢◌, ◌⊎◌, ◌∙◌, ◌+◌, ◌<◌, ◌≤◌, ℕ, Option, Some, None, List, inl, inr, refl, sym, ap, subst, arith, Ok, Err}
+use Rattle.std.proofs.Common.{◌≡◌, ◌≢◌, ◌⊎◌, ◌∙◌, ◌+◌, ℕ, Option, Some, None, List, inl, inr, sym, ap, subst, arith, Ok, Err}
 use Rattle.std.specs.Prelude.{option_map}
 use Rattle.ee_flash.specs.Device.{Device}
-use Rattle.ee_flash.specs.Power.{GoesOn}
 use Rattle.ee_flash.specs.Size.{Size}
-use Rattle.ee_image.specs.Text.{at_rest}
-use Rattle.ee_pages.specs.Meaning.{Map}
 use Rattle.ee_store.specs.Finished.{IsStore}
 use Rattle.ee_store.specs.State.{State, state_of}
 use Rattle.ee_settings.proofs.Forgetting.{each_goes_on}
-use Rattle.ee_settings.proofs.TidiedMaps.{leaves_named, none_spent, spent_among}
+use Rattle.ee_settings.proofs.TidiedMaps.{leaves_named, none_spent}
 use Rattle.ee_settings.specs.Setting.{Setting}
 use Rattle.ee_settings.specs.Stale.{stale_in}
 use Rattle.ee_settings.specs.Tidying.{IsSpentAmong, Tidies, kept, unnamed_in}
@@ -20,10 +17,10 @@ use Rattle.ee_words.specs.declared.fault.Fault.TheVariants.{Memory, Spent}
 use Rattle.ee_words.specs.declared.replay_fault.ReplayFault.{ReplayFault}
 use Rattle.ee_shell.proofs.Named.{not_opened, one_rest, opening_good, opening_named, rested_state, settings_good, spelled_once}
 use Rattle.ee_shell.specs.Opening.{IsOpened}
-use Rattle.ee_shell.specs.Replaying.{IsOpenFault, IsStoreLeft, IsStoreText, Spells}
+use Rattle.ee_shell.specs.Replaying.{IsOpenFault, Spells}
 use Rattle.ee_shell.specs.SecondSchema.{AreStaleLines, IsSpentFor, IsStaleTextFault, IsTidied, IsTidiedImage, IsTidyImageFault, stale_lines, tidied_text}
 use Rattle.ee_shell.specs.Serving.{StaysOn}
-use Rattle.ee_shell.specs.Settings.{HasStore, IsSettingsFault, SpellsSettings}
+use Rattle.ee_shell.specs.Settings.{IsSettingsFault, SpellsSettings}
 
 -- ---- tidying a store
 

@@ -4,7 +4,6 @@ use Rattle.std.specs.List.{flat_map}
 use Rattle.ee_text.specs.Field.{joined}
 use Rattle.ee_text.specs.Line.{line_of}
 use Rattle.ee_flash.specs.Device.{Device}
-use Rattle.ee_pages.specs.Meaning.{Map}
 use Rattle.ee_store.specs.State.{state_of}
 use Rattle.ee_settings.specs.Setting.{Setting}
 use Rattle.ee_settings.specs.Stale.{entry_of, stale_in}

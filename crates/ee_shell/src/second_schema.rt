@@ -1,5 +1,5 @@
 //! The commands that look at an image with the settings of a later firmware.
-ghost use Rattle.std.specs.Prelude.{◌≡◌, ◌≢◌, ◌⊎◌, ◌<◌, ◌≤◌, ◌++◌, IfOk, IfErr, OnOk, MatchResult, length};
+ghost use Rattle.std.specs.Prelude.{◌≡◌, ◌≢◌, ◌⊎◌, ◌<◌, ◌≤◌, ◌+◌, ◌++◌, IfOk, IfErr, OnOk, MatchResult, length};
 ghost use Rattle.std.specs.List.{All};
 ghost use Rattle.ee_store.specs.State.{state_of};
 ghost use Rattle.ee_settings.specs.Stale.{stale_in};
@@ -128,7 +128,8 @@ fn tidy_on<V: Variables, A: Allocator>(store: &mut V, schema: &Schema<A>) -> Res
     match schema.tidy(store) {
         Ok(count) => Ok(count),
         Err(TidyFault::Spent) => Err(Fault::Spent),
-        Err(TidyFault::Off | TidyFault::Cut) => unreachable!("power stays on"),
+        Err(TidyFault::Off) => unreachable!("power stays on"),
+        Err(TidyFault::Cut) => unreachable!("power is never cut"),
     }
 }
 
