@@ -1,7 +1,7 @@
 use ee_flash::Shape;
 use ee_shell::{
     check_script, clean_image, format_image, get_setting, plan_script, replay, set_setting,
-    states_text, try_script, wear_text,
+    stale_text, states_text, tidy_image, try_script, wear_text,
 };
 use ee_words::{Fault, File, Job, fault_line, job, read_whole, status_of, write_whole};
 use std::rt::Files;
@@ -60,6 +60,8 @@ fn work<R: Files + Input + Print + AllocGlobal>(rt: &R, job: &Job<'_>) -> Result
         Job::Wear { image, before } => tell_wear(rt, image, before),
         Job::States { image } => tell_states(rt, image),
         Job::Clean { image } => clean_file(rt, image),
+        Job::Stale { image, settings } => tell_stale(rt, image, settings),
+        Job::Tidy { image, settings } => tidy_file(rt, image, settings),
     }
 }
 
@@ -195,6 +197,34 @@ fn clean_file<R: Files + Print + AllocGlobal>(rt: &R, image: &str) -> Result<(),
     let before = read_file(rt, File::Image, image)?;
     let (cleaned, text) = clean_image(rt.alloc(), before.as_slice())?;
     write_image(rt, image, cleaned.as_slice())?;
+    print(rt, text.as_slice())
+}
+
+/// Prints the settings whose stored value in an image isn't in their range.
+fn tell_stale<R: Files + Print + AllocGlobal>(
+    rt: &R,
+    image: &str,
+    settings: &str,
+) -> Result<(), Fault> {
+    let image = read_file(rt, File::Image, image)?;
+    let settings = read_file(rt, File::Settings, settings)?;
+    let (alloc, heap) = (rt.alloc(), rt.alloc());
+    let text = stale_text(alloc, heap, image.as_slice(), settings.as_slice())?;
+    print(rt, text.as_slice())
+}
+
+/// Forgets the addresses of an image that no setting has, writes the image in its place, and prints
+/// their number.
+fn tidy_file<R: Files + Print + AllocGlobal>(
+    rt: &R,
+    image: &str,
+    settings: &str,
+) -> Result<(), Fault> {
+    let before = read_file(rt, File::Image, image)?;
+    let table = read_file(rt, File::Settings, settings)?;
+    let (alloc, heap) = (rt.alloc(), rt.alloc());
+    let (tidied, text) = tidy_image(alloc, heap, before.as_slice(), table.as_slice())?;
+    write_image(rt, image, tidied.as_slice())?;
     print(rt, text.as_slice())
 }
 

@@ -1,5 +1,13 @@
 pub mod Trees
 pub mod Readings
+pub mod Addresses
+pub mod Proper
+pub mod Stored
+pub mod Outdated
+pub mod Forgetting
+pub mod Unnamed
+pub mod Tidied
+pub mod TidiedMaps
 pub mod Entries
 pub mod Names
 pub mod Once

@@ -17,10 +17,10 @@ use Rattle.ee_settings.specs.declared.reading.Reading.TheVariants.{Stored}
 in_range_read : (numbers : Numbers) (value : ℕ) → IsInRange numbers value → reading_of numbers (Some value) ≡ Stored value
 in_range_read numbers value h = let a = h.0 in let b = h.1 in grind (arith, nat_tests)
 
-changed_here : (address value : ℕ) (map : Map) → changed (Put address value) map address ≡ Some value
+pub changed_here : (address value : ℕ) (map : Map) → changed (Put address value) map address ≡ Some value
 changed_here address value map = grind (arith, nat_tests)
 
-changed_elsewhere : (address value other : ℕ) (map : Map) → address ≢ other → changed (Put address value) map other ≡ map other
+pub changed_elsewhere : (address value other : ℕ) (map : Map) → address ≢ other → changed (Put address value) map other ≡ map other
 changed_elsewhere address value other map apart = grind (arith, nat_tests)
 
 -- the setting whose value was put reads as that value

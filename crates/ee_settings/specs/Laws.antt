@@ -1,11 +1,14 @@
 -- What a set setting leaves, over all schemas and all stores, and that tables have one meaning.
-use Rattle.std.specs.Prelude.{◌≡◌, ◌≢◌, ◌⊎◌, ℕ, List, Ok, Err}
-use Rattle.std.specs.List.{Contains}
+use Rattle.std.specs.Prelude.{◌≡◌, ◌≢◌, ◌⊎◌, ℕ, false, None, List, length, map, Result, Ok, Err}
+use Rattle.std.specs.List.{Contains, flat_map}
 use Rattle.ee_flash.specs.Device.{Device, IsFormed}
+use Rattle.ee_pages.specs.Meaning.{Forget}
+use Rattle.ee_store.specs.Runs.{Call, IsWholeRun, changes_of}
 use Rattle.ee_store.specs.State.{state_of}
 use Rattle.ee_store.specs.declared.variables.Written.{Written}
 use Rattle.ee_store.specs.declared.variables.WriteFault.TheVariants as write
-use Rattle.ee_settings.specs.Setting.{IsSchema, Setting, reading_in}
+use Rattle.ee_settings.specs.Setting.{IsSchema, Setting, has_address, reading_in}
+use Rattle.ee_settings.specs.Tidying.{IsSpentAmong, Tidies, kept, unnamed_in}
 use Rattle.toml.specs.Data.{Members}
 use Rattle.ee_settings.specs.Calls.{IsNamed, Sets}
 use Rattle.ee_settings.specs.File.{GivesSchema, HaveRisingKeys, entries_of}
@@ -13,6 +16,8 @@ use Rattle.ee_settings.specs.declared.fault.SchemaFault.{SchemaFault}
 use Rattle.ee_settings.specs.declared.fault.SchemaFault.TheVariants as schema
 use Rattle.ee_settings.specs.declared.fault.SetFault.{SetFault}
 use Rattle.ee_settings.specs.declared.fault.SetFault.TheVariants as set
+use Rattle.ee_settings.specs.declared.fault.TidyFault.{TidyFault}
+use Rattle.ee_settings.specs.declared.fault.TidyFault.TheVariants as tidy
 use Rattle.ee_settings.specs.declared.reading.Reading.TheVariants.{Stored}
 
 -- each setting of another name reads as before
@@ -72,3 +77,35 @@ abbrev pub EachTableIsJudged : Type 0
 EachTableIsJudged = (members : Members) → HaveRisingKeys (entries_of members)
     → ((settings : List Setting) × GivesSchema members (Ok settings))
     ⊎ ((why : SchemaFault) × (why ≢ schema.Memory) × GivesSchema members (Err why))
+
+-- ---- a store that was tidied
+
+-- Each setting reads as before, whatever tidying answers.
+abbrev pub TidyKeepsReadings : Type 0
+TidyKeepsReadings = (settings : List Setting) (old new : Device) (answer : Result ℕ TidyFault) → IsFormed old
+    → Tidies settings old answer new → KeepsAll settings old new
+
+-- Each address has what it had, but some that no setting has have nothing now, whatever tidying answers.
+abbrev pub TidyTakesTheUnnamed : Type 0
+TidyTakesTheUnnamed = (settings : List Setting) (old new : Device) (answer : Result ℕ TidyFault) → IsFormed old
+    → Tidies settings old answer new → (address : ℕ)
+    → ((state_of new).map address ≡ (state_of old).map address)
+    ⊎ ((has_address settings address ≡ false) × ((state_of new).map address ≡ None))
+
+-- Tidied to the end, a store has the values of the settings' addresses and no others.
+abbrev pub TidyLeavesTheNamed : Type 0
+TidyLeavesTheNamed = (settings : List Setting) (old new : Device) (count : ℕ) → Tidies settings old (Ok count) new
+    → (address : ℕ) → (state_of new).map address ≡ kept settings (state_of old).map address
+
+-- It came to that by as many forgettings as the answer says, each of one that no setting has.
+abbrev pub TidyIsARun : Type 0
+TidyIsARun = (settings : List Setting) (old new : Device) (count : ℕ) → Tidies settings old (Ok count) new
+    → (calls : List Call) × IsWholeRun calls old new
+    × (flat_map changes_of calls ≡ map Forget (unnamed_in settings (state_of old).map)) × (length calls ≡ count)
+
+-- It is spent exactly where one of the forgettings is.
+abbrev pub TidyIsSpent : Type 0
+TidyIsSpent = (settings : List Setting) (old new : Device)
+    → (Tidies settings old (Err tidy.Spent) new → IsSpentAmong old.size (unnamed_in settings (state_of old).map) (state_of old))
+    × ((count : ℕ) → Tidies settings old (Ok count) new
+    → ¬ IsSpentAmong old.size (unnamed_in settings (state_of old).map) (state_of old))

@@ -1,4 +1,6 @@
 pub mod Setting
 pub mod File
 pub mod Calls
+pub mod Stale
+pub mod Tidying
 pub mod Laws

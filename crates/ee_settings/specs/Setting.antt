@@ -1,7 +1,7 @@
 -- Settings: what they are called, what they may be, and what they read as.
 use Rattle.std.specs.Prelude.{◌≡◌, ◌<◌, ◌≤◌, ◌^◌, ℕ, Bool, ◌&&◌, ◌||◌, ◌==◌, List, [], ◌∷◌, length, map, nat_le, true, false, if◌then◌else◌, Option, Some, None}
 use Rattle.std.specs.Cmp.Lexicographic.{slice_cmp}
-use Rattle.std.specs.List.{Contains, list_all}
+use Rattle.std.specs.List.{Contains, list_all, list_any}
 use Rattle.std.specs.List.Sorted.{IsStrictlySortedBy}
 use Rattle.std.specs.Ordering.{nat_cmp}
 use Rattle.ee_codec.specs.Words.{IsAddress}
@@ -43,6 +43,10 @@ IsName name = is_name name ≡ true
 abbrev pub IsInRange : Numbers → ℕ → Type 0
 IsInRange numbers value = (numbers.min ≤ value) × (value ≤ numbers.max)
 
+-- the same as a test
+abbrev pub is_in_range : Numbers → ℕ → Bool
+is_in_range numbers value = nat_le numbers.min value && nat_le value numbers.max
+
 -- the address is proper, the other numbers are of 32 bits, and the default is in the range
 pub record AreProper (numbers : Numbers) : Type 0 where
   pub address : IsAddress numbers.address
@@ -52,6 +56,10 @@ pub record AreProper (numbers : Numbers) : Type 0 where
 pub record IsProper (setting : Setting) : Type 0 where
   pub name : IsName setting.name
   pub numbers : AreProper setting.numbers
+
+-- whether a setting has the address
+abbrev pub has_address : List Setting → ℕ → Bool
+has_address settings address = list_any (λ setting. setting.numbers.address == address) settings
 
 -- no two settings have one address
 abbrev pub HaveOwnAddresses : List Setting → Type 0
@@ -71,7 +79,7 @@ pub record IsSchema (settings : List Setting) : Type 0 where
 abbrev pub reading_of : Numbers → Option ℕ → Reading
 reading_of numbers None = Default numbers.default
 reading_of numbers (Some value) =
-    if nat_le numbers.min value && nat_le value numbers.max then Stored value else Default numbers.default
+    if is_in_range numbers value then Stored value else Default numbers.default
 
 -- what a setting reads as in a store's map
 abbrev pub reading_in : Map → Setting → Reading

@@ -1,13 +1,13 @@
-ghost use Rattle.std.specs.Prelude.{◌≡◌, true, false, IfOk, IfErr};
+ghost use Rattle.std.specs.Prelude.{IfOk, IfErr};
 ghost use Rattle.toml.specs.View.{table_view, view};
-ghost use Rattle.ee_settings.specs.File.{GivesSetting, IsSchemaFault, IsSchemaOf, IsTaken};
+ghost use Rattle.ee_settings.specs.File.{GivesSetting, IsSchemaFault, IsSchemaOf};
 ghost use Rattle.ee_settings.specs.File.{entries_of};
 ghost use Rattle.ee_settings.specs.Setting.{HaveRisingNames};
 
 use crate::fault::SchemaFault;
 use crate::numbers::{checked, read_fields};
 use crate::setting::{Setting, is_proper_name};
-use ee_codec::Address;
+use crate::settings::Settings;
 use std::alloc::Allocator;
 use toml::{Table, Value};
 
@@ -15,23 +15,23 @@ use toml::{Table, Value};
 pub(crate) fn read_entries<A: Allocator + Copy>(
     alloc: A,
     table: &Table,
-) -> Result<Vec<Setting<A>, A>, SchemaFault>
+) -> Result<Settings<A>, SchemaFault>
     ensures ok { IfOk result
-        (λ settings. IsSchemaOf (entries_of (table_view table.now)) settings.items) }
-    ensures names { IfOk result (λ settings. HaveRisingNames settings.items) }
+        (IsSchemaOf (entries_of (table_view table.now))) }
+    ensures names { IfOk result HaveRisingNames }
     ensures err { IfErr result (IsSchemaFault (entries_of (table_view table.now))) }
 {
-    let mut settings = Vec::new(alloc);
+    let mut settings = Settings::new(alloc);
     for (name, value) in table.iter() {
         let number = settings.len() as u64 + 1;
         let setting = match read_entry(alloc, &settings, number, name.as_str(), value) {
             Ok(setting) => setting,
             Err(fault) => return Err(fault),
         };
-        match settings.push(setting) {
-            Ok(()) => {}
+        settings = match settings.with(setting) {
+            Ok(more) => more,
             Err(_) => return Err(SchemaFault::Memory),
-        }
+        };
     }
     Ok(settings)
 }
@@ -40,7 +40,7 @@ pub(crate) fn read_entries<A: Allocator + Copy>(
 /// the settings of those before it.
 fn read_entry<A: Allocator + Copy>(
     alloc: A,
-    earlier: &[Setting<A>],
+    earlier: &Settings<A>,
     number: u64,
     name: &str,
     value: &Value,
@@ -58,7 +58,7 @@ fn read_entry<A: Allocator + Copy>(
         Some(numbers) => numbers,
         None => return Err(SchemaFault::BadRange(number)),
     };
-    if is_taken(earlier, numbers.address) {
+    if earlier.has(numbers.address) {
         return Err(SchemaFault::SameAddress(number));
     }
     let name = match String::from_str(alloc, name) {
@@ -66,17 +66,4 @@ fn read_entry<A: Allocator + Copy>(
         Err(_) => return Err(SchemaFault::Memory),
     };
     Ok(Setting::new(name, numbers))
-}
-
-/// Whether one of the settings has the address.
-fn is_taken<A: Allocator>(earlier: &[Setting<A>], address: Address) -> bool
-    ensures taken { result ≡ true → IsTaken earlier.now address }
-    ensures free { result ≡ false → ¬ IsTaken earlier.now address }
-{
-    for other in earlier {
-        if other.numbers().address.get() == address.get() {
-            return true;
-        }
-    }
-    false
 }

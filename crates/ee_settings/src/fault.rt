@@ -48,3 +48,30 @@ pub enum SetFault {
     /// The store refused the write.
     Store(WriteFault),
 }
+
+/// Why stale settings can't be told, the first cause that applies.
+///
+/// Source: ours.
+#[derive(Clone, Copy, Debug, PartialEq, Eq)]
+pub enum StaleFault {
+    /// The device is off.
+    Off,
+    /// Memory ran out. It can come in place of any answer but `Off`.
+    Memory,
+}
+
+/// Why a store isn't tidied, or not to the end. Before `Spent` and `Cut` the first of the addresses
+/// were forgotten, and nothing else changed.
+///
+/// Source: ours.
+#[derive(Clone, Copy, Debug, PartialEq, Eq)]
+pub enum TidyFault {
+    /// The device is off.
+    Off,
+    /// A forgetting was refused, and changed nothing: every slot is used, and the generation is the
+    /// greatest, 4294967294.
+    Spent,
+    /// Power failed in a forgetting. The device is off; the address has its value still or has
+    /// none.
+    Cut,
+}

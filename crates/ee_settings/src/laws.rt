@@ -1,7 +1,8 @@
 //! What holds of every schema and every store. Each function does nothing: its contract is the law.
 ghost use Rattle.ee_settings.specs.Laws.{SetIsRead, CutKeepsOthers, RefusalsChangeNothing};
 ghost use Rattle.ee_settings.specs.Laws.{EachTableIsJudged, NamesAreApart, TablesHaveOneFault, TablesSpellOnce};
-ghost use Rattle.ee_settings.specs.Laws.{SchemasAreAccepted};
+ghost use Rattle.ee_settings.specs.Laws.{SchemasAreAccepted, TidyIsARun, TidyIsSpent, TidyKeepsReadings};
+ghost use Rattle.ee_settings.specs.Laws.{TidyLeavesTheNamed, TidyTakesTheUnnamed};
 
 /// A setting that was set reads as the value that was set, and each setting of another name reads
 /// as before, also where the store moved its map to the other set.
@@ -43,4 +44,31 @@ pub fn tables_have_one_fault()
 #[tactic(auto, using(crate::proofs::Total::each_table_is_judged_lem))]
 pub fn each_table_is_judged()
     ensures { EachTableIsJudged }
+{}
+
+/// Each setting reads as before, whatever tidying a store answers.
+pub fn tidy_keeps_readings()
+    ensures { TidyKeepsReadings }
+{}
+
+/// Whatever it answers, each address has what it had, but for some that no setting has: they have
+/// nothing now.
+pub fn tidy_takes_the_unnamed()
+    ensures { TidyTakesTheUnnamed }
+{}
+
+/// A store that was tidied to the end has the values of the settings' addresses, and no others.
+pub fn tidy_leaves_the_named()
+    ensures { TidyLeavesTheNamed }
+{}
+
+/// It came to that by a run of as many forgettings as the answer says, so what holds of every run
+/// without cuts holds of tidying.
+pub fn tidy_is_a_run()
+    ensures { TidyIsARun }
+{}
+
+/// Tidying is spent exactly where one of its forgettings is.
+pub fn tidy_is_spent()
+    ensures { TidyIsSpent }
 {}

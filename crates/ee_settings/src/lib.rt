@@ -17,7 +17,11 @@ mod numbers;
 mod reading;
 mod schema;
 mod setting;
+mod settings;
+mod stale;
+mod tidying;
 
-pub use fault::{GetFault, SchemaFault, SetFault};
+pub use fault::{GetFault, SchemaFault, SetFault, StaleFault, TidyFault};
 pub use reading::Reading;
 pub use schema::Schema;
+pub use stale::Stale;

@@ -7,7 +7,7 @@ use crate::entry::read_entries;
 use crate::fault::{GetFault, SchemaFault, SetFault};
 use crate::numbers::Numbers;
 use crate::reading::Reading;
-use crate::setting::Setting;
+use crate::settings::Settings;
 use ee_store::{Variables, Written};
 use std::alloc::{Allocator, Global};
 use std::marker::Model;
@@ -18,7 +18,7 @@ use toml::Table;
 /// Source: ours.
 #[derive(Drop)]
 pub struct Schema<A: Allocator = Global> {
-    settings: Vec<Setting<A>, A>,
+    settings: Settings<A>,
 }
 
 impl<A: Allocator> Model for Schema<A> {
@@ -27,13 +27,14 @@ impl<A: Allocator> Model for Schema<A> {
 
     ghost Value = { List Setting };
 
-    ghost view = { λ s. s.settings.items };
+    ghost view = { λ s. s.settings };
 
-    ghost invariant = { λ s. IsSchema s.settings.items };
+    ghost invariant = { λ s. IsSchema s.settings };
 }
 
 impl<A: Allocator> Schema<A> {
-    ghost use Rattle.std.specs.Prelude.{◌≡◌, IfSome, IfNone};
+    ghost use Rattle.std.specs.Prelude.{◌≡◌, IfSome, IfNone, length};
+    ghost use Rattle.ee_settings.specs.Stale.{IsNameOf, entry_of};
     ghost use Rattle.ee_settings.specs.Calls.{IsNumbersOf, IsUnknown};
 
     /// The schema that a table spells. Each entry of the table is a setting: its key is the name,
@@ -114,12 +115,44 @@ impl<A: Allocator> Schema<A> {
         }
     }
 
+    /// How many entries there are.
+    ///
+    /// Source: ours.
+    pub fn entries(&self) -> u64
+        ensures { result ≡ length self.now }
+    {
+        self.settings.len() as u64
+    }
+
+    /// The name of an entry, by rising name, counted from 1; `None` for any other number.
+    ///
+    /// Source: ours.
+    pub fn name(&self, entry: u64) -> Option<&str>
+        ensures found { IfSome result (λ name. IsNameOf self.now entry name.now) }
+        ensures none { IfNone result (entry_of self.now entry ≡ None) }
+    {
+        if entry == 0 {
+            return None;
+        }
+        match self.settings.as_slice().get(entry as usize - 1) {
+            Some(setting) => Some(setting.name()),
+            None => None,
+        }
+    }
+
+    /// The settings, by rising name.
+    pub(crate) fn settings(&self) -> &Settings<A>
+        ensures { result.now ≡ self.now }
+    {
+        &self.settings
+    }
+
     /// The numbers of the setting of this name, if there is one.
     fn find(&self, name: &str) -> Option<Numbers>
         ensures found { IfSome result (IsNumbersOf self.now name.now) }
         ensures none { IfNone result (IsUnknown self.now name.now) }
     {
-        for setting in &self.settings {
+        for setting in self.settings.as_slice() {
             if setting.name() == name {
                 return Some(setting.numbers());
             }

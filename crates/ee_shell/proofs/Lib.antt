@@ -14,3 +14,4 @@ pub mod Traces
 pub mod OneTask
 pub mod Planned
 pub mod Given
+pub mod TidiedImages

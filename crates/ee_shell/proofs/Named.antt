@@ -100,7 +100,7 @@ schema_good text tree settings cause has gives some (inr (inl h)) =
     never_refused tree settings h.cause (λ e. some (h.fault_is ∙ ap fault_of_schema e)) gives
     (subst (λ (t : Members). GivesSchema t (Err h.cause)) (one_tree text h.tree tree h.has_tree has) h.applies)
 
-settings_good : (text : List ℕ) (settings : List Setting) (cause : Fault) → SpellsSettings text settings → cause ≢ Memory → IsSettingsFault text cause → ⊥
+pub settings_good : (text : List ℕ) (settings : List Setting) (cause : Fault) → SpellsSettings text settings → cause ≢ Memory → IsSettingsFault text cause → ⊥
 settings_good text settings cause spelled some h = schema_good text spelled.tree settings cause spelled.has_tree spelled.schema some h
 
 there_too : (text : List ℕ) (tree : Members) (others : List Setting) → HasTree text tree → SpellsSettings text others → GivesSchema tree (Ok others)
@@ -109,7 +109,7 @@ there_too text tree others has spelled = subst (λ (t : Members). GivesSchema t 
 pub schema_once : (text : List ℕ) (tree : Members) (settings others : List Setting) → HasTree text tree → GivesSchema tree (Ok settings) → SpellsSettings text others → settings ≡ others
 schema_once text tree settings others has gives spelled = entries_once (entries_of tree) settings others gives.0.each (there_too text tree others has spelled).0.each
 
-spelled_once : (text : List ℕ) (settings others : List Setting) → SpellsSettings text settings → SpellsSettings text others → settings ≡ others
+pub spelled_once : (text : List ℕ) (settings others : List Setting) → SpellsSettings text settings → SpellsSettings text others → settings ≡ others
 spelled_once text settings others spelled again = schema_once text spelled.tree settings others spelled.has_tree spelled.schema again
 
 -- only want of memory refuses a text that spells settings
@@ -136,7 +136,7 @@ opening_named image why fault cause unopened told some h = elim (one_open_fault 
   | inr none ↦ inr (told ∙ ap fault_of_replay none)
 ]
 
-not_opened : (image : List ℕ) (why : ReplayFault) (fault : Fault) → IsOpenFault image why → fault ≡ fault_of_replay why → HasStore image → fault ≡ Memory
+pub not_opened : (image : List ℕ) (why : ReplayFault) (fault : Fault) → IsOpenFault image why → fault ≡ fault_of_replay why → HasStore image → fault ≡ Memory
 not_opened image why fault unopened told store = elim (memory_or_not why) [
   | inl none ↦ told ∙ ap fault_of_replay none
   | inr other ↦ absurd (store_is_good image store.0 why store.1 other unopened)
@@ -269,10 +269,10 @@ by_live : (device : Device) (live : Option (Side × ℕ)) → state_in (at_rest 
 by_live device None = refl
 by_live device (Some live) = by_side device live.0 live.1
 
-rested_state : (device : Device) → state_of (at_rest device) ≡ state_of device
+pub rested_state : (device : Device) → state_of (at_rest device) ≡ state_of device
 rested_state device = by_live device (live_of device)
 
-one_rest : (image : List ℕ) (one other : Device) → IsStoreText image one → IsStoreText image other → at_rest one ≡ at_rest other
+pub one_rest : (image : List ℕ) (one other : Device) → IsStoreText image one → IsStoreText image other → at_rest one ≡ at_rest other
 one_rest image one other h k = one_device_lem one other h.spelled.formed k.spelled.formed (sym h.spelled.text_is ∙ k.spelled.text_is)
 
 one_write : (size : Size) (state : State) (address : ℕ) (fault cause : Fault) → IsWriteRefusal size state address fault → IsWriteRefusal size state address cause → fault ≡ cause

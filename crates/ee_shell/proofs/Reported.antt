@@ -9,21 +9,12 @@ use Rattle.ee_script.specs.Answer.{report}
 use Rattle.ee_script.specs.Script.{IsFirstBadLine}
 use Rattle.ee_script.proofs.Reading.{scripts_are_good_lem}
 use Rattle.ee_pages.specs.Meaning.{live_in}
-use Rattle.ee_store.specs.Finished.{IsStore}
 use Rattle.ee_store.specs.State.{State, state_of}
-use Rattle.ee_store.proofs.Making.{few_within}
-use Rattle.ee_store.proofs.States.{state_is}
 use Rattle.ee_shell.specs.Report.{end_line, report_text}
 use Rattle.ee_shell.specs.Serving.{IsServed, IsTraced, Notes, claim_noted}
 use Rattle.ee_shell.specs.Trace.{moves}
 use Rattle.ee_shell.proofs.Late.{all_put, run_count, run_fewest, run_room, values_are}
 use Rattle.ee_shell.proofs.Runs.{machine_run, whole_run}
-
--- no more slots are used than there are
-pub fill_within : (device : Device) → IsStore device → (state_of device).fill ≤ slot_count device.size
-fill_within device store =
-    let live = store.legal in
-    subst (λ (state : State). state.fill ≤ slot_count device.size) (sym (state_is device live.0 live.1 live.2)) (few_within device live.0 live.2.formed)
 
 -- a name and a number written behind what was written before them
 further : (old mid new before name number : List ℕ) → mid ≡ old ++ before → new ≡ mid ++ (name ++ number) → new ≡ old ++ (before ++ name ++ number)

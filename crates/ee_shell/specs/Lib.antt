@@ -10,3 +10,4 @@ pub mod Images
 pub mod Wear
 pub mod Planning
 pub mod Settings
+pub mod SecondSchema

@@ -108,7 +108,11 @@ pub fn set_setting<A: Allocator + Copy>(
 }
 
 /// The settings that a text spells.
-fn read_schema<A: Allocator + Copy>(alloc: A, heap: Global, text: &[u8]) -> Result<Schema<A>, Fault>
+pub(crate) fn read_schema<A: Allocator + Copy>(
+    alloc: A,
+    heap: Global,
+    text: &[u8],
+) -> Result<Schema<A>, Fault>
     ensures spelled { IfOk result (SpellsSettings text.now) }
     ensures fault { IfErr result (IsSettingsFault text.now) }
     ensures names { (cause : Fault) → cause ≢ Fault.Memory → IsSettingsFault text.now cause

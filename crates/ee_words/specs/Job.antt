@@ -18,6 +18,8 @@ pub data Row : Type 0 where
   Wear : List ℕ → Option (List ℕ) → Row
   States : List ℕ → Row
   Clean : List ℕ → Row
+  Stale : List ℕ → List ℕ → Row
+  Tidy : List ℕ → List ℕ → Row
 
 -- the row of a job: its words as texts
 abbrev pub row_of : Job → Row
@@ -31,6 +33,8 @@ row_of (job.Check image script certificate) = Check image.now script.now certifi
 row_of (job.Wear image before) = Wear image.now (option_map (λ path. path.now) before)
 row_of (job.States image) = States image.now
 row_of (job.Clean image) = Clean image.now
+row_of (job.Stale image settings) = Stale image.now settings.now
+row_of (job.Tidy image settings) = Tidy image.now settings.now
 
 -- the texts of the words
 abbrev pub texts_of : List (Bor (List ℕ)) → List (List ℕ)
@@ -48,6 +52,8 @@ IsRow (Check image script certificate) = Unit {0}
 IsRow (Wear image before) = Unit {0}
 IsRow (States image) = Unit {0}
 IsRow (Clean image) = Unit {0}
+IsRow (Stale image settings) = Unit {0}
+IsRow (Tidy image settings) = Unit {0}
 
 -- the words say this row; no words say `try 1 6`
 abbrev pub AreWordsOf : List (List ℕ) → Row → Type 0
@@ -65,3 +71,5 @@ AreWordsOf words (Wear image None) = words ≡ codes "wear" ∷ image ∷ []
 AreWordsOf words (Wear image (Some before)) = words ≡ codes "wear" ∷ image ∷ before ∷ []
 AreWordsOf words (States image) = words ≡ codes "states" ∷ image ∷ []
 AreWordsOf words (Clean image) = words ≡ codes "clean" ∷ image ∷ []
+AreWordsOf words (Stale image settings) = words ≡ codes "stale" ∷ image ∷ settings ∷ []
+AreWordsOf words (Tidy image settings) = words ≡ codes "tidy" ∷ image ∷ settings ∷ []

@@ -58,4 +58,14 @@ pub enum Job<'a> {
     Clean {
         image: &'a str,
     },
+    /// `stale IMAGE SETTINGS`: tells the settings whose stored value isn't in their range.
+    Stale {
+        image: &'a str,
+        settings: &'a str,
+    },
+    /// `tidy IMAGE SETTINGS`: forgets the addresses that no setting has.
+    Tidy {
+        image: &'a str,
+        settings: &'a str,
+    },
 }

@@ -46,6 +46,8 @@ fn command_job<'a>(command: &str, operands: &[&'a str]) -> Option<Job<'a>>
         "wear" => wear_job(operands),
         "states" => states_job(operands),
         "clean" => clean_job(operands),
+        "stale" => stale_job(operands),
+        "tidy" => tidy_job(operands),
         _ => None,
     }
 }
@@ -203,6 +205,32 @@ fn clean_job<'a>(operands: &[&'a str]) -> Option<Job<'a>>
 {
     match *operands {
         [image] => Some(Job::Clean { image }),
+        _ => None,
+    }
+}
+
+/// The job of `stale` with these operands.
+fn stale_job<'a>(operands: &[&'a str]) -> Option<Job<'a>>
+    ensures found { IfSome result (λ job. IsRow (row_of job)
+        × AreWordsOf (codes "stale" ∷ texts_of operands.now) (row_of job)) }
+    ensures only { (row : Row) → IsRow row → AreWordsOf (codes "stale" ∷ texts_of operands.now) row
+        → option_map row_of result ≡ Some row }
+{
+    match *operands {
+        [image, settings] => Some(Job::Stale { image, settings }),
+        _ => None,
+    }
+}
+
+/// The job of `tidy` with these operands.
+fn tidy_job<'a>(operands: &[&'a str]) -> Option<Job<'a>>
+    ensures found { IfSome result (λ job. IsRow (row_of job)
+        × AreWordsOf (codes "tidy" ∷ texts_of operands.now) (row_of job)) }
+    ensures only { (row : Row) → IsRow row → AreWordsOf (codes "tidy" ∷ texts_of operands.now) row
+        → option_map row_of result ≡ Some row }
+{
+    match *operands {
+        [image, settings] => Some(Job::Tidy { image, settings }),
         _ => None,
     }
 }

@@ -26,20 +26,23 @@ fn on_image<'a>(alloc: Global, name: &'a str) -> Result<Command<'a>, Fail> {
 
 /// A command on an image, a file of settings and the name of a setting.
 fn on_setting<'a>(alloc: Global, name: &'a str) -> Result<Command<'a>, Fail> {
-    Ok(
-        on_image(alloc, name)?
-            .arg(word(alloc, "SETTINGS"))?
-            .arg(word(alloc, "NAME"))?,
-    )
+    Ok(on_settings(alloc, name)?.arg(word(alloc, "NAME"))?)
 }
 
-/// Adds the commands on a setting.
+/// A command on an image and a file of settings.
+fn on_settings<'a>(alloc: Global, name: &'a str) -> Result<Command<'a>, Fail> {
+    Ok(on_image(alloc, name)?.arg(word(alloc, "SETTINGS"))?)
+}
+
+/// Adds the commands on settings.
 fn with_settings<'a>(alloc: Global, table: Command<'a>) -> Result<Command<'a>, Fail> {
     let value = word(alloc, "VALUE").value_parser(value_parser!(u64).range(0..=4_294_967_295));
     Ok(
         table
             .subcommand(on_setting(alloc, "get")?)?
-            .subcommand(on_setting(alloc, "set")?.arg(value)?)?,
+            .subcommand(on_setting(alloc, "set")?.arg(value)?)?
+            .subcommand(on_settings(alloc, "stale")?)?
+            .subcommand(on_settings(alloc, "tidy")?)?,
     )
 }
 
@@ -105,6 +108,14 @@ fn job_on<'a>(name: &str, image: &'a str, found: &ArgMatches<'a>) -> Option<Job<
             name: found.get_str("NAME")?,
             value: u32::try_from(found.get_one::<u64>("VALUE")?).ok()?,
         }),
+        "stale" => Some(Job::Stale {
+            image,
+            settings: found.get_str("SETTINGS")?,
+        }),
+        "tidy" => Some(Job::Tidy {
+            image,
+            settings: found.get_str("SETTINGS")?,
+        }),
         "wear" => Some(Job::Wear {
             image,
             before: found.get_str("BEFORE"),
@@ -136,7 +147,7 @@ fn job_with_script<'a>(
 
 #[test]
 fn clap_finds_the_same_jobs(rt: HostRuntime) -> Result<(), Fail> {
-    let lines: [&[&str]; 11] = [
+    let lines: [&[&str]; 13] = [
         &["ee", "try", "2", "5"],
         &["ee", "format", "64", "512", "a.image"],
         &["ee", "run", "a.image", "a.script"],
@@ -148,6 +159,8 @@ fn clap_finds_the_same_jobs(rt: HostRuntime) -> Result<(), Fail> {
         &["ee", "wear", "a.image", "b.image"],
         &["ee", "states", "a.image"],
         &["ee", "clean", "a.image"],
+        &["ee", "stale", "a.image", "a.settings"],
+        &["ee", "tidy", "a.image", "a.settings"],
     ];
     for words in lines {
         let matches = table(rt.alloc())?.try_get_matches_from(words)?;

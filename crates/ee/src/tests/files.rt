@@ -30,6 +30,24 @@ const ALL_LIVE: &[u8] = b"ee 1 6
 1 aaaaaaaa00000004 aaaaaaaaaaaaaaaa - - 0000000600000002 0000000d00000001
 ";
 
+/// Two moves, and then address 2 forgotten.
+const TIDIED: &[u8] = b"ee 1 6
+1 aaaaaaaa00000003 aaaaaaaaaaaaaaaa - aaaaaaaaaaaaaaaa 0000000d00000001 0000000500000002
+1 aaaaaaaa00000004 aaaaaaaaaaaaaaaa - - 0000000d00000001 -
+";
+
+/// And then address 1.
+const EMPTIED: &[u8] = b"ee 1 6
+1 aaaaaaaa00000003 aaaaaaaaaaaaaaaa - aaaaaaaaaaaaaaaa 0000000d00000001 0000000500000002
+1 aaaaaaaa00000004 aaaaaaaaaaaaaaaa - - 0000000d00000001 0000000d00010001
+";
+
+/// Full, with the last generation.
+const SPENT: &[u8] = b"ee 1 6
+0 aaaaaaaafffffffe aaaaaaaaaaaaaaaa - - 0000000a00000001 0000000b00000001
+0 - - - - - -
+";
+
 const CERTIFICATE: &[u8] = b"slots 2 fill 0 live 0 writes 5
 to 3 from 0
 to 5 from 1
@@ -226,6 +244,34 @@ fn settings_are_read_and_set(rt: HostRuntime) -> Result<(), Fail> {
 }
 
 #[test]
+fn a_later_schema_tidies(rt: HostRuntime) -> Result<(), Fail> {
+    fs::write(&rt, "later.image", TWO_MOVES)?;
+    fs::write(&rt, "later.toml", SETTINGS)?;
+    let stale: &[&str] = &["stale", "later.image", "later.toml"];
+    let tidy: &[&str] = &["tidy", "later.image", "later.toml"];
+    says(&rt, stale, 0, b"volume 13\n", b"")?;
+    let get: &[&str] = &["get", "later.image", "later.toml", "volume"];
+    says(&rt, get, 0, b"5 default\n", b"")?;
+    holds(&rt, "later.image", TWO_MOVES)?;
+    says(&rt, tidy, 0, b"tidied 1\n", b"")?;
+    holds(&rt, "later.image", TIDIED)?;
+    says(&rt, tidy, 0, b"tidied 0\n", b"")?;
+    holds(&rt, "later.image", TIDIED)?;
+    // An empty schema.
+    fs::write(&rt, "later.toml", b"".as_slice())?;
+    says(&rt, stale, 0, b"", b"")?;
+    says(&rt, tidy, 0, b"tidied 1\n", b"")?;
+    holds(&rt, "later.image", EMPTIED)?;
+    // A store that is spent.
+    fs::write(&rt, "later.image", SPENT)?;
+    says(&rt, tidy, 4, b"", b"ee: spent\n")?;
+    holds(&rt, "later.image", SPENT)?;
+    fs::remove_file(&rt, "later.image")?;
+    fs::remove_file(&rt, "later.toml")?;
+    Ok(())
+}
+
+#[test]
 fn plans_are_told_and_checked(rt: HostRuntime) -> Result<(), Fail> {
     let script = b"w 1 10\nw 1 11\nw 1 12\nw 2 5\nw 1 13\n".as_slice();
     let early = b"slots 2 fill 0 live 0 writes 5\nto 2 from 0\nto 5 from 1\ntransfers 2\n";
@@ -271,6 +317,10 @@ fn files_are_read_in_their_order(rt: HostRuntime) -> Result<(), Fail> {
     says(&rt, get, 3, b"", no_settings)?;
     let set: &[&str] = &["set", "void.image", "missing.toml", "volume", "1"];
     says(&rt, set, 3, b"", no_settings)?;
+    let stale: &[&str] = &["stale", "void.image", "missing.toml"];
+    says(&rt, stale, 3, b"", no_settings)?;
+    let tidy: &[&str] = &["tidy", "void.image", "missing.toml"];
+    says(&rt, tidy, 3, b"", no_settings)?;
     let plan: &[&str] = &["plan", "void.image", "missing.script"];
     says(&rt, plan, 3, b"", b"ee: cannot read script\n")?;
     let check: &[&str] = &["check", "void.image", "void.image", "missing.certificate"];

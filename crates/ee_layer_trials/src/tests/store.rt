@@ -10,3 +10,4 @@ mod moves;
 mod order;
 mod refusals;
 mod replay;
+mod second_schema;

@@ -1,5 +1,5 @@
 use super::trial::with_each_refusal;
-use ee_shell::{get_setting, set_setting};
+use ee_shell::{get_setting, set_setting, stale_text, tidy_image};
 use ee_words::Fault;
 
 /// Just formatted.
@@ -12,6 +12,18 @@ const FORMATTED: &[u8] = b"ee 1 6
 const TEN: &[u8] = b"ee 1 6
 0 aaaaaaaa00000001 aaaaaaaaaaaaaaaa - - 0000000a00000001 -
 0 - - - - - -
+";
+
+/// With 13 at address 1 and 5 at address 2, and no slot free.
+const TWO_MOVES: &[u8] = b"ee 1 6
+1 aaaaaaaa00000003 aaaaaaaaaaaaaaaa - - 0000000d00000001 0000000500000002
+0 aaaaaaaa00000002 aaaaaaaaaaaaaaaa - aaaaaaaaaaaaaaaa 0000000c00000001 0000000500000002
+";
+
+/// And then address 2 forgotten.
+const TIDIED: &[u8] = b"ee 1 6
+1 aaaaaaaa00000003 aaaaaaaaaaaaaaaa - aaaaaaaaaaaaaaaa 0000000d00000001 0000000500000002
+1 aaaaaaaa00000004 aaaaaaaaaaaaaaaa - - 0000000d00000001 -
 ";
 
 const VOLUME: &[u8] = b"[volume]
@@ -52,4 +64,37 @@ fn a_setting_that_is_set(rt: HostRuntime) {
         }
     });
     assert!(rt; requests > 4);
+}
+
+#[test]
+fn stale_settings(rt: HostRuntime) {
+    let heap = rt.alloc();
+    let requests = with_each_refusal(&rt, heap, &true, |alloc| {
+        match stale_text(alloc, heap, TWO_MOVES, VOLUME) {
+            Ok(text) => Some(text.as_slice() == b"volume 13\n".as_slice()),
+            Err(fault) => {
+                assert_eq!(rt; fault, Fault::Memory);
+                None
+            }
+        }
+    });
+    assert!(rt; requests > 6);
+}
+
+#[test]
+fn an_image_that_is_tidied(rt: HostRuntime) {
+    let heap = rt.alloc();
+    let requests = with_each_refusal(&rt, heap, &(true, true), |alloc| {
+        match tidy_image(alloc, heap, TWO_MOVES, VOLUME) {
+            Ok((image, text)) => Some((
+                image.as_slice() == TIDIED,
+                text.as_slice() == b"tidied 1\n".as_slice(),
+            )),
+            Err(fault) => {
+                assert_eq!(rt; fault, Fault::Memory);
+                None
+            }
+        }
+    });
+    assert!(rt; requests > 5);
 }

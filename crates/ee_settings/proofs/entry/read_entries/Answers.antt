@@ -14,27 +14,27 @@ returns-in-Err-clause-err g c =
     let so_far = rest_so_far deref_pair c.loop-name.yielded c.into_iter-name-iterator.result c.loop-name.name-iterator c.loop-name.yielded_by in
     let more = rest_more deref_pair c.loop-name.name-iterator c.next.new.self c.next.result (c.in-Some.name, c.in-Some.value) c.in-Some.is c.next.ensures.steps in
     let whole : c.args.table.now.entries ≡ map deref_pair c.loop-name.yielded ++ (c.in-Some.name.now, c.in-Some.value.now) ∷ c.next.new.self = sym start ∙ so_far ∙ ap (λ rest. map deref_pair c.loop-name.yielded ++ rest) more in
-    let counted : c.len.result + 1 ≡ length c.loop-name.settings.items + 1 = search rules in
-    fault_named c.in-Err.fault _ _ _ _ c.loop-name.settings.items (c.len.result + 1)
+    let counted : c.len.result + 1 ≡ length c.loop-name.settings + 1 = search rules in
+    fault_named c.in-Err.fault _ _ _ _ c.loop-name.settings (c.len.result + 1)
     (split_entries c.args.table.now.entries (map deref_pair c.loop-name.yielded) c.next.new.self (c.in-Some.name.now, c.in-Some.value.now) whole)
     counted c.loop-name.invariant
-    (gives_same (Err c.in-Err.fault) c.deref.result.now c.loop-name.settings.items (c.len.result + 1) c.as_str.result.now (string_bytes c.in-Some.name.now) (view c.in-Some.value.now) (search rules) (search rules) c.in-Err.ensures)
+    (gives_same (Err c.in-Err.fault) c.loop-name.settings c.loop-name.settings (c.len.result + 1) c.as_str.result.now (string_bytes c.in-Some.name.now) (view c.in-Some.value.now) (search rules) (search rules) c.in-Err.ensures)
 
 pub loop-name-preserved : goal.loop-name-preserved
 loop-name-preserved g c =
-    let pushed : c.push.new.self.items ≡ c.loop-name.settings.items ++ c.in-Ok.setting ∷ [] = search rules in
-    let gives = gives_same (Ok c.in-Ok.setting) c.deref.result.now c.loop-name.settings.items (c.len.result + 1) c.as_str.result.now (string_bytes c.in-Some.name.now) (view c.in-Some.value.now) (search rules) (search rules) c.in-Ok.ensures in
-    let grown = schema_more _ c.loop-name.settings.items (seen (c.in-Some.name.now, c.in-Some.value.now)) c.in-Ok.setting c.loop-name.invariant gives in
+    let pushed : c.in-Ok-with.more ≡ c.loop-name.settings ++ c.in-Ok.setting ∷ [] = search rules in
+    let gives = gives_same (Ok c.in-Ok.setting) c.loop-name.settings c.loop-name.settings (c.len.result + 1) c.as_str.result.now (string_bytes c.in-Some.name.now) (view c.in-Some.value.now) (search rules) (search rules) c.in-Ok.ensures in
+    let grown = schema_more _ c.loop-name.settings (seen (c.in-Some.name.now, c.in-Some.value.now)) c.in-Ok.setting c.loop-name.invariant gives in
     rw (gone_more c.loop-name.yielded (c.in-Some.name, c.in-Some.value), pushed) grown
 
 pub returns-clause-ok : goal.returns-clause-ok
 returns-clause-ok g c =
     let start : c.into_iter-name-iterator.result ≡ c.args.table.now.entries = search rules in
     let e = iter_end deref_pair c.args.table.now.entries c.loop-name.yielded c.into_iter-name-iterator.result c.loop-name.name-iterator c.next.new.self c.next.result start c.loop-name.yielded_by c.in-None.is c.next.ensures.steps in
-    subst (λ entries. IsSchemaOf entries c.loop-name.settings.items) (ap (map seen) e.0 ∙ sym (entries_seen c.args.table.now.entries)) c.loop-name.invariant
+    subst (λ entries. IsSchemaOf entries c.loop-name.settings) (ap (map seen) e.0 ∙ sym (entries_seen c.args.table.now.entries)) c.loop-name.invariant
 
 pub returns-clause-names : goal.returns-clause-names
 returns-clause-names g c =
     let start : c.into_iter-name-iterator.result ≡ c.args.table.now.entries = search rules in
     let e = iter_end deref_pair c.args.table.now.entries c.loop-name.yielded c.into_iter-name-iterator.result c.loop-name.name-iterator c.next.new.self c.next.result start c.loop-name.yielded_by c.in-None.is c.next.ensures.steps in
-    rising_names c.args.table.now.entries c.loop-name.settings.items (subst (λ entries. AreEntriesOf (map seen entries) c.loop-name.settings.items) e.0 c.loop-name.invariant.each) c.iter-name-items.ensures.ordered
+    rising_names c.args.table.now.entries c.loop-name.settings (subst (λ entries. AreEntriesOf (map seen entries) c.loop-name.settings) e.0 c.loop-name.invariant.each) c.iter-name-items.ensures.ordered

@@ -6,4 +6,4 @@ use Rattle.ee_settings.proofs.entry.read_entries.Given as goal
 
 -- the entries so far are the settings so far
 abbrev pub invariant-loop-name : goal.invariant-loop-name
-invariant-loop-name g l = IsSchemaOf (map seen (map deref_pair l.yielded)) l.settings.items
+invariant-loop-name g l = IsSchemaOf (map seen (map deref_pair l.yielded)) l.settings

@@ -1,10 +1,11 @@
 use Rattle.std.proofs.Common.{◌-◌, ap, arith, rules}
 use Rattle.ee_store.specs.State.{state_of}
-use Rattle.ee_shell.proofs.Reported.{end_written, fill_within}
+use Rattle.ee_store.proofs.CutMaps.{fill_within}
+use Rattle.ee_shell.proofs.Reported.{end_written}
 use Rattle.ee_shell.proofs.reporting.push_end.Goals as goal
 
 pub overflow_sub-room : goal.overflow_sub-room
-overflow_sub-room g c = omega (arith, fill_within _ c.slots.ensures.store, c.slots.ensures.slots, c.fill-fill.ensures)
+overflow_sub-room g c = omega (arith, fill_within _ c.slots.ensures.store.legal.2.formed, c.slots.ensures.slots, c.fill-fill.ensures)
 
 -- each part is found anew, so that a part in another's place leaves a goal open
 pub returns : goal.returns

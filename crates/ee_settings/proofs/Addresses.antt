@@ -1,0 +1,44 @@
+-- The addresses of settings: which of them are taken, and by a look-up.
+use Rattle.std.proofs.Common.{◌≡◌, ◌∙◌, ◌<◌, ℕ, Bool, true, false, cond, List, [], ◌∷◌, ◌++◌, length, get_or, inl, inr, refl, sym, ap, arith, suc, nat_cmp}
+use Rattle.std.specs.Prelude.{◌==◌, ◌||◌}
+use Rattle.std.proofs.lemmas.Bool.{cases_eq, eq-eqb, ne_eqb}
+use Rattle.std.proofs.lemmas.Grind.{common_steps}
+use Rattle.std.proofs.lemmas.List.Folds.{list_any-append, list_any_at}
+use Rattle.std.specs.BTreeMap.{is_at}
+use Rattle.ee_settings.specs.File.{IsTaken}
+use Rattle.ee_settings.specs.Setting.{Setting, has_address}
+
+pub taken_found : (settings : List Setting) (address : ℕ) → has_address settings address ≡ true → IsTaken settings address
+taken_found [] address h = cc
+taken_found (s ∷ settings) address h = elim (cases_eq s.numbers.address address) [
+  | inl same ↦ (s, (0, omega arith, refl), same)
+  | inr other ↦
+      let rest : has_address settings address ≡ true = ap (λ (b : Bool). b || has_address settings address) (sym (ne_eqb s.numbers.address address other)) ∙ h in
+      let found = taken_found settings address rest in
+      (found.0, (suc found.1.0, (let inside : found.1.0 < length settings = found.1.1 in omega arith), found.1.2), found.2)
+]
+
+pub found_taken : (settings : List Setting) (address : ℕ) → IsTaken settings address → has_address settings address ≡ true
+found_taken settings address taken =
+    let at = taken.1.0 in
+    let here : get_or settings at taken.0 ≡ taken.0 = taken.1.2 in
+    list_any_at (λ (s : Setting). s.numbers.address == address) settings at taken.0 taken.1.1
+    (ap (λ (s : Setting). s.numbers.address == address) here ∙ eq-eqb taken.0.numbers.address address taken.2)
+
+pub none_taken : (settings : List Setting) (address : ℕ) → has_address settings address ≡ false → ¬ IsTaken settings address
+none_taken settings address h = λ taken. let found = found_taken settings address taken in cc
+
+pub at_is : (a q : ℕ) → is_at (nat_cmp a) q ≡ (a == q)
+at_is a q = grind (arith, common_steps)
+
+one_more : (b other : Bool) → (other || (b || false)) ≡ cond b true other
+one_more true true = refl
+one_more true false = refl
+one_more false true = refl
+one_more false false = refl
+
+-- an address, with one more setting
+pub has_more : (settings : List Setting) (setting : Setting) (address : ℕ) → has_address (settings ++ setting ∷ []) address ≡ cond (setting.numbers.address == address) true (has_address settings address)
+has_more settings setting address =
+    list_any-append (λ (s : Setting). s.numbers.address == address) settings (setting ∷ [])
+    ∙ one_more (setting.numbers.address == address) (has_address settings address)

@@ -1,0 +1,97 @@
+-- Addresses forgotten one after another: how such runs join, and what they leave.
+use Rattle.std.proofs.Common.{◌≡◌, ◌≢◌, ◌∙◌, ◌<◌, ℕ, false, arith, List, [], ◌∷◌, ◌++◌, Ok, Err, refl, sym, ap, subst, append_assoc}
+use Rattle.std.specs.List.{All}
+use Rattle.std.proofs.lemmas.List.Elements.{All-head, All-tail}
+use Rattle.ee_flash.specs.Device.{Device, IsOn}
+use Rattle.ee_flash.specs.Power.{GoesOn}
+use Rattle.ee_pages.specs.Meaning.{AreNextLive, Forget, Map, changed}
+use Rattle.ee_store.proofs.AfterCalls.{goes_on_both, goes_on_same}
+use Rattle.ee_store.proofs.CopiedMaps.{forget-other}
+use Rattle.ee_store.specs.Calls.{Forgets}
+use Rattle.ee_store.specs.State.{State, state_of}
+use Rattle.ee_store.specs.declared.variables.ForgetFault.{ForgetFault}
+use Rattle.ee_store.specs.declared.variables.ForgetFault.TheVariants as forget
+use Rattle.ee_store.specs.declared.variables.Written.{Written}
+use Rattle.ee_store.specs.declared.variables.Written.TheVariants.{Appended, Moved}
+use Rattle.ee_settings.specs.Setting.{Setting, has_address}
+use Rattle.ee_settings.specs.Tidying.{ForgetsEach, Stops, StopsAt, unnamed_of}
+use Rattle.ee_settings.specs.declared.fault.TidyFault.{TidyFault}
+use Rattle.ee_settings.specs.declared.fault.TidyFault.TheVariants as tidy
+
+-- ---- one forgetting
+
+pub map_without : (old new : Device) (address : ℕ) (written : Written) → Forgets old address (Ok written) new → (state_of new).map ≡ changed (Forget address) (state_of old).map
+map_without old new address Appended done = ap (λ (state : State). state.map) done.state_is
+map_without old new address Moved done = ap (λ (state : State). state.map) done.state_is
+
+forgetting_goes_on : (old new : Device) (address : ℕ) (written : Written) → Forgets old address (Ok written) new → GoesOn old new
+forgetting_goes_on old new address Appended done = done.goes_on
+forgetting_goes_on old new address Moved done = done.goes_on
+
+-- ---- a run of them
+
+pub each_later : (front more : List ℕ) (old mid new : Device) → ForgetsEach front old mid → ForgetsEach more mid new → ForgetsEach (front ++ more) old new
+each_later [] more old mid new first second = subst (λ (device : Device). ForgetsEach more device new) first second
+each_later (address ∷ front) more old mid new first second =
+    (first.0, first.1, first.2, each_later front more first.1 mid new first.3 second)
+
+pub each_goes_on : (addresses : List ℕ) (old new : Device) → ForgetsEach addresses old new → GoesOn old new
+each_goes_on [] old new done = subst (λ (device : Device). GoesOn old device) (sym done) (goes_on_same old)
+each_goes_on (address ∷ addresses) old new done =
+    goes_on_both old done.1 new (forgetting_goes_on old done.1 address done.0 done.2) (each_goes_on addresses done.1 new done.3)
+
+pub each_stays_on : (addresses : List ℕ) (old new : Device) → IsOn old → ForgetsEach addresses old new → IsOn new
+each_stays_on addresses old new on done = (each_goes_on addresses old new done).same_power ∙ on
+
+-- an address that is none of them has what it had
+pub each_keeps : (addresses : List ℕ) (old new : Device) (address : ℕ) → ForgetsEach addresses old new → All (λ one. one ≢ address) addresses → (state_of new).map address ≡ (state_of old).map address
+each_keeps [] old new address done others = ap (λ (device : Device). (state_of device).map address) done
+each_keeps (one ∷ addresses) old new address done others =
+    let apart : one ≢ address = All-head (λ a. a ≢ address) one addresses others in
+    each_keeps addresses done.1 new address done.3 (All-tail (λ a. a ≢ address) one addresses others)
+    ∙ ap (λ (map : Map). map address) (map_without old done.1 one done.0 done.2)
+    ∙ forget-other (state_of old).map one address (λ e. apart (sym e))
+
+-- ---- where one stops
+
+pub stops_one : (settings : List Setting) (address : ℕ) (fault : ForgetFault) (old new : Device) → has_address settings address ≡ false → Forgets old address (Err fault) new → StopsAt (unnamed_of settings address) fault old new
+stops_one settings address fault old new free stopped = record {
+  front = [];
+  address = address;
+  rest = [];
+  addresses_are = rw free refl;
+  last = old;
+  forgotten = refl;
+  stopped = stopped;
+}
+
+at_later : (front addresses rest : List ℕ) (fault : ForgetFault) (old mid new : Device) → ForgetsEach front old mid → StopsAt addresses fault mid new → StopsAt (front ++ (addresses ++ rest)) fault old new
+at_later front addresses rest fault old mid new done stops = record {
+  front = front ++ stops.front;
+  address = stops.address;
+  rest = stops.rest ++ rest;
+  addresses_are =
+      ap (λ l. front ++ (l ++ rest)) stops.addresses_are
+      ∙ ap (λ l. front ++ l) (append_assoc stops.front (stops.address ∷ stops.rest) rest)
+      ∙ sym (append_assoc front stops.front (stops.address ∷ (stops.rest ++ rest)));
+  last = stops.last;
+  forgotten = each_later front stops.front old mid stops.last done stops.forgotten;
+  stopped = stops.stopped;
+}
+
+pub stops_later : (front addresses rest all : List ℕ) (fault : TidyFault) (old mid new : Device) → all ≡ front ++ (addresses ++ rest) → ForgetsEach front old mid → Stops addresses mid fault new → Stops all old fault new
+stops_later front addresses rest all tidy.Off old mid new split done stops = stops
+stops_later front addresses rest all tidy.Spent old mid new split done stops =
+    subst (λ l. StopsAt l forget.Spent old new) (sym split) (at_later front addresses rest forget.Spent old mid new done stops)
+stops_later front addresses rest all tidy.Cut old mid new split done stops =
+    subst (λ l. StopsAt l forget.Cut old new) (sym split) (at_later front addresses rest forget.Cut old mid new done stops)
+
+-- ---- live addresses above one that was looked at
+
+pub still_next : (map other : Map) (above : ℕ) (found : List (ℕ × ℕ)) → ((address : ℕ) → above < address → other address ≡ map address) → AreNextLive map above found → AreNextLive other above found
+still_next map other above [] same next = tt
+still_next map other above (first ∷ more) same next =
+    let far : above < first.0 = next.0.0 in (
+      (far, same first.0 far ∙ next.0.1, λ address low high. same address low ∙ next.0.2 address low high),
+      still_next map other first.0 more (λ address high. same address (omega arith)) next.1,
+    )

@@ -1,0 +1,65 @@
+-- Only proper addresses have values.
+use Rattle.std.proofs.Common.{◌≡◌, ◌⊎◌, ℕ, Bool, true, false, cond, Option, Some, None, List, [], ◌∷◌, inl, inr, refl, ap, arith}
+use Rattle.std.specs.Prelude.{◌&&◌, ◌==◌, ◌/◌, ◌%◌, ◌^◌, nat_lt}
+use Rattle.std.proofs.lemmas.Bool.{cases_eq, cases_lt, ne_eqb}
+use Rattle.std.proofs.lemmas.Bool.Decides.{nat_tests}
+use Rattle.ee_codec.specs.Words.{IsAddress}
+use Rattle.ee_codec.specs.declared.slot.Slot.{Slot}
+use Rattle.ee_codec.specs.declared.slot.Slot.TheVariants.{Element, Forgotten, Foreign}
+use Rattle.ee_flash.specs.Device.{Device}
+use Rattle.ee_flash.specs.declared.word.Word.{Word}
+use Rattle.ee_flash.specs.declared.word.Word.TheVariants.{Erased, Held, Torn}
+use Rattle.ee_pages.specs.Meaning.{latest_in, says, slot_says, value_said}
+use Rattle.ee_pages.specs.Sets.{live_of, set_of, slots_of}
+use Rattle.ee_pages.specs.declared.side.Side.{Side}
+use Rattle.ee_store.specs.State.{state_in, state_of}
+
+-- the test of a proper address
+abbrev is_proper : ℕ → Bool
+is_proper address = nat_lt 0 address && nat_lt address 65535
+
+not_proper : (address : ℕ) → ¬ IsAddress address → is_proper address ≡ false
+not_proper address outside = elim (cases_lt 0 address) [
+  | inr none ↦ grind (arith, nat_tests)
+  | inl some ↦ elim (cases_lt address 65535) [ inl few ↦ absurd (outside (some, few)) | inr many ↦ grind (arith, nat_tests) ]
+]
+
+element_other : (named value address : ℕ) → (named ≡ address → ⊥) → slot_says (Element named value) address ≡ None
+element_other named value address other = ap (λ (b : Bool). cond b (Some (Some value)) None) (ne_eqb named address other)
+
+forgotten_other : (named value address : ℕ) → (named ≡ address → ⊥) → slot_says (Forgotten named value) address ≡ None
+forgotten_other named value address other = ap (λ (b : Bool). cond b (Some None) None) (ne_eqb named address other)
+
+one_of : (first second : Bool) (element forgotten : Slot) (address : ℕ) → slot_says element address ≡ None → slot_says forgotten address ≡ None → slot_says (cond first element (cond second forgotten Foreign)) address ≡ None
+one_of true second element forgotten address e f = e
+one_of false true element forgotten address e f = f
+one_of false false element forgotten address e f = refl
+
+parts_outside : (named value : ℕ) (first second : Bool) (address : ℕ) → is_proper address ≡ false
+    → slot_says (cond (is_proper named && first) (Element named value) (cond (is_proper named && second) (Forgotten named value) Foreign)) address ≡ None
+parts_outside named value first second address outside = elim (cases_eq named address) [
+  | inl same ↦ rw (same, outside) refl
+  | inr other ↦ one_of (is_proper named && first) (is_proper named && second) (Element named value) (Forgotten named value) address (element_other named value address other) (forgotten_other named value address other)
+]
+
+says_outside : (word : Word) (address : ℕ) → is_proper address ≡ false → says word address ≡ None
+says_outside Erased address outside = refl
+says_outside Torn address outside = refl
+says_outside (Held number) address outside = parts_outside (number % 2 ^ 16) (number / 2 ^ 32) (number / 2 ^ 16 % 2 ^ 16 == 0) (number / 2 ^ 16 % 2 ^ 16 == 1) address outside
+
+latest_outside : (slots : List Word) (address : ℕ) → is_proper address ≡ false → latest_in slots address ≡ None
+latest_outside [] address outside = refl
+latest_outside (slot ∷ slots) address outside = rw (says_outside slot address outside, latest_outside slots address outside) refl
+
+in_state : (device : Device) (live : Option (Side × ℕ)) (address : ℕ) → is_proper address ≡ false → (state_in device live).map address ≡ None
+in_state device None address outside = refl
+in_state device (Some live) address outside = ap value_said (latest_outside (slots_of (set_of live.0 device)) address outside)
+
+pub none_outside : (device : Device) (address : ℕ) → ¬ IsAddress address → (state_of device).map address ≡ None
+none_outside device address outside = in_state device (live_of device) address (not_proper address outside)
+
+pub proper_or_not : (address : ℕ) → IsAddress address ⊎ ¬ IsAddress address
+proper_or_not address = elim (cases_lt 0 address) [
+  | inr none ↦ inr (λ proper. let some = proper.0 in omega arith)
+  | inl some ↦ elim (cases_lt address 65535) [ inl few ↦ inl (some, few) | inr many ↦ inr (λ proper. let low = proper.1 in omega arith) ]
+]

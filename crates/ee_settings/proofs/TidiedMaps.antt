@@ -1,0 +1,280 @@
+-- What tidying leaves of the map, and when the store is spent in it.
+use Rattle.std.proofs.Common.{◌≡◌, ◌⊎◌, ◌∙◌, ◌+◌, ◌-◌, ◌<◌, ◌≤◌, ℕ, Bool, true, false, cond, not, is_some, Option, Some, None, List, [], ◌∷◌, ◌++◌, length, map, inl, inr, refl, sym, ap, subst, append_assoc, arith, suc, zero, Result, Ok, Err}
+use Rattle.std.specs.Prelude.{◌&&◌}
+use Rattle.std.specs.List.{All, Contains, flat_map}
+use Rattle.std.proofs.lemmas.Bool.{cases_eq, eq-eqb, ne_eqb}
+use Rattle.std.proofs.lemmas.List.Elements.{All-append, All-cons, All-head, All-nil, All-tail}
+use Rattle.ee_flash.specs.Device.{Device, IsFormed}
+use Rattle.ee_flash.specs.Size.{slot_count}
+use Rattle.ee_pages.specs.Meaning.{Forget, Map, changed, live_in}
+use Rattle.ee_pages.specs.Sets.{live_of, set_of, slots_of}
+use Rattle.ee_pages.specs.declared.side.Side.{Side}
+use Rattle.ee_pages.proofs.LiveCounts.{live_within_fill}
+use Rattle.ee_store.proofs.CopiedMaps.{IsWithin, forget-at, forget-other, live_in-nothing, live_to-within}
+use Rattle.ee_store.specs.Calls.{Forgets}
+use Rattle.ee_store.specs.Runs.{Call, Forgot, IsWholeRun, changes_of, is_cut}
+use Rattle.ee_store.specs.State.{State, appended, capacity, empty_state, moved, state_in, state_of}
+use Rattle.ee_store.specs.declared.variables.ForgetFault.TheVariants as forget
+use Rattle.ee_store.specs.declared.variables.Written.{Written}
+use Rattle.ee_store.specs.declared.variables.Written.TheVariants.{Appended, Moved}
+use Rattle.ee_store.specs.Changes.{IsSpent}
+use Rattle.ee_settings.proofs.Addresses.{found_taken}
+use Rattle.ee_settings.proofs.Forgetting.{map_without}
+use Rattle.ee_settings.proofs.Proper.{none_outside, proper_or_not}
+use Rattle.ee_store.proofs.CutMaps.{cut_map_within, fill_within}
+use Rattle.ee_settings.proofs.Unnamed.{begins_with, unnamed_to-suc, unnamed_to-zero}
+use Rattle.ee_settings.specs.Laws.{KeepsAll}
+use Rattle.ee_settings.specs.Setting.{Setting, has_address, reading_of}
+use Rattle.ee_settings.specs.Tidying.{ForgetsEach, IsSpentAmong, StopsAt, Tidies, after_forgetting, after_forgettings, is_unnamed, kept, unnamed_in, unnamed_to}
+use Rattle.ee_settings.specs.declared.fault.TidyFault.{TidyFault}
+use Rattle.ee_settings.specs.declared.fault.TidyFault.TheVariants as tidy
+
+-- ---- as many slots are used as there are, or fewer
+
+live_few_in : (device : Device) (live : Option (Side × ℕ)) → live_in (state_in device live).map ≤ (state_in device live).fill
+live_few_in device None = let none = live_in-nothing empty_state.map (λ address. refl) in omega arith
+live_few_in device (Some live) = live_within_fill (slots_of (set_of live.0 device))
+
+without_within : (values : Map) (named : ℕ) → IsWithin (changed (Forget named) values) values
+without_within values named address h = elim (cases_eq named address) [
+  | inl same ↦
+      let gone : changed (Forget named) values address ≡ None = forget-at values named address (sym same) in
+      let none : false ≡ true = sym (ap is_some gone) ∙ h in cc
+  | inr other ↦ sym (ap is_some (forget-other values named address (λ e. other (sym e)))) ∙ h
+]
+
+within_after : (old new : Device) (address : ℕ) (written : Written) → Forgets old address (Ok written) new → (state_of old).fill ≤ capacity old → (state_of new).fill ≤ capacity new
+within_after old new address Appended done within =
+    let size : capacity new ≡ capacity old = ap slot_count done.goes_on.same_size in
+    let fill : (state_of new).fill ≡ (state_of old).fill + 1 = ap (λ (state : State). state.fill) done.state_is in
+    let free = done.free in
+    omega arith
+within_after old new address Moved done within =
+    let size : capacity new ≡ capacity old = ap slot_count done.goes_on.same_size in
+    let fill : (state_of new).fill ≡ live_in (changed (Forget address) (state_of old).map) = ap (λ (state : State). state.fill) done.state_is in
+    let fewer = live_to-within 65534 (changed (Forget address) (state_of old).map) (state_of old).map (without_within (state_of old).map address) in
+    let live = live_few_in old (live_of old) in
+    omega arith
+
+each_within : (addresses : List ℕ) (old new : Device) → ForgetsEach addresses old new → (state_of old).fill ≤ capacity old → (state_of new).fill ≤ capacity new
+each_within [] old new done within = subst (λ (device : Device). (state_of device).fill ≤ capacity device) (sym done) within
+each_within (address ∷ addresses) old new done within = each_within addresses done.1 new done.3 (within_after old done.1 address done.0 done.2 within)
+
+-- ---- the addresses that no setting has
+
+low : (settings : List Setting) (values : Map) (b : Bool) (address : ℕ) → is_unnamed settings values address ≡ b → All (λ a. has_address settings a ≡ false) (cond b (address ∷ []) [])
+low settings values false address is = All-nil (λ a. has_address settings a ≡ false)
+low settings values true address is = All-cons (λ a. has_address settings a ≡ false) address [] (free (has_address settings address) (is_some (values address)) is) (All-nil (λ a. has_address settings a ≡ false))
+  where
+    free : (named live : Bool) → (live && not named) ≡ true → named ≡ false
+    free false live e = refl
+    free true true e = cc
+    free true false e = cc
+
+-- none of them is a setting's
+unnamed_free : (settings : List Setting) (values : Map) (n : ℕ) → All (λ a. has_address settings a ≡ false) (unnamed_to settings values n)
+unnamed_free settings values zero = rw (unnamed_to-zero settings values) (All-nil (λ a. has_address settings a ≡ false))
+unnamed_free settings values (suc n) =
+    rw (unnamed_to-suc settings values n)
+    (All-append (λ a. has_address settings a ≡ false) (unnamed_to settings values n) (cond (is_unnamed settings values (suc n)) (suc n ∷ []) []) (unnamed_free settings values n)
+    (low settings values (is_unnamed settings values (suc n)) (suc n) refl))
+
+free_front : (settings : List Setting) (front rest : List ℕ) → All (λ a. has_address settings a ≡ false) (front ++ rest) → All (λ a. has_address settings a ≡ false) front
+free_front settings [] rest free = All-nil (λ a. has_address settings a ≡ false)
+free_front settings (address ∷ front) rest free =
+    All-cons (λ a. has_address settings a ≡ false) address front (All-head (λ a. has_address settings a ≡ false) address (front ++ rest) free)
+    (free_front settings front rest (All-tail (λ a. has_address settings a ≡ false) address (front ++ rest) free))
+
+free_one : (settings : List Setting) (front rest : List ℕ) (address : ℕ) → All (λ a. has_address settings a ≡ false) (front ++ address ∷ rest) → has_address settings address ≡ false
+free_one settings [] rest address free = All-head (λ a. has_address settings a ≡ false) address rest free
+free_one settings (one ∷ front) rest address free = free_one settings front rest address (All-tail (λ a. has_address settings a ≡ false) one (front ++ address ∷ rest) free)
+
+-- ---- what is taken
+
+abbrev TakesUnnamed : List Setting → Map → Map → Type 0
+TakesUnnamed settings old new = (address : ℕ) → (new address ≡ old address) ⊎ ((has_address settings address ≡ false) × (new address ≡ None))
+
+takes_both : (settings : List Setting) (old mid new : Map) → TakesUnnamed settings old mid → TakesUnnamed settings mid new → TakesUnnamed settings old new
+takes_both settings old mid new first second address = elim (second address) [
+  | inl same ↦ elim (first address) [ inl before ↦ inl (same ∙ before) | inr taken ↦ inr (taken.0, same ∙ taken.1) ]
+  | inr taken ↦ inr taken
+]
+
+takes_none : (settings : List Setting) (old new : Map) → new ≡ old → TakesUnnamed settings old new
+takes_none settings old new same address = inl (ap (λ (values : Map). values address) same)
+
+takes_one : (settings : List Setting) (old new : Map) (named : ℕ) → has_address settings named ≡ false → new ≡ changed (Forget named) old → TakesUnnamed settings old new
+takes_one settings old new named free is address = elim (cases_eq named address) [
+  | inl same ↦ inr (sym (ap (has_address settings) same) ∙ free, ap (λ (values : Map). values address) is ∙ forget-at old named address (sym same))
+  | inr other ↦ inl (ap (λ (values : Map). values address) is ∙ forget-other old named address (λ e. other (sym e)))
+]
+
+each_takes : (settings : List Setting) (addresses : List ℕ) (old new : Device) → All (λ a. has_address settings a ≡ false) addresses → ForgetsEach addresses old new → TakesUnnamed settings (state_of old).map (state_of new).map
+each_takes settings [] old new free done = takes_none settings (state_of old).map (state_of new).map (ap (λ (device : Device). (state_of device).map) done)
+each_takes settings (one ∷ addresses) old new free done =
+    takes_both settings (state_of old).map (state_of done.1).map (state_of new).map
+    (takes_one settings (state_of old).map (state_of done.1).map one (All-head (λ a. has_address settings a ≡ false) one addresses free) (map_without old done.1 one done.0 done.2))
+    (each_takes settings addresses done.1 new (All-tail (λ a. has_address settings a ≡ false) one addresses free) done.3)
+
+spent_takes : (settings : List Setting) (old new : Device) → IsFormed old → StopsAt (unnamed_in settings (state_of old).map) forget.Spent old new → TakesUnnamed settings (state_of old).map (state_of new).map
+spent_takes settings old new formed stops =
+    let free = subst (All (λ a. has_address settings a ≡ false)) stops.addresses_are (unnamed_free settings (state_of old).map 65534) in
+    takes_both settings (state_of old).map (state_of stops.last).map (state_of new).map
+    (each_takes settings stops.front old stops.last (free_front settings stops.front (stops.address ∷ stops.rest) free) stops.forgotten)
+    (takes_none settings (state_of stops.last).map (state_of new).map (ap (λ (device : Device). (state_of device).map) stops.stopped.3))
+
+cut_takes : (settings : List Setting) (old new : Device) → IsFormed old → StopsAt (unnamed_in settings (state_of old).map) forget.Cut old new → TakesUnnamed settings (state_of old).map (state_of new).map
+cut_takes settings old new formed stops =
+    let free = subst (All (λ a. has_address settings a ≡ false)) stops.addresses_are (unnamed_free settings (state_of old).map 65534) in
+    let last = stops.last in
+    let within = each_within stops.front old last stops.forgotten (fill_within old formed) in
+    takes_both settings (state_of old).map (state_of last).map (state_of new).map
+    (each_takes settings stops.front old last (free_front settings stops.front (stops.address ∷ stops.rest) free) stops.forgotten)
+    (elim (cut_map_within last new (Forget stops.address) within stops.stopped) [
+      | inl same ↦ takes_none settings (state_of last).map (state_of new).map same
+      | inr gone ↦ takes_one settings (state_of last).map (state_of new).map stops.address (free_one settings stops.front stops.rest stops.address free) gone
+    ])
+
+pub takes_unnamed : (settings : List Setting) (old new : Device) (answer : Result ℕ TidyFault) → IsFormed old → Tidies settings old answer new → (address : ℕ)
+    → ((state_of new).map address ≡ (state_of old).map address) ⊎ ((has_address settings address ≡ false) × ((state_of new).map address ≡ None))
+takes_unnamed settings old new (Ok count) formed done = each_takes settings (unnamed_in settings (state_of old).map) old new (unnamed_free settings (state_of old).map 65534) done.2
+takes_unnamed settings old new (Err tidy.Off) formed done = takes_none settings (state_of old).map (state_of new).map (ap (λ (device : Device). (state_of device).map) done.1)
+takes_unnamed settings old new (Err tidy.Spent) formed done = spent_takes settings old new formed done
+takes_unnamed settings old new (Err tidy.Cut) formed done = cut_takes settings old new formed done
+
+-- ---- readings
+
+named_here : (settings : List Setting) (setting : Setting) → Contains settings setting → has_address settings setting.numbers.address ≡ true
+named_here settings setting inside = found_taken settings setting.numbers.address (setting, inside, refl)
+
+pub keeps_readings : (settings : List Setting) (old new : Device) (answer : Result ℕ TidyFault) → IsFormed old → Tidies settings old answer new → KeepsAll settings old new
+keeps_readings settings old new answer formed done setting inside =
+    elim (takes_unnamed settings old new answer formed done setting.numbers.address) [
+      | inl same ↦ ap (reading_of setting.numbers) same
+      | inr taken ↦ (let wrong : true ≡ false = sym (named_here settings setting inside) ∙ taken.0 in cc)
+    ]
+
+-- ---- what is left
+
+stays_none : (addresses : List ℕ) (old new : Device) (address : ℕ) → ForgetsEach addresses old new → (state_of old).map address ≡ None → (state_of new).map address ≡ None
+stays_none [] old new address done none = ap (λ (device : Device). (state_of device).map address) done ∙ none
+stays_none (one ∷ addresses) old new address done none =
+    let there : (state_of done.1).map address ≡ None = ap (λ (values : Map). values address) (map_without old done.1 one done.0 done.2) ∙ elim (cases_eq one address) [
+      | inl same ↦ forget-at (state_of old).map one address (sym same)
+      | inr other ↦ forget-other (state_of old).map one address (λ e. other (sym e)) ∙ none
+    ] in
+    stays_none addresses done.1 new address done.3 there
+
+gone : (front rest : List ℕ) (address : ℕ) (old new : Device) → ForgetsEach (front ++ address ∷ rest) old new → (state_of new).map address ≡ None
+gone [] rest address old new done =
+    let there : (state_of done.1).map address ≡ None =
+    ap (λ (values : Map). values address) (map_without old done.1 address done.0 done.2) ∙ forget-at (state_of old).map address address refl in
+    stays_none rest done.1 new address done.3 there
+gone (one ∷ front) rest address old new done = gone front rest address done.1 new done.3
+
+-- a live address that no setting has is among them
+unnamed_split : (settings : List Setting) (values : Map) (address : ℕ) → 0 < address → address ≤ 65534 → is_unnamed settings values address ≡ true
+    → (front : List ℕ) × (rest : List ℕ) × (unnamed_in settings values ≡ front ++ address ∷ rest)
+unnamed_split settings values address some low is =
+    let more = begins_with settings values address 65534 low in
+    let e : address ≡ suc (address - 1) = omega arith in
+    let here : is_unnamed settings values (suc (address - 1)) ≡ true = ap (is_unnamed settings values) (sym e) ∙ is in
+    let last : unnamed_to settings values address ≡ unnamed_to settings values (address - 1) ++ address ∷ [] =
+    ap (unnamed_to settings values) e ∙ unnamed_to-suc settings values (address - 1)
+    ∙ ap (λ (b : Bool). unnamed_to settings values (address - 1) ++ cond b (suc (address - 1) ∷ []) []) here
+    ∙ ap (λ k. unnamed_to settings values (address - 1) ++ k ∷ []) (sym e) in
+    (unnamed_to settings values (address - 1), more.0, more.1 ∙ ap (λ l. l ++ more.0) last ∙ append_assoc (unnamed_to settings values (address - 1)) (address ∷ []) more.0)
+
+none_left : (settings : List Setting) (old new : Device) (address : ℕ) (value : Option ℕ) → (state_of old).map address ≡ value → has_address settings address ≡ false → ForgetsEach (unnamed_in settings (state_of old).map) old new → (state_of new).map address ≡ None
+none_left settings old new address None is free done = stays_none (unnamed_in settings (state_of old).map) old new address done is
+none_left settings old new address (Some value) is free done = elim (proper_or_not address) [
+  | inr outside ↦ stays_none (unnamed_in settings (state_of old).map) old new address done (none_outside old address outside)
+  | inl proper ↦
+      let live : is_unnamed settings (state_of old).map address ≡ true = rw (is, free) refl in
+      let split = unnamed_split settings (state_of old).map address proper.0 (let high = proper.1 in omega arith) live in
+      gone split.0 split.1 address old new (subst (λ l. ForgetsEach l old new) split.2 done)
+]
+
+left_at : (settings : List Setting) (old new : Device) (address : ℕ) (named : Bool) → has_address settings address ≡ named → ForgetsEach (unnamed_in settings (state_of old).map) old new
+    → (state_of new).map address ≡ cond named ((state_of old).map address) None
+left_at settings old new address false is done = none_left settings old new address ((state_of old).map address) refl is done
+left_at settings old new address true is done =
+    elim (each_takes settings (unnamed_in settings (state_of old).map) old new (unnamed_free settings (state_of old).map 65534) done address) [
+      | inl same ↦ same
+      | inr taken ↦ (let wrong : true ≡ false = sym is ∙ taken.0 in cc)
+    ]
+
+pub leaves_named : (settings : List Setting) (old new : Device) (count : ℕ) → Tidies settings old (Ok count) new → (address : ℕ) → (state_of new).map address ≡ kept settings (state_of old).map address
+leaves_named settings old new count done address = left_at settings old new address (has_address settings address) refl done.2
+
+-- ---- as a run of calls
+
+each_as_run : (addresses : List ℕ) (old new : Device) → ForgetsEach addresses old new
+    → (calls : List Call) × IsWholeRun calls old new × (flat_map changes_of calls ≡ map Forget addresses) × (length calls ≡ length addresses)
+each_as_run [] old new done = ([], record { run = done; without_cuts = All-nil (λ (call : Call). is_cut call ≡ false) }, refl, refl)
+each_as_run (address ∷ addresses) old new done =
+    let rest = each_as_run addresses done.1 new done.3 in
+    let call = Forgot address (Ok done.0) in (
+      call ∷ rest.0,
+      record {
+        run = (done.1, done.2, rest.1.run);
+        without_cuts = All-cons (λ (one : Call). is_cut one ≡ false) call rest.0 refl rest.1.without_cuts;
+      },
+      ap (λ l. Forget address ∷ l) rest.2,
+      ap suc rest.3,
+    )
+
+pub as_run : (settings : List Setting) (old new : Device) (count : ℕ) → Tidies settings old (Ok count) new
+    → (calls : List Call) × IsWholeRun calls old new × (flat_map changes_of calls ≡ map Forget (unnamed_in settings (state_of old).map)) × (length calls ≡ count)
+as_run settings old new count done =
+    let run = each_as_run (unnamed_in settings (state_of old).map) old new done.2 in
+    (run.0, run.1, run.2, run.3 ∙ sym done.1)
+
+-- ---- the states, and when the store is spent
+
+state_after : (old new : Device) (address : ℕ) (written : Written) → Forgets old address (Ok written) new → state_of new ≡ after_forgetting old.size address (state_of old)
+state_after old new address Appended done =
+    let free = done.free in
+    done.state_is
+    ∙ ap (λ (b : Bool). cond b (moved old.size.pages (Forget address) (state_of old)) (appended (Forget address) (state_of old)))
+    (sym (ne_eqb (state_of old).fill (slot_count old.size) (λ e. omega arith)))
+state_after old new address Moved done =
+    done.state_is
+    ∙ ap (λ (b : Bool). cond b (moved old.size.pages (Forget address) (state_of old)) (appended (Forget address) (state_of old)))
+    (sym (eq-eqb (state_of old).fill (slot_count old.size) done.all_used))
+
+same_size : (old new : Device) (address : ℕ) (written : Written) → Forgets old address (Ok written) new → new.size ≡ old.size
+same_size old new address Appended done = done.goes_on.same_size
+same_size old new address Moved done = done.goes_on.same_size
+
+not_spent : (old new : Device) (address : ℕ) (written : Written) → Forgets old address (Ok written) new → ¬ IsSpent (slot_count old.size) (state_of old)
+not_spent old new address Appended done = done.proceeds.accepted.not_spent
+not_spent old new address Moved done = done.proceeds.accepted.not_spent
+
+pub states_after : (addresses : List ℕ) (old new : Device) → ForgetsEach addresses old new → state_of new ≡ after_forgettings old.size addresses (state_of old)
+states_after [] old new done = ap state_of done
+states_after (address ∷ addresses) old new done =
+    states_after addresses done.1 new done.3
+    ∙ ap (λ size. after_forgettings size addresses (state_of done.1)) (same_size old done.1 address done.0 done.2)
+    ∙ ap (after_forgettings old.size addresses) (state_after old done.1 address done.0 done.2)
+
+spent_here : (front rest : List ℕ) (address : ℕ) (old last : Device) → ForgetsEach front old last → IsSpent (slot_count last.size) (state_of last) → IsSpentAmong old.size (front ++ address ∷ rest) (state_of old)
+spent_here [] rest address old last done spent = inl (subst (λ (device : Device). IsSpent (slot_count device.size) (state_of device)) done spent)
+spent_here (one ∷ front) rest address old last done spent =
+    let later = spent_here front rest address done.1 last done.3 spent in
+    let sized = subst (λ size. IsSpentAmong size (front ++ address ∷ rest) (state_of done.1)) (same_size old done.1 one done.0 done.2) later in
+    inr (subst (IsSpentAmong old.size (front ++ address ∷ rest)) (state_after old done.1 one done.0 done.2) sized)
+
+never_spent : (addresses : List ℕ) (old new : Device) → ForgetsEach addresses old new → ¬ IsSpentAmong old.size addresses (state_of old)
+never_spent [] old new done spent = spent
+never_spent (address ∷ addresses) old new done (inl spent) = not_spent old done.1 address done.0 done.2 spent
+never_spent (address ∷ addresses) old new done (inr later) =
+    let state = subst (IsSpentAmong old.size addresses) (sym (state_after old done.1 address done.0 done.2)) later in
+    never_spent addresses done.1 new done.3 (subst (λ size. IsSpentAmong size addresses (state_of done.1)) (sym (same_size old done.1 address done.0 done.2)) state)
+
+pub spent_among : (settings : List Setting) (old new : Device) → Tidies settings old (Err tidy.Spent) new → IsSpentAmong old.size (unnamed_in settings (state_of old).map) (state_of old)
+spent_among settings old new stops =
+    subst (λ l. IsSpentAmong old.size l (state_of old)) (sym stops.addresses_are) (spent_here stops.front stops.rest stops.address old stops.last stops.forgotten stops.stopped.2)
+
+pub none_spent : (settings : List Setting) (old new : Device) (count : ℕ) → Tidies settings old (Ok count) new → ¬ IsSpentAmong old.size (unnamed_in settings (state_of old).map) (state_of old)
+none_spent settings old new count done = never_spent (unnamed_in settings (state_of old).map) old new done.2

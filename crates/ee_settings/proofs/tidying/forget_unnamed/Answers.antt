@@ -1,0 +1,24 @@
+use Rattle.std.proofs.Common.{rules}
+use Rattle.ee_settings.proofs.Tidied.{batch_further, batch_stops, one_lives}
+use Rattle.ee_settings.proofs.tidying.forget_unnamed.Goals as goal
+
+pub forget_one-requires-clause-live : goal.forget_one-requires-clause-live
+forget_one-requires-clause-live g c =
+    let so_far = c.loop-address.invariant in
+    let lives = one_lives c.args.settings.now c.args.found.now c.loop-address.address-index c.loop-address.forgotten _ _ c.loop-address-item.result so_far c.loop-address-test.true c.loop-address-item.is in
+    search (rules, lives)
+
+pub returns-in-Err-clause-stopped : goal.returns-in-Err-clause-stopped
+returns-in-Err-clause-stopped g c =
+    let so_far = c.loop-address.invariant in
+    let stops = batch_stops c.args.settings.now c.args.found.now c.loop-address.address-index c.loop-address.forgotten _ _ c.loop-address-item.result so_far c.loop-address-test.true c.loop-address-item.is in
+    let stopped = c.in-Err.ensures.stopped in
+    search (rules, stops, stopped)
+
+pub loop-address-preserved : goal.loop-address-preserved
+loop-address-preserved g c =
+    let so_far = c.loop-address.invariant in
+    let further = batch_further c.args.settings.now c.args.found.now c.loop-address.address-index c.loop-address.forgotten _ _ c.loop-address-item.result so_far c.loop-address-test.true c.loop-address-item.is in
+    let counted = c.in-Ok.ensures.count in
+    let made = c.in-Ok.ensures.forgotten in
+    search (rules, further, counted, made)

@@ -1,0 +1,150 @@
+ghost use Rattle.std.specs.Prelude.{◌≡◌, ◌++◌, IfOk, IfErr, OnOk, map};
+ghost use Rattle.std.specs.BTreeMap.{get};
+ghost use Rattle.std.specs.Ordering.{nat_cmp};
+ghost use Rattle.ee_flash.specs.Device.{IsOn};
+ghost use Rattle.ee_store.specs.State.{state_of};
+ghost use Rattle.ee_settings.specs.Stale.{IsStaleFault, stale_at, stale_in, with_found};
+
+use crate::fault::StaleFault;
+use crate::numbers::Numbers;
+use crate::reading::Reading;
+use crate::schema::Schema;
+use ee_codec::Address;
+use ee_store::Variables;
+use std::alloc::{AllocError, Allocator};
+use std::collections::BTreeMap;
+
+/// A setting whose stored value isn't in its range.
+///
+/// Source: ours.
+#[derive(Clone, Copy, Debug, PartialEq, Eq)]
+pub struct Stale {
+    /// The number of its entry, by rising name, from 1.
+    pub entry: u64,
+    /// The value that its address has.
+    pub value: u32,
+}
+
+impl<A: Allocator> Schema<A> {
+    /// The entries whose stored value isn't in their range, rising: what reads as its default though
+    /// a value is stored. Entries are counted by rising name, from 1.
+    ///
+    /// # Errors
+    ///
+    /// The first `StaleFault` that applies.
+    ///
+    /// Source: ours.
+    pub fn stale<B: Allocator + Copy, V: Variables>(
+        &self,
+        alloc: B,
+        store: &V,
+    ) -> Result<Vec<u64, B>, StaleFault>
+        ensures on { IfOk result (λ _. IsOn (V.device store.now)) }
+        ensures stale { IfOk result (λ entries. entries.items
+            ≡ map (λ stale. stale.entry) (stale_in (state_of (V.device store.now)).map self.now)) }
+        ensures fault { IfErr result (IsStaleFault (V.device store.now)) }
+    {
+        let values = match self.stale_values(alloc, store) {
+            Ok(values) => values,
+            Err(fault) => return Err(fault),
+        };
+        let mut entries = Vec::new(alloc);
+        for stale in &values {
+            match entries.push(stale.entry) {
+                Ok(()) => {}
+                Err(_) => return Err(StaleFault::Memory),
+            }
+        }
+        Ok(entries)
+    }
+
+    /// The same entries, each with its stored value.
+    ///
+    /// # Errors
+    ///
+    /// The first `StaleFault` that applies.
+    ///
+    /// Source: ours.
+    pub fn stale_values<B: Allocator + Copy, V: Variables>(
+        &self,
+        alloc: B,
+        store: &V,
+    ) -> Result<Vec<Stale, B>, StaleFault>
+        ensures on { IfOk result (λ _. IsOn (V.device store.now)) }
+        ensures stale { IfOk result (λ stale. stale.items
+            ≡ stale_in (state_of (V.device store.now)).map self.now) }
+        ensures fault { IfErr result (IsStaleFault (V.device store.now)) }
+    {
+        if !store.is_on() {
+            return Err(StaleFault::Off);
+        }
+        let stored = match stored_values(alloc, store) {
+            Ok(stored) => stored,
+            Err(_) => return Err(StaleFault::Memory),
+        };
+        let mut stale = Vec::new(alloc);
+        for (index, setting) in self.settings().as_slice().iter().enumerate() {
+            let numbers = setting.numbers();
+            let value = stored.get(&numbers.address).copied();
+            match push_stale(&mut stale, index as u64 + 1, numbers, value) {
+                Ok(()) => {}
+                Err(_) => return Err(StaleFault::Memory),
+            }
+        }
+        Ok(stale)
+    }
+}
+
+/// Puts an entry behind others, if its stored value isn't in its range.
+fn push_stale<A: Allocator>(
+    stale: &mut Vec<Stale, A>,
+    entry: u64,
+    numbers: Numbers,
+    stored: Option<u32>,
+) -> Result<(), AllocError>
+    ensures { OnOk result (stale.new.items ≡ stale.old.items ++ stale_at entry numbers stored) }
+{
+    let Some(value) = stored else {
+        return Ok(());
+    };
+    if let Reading::Default(_) = numbers.reading(stored) {
+        stale.push(Stale { entry, value })?;
+    }
+    Ok(())
+}
+
+/// The values of all addresses that have one. It looks through the slots once for each batch, and
+/// not once for each address.
+fn stored_values<A: Allocator + Copy, V: Variables>(
+    alloc: A,
+    store: &V,
+) -> Result<BTreeMap<Address, u32, A>, AllocError>
+    requires { IsOn (V.device store.now) }
+    ensures { IfOk result (λ stored.
+        get nat_cmp stored ≡ (state_of (V.device store.now)).map) }
+{
+    let mut stored = BTreeMap::new(alloc);
+    let mut after = None;
+    'stored: loop {
+        let batch = store.next_batch(after);
+        insert_each(&mut stored, batch.found.as_slice())?;
+        let Some(through) = batch.through else {
+            return Ok(stored);
+        };
+        after = Some(through);
+    }
+}
+
+/// Inserts these addresses with their values.
+fn insert_each<A: Allocator + Copy>(
+    stored: &mut BTreeMap<Address, u32, A>,
+    found: &[(Address, u32)],
+) -> Result<(), AllocError>
+    ensures { OnOk result
+        (get nat_cmp stored.new ≡ with_found found.now (get nat_cmp stored.old)) }
+{
+    for (address, value) in found {
+        stored.insert(*address, *value)?;
+    }
+    Ok(())
+}

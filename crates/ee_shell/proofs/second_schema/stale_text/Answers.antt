@@ -1,0 +1,30 @@
+use Rattle.std.proofs.Common.{◌∙◌, ◌≤◌, ◌<◌, ◌+◌, inr, length, subst, sym}
+use Rattle.std.specs.List.{All}
+use Rattle.ee_settings.proofs.Outdated.{stale_within}
+use Rattle.ee_settings.specs.declared.stale.Stale.{Stale}
+use Rattle.ee_store.specs.State.{state_of}
+use Rattle.ee_shell.proofs.TidiedImages.{stale_good, stale_unopened, stale_unspelled}
+use Rattle.ee_shell.proofs.second_schema.stale_text.Goals as goal
+
+pub returns-in-Err-clause-names : goal.returns-in-Err-clause-names
+returns-in-Err-clause-names g c = λ cause some applies.
+    stale_unopened c.args.image.now c.args.settings.now c.in-Err.fault c.from.result cause c.in-Err.ensures.fault c.from.ensures some applies
+
+pub returns-in-Err-read_schema-clause-fault : goal.returns-in-Err-read_schema-clause-fault
+returns-in-Err-read_schema-clause-fault g c =
+    let opened = c.in-Ok.ensures.opened in
+    inr ((opened.device, opened.old), c.in-Err-read_schema.ensures.fault)
+
+pub returns-in-Err-read_schema-clause-names : goal.returns-in-Err-read_schema-clause-names
+returns-in-Err-read_schema-clause-names g c = λ cause some applies.
+    stale_unspelled c.args.image.now c.args.settings.now _ c.in-Err-read_schema.fault cause c.in-Ok.ensures.opened c.in-Err-read_schema.ensures.names some applies
+
+pub returns-clause-names : goal.returns-clause-names
+returns-clause-names g c = λ cause some applies.
+    stale_good c.args.image.now c.args.settings.now c.in-Ok.store c.in-Ok-read_schema.schema cause c.in-Ok.ensures.opened c.in-Ok-read_schema.ensures.spelled some applies
+
+pub push_stale-requires : goal.push_stale-requires
+push_stale-requires g c =
+    let settings = c.in-Ok-read_schema.schema in
+    subst (All (λ (one : Stale). (1 ≤ one.entry) × (one.entry < 1 + length settings))) (sym (c.as_slice.ensures.value ∙ c.in_ok-stale.ensures))
+    (stale_within (state_of c.in-Ok.store).map settings 1)
