@@ -1,7 +1,7 @@
 use ee_flash::Shape;
 use ee_shell::{
-    check_script, clean_image, format_image, get_setting, plan_script, replay, set_setting,
-    stale_text, states_text, tidy_image, try_script, wear_text,
+    check_script, clean_image, format_image, get_setting, plan_script, replay, replay_indexed,
+    set_setting, stale_text, states_text, tidy_image, try_script, wear_text,
 };
 use ee_words::{Fault, File, Job, fault_line, job, read_whole, status_of, write_whole};
 use std::rt::Files;
@@ -39,7 +39,11 @@ fn work<R: Files + Input + Print + AllocGlobal>(rt: &R, job: &Job<'_>) -> Result
     match *job {
         Job::Try { shape } => try_input(rt, shape),
         Job::Format { shape, image } => format_file(rt, shape, image),
-        Job::Run { image, script } => run_files(rt, image, script),
+        Job::Run {
+            indexed,
+            image,
+            script,
+        } => run_files(rt, indexed, image, script),
         Job::Get {
             image,
             settings,
@@ -87,15 +91,20 @@ fn format_file<R: Files + Print + AllocGlobal>(
 }
 
 /// Answers a script on an image, writes the image that this leaves in its place, and prints the
-/// report.
+/// report. `indexed` says whether the store keeps an index in memory.
 fn run_files<R: Files + Print + AllocGlobal>(
     rt: &R,
+    indexed: bool,
     image: &str,
     script: &str,
 ) -> Result<(), Fault> {
     let before = read_file(rt, File::Image, image)?;
     let lines = read_file(rt, File::Script, script)?;
-    let replayed = replay(rt.alloc(), before.as_slice(), lines.as_slice())?;
+    let replayed = if indexed {
+        replay_indexed(rt.alloc(), before.as_slice(), lines.as_slice())?
+    } else {
+        replay(rt.alloc(), before.as_slice(), lines.as_slice())?
+    };
     write_image(rt, image, replayed.image.as_slice())?;
     print(rt, replayed.report.as_slice())
 }

@@ -122,6 +122,10 @@ schema_only text tree why fault others has gives told spelled = elim (schema_mem
 
 -- ---- opening
 
+-- want of memory can come while a store is opened
+pub no_memory_to_open : (image : List ℕ) → IsOpeningFault image Memory
+no_memory_to_open image = record { cause = replay.Memory; applies = tt; fault_is = refl }
+
 memory_or_not : (fault : ReplayFault) → (fault ≡ replay.Memory) ⊎ (fault ≢ replay.Memory)
 memory_or_not (replay.Image fault) = inr (λ e. cc e)
 memory_or_not (replay.Open fault) = inr (λ e. cc e)

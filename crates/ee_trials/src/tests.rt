@@ -6,6 +6,7 @@ mod cuts;
 mod events;
 mod files;
 mod images;
+mod indexed;
 mod ledgers;
 mod memory;
 mod pieces;

@@ -1,6 +1,6 @@
 -- The commands of the program, and the words that spell them.
 use Rattle.std.specs.Prelude.{◌≡◌, ◌≢◌, ◌<◌, ◌^◌, ◌⊎◌, ℕ, List, [], ◌∷◌, map, codes, decimal}
-use Rattle.std.specs.Prelude.{Option, Some, None, option_map}
+use Rattle.std.specs.Prelude.{Bool, true, false, Option, Some, None, option_map}
 use Rattle.std.specs.Borrow.{Bor}
 use Rattle.ee_flash.specs.Size.{IsWithinLimits, Size, size_of}
 use Rattle.ee_words.specs.declared.jobs.Job.{Job}
@@ -10,7 +10,7 @@ use Rattle.ee_words.specs.declared.jobs.Job.TheVariants as job
 pub data Row : Type 0 where
   Try : Size → Row
   Format : Size → List ℕ → Row
-  Run : List ℕ → List ℕ → Row
+  Run : Bool → List ℕ → List ℕ → Row
   Get : List ℕ → List ℕ → List ℕ → Row
   Set : List ℕ → List ℕ → List ℕ → ℕ → Row
   Plan : List ℕ → List ℕ → Row
@@ -25,7 +25,7 @@ pub data Row : Type 0 where
 abbrev pub row_of : Job → Row
 row_of (job.Try size) = Try size
 row_of (job.Format size image) = Format size image.now
-row_of (job.Run image script) = Run image.now script.now
+row_of (job.Run indexed image script) = Run indexed image.now script.now
 row_of (job.Get image settings name) = Get image.now settings.now name.now
 row_of (job.Set image settings name value) = Set image.now settings.now name.now value
 row_of (job.Plan image script) = Plan image.now script.now
@@ -44,7 +44,7 @@ texts_of words = map (λ word. word.now) words
 abbrev pub IsRow : Row → Type 0
 IsRow (Try size) = IsWithinLimits size
 IsRow (Format size image) = IsWithinLimits size
-IsRow (Run image script) = image ≢ codes "--indexed"
+IsRow (Run indexed image script) = image ≢ codes "--indexed"
 IsRow (Get image settings name) = Unit {0}
 IsRow (Set image settings name value) = value < 2 ^ 32
 IsRow (Plan image script) = Unit {0}
@@ -60,7 +60,8 @@ abbrev pub AreWordsOf : List (List ℕ) → Row → Type 0
 AreWordsOf words (Try size) = (words ≡ codes "try" ∷ decimal size.pages ∷ decimal size.words ∷ [])
     ⊎ ((words ≡ []) × (size ≡ size_of 1 6))
 AreWordsOf words (Format size image) = words ≡ codes "format" ∷ decimal size.pages ∷ decimal size.words ∷ image ∷ []
-AreWordsOf words (Run image script) = words ≡ codes "run" ∷ image ∷ script ∷ []
+AreWordsOf words (Run false image script) = words ≡ codes "run" ∷ image ∷ script ∷ []
+AreWordsOf words (Run true image script) = words ≡ codes "run" ∷ codes "--indexed" ∷ image ∷ script ∷ []
 AreWordsOf words (Get image settings name) = words ≡ codes "get" ∷ image ∷ settings ∷ name ∷ []
 AreWordsOf words (Set image settings name value) =
     words ≡ codes "set" ∷ image ∷ settings ∷ name ∷ decimal value ∷ []

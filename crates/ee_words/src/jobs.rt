@@ -16,8 +16,10 @@ pub enum Job<'a> {
         shape: Shape,
         image: &'a str,
     },
-    /// `run IMAGE SCRIPT`: answers the script on the image.
+    /// `run IMAGE SCRIPT` or `run --indexed IMAGE SCRIPT`: answers the script on the image, on a store
+    /// that keeps an index in memory or on one that keeps none.
     Run {
+        indexed: bool,
         image: &'a str,
         script: &'a str,
     },

@@ -91,9 +91,19 @@ fn run_job<'a>(operands: &[&'a str]) -> Option<Job<'a>>
         → option_map row_of result ≡ Some row }
 {
     match *operands {
-        // This word is kept for another way to run, so it names no image.
+        // This word says how to run, and names no image.
         ["--indexed", _] => None,
-        [image, script] => Some(Job::Run { image, script }),
+        ["--indexed", "--indexed", _] => None,
+        ["--indexed", image, script] => Some(Job::Run {
+            indexed: true,
+            image,
+            script,
+        }),
+        [image, script] => Some(Job::Run {
+            indexed: false,
+            image,
+            script,
+        }),
         _ => None,
     }
 }

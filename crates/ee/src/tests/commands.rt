@@ -49,9 +49,12 @@ fn with_settings<'a>(alloc: Global, table: Command<'a>) -> Result<Command<'a>, F
 /// Adds the commands on a script.
 fn with_script<'a>(alloc: Global, table: Command<'a>) -> Result<Command<'a>, Fail> {
     let script = || word(alloc, "SCRIPT");
+    let indexed = Arg::new(alloc, "INDEXED")
+        .long("indexed")
+        .action(ArgAction::SetTrue);
     Ok(
         table
-            .subcommand(on_image(alloc, "run")?.arg(script())?)?
+            .subcommand(on_image(alloc, "run")?.arg(script())?.arg(indexed)?)?
             .subcommand(on_image(alloc, "plan")?.arg(script())?)?
             .subcommand(
                 on_image(alloc, "check")?
@@ -134,7 +137,11 @@ fn job_with_script<'a>(
     found: &ArgMatches<'a>,
 ) -> Option<Job<'a>> {
     match name {
-        "run" => Some(Job::Run { image, script }),
+        "run" => Some(Job::Run {
+            indexed: found.get_flag("INDEXED"),
+            image,
+            script,
+        }),
         "plan" => Some(Job::Plan { image, script }),
         "check" => Some(Job::Check {
             image,
@@ -147,10 +154,11 @@ fn job_with_script<'a>(
 
 #[test]
 fn clap_finds_the_same_jobs(rt: HostRuntime) -> Result<(), Fail> {
-    let lines: [&[&str]; 13] = [
+    let lines: [&[&str]; 14] = [
         &["ee", "try", "2", "5"],
         &["ee", "format", "64", "512", "a.image"],
         &["ee", "run", "a.image", "a.script"],
+        &["ee", "run", "--indexed", "a.image", "a.script"],
         &["ee", "get", "a.image", "a.settings", "volume"],
         &["ee", "set", "a.image", "a.settings", "volume", "4294967295"],
         &["ee", "plan", "a.image", "a.script"],

@@ -1,8 +1,8 @@
 //! The worked examples, with their images; the order of the steps; cuts at each step.
 mod batches;
+mod counted;
 mod cuts;
 mod each_cut;
-mod events;
 mod forgetting;
 mod image;
 mod many_pages;
@@ -10,4 +10,3 @@ mod moves;
 mod order;
 mod refusals;
 mod replay;
-mod second_schema;

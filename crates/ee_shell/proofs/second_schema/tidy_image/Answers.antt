@@ -1,4 +1,6 @@
 use Rattle.std.proofs.Common.{inl, inr, rules}
+use Rattle.std.proofs.lemmas.Result.{err_from_is_err_and}
+use Rattle.ee_shell.proofs.Named.{no_memory_to_open}
 use Rattle.ee_shell.proofs.TidiedImages.{is_spent_for, is_tidied_image, tidy_good, tidy_spent, tidy_unopened, tidy_unspelled}
 use Rattle.ee_shell.proofs.second_schema.tidy_image.Goals as goal
 
@@ -35,3 +37,13 @@ returns-clause-tidied g c =
 pub returns-clause-names : goal.returns-clause-names
 returns-clause-names g c = λ cause some applies.
     tidy_good c.args.image.now c.args.settings.now c.in-Ok.store _ c.in-Ok-read_schema.schema c.in-Ok-tidy_on.count cause c.in-Ok.ensures.opened c.in-Ok-read_schema.ensures.spelled c.in-Ok-tidy_on.ensures.tidied some applies
+
+pub returns-in_err-written-clause-fault : goal.returns-in_err-written-clause-fault
+returns-in_err-written-clause-fault g c =
+    let p = err_from_is_err_and c.from_residual.result c.from_residual.ensures.1 in
+    rw p.1 (rw p.2 (inl (no_memory_to_open c.args.image.now)))
+
+pub returns-in_err-push_tidied-clause-fault : goal.returns-in_err-push_tidied-clause-fault
+returns-in_err-push_tidied-clause-fault g c =
+    let p = err_from_is_err_and c.from_residual-in_err-push_tidied.result c.from_residual-in_err-push_tidied.ensures.1 in
+    rw p.1 (rw p.2 (inl (no_memory_to_open c.args.image.now)))

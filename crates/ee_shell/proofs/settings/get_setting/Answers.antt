@@ -1,6 +1,6 @@
-use Rattle.std.proofs.Common.{inl, inr, refl}
+use Rattle.std.proofs.Common.{inl, inr}
 use Rattle.std.proofs.lemmas.Result.{err_from_is_err_and}
-use Rattle.ee_shell.proofs.Named.{get_unknown, get_unopened, get_unspelled, got_good}
+use Rattle.ee_shell.proofs.Named.{get_unknown, get_unopened, get_unspelled, got_good, no_memory_to_open}
 use Rattle.ee_shell.proofs.settings.get_setting.Goals as goal
 
 pub returns-in-Err-clause-names : goal.returns-in-Err-clause-names
@@ -26,6 +26,5 @@ returns-clause-names g c = λ cause some applies.
 
 pub returns-in_err-push_reading-clause-fault : goal.returns-in_err-push_reading-clause-fault
 returns-in_err-push_reading-clause-fault g c =
-    let opened = c.in-Ok.ensures.opened in
     let p = err_from_is_err_and c.from_residual.result c.from_residual.ensures.1 in
-    rw p.1 (rw p.2 (inr (inl ((opened.device, opened.old), inr (inr refl)))))
+    rw p.1 (rw p.2 (inl (no_memory_to_open c.args.image.now)))

@@ -1,5 +1,6 @@
 use Rattle.std.proofs.Common.{inl, inr}
-use Rattle.ee_shell.proofs.Named.{is_refused_in, is_set, set_good, set_refused, set_unopened, set_unspelled}
+use Rattle.std.proofs.lemmas.Result.{err_from_is_err_and}
+use Rattle.ee_shell.proofs.Named.{is_refused_in, is_set, no_memory_to_open, set_good, set_refused, set_unopened, set_unspelled}
 use Rattle.ee_shell.proofs.settings.set_setting.Goals as goal
 
 pub returns-in-Err-clause-names : goal.returns-in-Err-clause-names
@@ -38,3 +39,18 @@ pub returns-clause-names : goal.returns-clause-names
 returns-clause-names g c = λ cause some applies.
     set_good c.args.image.now c.args.settings.now c.args.name.now c.args.value c.in-Ok.store _ c.in-Ok-read_schema.schema cause c.in-Ok.ensures.opened c.in-Ok-read_schema.ensures.spelled c.in-Ok-set_on.ensures.written some
     applies
+
+pub returns-in_err-written-clause-fault : goal.returns-in_err-written-clause-fault
+returns-in_err-written-clause-fault g c =
+    let p = err_from_is_err_and c.from_residual.result c.from_residual.ensures.1 in
+    rw p.1 (rw p.2 (inl (no_memory_to_open c.args.image.now)))
+
+pub returns-in_err-text-clause-fault : goal.returns-in_err-text-clause-fault
+returns-in_err-text-clause-fault g c =
+    let p = err_from_is_err_and c.from_residual-in_err-text.result c.from_residual-in_err-text.ensures.1 in
+    rw p.1 (rw p.2 (inl (no_memory_to_open c.args.image.now)))
+
+pub returns-in_err-text-clause-names : goal.returns-in_err-text-clause-names
+returns-in_err-text-clause-names g c = λ cause some applies.
+    let p = err_from_is_err_and c.from_residual-in_err-text.result c.from_residual-in_err-text.ensures.1 in
+    rw p.1 (inr p.2)

@@ -19,6 +19,15 @@ fn reads_each_row(rt: HostRuntime) {
     assert_eq!(rt;
         job(&["run", "a", "b"]),
         Some(Job::Run {
+            indexed: false,
+            image: "a",
+            script: "b"
+        })
+    );
+    assert_eq!(rt;
+        job(&["run", "--indexed", "a", "b"]),
+        Some(Job::Run {
+            indexed: true,
             image: "a",
             script: "b"
         })
@@ -93,7 +102,7 @@ fn refuses_other_words(rt: HostRuntime) {
         &["try", "01", "6"],
         &["try", "+1", "6"],
         &["run", "--indexed", "a"],
-        &["run", "--indexed", "a", "b"],
+        &["run", "--indexed", "--indexed", "b"],
         &["states"],
         &["clean", "a", "b"],
         &["get", "a", "s"],
