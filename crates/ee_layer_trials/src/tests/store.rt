@@ -1,5 +1,6 @@
 //! The worked examples, with their images; the order of the steps; cuts at each step.
 mod batches;
+mod counted;
 mod cuts;
 mod each_cut;
 mod forgetting;

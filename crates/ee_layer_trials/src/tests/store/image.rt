@@ -77,3 +77,34 @@ pub fn assert_image<R: Abort + AllocGlobal, F: Flash>(
     }
     Ok(())
 }
+
+/// A device with the words and wears of another one. It is on and has no fuse.
+pub fn copy_of(alloc: Global, flash: &MemFlash) -> Result<MemFlash, Fail> {
+    let mut cells = Vec::new(alloc);
+    let mut wears = Vec::new(alloc);
+    for page in 0..2 * flash.shape().pages() {
+        wears.push(flash.wear(page))?;
+        for at in 0..flash.shape().words() {
+            cells.push(flash.word(page, at))?;
+        }
+    }
+    match MemFlash::from_cells(flash.shape(), cells, wears) {
+        Ok(copy) => Ok(copy),
+        Err(_) => Err(Fail::from("no copy")),
+    }
+}
+
+/// Compares each page of a device with the same page of another one.
+pub fn same_image<R: Abort + AllocGlobal, F: Flash, G: Flash>(
+    rt: &R,
+    flash: &F,
+    wanted: &G,
+) -> Result<(), Fail> {
+    assert!(rt; flash.shape() == wanted.shape());
+    for page in 0..2 * flash.shape().pages() {
+        let line = line_of(rt.alloc(), flash, page)?;
+        let other = line_of(rt.alloc(), wanted, page)?;
+        assert_eq!(rt; line.as_str(), other.as_str(), "page {page}");
+    }
+    Ok(())
+}

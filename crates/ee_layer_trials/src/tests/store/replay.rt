@@ -1,16 +1,63 @@
-//! Scripts on a store, each line with its answer.
+//! Scripts on a store, each line with its answer: on the store without an index and on the one with
+//! it.
+ghost use Rattle.ee_flash.specs.Device.{IsOn};
+ghost use Rattle.ee_flash.specs.Memory.{device_of};
+
+use super::image::{copy_of, same_image};
 use ee_codec::Address;
 use ee_flash::{Flash, Fuse, MemFlash, Shape, Tear};
-use ee_store::{ForgetFault, Off, OpenFault, Store, Variables, WriteFault, Written, format, open};
+use ee_store::{
+    ForgetFault, IndexedFault, IndexedStore, Off, OpenFault, Store, Variables, WriteFault, Written,
+    format, open,
+};
 use std::alloc::Global;
 use std::process::Abort;
 use std::test::Fail;
 
 /// A store, or its device while none is open.
 #[derive(Drop)]
-enum Place {
-    Open(Store<MemFlash>),
+enum Place<S: Drop> {
+    Open(S),
     Closed(MemFlash),
+}
+
+/// A store that a script is run on.
+trait Opened: Variables + Drop + Sized {
+    /// Opens the store of a device that is on.
+    fn reopen(alloc: Global, flash: MemFlash) -> (Place<Self>, &'static str)
+        requires { IsOn (device_of flash) };
+
+    /// Its device.
+    fn close(self) -> MemFlash;
+}
+
+impl Opened for Store<MemFlash> {
+    fn reopen(_alloc: Global, flash: MemFlash) -> (Place<Store<MemFlash>>, &'static str) {
+        match open(flash) {
+            Ok(store) => (Place::Open(store), "open"),
+            Err((flash, OpenFault::Cut)) => (Place::Closed(flash), "cut"),
+            Err((flash, OpenFault::Scan(_))) => (Place::Closed(flash), "scan fault"),
+        }
+    }
+
+    fn close(self) -> MemFlash {
+        self.into_flash()
+    }
+}
+
+impl Opened for IndexedStore<MemFlash> {
+    fn reopen(alloc: Global, flash: MemFlash) -> (Place<IndexedStore<MemFlash>>, &'static str) {
+        match IndexedStore::open(alloc, flash) {
+            Ok(store) => (Place::Open(store), "open"),
+            Err((flash, IndexedFault::Cut)) => (Place::Closed(flash), "cut"),
+            Err((flash, IndexedFault::Memory)) => (Place::Closed(flash), "memory"),
+            Err((flash, IndexedFault::Scan(_))) => (Place::Closed(flash), "scan fault"),
+        }
+    }
+
+    fn close(self) -> MemFlash {
+        self.into_flash()
+    }
 }
 
 /// A blank device, formatted.
@@ -24,7 +71,8 @@ pub fn formatted(alloc: Global, pages: usize, words: usize) -> Result<MemFlash, 
 }
 
 /// Opens the store of a device and runs a script. Each line is compared with the answer beside it.
-/// Gives the device back.
+/// Gives the device back. A store with an index, on a device like it, is to give the same answers
+/// and the same image, if no fuse is armed yet.
 ///
 /// `w A V` writes, `r A` reads, `f A` forgets, `c` is a clean step, `x N T` arms the fuse for the
 /// Nth step from there on with the tear `n`, `d`, `t` or `m`, `p` turns power on and opens the
@@ -35,11 +83,27 @@ pub fn replay<R: Abort + AllocGlobal>(
     flash: MemFlash,
     script: &[(&str, &str)],
 ) -> Result<MemFlash, Fail> {
+    if !flash.is_on() || flash.cuts_left() != Some(0) {
+        return replay_on::<Store<MemFlash>, R>(rt, flash, script);
+    }
+    let copy = copy_of(rt.alloc(), &flash)?;
+    let flash = replay_on::<Store<MemFlash>, R>(rt, flash, script)?;
+    let indexed = replay_on::<IndexedStore<MemFlash>, R>(rt, copy, script)?;
+    same_image(rt, &indexed, &flash)?;
+    Ok(flash)
+}
+
+// Runs the script on one kind of store.
+fn replay_on<S: Opened, R: Abort + AllocGlobal>(
+    rt: &R,
+    flash: MemFlash,
+    script: &[(&str, &str)],
+) -> Result<MemFlash, Fail> {
     let mut counted = flash.steps();
-    let mut place = reopen(flash).0;
+    let mut place: Place<S> = reopen(rt.alloc(), flash).0;
     for (line, wanted) in script {
         let (next, answer) = if *line == "steps" {
-            let (next, steps) = take_steps(place);
+            let (next, steps) = take_steps(rt.alloc(), place);
             let answer = format!(in rt.alloc(); "{}", steps.saturating_sub(counted))?;
             counted = steps;
             (next, answer)
@@ -52,32 +116,28 @@ pub fn replay<R: Abort + AllocGlobal>(
     Ok(device_of(place))
 }
 
-fn device_of(place: Place) -> MemFlash {
+fn device_of<S: Opened>(place: Place<S>) -> MemFlash {
     match place {
-        Place::Open(store) => store.into_flash(),
+        Place::Open(store) => store.close(),
         Place::Closed(flash) => flash,
     }
 }
 
 // Opens the store of a device, if it is on.
-fn reopen(flash: MemFlash) -> (Place, &'static str) {
+fn reopen<S: Opened>(alloc: Global, flash: MemFlash) -> (Place<S>, &'static str) {
     if !flash.is_on() {
         return (Place::Closed(flash), "off");
     }
-    match open(flash) {
-        Ok(store) => (Place::Open(store), "open"),
-        Err((flash, OpenFault::Cut)) => (Place::Closed(flash), "cut"),
-        Err((flash, OpenFault::Scan(_))) => (Place::Closed(flash), "scan fault"),
-    }
+    S::reopen(alloc, flash)
 }
 
 // All steps so far. An open store gives its device back and is opened again.
-fn take_steps(place: Place) -> (Place, u64) {
+fn take_steps<S: Opened>(alloc: Global, place: Place<S>) -> (Place<S>, u64) {
     match place {
         Place::Open(store) => {
-            let flash = store.into_flash();
+            let flash = store.close();
             let steps = flash.steps();
-            (reopen(flash).0, steps)
+            (reopen(alloc, flash).0, steps)
         }
         Place::Closed(flash) => {
             let steps = flash.steps();
@@ -87,12 +147,12 @@ fn take_steps(place: Place) -> (Place, u64) {
 }
 
 // Arms the fuse. An open store gives its device back and is opened again.
-fn arm(place: Place, fuse: Fuse) -> Place {
+fn arm<S: Opened>(alloc: Global, place: Place<S>, fuse: Fuse) -> Place<S> {
     match place {
         Place::Open(store) => {
-            let mut flash = store.into_flash();
+            let mut flash = store.close();
             flash.arm(fuse);
-            reopen(flash).0
+            reopen(alloc, flash).0
         }
         Place::Closed(mut flash) => {
             flash.arm(fuse);
@@ -114,17 +174,21 @@ fn fuse_of(step: &str, tear: &str) -> Result<Fuse, Fail> {
 }
 
 // Serves a line that opens or arms, and each other one on the open store.
-fn serve(alloc: Global, place: Place, line: &str) -> Result<(Place, String), Fail> {
+fn serve<S: Opened>(
+    alloc: Global,
+    place: Place<S>,
+    line: &str,
+) -> Result<(Place<S>, String), Fail> {
     let fields: Vec<&str> = line.split_whitespace().collect(alloc)?;
     match fields.as_slice() {
         ["x", step, tear] => {
             let fuse = fuse_of(step, tear)?;
-            Ok((arm(place, fuse), String::from_str(alloc, "armed")?))
+            Ok((arm(alloc, place, fuse), String::from_str(alloc, "armed")?))
         }
         ["p"] => {
             let mut flash = device_of(place);
             flash.power_on();
-            let (place, answer) = reopen(flash);
+            let (place, answer) = reopen(alloc, flash);
             Ok((place, String::from_str(alloc, answer)?))
         }
         fields => match place {
