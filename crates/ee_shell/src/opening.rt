@@ -1,71 +1,17 @@
 //! Stores of images, and images of devices, as text.
-ghost use Rattle.std.specs.Prelude.{◌≡◌, IfOk, IfErr};
-ghost use Rattle.ee_flash.specs.Memory.{device_of};
-ghost use Rattle.ee_store.specs.Finished.{IsStore};
+ghost use Rattle.std.specs.Prelude.{IfOk, IfErr};
+ghost use Rattle.ee_pages.specs.Layout.{IsScanFault};
 ghost use Rattle.ee_store.specs.Openings.{IsFormatted, Opens};
-ghost use Rattle.ee_shell.specs.Opening.{IsNewStore, IsOpened, IsStillFault};
+ghost use Rattle.ee_shell.specs.Opening.{IsNewStore, IsOpened};
 ghost use Rattle.ee_shell.specs.Replaying.{IsOpenFault, Spells};
 ghost use Rattle.ee_shell.specs.Serving.{StaysOn};
 
 use ee_flash::{Flash, MemFlash, Shape};
 use ee_image::{read_image, write_image};
-use ee_store::{IndexedFault, IndexedStore, OpenFault, Store, Variables, format, open};
+use ee_pages::ScanFault;
+use ee_store::{OpenFault, Store, format, open};
 use ee_words::ReplayFault;
 use std::alloc::{AllocError, Allocator};
-
-/// A store that the commands open on a device in memory whose power is never cut, and close.
-pub(crate) trait OfImage<A: Allocator + Copy>: Variables + Drop + Sized {
-    /// Opens the store of a device. `Open` says why it has none.
-    fn open_still(alloc: A, flash: MemFlash<A>) -> Result<Self, ReplayFault>
-        requires { StaysOn (device_of flash) }
-        ensures opened { IfOk result (λ store. Opens (device_of flash) (Self.device store)) }
-        ensures fault { IfErr result (IsStillFault (device_of flash)) };
-
-    /// Its device.
-    fn close(self) -> MemFlash<A>
-        ensures device { device_of result ≡ Self.device self }
-        ensures store { IsStore (Self.device self) };
-}
-
-impl<A: Allocator + Copy> OfImage<A> for Store<MemFlash<A>> {
-    fn open_still(_alloc: A, flash: MemFlash<A>) -> Result<Store<MemFlash<A>>, ReplayFault>
-        requires { StaysOn (device_of flash) }
-        ensures opened { IfOk result (Opens (device_of flash)) }
-        ensures fault { IfErr result (IsStillFault (device_of flash)) }
-    {
-        match open(flash) {
-            Ok(store) => Ok(store),
-            Err((_, OpenFault::Scan(fault))) => Err(ReplayFault::Open(fault)),
-            Err((_, OpenFault::Cut)) => unreachable!("power is never cut"),
-        }
-    }
-
-    fn close(self) -> MemFlash<A> {
-        self.into_flash()
-    }
-}
-
-impl<A: Allocator + Copy> OfImage<A> for IndexedStore<MemFlash<A>, A> {
-    fn open_still(
-        alloc: A,
-        flash: MemFlash<A>,
-    ) -> Result<IndexedStore<MemFlash<A>, A>, ReplayFault>
-        requires { StaysOn (device_of flash) }
-        ensures opened { IfOk result (Opens (device_of flash)) }
-        ensures fault { IfErr result (IsStillFault (device_of flash)) }
-    {
-        match IndexedStore::open(alloc, flash) {
-            Ok(store) => Ok(store),
-            Err((_, IndexedFault::Scan(fault))) => Err(ReplayFault::Open(fault)),
-            Err((_, IndexedFault::Memory)) => Err(ReplayFault::Memory),
-            Err((_, IndexedFault::Cut)) => unreachable!("power is never cut"),
-        }
-    }
-
-    fn close(self) -> MemFlash<A> {
-        self.into_flash()
-    }
-}
 
 /// The store of the image that a text spells, in memory.
 pub(crate) fn open_image<A: Allocator + Copy>(
@@ -75,21 +21,10 @@ pub(crate) fn open_image<A: Allocator + Copy>(
     ensures opened { IfOk result (IsOpened image.now) }
     ensures fault { IfErr result (IsOpenFault image.now) }
 {
-    open_as::<A, Store<MemFlash<A>>>(alloc, image)
-}
-
-/// The same, of either kind of store.
-pub(crate) fn open_as<A: Allocator + Copy, S: OfImage<A>>(
-    alloc: A,
-    image: &[u8],
-) -> Result<S, ReplayFault>
-    ensures opened { IfOk result (λ store. IsOpened image.now (S.device store)) }
-    ensures fault { IfErr result (IsOpenFault image.now) }
-{
     let flash = read_image(alloc, image)?;
-    match S::open_still(alloc, flash) {
+    match open_still(flash) {
         Ok(store) => Ok(store),
-        Err(fault) => Err(fault),
+        Err(fault) => Err(ReplayFault::Open(fault)),
     }
 }
 
@@ -102,6 +37,19 @@ pub(crate) fn new_store<A: Allocator + Copy>(
 {
     let flash = MemFlash::blank(alloc, shape)?;
     Ok(format_still(flash))
+}
+
+/// Opens a store whose power is never cut.
+fn open_still<F: Flash + Drop>(flash: F) -> Result<Store<F>, ScanFault>
+    requires { StaysOn (F.device flash) }
+    ensures opened { IfOk result (Opens (F.device flash)) }
+    ensures fault { IfErr result (IsScanFault (F.device flash)) }
+{
+    match open(flash) {
+        Ok(store) => Ok(store),
+        Err((_, OpenFault::Scan(fault))) => Err(fault),
+        Err((_, OpenFault::Cut)) => unreachable!("power is never cut"),
+    }
 }
 
 /// Formats a device whose power is never cut.
