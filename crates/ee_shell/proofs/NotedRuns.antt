@@ -3,7 +3,6 @@ use Rattle.std.proofs.Common.{◌≡◌, ◌∙◌, ◌++◌, ℕ, ◌+◌, ◌*
 use Rattle.std.proofs.Math.Seq.{get_or-append_seam}
 use Rattle.ee_flash.specs.Device.{Device}
 use Rattle.ee_flash.specs.Size.{Size, slot_count}
-use Rattle.ee_codec.specs.Words.{IsAddress}
 use Rattle.ee_pages.specs.Meaning.{Put}
 use Rattle.ee_pages.specs.Meaning as meaning
 use Rattle.ee_store.specs.Changes.{Appends, IsAccepted, Moves, greatest_generation}
@@ -31,7 +30,7 @@ use Rattle.ee_script.specs.declared.answer.Answer.TheVariants.{Appended, Moved, 
 use Rattle.ee_script.specs.declared.command.Command.{Command}
 use Rattle.ee_script.specs.declared.command.Command.TheVariants.{Write, Read, Forget, Clean}
 use Rattle.ee_script.proofs.Seen.{IsAnswered-seen}
-use Rattle.ee_shell.specs.Serving.{IsCounted, IsTraced, Noted, Notes, Records, Serves, StaysOn, claim_noted, no_notes, noted, with_notes}
+use Rattle.ee_shell.specs.Serving.{IsCounted, IsTraced, Noted, Notes, Records, Serves, StaysOn, claim_noted, no_notes, noted}
 use Rattle.ee_shell.specs.Trace.{accepted, trace_of}
 use Rattle.ee_shell.proofs.Late.{appends, forgetting_fits, moves_on, start_stays, write_fits}
 use Rattle.ee_shell.proofs.Runs.{run_served}

@@ -1,4 +1,4 @@
-use Rattle.std.proofs.Common.{◌≡◌, ◌+◌, ◌-◌, ◌*◌, arith, get_or}
+use Rattle.std.proofs.Common.{◌≡◌, ◌-◌, arith, get_or}
 use Rattle.ee_text.proofs.Leading.{room_for_one, worth_more}
 use Rattle.ee_text.proofs.numbers.few_digits.Goals as goal
 

@@ -1,4 +1,4 @@
-use Rattle.std.proofs.Common.{◌≡◌, ◌<◌, arith, drop, length, subst, take}
+use Rattle.std.proofs.Common.{◌<◌, arith, drop, subst, take}
 use Rattle.std.proofs.lemmas.List.{length-take}
 use Rattle.ee_text.specs.Number.{IsWorth, StartsWithNoDigit}
 use Rattle.ee_text.proofs.Leading.{ends_in_front, front_is, worth_in_front}

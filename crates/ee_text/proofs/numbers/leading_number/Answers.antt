@@ -1,4 +1,4 @@
-use Rattle.std.proofs.Common.{◌∙◌, ◌≡◌, ◌++◌, arith, ap, decimal, drop, subst, sym}
+use Rattle.std.proofs.Common.{◌∙◌, ◌++◌, arith, ap, decimal, subst, sym}
 use Rattle.ee_text.specs.Number.{StartsWithNoDigit}
 use Rattle.ee_text.proofs.Leading.{no_number, not_spelled, one_number, rest_is, spelled}
 use Rattle.ee_text.proofs.numbers.leading_number.Goals as goal

@@ -1,4 +1,4 @@
-use Rattle.std.proofs.Common.{rules, ◌≡◌, ap, ◌∙◌}
+use Rattle.std.proofs.Common.{rules, ap, ◌∙◌}
 use Rattle.ee_pages.specs.Meaning.{live_in}
 use Rattle.ee_store.specs.State.{state_of}
 use Rattle.ee_store.proofs.IndexedStores.{entries_live}
