@@ -1,8 +1,7 @@
 -- A change that was kept is there as long as no further change of its address is asked for.
-use Rattle.std.proofs.Common.{◌≡◌, ◌≢◌, ◌==◌, ◌++◌, ℕ, Bool, true, false, Option, Some, None, List, [], ◌∷◌, refl, sym, ap, ◌∙◌, subst, arith, eq-eqb}
-use Rattle.std.specs.List.{All, filter_map}
+use Rattle.std.proofs.Common.{◌≡◌, ◌==◌, ◌++◌, ℕ, Bool, true, false, Option, Some, List, [], ◌∷◌, refl, sym, ap, ◌∙◌, eq-eqb}
+use Rattle.std.specs.List.{All}
 use Rattle.std.proofs.lemmas.List.Elements.{All-head, All-tail, filter_map-append}
-use Rattle.ee_flash.specs.Device.{Device}
 use Rattle.ee_pages.specs.Legal.{IsLegal}
 use Rattle.ee_pages.specs.Meaning as meaning
 use Rattle.ee_pages.specs.Meaning.{Change, Map, changed, changed_by}
@@ -16,7 +15,7 @@ use Rattle.ee_store.specs.State.{state_of}
 use Rattle.ee_store.specs.declared.event.Answer.{Answer}
 use Rattle.ee_store.specs.declared.event.Answer.TheVariants.{Done, NotForgotten, Refused}
 use Rattle.ee_store.specs.declared.event.Event.{Event}
-use Rattle.ee_store.specs.declared.event.Event.TheVariants.{Clean, Forget, Get, Put, Reopen}
+use Rattle.ee_store.specs.declared.event.Event.TheVariants.{Forget, Put}
 
 apart : (named address : ℕ) → (named == address) ≡ false → address ≡ named → ⊥
 apart named address other same = let wrong : true ≡ false = sym (eq-eqb named address (sym same)) ∙ other in cc wrong

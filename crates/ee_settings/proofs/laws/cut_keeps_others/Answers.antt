@@ -1,7 +1,6 @@
 use Rattle.std.proofs.Common.{◌⊎◌, ℕ, List, Err, inl, inr, ap, rules}
 use Rattle.ee_flash.specs.Device.{Device, IsFormed}
 use Rattle.ee_pages.specs.Meaning.{Put}
-use Rattle.ee_store.specs.State.{state_of}
 use Rattle.ee_store.specs.declared.variables.WriteFault.TheVariants as write
 use Rattle.ee_settings.specs.Calls.{Sets}
 use Rattle.ee_settings.specs.Laws.{KeepsAll, KeepsOthers, ReadsStored}
