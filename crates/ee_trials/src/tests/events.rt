@@ -51,24 +51,46 @@ fn each_request_refused(rt: HostRuntime) -> Result<(), Fail> {
     Ok(())
 }
 
-// Cuts the erase of the first set's page as the list says, in a clean step or in a put that transfers.
+// Drives the events and compares their answers and the kept entries.
+fn drive_all<F: Flash + Drop>(
+    rt: &impl Abort,
+    alloc: Global,
+    flash: F,
+    events: &[Event],
+    answers: &[Answer],
+    kept: &[bool],
+) -> Result<(), Fail> {
+    let Ok(driven) = drive(alloc, flash, events) else {
+        return Err(Fail::from("no memory"));
+    };
+    assert_eq!(rt; driven.log.as_slice(), answers);
+    assert_eq!(rt; driven.kept.as_slice(), kept);
+    Ok(())
+}
+
+// Cuts the erase of the first set's page as the list says, in this event.
 fn cut_the_erase(
     rt: &impl Abort,
     alloc: Global,
-    is_put: bool,
+    one: Address,
+    event: Event,
+    kept: &[bool],
     list: &[Left; 5],
 ) -> Result<(), Fail> {
-    let one = Address::new(1).ok_or("no address")?;
-    let put = Event::Put {
-        address: one,
-        value: 3,
-    };
     let fates = [Fate::Cut(list)];
     let mut flash = moved_once(rt, alloc, 1, one)?;
     flash.set_fates(&fates);
-    let get = Event::Get { address: one };
-    let cut = if is_put { put } else { Event::Clean };
-    let events = [Event::Reopen, cut, Event::Reopen, get, put, get];
+    let events = [
+        Event::Reopen,
+        event,
+        Event::Reopen,
+        Event::Get { address: one },
+        Event::Put {
+            address: one,
+            value: 3,
+        },
+        Event::Get { address: one },
+    ];
     let answers = [
         Answer::Opened,
         Answer::Refused(WriteFault::Cut),
@@ -77,20 +99,27 @@ fn cut_the_erase(
         Answer::Done(Written::Moved),
         Answer::Value(Some(3)),
     ];
-    let Ok(driven) = drive(alloc, flash, &events) else {
-        return Err(Fail::from("no memory"));
-    };
-    assert_eq!(rt; driven.log.as_slice(), answers.as_slice(), "{list:?}");
-    let kept: &[bool] = if is_put { &[false] } else { &[] };
-    assert_eq!(rt; driven.kept.as_slice(), kept, "{list:?}");
+    drive_all(rt, alloc, flash, &events, &answers, kept)
+}
+
+#[test]
+fn each_mix_of_a_cut_clean_step(rt: HostRuntime) -> Result<(), Fail> {
+    let one = Address::new(1).ok_or("no address")?;
+    for mix in 0..243usize {
+        cut_the_erase(&rt, rt.alloc(), one, Event::Clean, &[], &mix_of(mix))?;
+    }
     Ok(())
 }
 
 #[test]
-fn each_mix_of_a_cut_erase(rt: HostRuntime) -> Result<(), Fail> {
+fn each_mix_of_a_cut_erase_in_a_transfer(rt: HostRuntime) -> Result<(), Fail> {
+    let one = Address::new(1).ok_or("no address")?;
     for mix in 0..243usize {
-        cut_the_erase(&rt, rt.alloc(), false, &mix_of(mix))?;
-        cut_the_erase(&rt, rt.alloc(), true, &mix_of(mix))?;
+        let put = Event::Put {
+            address: one,
+            value: 3,
+        };
+        cut_the_erase(&rt, rt.alloc(), one, put, &[false], &mix_of(mix))?;
     }
     Ok(())
 }
@@ -102,26 +131,22 @@ fn is_cut(answer: &Answer) -> bool {
     )
 }
 
-// Opens the store and puts a value, again and again, through the cuts of the list; then reads it. Gives how many cuts
+// Opens the store and puts a value, again and again, through the cuts that come; then reads it. Gives how many cuts
 // there were.
-fn drive_through(
+fn drive_through<F: Flash + Drop>(
     rt: &impl Abort,
     alloc: Global,
-    pages: usize,
-    mixes: &[[Left; 5]; 3],
-) -> Result<usize, Fail> {
-    let one = Address::new(1).ok_or("no address")?;
-    let put = Event::Put {
-        address: one,
-        value: 3,
-    };
-    let fates = fates_of(mixes);
-    let mut flash = moved_once(rt, alloc, pages, one)?;
-    flash.set_fates(&fates);
+    flash: F,
+    one: Address,
+    rounds: usize,
+) -> Result<u64, Fail> {
     let mut events = Vec::new(alloc);
-    for _ in 0..10 {
+    for _ in 0..rounds {
         events.push(Event::Reopen)?;
-        events.push(put)?;
+        events.push(Event::Put {
+            address: one,
+            value: 3,
+        })?;
     }
     events.push(Event::Reopen)?;
     events.push(Event::Get { address: one })?;
@@ -134,7 +159,21 @@ fn drive_through(
         driven.log.as_slice().last().copied(),
         Some(Answer::Value(Some(3)))
     );
-    Ok(cuts)
+    Ok(driven.flash.cuts())
+}
+
+// Gives how many cuts there were.
+fn cut_often(
+    rt: &impl Abort,
+    alloc: Global,
+    pages: usize,
+    mixes: &[[Left; 5]; 3],
+) -> Result<u64, Fail> {
+    let one = Address::new(1).ok_or("no address")?;
+    let fates = fates_of(mixes);
+    let mut flash = moved_once(rt, alloc, pages, one)?;
+    flash.set_fates(&fates);
+    drive_through(rt, alloc, flash, one, 10)
 }
 
 #[test]
@@ -142,7 +181,7 @@ fn cuts_one_after_another(rt: HostRuntime) -> Result<(), Fail> {
     for number in 0..81usize {
         let mixes = [mix_of(number), mix_of(number * 3), mix_of(242 - number)];
         for pages in [1, 2] {
-            let cuts = drive_through(&rt, rt.alloc(), pages, &mixes)?;
+            let cuts = cut_often(&rt, rt.alloc(), pages, &mixes)?;
             assert!(rt; cuts >= 3, "{number}: {cuts}");
         }
     }
