@@ -37,6 +37,8 @@ abbrev pub IsStaleFault : Device → StaleFault → Type 0
 IsStaleFault device fault.Off = IsOff device
 IsStaleFault device fault.Memory = IsOn device
 
+-- ---- for the functions within
+
 -- a map with these addresses put too, each with its value
 abbrev pub with_found : List (ℕ × ℕ) → Map → Map
 with_found [] stored = stored
