@@ -6,9 +6,9 @@ use Rattle.ee_flash.specs.Size.{Size}
 use Rattle.ee_store.specs.Finished.{IsStore}
 use Rattle.ee_store.specs.State.{State, state_of}
 use Rattle.ee_settings.proofs.Forgetting.{each_goes_on}
-use Rattle.ee_settings.proofs.TidiedMaps.{leaves_named, none_spent}
+use Rattle.ee_settings.proofs.TidiedMaps.{leaves_named, leaves_state, none_spent}
 use Rattle.ee_settings.specs.Setting.{Setting}
-use Rattle.ee_settings.specs.Tidying.{IsSpentAmong, Tidies, kept, unnamed_in}
+use Rattle.ee_settings.specs.Tidying.{IsSpentAmong, Tidies, after_forgettings, kept, unnamed_in}
 use Rattle.ee_settings.specs.declared.fault.TidyFault.TheVariants as tidy
 use Rattle.ee_words.specs.Fault.{fault_of_replay}
 use Rattle.ee_words.specs.declared.fault.Fault.{Fault}
@@ -39,6 +39,7 @@ is_tidied settings old new count on done =
     record {
       tidied = done;
       map_is = leaves_named settings old new count done;
+      state_is = leaves_state settings old new count done;
       stays_on = record { on = power.same_power ∙ on.on; never_cut = power.same_cuts_left ∙ on.never_cut };
       same_size = power.same_size;
     }
@@ -56,6 +57,10 @@ is_tidied_image image text new_image line store new flash settings count opened 
   last = new;
   tidied = done.tidied;
   map_is = λ address. done.map_is address ∙ ap (λ (state : State). kept settings state.map address) opened.state_is;
+  state_is =
+      done.state_is
+      ∙ ap (λ (state : State). after_forgettings store.size (unnamed_in settings state.map) state) opened.state_is
+      ∙ ap (λ (size : Size). after_forgettings size (unnamed_in settings (state_of opened.device).map) (state_of opened.device)) opened.same_size;
   left = record {
     spelled = subst (Spells new_image) same spells;
     store = left;
