@@ -1,9 +1,9 @@
 -- The addresses of settings: which of them are taken, and by a look-up.
-use Rattle.std.proofs.Common.{◌≡◌, ◌∙◌, ◌<◌, ℕ, Bool, true, false, cond, List, [], ◌∷◌, ◌++◌, length, get_or, inl, inr, refl, sym, ap, arith, suc, nat_cmp}
+use Rattle.std.proofs.Common.{◌≡◌, ◌∙◌, ◌<◌, ℕ, Bool, true, false, List, [], ◌∷◌, length, get_or, inl, inr, refl, sym, ap, arith, suc, nat_cmp}
 use Rattle.std.specs.Prelude.{◌==◌, ◌||◌}
 use Rattle.std.proofs.lemmas.Bool.{cases_eq, eq-eqb, ne_eqb}
 use Rattle.std.proofs.lemmas.Grind.{common_steps}
-use Rattle.std.proofs.lemmas.List.Folds.{list_any-append, list_any_at}
+use Rattle.std.proofs.lemmas.List.Folds.{list_any_at}
 use Rattle.std.specs.BTreeMap.{is_at}
 use Rattle.ee_settings.specs.File.{IsTaken}
 use Rattle.ee_settings.specs.Setting.{Setting, has_address}
@@ -30,15 +30,3 @@ none_taken settings address h = λ taken. let found = found_taken settings addre
 
 pub at_is : (a q : ℕ) → is_at (nat_cmp a) q ≡ (a == q)
 at_is a q = grind (arith, common_steps)
-
-one_more : (b other : Bool) → (other || (b || false)) ≡ cond b true other
-one_more true true = refl
-one_more true false = refl
-one_more false true = refl
-one_more false false = refl
-
--- an address, with one more setting
-pub has_more : (settings : List Setting) (setting : Setting) (address : ℕ) → has_address (settings ++ setting ∷ []) address ≡ cond (setting.numbers.address == address) true (has_address settings address)
-has_more settings setting address =
-    list_any-append (λ (s : Setting). s.numbers.address == address) settings (setting ∷ [])
-    ∙ one_more (setting.numbers.address == address) (has_address settings address)

@@ -3,7 +3,6 @@ use Rattle.std.proofs.Common.{◌≡◌, inl, inr, subst, suc, ℕ, ◌<◌, ◌
 use Rattle.std.proofs.lemmas.Bool.{cases_lt}
 use Rattle.std.proofs.lemmas.List.{get_or_default}
 use Rattle.std.proofs.lemmas.List.Elements.{Contains-push_cases}
-use Rattle.std.specs.List.{Contains}
 use Rattle.toml.specs.Data.{Data}
 use Rattle.ee_settings.specs.File.{fields_of, IsTableOf, AreEntriesOf, BreaksFirst, Entry, GivesSetting, IsEntryOf, IsFirstFault, IsSchemaFault, IsSchemaOf, IsTaken, Rule, Name, Field, Range, Address}
 use Rattle.ee_settings.specs.Setting.{AreProper, HaveOwnAddresses, IsName, Setting}
@@ -24,9 +23,6 @@ none_more P settings n setting here not before k d below inside =
           let at : k ≡ n = omega arith in
           not (subst P (get_or_default settings k d setting inside ∙ ap (λ i. get_or settings i setting) at ∙ sym here) holds)
     ]
-
-pub none_of_all : (P : Setting → Type 0) (settings : List Setting) → NoneOf P settings (length settings) → (setting : Setting) → Contains settings setting → ¬ P setting
-none_of_all P settings none setting inside holds = none inside.0 setting inside.1 inside.1 (subst P (sym inside.2) holds)
 
 pub own_more : (settings : List Setting) (setting : Setting) → HaveOwnAddresses settings → ¬ IsTaken settings setting.numbers.address → HaveOwnAddresses (settings ++ setting ∷ [])
 own_more settings setting own free one other first second same =

@@ -1,11 +1,17 @@
 -- Stale entries, one setting after another.
-use Rattle.std.proofs.Common.{◌≡◌, ◌∙◌, ◌+◌, ◌<◌, ◌≤◌, ℕ, Bool, true, false, cond, List, [], ◌∷◌, ◌++◌, Option, Some, None, length, drop, get_or, refl, sym, ap, append_assoc, arith, suc}
-use Rattle.std.specs.List.{All}
-use Rattle.std.proofs.lemmas.List.Elements.{All-append, All-cons, All-nil, All-weaker}
+use Rattle.std.proofs.Common.{◌≡◌, ◌∙◌, ◌+◌, ◌<◌, ◌≤◌, ℕ, Bool, true, false, cond, List, [], ◌∷◌, ◌++◌, Option, Some, None, length, map, drop, get_or, inl, inr, refl, sym, ap, append_assoc, arith, suc, zero, nat_cmp, Less}
+use Rattle.std.specs.List.{All, AllByRecursion, Contains}
+use Rattle.std.specs.List.Sorted.{IsStrictlySortedBy}
+use Rattle.std.specs.Prelude.{slice_get}
+use Rattle.std.specs.Cmp.{nat_cmp_is}
+use Rattle.std.proofs.lemmas.Bool.{cases_lt}
+use Rattle.std.proofs.lemmas.Bool.Decides.{nat_tests}
+use Rattle.std.proofs.lemmas.List.Elements.{All-append, All-cons, All-head, All-nil, All-tail, All-weaker, Contains-append_left, Contains-append_right}
 use Rattle.std.proofs.lemmas.List.{drop_more}
 use Rattle.ee_pages.specs.Meaning.{Map}
-use Rattle.ee_settings.specs.Setting.{Setting, is_in_range}
-use Rattle.ee_settings.specs.Stale.{stale_at, stale_from}
+use Rattle.ee_settings.specs.Laws.{IsStaleExact}
+use Rattle.ee_settings.specs.Setting.{IsInRange, Setting, is_in_range}
+use Rattle.ee_settings.specs.Stale.{IsStale, entry_of, stale_at, stale_from, stale_in}
 use Rattle.ee_settings.specs.declared.numbers.Numbers.{Numbers}
 use Rattle.ee_settings.specs.declared.stale.Stale.{Stale}
 
@@ -41,3 +47,101 @@ stale_within stored (setting ∷ settings) n =
     (All-weaker (λ (stale : Stale). stale.entry ≡ n) P (λ stale is. (omega arith, omega arith)) first (at_entry n setting.numbers (stored setting.numbers.address)))
     (All-weaker (λ (stale : Stale). (n + 1 ≤ stale.entry) × (stale.entry < n + 1 + length settings)) P
     (λ stale is. (let low = is.0 in omega arith, let high = is.1 in omega arith)) rest (stale_within stored settings (n + 1)))
+
+-- ---- exactly those
+
+not_in_range : (numbers : Numbers) (value : ℕ) → is_in_range numbers value ≡ false → ¬ IsInRange numbers value
+not_in_range numbers value test within = let low = within.0 in let high = within.1 in grind (arith, nat_tests)
+
+out_of_range : (numbers : Numbers) (value : ℕ) → ¬ IsInRange numbers value → is_in_range numbers value ≡ false
+out_of_range numbers value outside = elim (cases_lt value numbers.min) [
+  | inl low ↦ grind (arith, nat_tests)
+  | inr above ↦ elim (cases_lt numbers.max value) [ inl high ↦ grind (arith, nat_tests) | inr below ↦ absurd (outside (above, below)) ]
+]
+
+-- the setting at this place of the list is the entry, and it is stale
+abbrev IsStaleAt : ℕ → Map → List Setting → Stale → Type 0
+IsStaleAt n stored settings stale =
+    (k : ℕ) × (setting : Setting) × (stale.entry ≡ n + k) × (slice_get settings k ≡ Some setting)
+    × (stored setting.numbers.address ≡ Some stale.value) × ¬ IsInRange setting.numbers stale.value
+
+first_stale : (n : ℕ) (stored : Map) (setting : Setting) (settings : List Setting) (value : Option ℕ) → stored setting.numbers.address ≡ value → All (IsStaleAt n stored (setting ∷ settings)) (stale_at n setting.numbers value)
+first_stale n stored setting settings None is = All-nil (IsStaleAt n stored (setting ∷ settings))
+first_stale n stored setting settings (Some value) is = by_test (is_in_range setting.numbers value) refl
+  where
+    by_test : (b : Bool) → is_in_range setting.numbers value ≡ b → All (IsStaleAt n stored (setting ∷ settings)) (cond b [] (record { entry = n; value = value } ∷ []))
+    by_test true e = All-nil (IsStaleAt n stored (setting ∷ settings))
+    by_test false e =
+        All-cons (IsStaleAt n stored (setting ∷ settings)) (record { entry = n; value = value }) []
+        (0, setting, omega arith, refl, is, not_in_range setting.numbers value e) (All-nil (IsStaleAt n stored (setting ∷ settings)))
+
+one_later : (n : ℕ) (stored : Map) (setting : Setting) (settings : List Setting) (stale : Stale) → IsStaleAt (n + 1) stored settings stale → IsStaleAt n stored (setting ∷ settings) stale
+one_later n stored setting settings stale h = (suc h.0, h.1, (let e = h.2 in omega arith), h.3, h.4, h.5)
+
+all_stale : (n : ℕ) (stored : Map) (settings : List Setting) → All (IsStaleAt n stored settings) (stale_from n stored settings)
+all_stale n stored [] = All-nil (IsStaleAt n stored [])
+all_stale n stored (setting ∷ settings) =
+    All-append (IsStaleAt n stored (setting ∷ settings)) (stale_at n setting.numbers (stored setting.numbers.address)) (stale_from (n + 1) stored settings)
+    (first_stale n stored setting settings (stored setting.numbers.address) refl)
+    (All-weaker (IsStaleAt (n + 1) stored settings) (IsStaleAt n stored (setting ∷ settings)) (one_later n stored setting settings) (stale_from (n + 1) stored settings) (all_stale (n + 1) stored settings))
+
+from_first : (settings : List Setting) (stored : Map) (stale : Stale) → IsStaleAt 1 stored settings stale → IsStale settings stored stale
+from_first settings stored stale h =
+    let e : stale.entry ≡ suc h.0 = (let is = h.2 in omega arith) in
+    (h.1, ap (entry_of settings) e ∙ h.3, h.4, h.5)
+
+told_here : (n value : ℕ) (numbers : Numbers) (stored : Option ℕ) → stored ≡ Some value → is_in_range numbers value ≡ false → stale_at n numbers stored ≡ record { entry = n; value = value } ∷ []
+told_here n value numbers stored is out = rw (is, out) refl
+
+told : (n k value : ℕ) (stored : Map) (settings : List Setting) (setting : Setting) → slice_get settings k ≡ Some setting → stored setting.numbers.address ≡ Some value → is_in_range setting.numbers value ≡ false
+    → Contains (stale_from n stored settings) (record { entry = n + k; value = value })
+told n k value stored [] setting here is out = absurd (let wrong : ◌≡◌ {A = Option Setting} None (Some setting) = here in cc wrong)
+told n zero value stored (first ∷ settings) setting here is out =
+    let same : first ≡ setting = cc here in
+    let one : stale_at n first.numbers (stored first.numbers.address) ≡ record { entry = n; value = value } ∷ [] = rw same (told_here n value setting.numbers (stored setting.numbers.address) is out) in
+    let e : n + 0 ≡ n = omega arith in
+    rw (one, e) (Contains-append_left (record { entry = n; value = value } ∷ []) (stale_from (n + 1) stored settings) (record { entry = n; value = value }) (0, omega arith, refl))
+told n (suc k) value stored (first ∷ settings) setting here is out =
+    let e : n + suc k ≡ n + 1 + k = omega arith in
+    rw e (Contains-append_right (stale_at n first.numbers (stored first.numbers.address)) (stale_from (n + 1) stored settings) (record { entry = n + 1 + k; value = value })
+    (told (n + 1) k value stored settings setting here is out))
+
+told_entry : (entry value : ℕ) (stored : Map) (settings : List Setting) (setting : Setting) → entry_of settings entry ≡ Some setting → stored setting.numbers.address ≡ Some value → is_in_range setting.numbers value ≡ false
+    → Contains (stale_in stored settings) (record { entry = entry; value = value })
+told_entry zero value stored settings setting here is out = absurd (let wrong : ◌≡◌ {A = Option Setting} None (Some setting) = here in cc wrong)
+told_entry (suc k) value stored settings setting here is out =
+    let e : suc k ≡ 1 + k = omega arith in
+    rw e (told 1 k value stored settings setting here is out)
+
+-- ---- rising
+
+entry_less : (n : ℕ) (stales : List Stale) → All (λ (stale : Stale). n < stale.entry) stales → AllByRecursion (λ y. nat_cmp n y ≡ Less) (map (λ (stale : Stale). stale.entry) stales)
+entry_less n [] later = tt
+entry_less n (stale ∷ stales) later =
+    (sym (nat_cmp_is n stale.entry Less (All-head (λ (s : Stale). n < s.entry) stale stales later)), entry_less n stales (All-tail (λ (s : Stale). n < s.entry) stale stales later))
+
+rising_with : (n : ℕ) (numbers : Numbers) (value : Option ℕ) (rest : List Stale) → All (λ (stale : Stale). n < stale.entry) rest → IsStrictlySortedBy nat_cmp (map (λ (stale : Stale). stale.entry) rest)
+    → IsStrictlySortedBy nat_cmp (map (λ (stale : Stale). stale.entry) (stale_at n numbers value ++ rest))
+unfolding IsStrictlySortedBy
+rising_with n numbers None rest later rising = rising
+rising_with n numbers (Some value) rest later rising = by_test (is_in_range numbers value)
+  where
+    by_test : (b : Bool) → IsStrictlySortedBy nat_cmp (map (λ (stale : Stale). stale.entry) (cond b [] (record { entry = n; value = value } ∷ []) ++ rest))
+    by_test true = rising
+    by_test false = (entry_less n rest later, rising)
+
+rising_from : (n : ℕ) (stored : Map) (settings : List Setting) → IsStrictlySortedBy nat_cmp (map (λ (stale : Stale). stale.entry) (stale_from n stored settings))
+unfolding IsStrictlySortedBy
+rising_from n stored [] = tt
+rising_from n stored (setting ∷ settings) =
+    rising_with n setting.numbers (stored setting.numbers.address) (stale_from (n + 1) stored settings)
+    (All-weaker (λ (stale : Stale). (n + 1 ≤ stale.entry) × (stale.entry < n + 1 + length settings)) (λ (stale : Stale). n < stale.entry) (λ stale within. let low = within.0 in omega arith) (stale_from (n + 1) stored settings)
+    (stale_within stored settings (n + 1)))
+    (rising_from (n + 1) stored settings)
+
+pub stale_exact : (settings : List Setting) (stored : Map) → IsStaleExact settings stored
+stale_exact settings stored = record {
+  rising = rising_from 1 stored settings;
+  each = All-weaker (IsStaleAt 1 stored settings) (IsStale settings stored) (from_first settings stored) (stale_in stored settings) (all_stale 1 stored settings);
+  all = λ stale is. told_entry stale.entry stale.value stored settings is.0 is.1 is.2 (out_of_range is.0.numbers stale.value is.3);
+}

@@ -25,9 +25,6 @@ pub record InBatch (settings : List Setting) (found : List (ℕ × ℕ)) (n forg
   pub made : ForgetsEach (unnamed_among settings (take n found)) old now
   pub live : (above : ℕ) × AreNextLive (state_of now).map above (drop n found)
 
-pub batch_begins : (settings : List Setting) (found : List (ℕ × ℕ)) (now : Device) → IsOn now → (above : ℕ) × AreNextLive (state_of now).map above found → InBatch settings found 0 0 now now
-batch_begins settings found now on live = record { on = on; count = refl; few = omega arith; made = refl; live = live }
-
 module _ (settings : List Setting) (found : List (ℕ × ℕ)) (n forgotten : ℕ) (old now : Device) (one : ℕ × ℕ) (so_far : InBatch settings found n forgotten old now) (inside : n < length found) (here : one ≡ get_or found n one) where
   split : drop n found ≡ one ∷ drop (n + 1) found
   split = drop_more found n one inside ∙ ap (λ (x : ℕ × ℕ). x ∷ drop (n + 1) found) (sym here)

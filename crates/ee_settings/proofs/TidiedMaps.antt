@@ -251,12 +251,15 @@ not_spent : (old new : Device) (address : ℕ) (written : Written) → Forgets o
 not_spent old new address Appended done = done.proceeds.accepted.not_spent
 not_spent old new address Moved done = done.proceeds.accepted.not_spent
 
-pub states_after : (addresses : List ℕ) (old new : Device) → ForgetsEach addresses old new → state_of new ≡ after_forgettings old.size addresses (state_of old)
+states_after : (addresses : List ℕ) (old new : Device) → ForgetsEach addresses old new → state_of new ≡ after_forgettings old.size addresses (state_of old)
 states_after [] old new done = ap state_of done
 states_after (address ∷ addresses) old new done =
     states_after addresses done.1 new done.3
     ∙ ap (λ size. after_forgettings size addresses (state_of done.1)) (same_size old done.1 address done.0 done.2)
     ∙ ap (after_forgettings old.size addresses) (state_after old done.1 address done.0 done.2)
+
+pub leaves_state : (settings : List Setting) (old new : Device) (count : ℕ) → Tidies settings old (Ok count) new → state_of new ≡ after_forgettings old.size (unnamed_in settings (state_of old).map) (state_of old)
+leaves_state settings old new count done = states_after (unnamed_in settings (state_of old).map) old new done.2
 
 spent_here : (front rest : List ℕ) (address : ℕ) (old last : Device) → ForgetsEach front old last → IsSpent (slot_count last.size) (state_of last) → IsSpentAmong old.size (front ++ address ∷ rest) (state_of old)
 spent_here [] rest address old last done spent = inl (subst (λ (device : Device). IsSpent (slot_count device.size) (state_of device)) done spent)

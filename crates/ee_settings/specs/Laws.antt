@@ -1,14 +1,18 @@
 -- What a set setting leaves, over all schemas and all stores, and that tables have one meaning.
 use Rattle.std.specs.Prelude.{◌≡◌, ◌≢◌, ◌⊎◌, ℕ, false, None, List, length, map, Result, Ok, Err}
-use Rattle.std.specs.List.{Contains, flat_map}
+use Rattle.std.specs.List.{All, Contains, flat_map}
+use Rattle.std.specs.List.Sorted.{IsStrictlySortedBy}
+use Rattle.std.specs.Ordering.{nat_cmp}
 use Rattle.ee_flash.specs.Device.{Device, IsFormed}
-use Rattle.ee_pages.specs.Meaning.{Forget}
+use Rattle.ee_pages.specs.Meaning.{Forget, Map}
 use Rattle.ee_store.specs.Runs.{Call, IsWholeRun, changes_of}
 use Rattle.ee_store.specs.State.{state_of}
 use Rattle.ee_store.specs.declared.variables.Written.{Written}
 use Rattle.ee_store.specs.declared.variables.WriteFault.TheVariants as write
 use Rattle.ee_settings.specs.Setting.{IsSchema, Setting, has_address, reading_in}
-use Rattle.ee_settings.specs.Tidying.{IsSpentAmong, Tidies, kept, unnamed_in}
+use Rattle.ee_settings.specs.Stale.{IsStale, stale_in}
+use Rattle.ee_settings.specs.declared.stale.Stale.{Stale}
+use Rattle.ee_settings.specs.Tidying.{IsSpentAmong, Tidies, after_forgettings, kept, unnamed_in}
 use Rattle.toml.specs.Data.{Members}
 use Rattle.ee_settings.specs.Calls.{IsNamed, Sets}
 use Rattle.ee_settings.specs.File.{GivesSchema, HaveRisingKeys, entries_of}
@@ -78,6 +82,17 @@ EachTableIsJudged = (members : Members) → HaveRisingKeys (entries_of members)
     → ((settings : List Setting) × GivesSchema members (Ok settings))
     ⊎ ((why : SchemaFault) × (why ≢ schema.Memory) × GivesSchema members (Err why))
 
+-- ---- stale entries
+
+-- The stale entries that are told are rising, each is one, and each that is one is among them.
+pub record IsStaleExact (settings : List Setting) (stored : Map) : Type 0 where
+  pub rising : IsStrictlySortedBy nat_cmp (map (λ (stale : Stale). stale.entry) (stale_in stored settings))
+  pub each : All (IsStale settings stored) (stale_in stored settings)
+  pub all : (stale : Stale) → IsStale settings stored stale → Contains (stale_in stored settings) stale
+
+abbrev pub StaleIsExact : Type 0
+StaleIsExact = (settings : List Setting) (stored : Map) → IsStaleExact settings stored
+
 -- ---- a store that was tidied
 
 -- Each setting reads as before, whatever tidying answers.
@@ -96,6 +111,11 @@ TidyTakesTheUnnamed = (settings : List Setting) (old new : Device) (answer : Res
 abbrev pub TidyLeavesTheNamed : Type 0
 TidyLeavesTheNamed = (settings : List Setting) (old new : Device) (count : ℕ) → Tidies settings old (Ok count) new
     → (address : ℕ) → (state_of new).map address ≡ kept settings (state_of old).map address
+
+-- Its state is what those forgettings make of the state before: so far used, of this generation, and so many pages waiting.
+abbrev pub TidyLeavesThisState : Type 0
+TidyLeavesThisState = (settings : List Setting) (old new : Device) (count : ℕ) → Tidies settings old (Ok count) new
+    → state_of new ≡ after_forgettings old.size (unnamed_in settings (state_of old).map) (state_of old)
 
 -- It came to that by as many forgettings as the answer says, each of one that no setting has.
 abbrev pub TidyIsARun : Type 0

@@ -2,7 +2,7 @@
 use Rattle.std.specs.Prelude.{◌≡◌, ◌+◌, ℕ, zero, suc, List, [], ◌∷◌, ◌++◌, if◌then◌else◌, Option, Some, None, slice_get}
 use Rattle.ee_flash.specs.Device.{Device, IsOff, IsOn}
 use Rattle.ee_pages.specs.Meaning.{Map, Put, changed}
-use Rattle.ee_settings.specs.Setting.{Setting, is_in_range}
+use Rattle.ee_settings.specs.Setting.{IsInRange, Setting, is_in_range}
 use Rattle.ee_settings.specs.declared.fault.StaleFault.{StaleFault}
 use Rattle.ee_settings.specs.declared.fault.StaleFault.TheVariants as fault
 use Rattle.ee_settings.specs.declared.numbers.Numbers.{Numbers}
@@ -32,10 +32,18 @@ stale_from entry stored (setting ∷ settings) =
 abbrev pub stale_in : Map → List Setting → List Stale
 stale_in stored settings = stale_from 1 stored settings
 
+-- the address of the entry's setting has this value, which is not in the setting's range
+abbrev pub IsStale : List Setting → Map → Stale → Type 0
+IsStale settings stored stale =
+    (setting : Setting) × (entry_of settings stale.entry ≡ Some setting)
+    × (stored setting.numbers.address ≡ Some stale.value) × ¬ IsInRange setting.numbers stale.value
+
 -- why none are told: the device is off; or memory ran out
 abbrev pub IsStaleFault : Device → StaleFault → Type 0
 IsStaleFault device fault.Off = IsOff device
 IsStaleFault device fault.Memory = IsOn device
+
+-- ---- for the functions within
 
 -- a map with these addresses put too, each with its value
 abbrev pub with_found : List (ℕ × ℕ) → Map → Map

@@ -1,8 +1,8 @@
 //! What holds of every schema and every store. Each function does nothing: its contract is the law.
 ghost use Rattle.ee_settings.specs.Laws.{SetIsRead, CutKeepsOthers, RefusalsChangeNothing};
 ghost use Rattle.ee_settings.specs.Laws.{EachTableIsJudged, NamesAreApart, TablesHaveOneFault, TablesSpellOnce};
-ghost use Rattle.ee_settings.specs.Laws.{SchemasAreAccepted, TidyIsARun, TidyIsSpent, TidyKeepsReadings};
-ghost use Rattle.ee_settings.specs.Laws.{TidyLeavesTheNamed, TidyTakesTheUnnamed};
+ghost use Rattle.ee_settings.specs.Laws.{SchemasAreAccepted, StaleIsExact, TidyIsARun, TidyIsSpent, TidyKeepsReadings};
+ghost use Rattle.ee_settings.specs.Laws.{TidyLeavesTheNamed, TidyLeavesThisState, TidyTakesTheUnnamed};
 
 /// A setting that was set reads as the value that was set, and each setting of another name reads
 /// as before, also where the store moved its map to the other set.
@@ -46,6 +46,12 @@ pub fn each_table_is_judged()
     ensures { EachTableIsJudged }
 {}
 
+/// The entries that are told as stale are rising, and are exactly those whose stored value isn't in
+/// their range.
+pub fn stale_is_exact()
+    ensures { StaleIsExact }
+{}
+
 /// Each setting reads as before, whatever tidying a store answers.
 pub fn tidy_keeps_readings()
     ensures { TidyKeepsReadings }
@@ -60,6 +66,12 @@ pub fn tidy_takes_the_unnamed()
 /// A store that was tidied to the end has the values of the settings' addresses, and no others.
 pub fn tidy_leaves_the_named()
     ensures { TidyLeavesTheNamed }
+{}
+
+/// What is used of it, its generation and the pages that wait are what the forgettings make of the
+/// state before.
+pub fn tidy_leaves_this_state()
+    ensures { TidyLeavesThisState }
 {}
 
 /// It came to that by a run of as many forgettings as the answer says, so what holds of every run

@@ -6,10 +6,9 @@ use Rattle.ee_flash.specs.Size.{Size}
 use Rattle.ee_store.specs.Finished.{IsStore}
 use Rattle.ee_store.specs.State.{State, state_of}
 use Rattle.ee_settings.proofs.Forgetting.{each_goes_on}
-use Rattle.ee_settings.proofs.TidiedMaps.{leaves_named, none_spent}
+use Rattle.ee_settings.proofs.TidiedMaps.{leaves_named, leaves_state, none_spent}
 use Rattle.ee_settings.specs.Setting.{Setting}
-use Rattle.ee_settings.specs.Stale.{stale_in}
-use Rattle.ee_settings.specs.Tidying.{IsSpentAmong, Tidies, kept, unnamed_in}
+use Rattle.ee_settings.specs.Tidying.{IsSpentAmong, Tidies, after_forgettings, kept, unnamed_in}
 use Rattle.ee_settings.specs.declared.fault.TidyFault.TheVariants as tidy
 use Rattle.ee_words.specs.Fault.{fault_of_replay}
 use Rattle.ee_words.specs.declared.fault.Fault.{Fault}
@@ -18,7 +17,7 @@ use Rattle.ee_words.specs.declared.replay_fault.ReplayFault.{ReplayFault}
 use Rattle.ee_shell.proofs.Named.{not_opened, one_rest, opening_good, opening_named, rested_state, settings_good, spelled_once}
 use Rattle.ee_shell.specs.Opening.{IsOpened}
 use Rattle.ee_shell.specs.Replaying.{IsOpenFault, Spells}
-use Rattle.ee_shell.specs.SecondSchema.{AreStaleLines, IsSpentFor, IsStaleTextFault, IsTidied, IsTidiedImage, IsTidyImageFault, stale_lines, tidied_text}
+use Rattle.ee_shell.specs.SecondSchema.{IsSpentFor, IsStaleTextFault, IsTidied, IsTidiedImage, IsTidyImageFault, tidied_text}
 use Rattle.ee_shell.specs.Serving.{StaysOn}
 use Rattle.ee_shell.specs.Settings.{IsSettingsFault, SpellsSettings}
 
@@ -40,6 +39,7 @@ is_tidied settings old new count on done =
     record {
       tidied = done;
       map_is = leaves_named settings old new count done;
+      state_is = leaves_state settings old new count done;
       stays_on = record { on = power.same_power ∙ on.on; never_cut = power.same_cuts_left ∙ on.never_cut };
       same_size = power.same_size;
     }
@@ -57,6 +57,10 @@ is_tidied_image image text new_image line store new flash settings count opened 
   last = new;
   tidied = done.tidied;
   map_is = λ address. done.map_is address ∙ ap (λ (state : State). kept settings state.map address) opened.state_is;
+  state_is =
+      done.state_is
+      ∙ ap (λ (state : State). after_forgettings store.size (unnamed_in settings state.map) state) opened.state_is
+      ∙ ap (λ (size : Size). after_forgettings size (unnamed_in settings (state_of opened.device).map) (state_of opened.device)) opened.same_size;
   left = record {
     spelled = subst (Spells new_image) same spells;
     store = left;
@@ -64,16 +68,6 @@ is_tidied_image image text new_image line store new flash settings count opened 
     same_size = done.same_size ∙ opened.same_size;
   };
   line_is = says;
-}
-
-pub are_stale_lines : (image text lines : List ℕ) (store : Device) (settings : List Setting) → IsOpened image store → SpellsSettings text settings
-    → lines ≡ stale_lines settings (stale_in (state_of store).map settings) → AreStaleLines image text lines
-are_stale_lines image text lines store settings opened spelled is = record {
-  device = opened.device;
-  old = opened.old;
-  settings = settings;
-  spelled = spelled;
-  lines_are = is ∙ ap (λ (state : State). stale_lines settings (stale_in state.map settings)) opened.state_is;
 }
 
 pub is_spent_for : (image text : List ℕ) (store : Device) (settings : List Setting) (fault : Fault) → IsOpened image store → SpellsSettings text settings → fault ≡ Spent

@@ -7,7 +7,7 @@ use Rattle.ee_flash.specs.Device.{Device}
 use Rattle.ee_store.specs.State.{state_of}
 use Rattle.ee_settings.specs.Setting.{Setting}
 use Rattle.ee_settings.specs.Stale.{entry_of, stale_in}
-use Rattle.ee_settings.specs.Tidying.{IsSpentAmong, Tidies, kept, unnamed_in}
+use Rattle.ee_settings.specs.Tidying.{IsSpentAmong, Tidies, after_forgettings, kept, unnamed_in}
 use Rattle.ee_settings.specs.declared.stale.Stale.{Stale}
 use Rattle.ee_words.specs.declared.fault.Fault.{Fault}
 use Rattle.ee_words.specs.declared.fault.Fault.TheVariants.{Spent}
@@ -45,15 +45,17 @@ pub record AreStaleLines (image settings_text lines : List ℕ) : Type 0 where
 abbrev pub tidied_text : ℕ → List ℕ
 tidied_text count = line_of (joined (codes "tidied" ∷ decimal count ∷ []))
 
--- The store was tidied: it has the values of the settings' addresses and no others, and power and size stay.
+-- The store was tidied: it has the values of the settings' addresses and no others, its state is what the forgettings made
+-- of it, and power and size stay.
 pub record IsTidied (settings : List Setting) (old : Device) (count : ℕ) (new : Device) : Type 0 where
   pub tidied : Tidies settings old (Ok count) new
   pub map_is : (address : ℕ) → (state_of new).map address ≡ kept settings (state_of old).map address
+  pub state_is : state_of new ≡ after_forgettings old.size (unnamed_in settings (state_of old).map) (state_of old)
   pub stays_on : StaysOn new
   pub same_size : new.size ≡ old.size
 
 -- The store that was opened from the image was tidied, and the image is left with the values of the settings' addresses
--- and no others.
+-- and no others, in the state that the forgettings made of the one that the old image says.
 pub record IsTidiedImage (old_image settings_text new_image line : List ℕ) : Type 0 where
   pub store : Device
   pub opened : IsOpened old_image store
@@ -63,6 +65,8 @@ pub record IsTidiedImage (old_image settings_text new_image line : List ℕ) : T
   pub last : Device
   pub tidied : Tidies settings store (Ok count) last
   pub map_is : (address : ℕ) → (state_of last).map address ≡ kept settings (state_of opened.device).map address
+  pub state_is : let old = state_of opened.device in
+      state_of last ≡ after_forgettings opened.device.size (unnamed_in settings old.map) old
   pub left : IsStoreLeft opened.device.size new_image last
   pub line_is : line ≡ tidied_text count
 

@@ -5,9 +5,9 @@
 //! Their contract is the report machine of `specs/Machine.antt`: the report is that of a run of it,
 //! and the new image has the state that the run came to (`specs/Replaying.antt`). The report ends
 //! with a certificate, and the contract says what it shows: no store moves less often
-//! (`specs/Report.antt`, `specs/Trace.antt`). `specs/Planning.antt`, `Settings.antt`, `Wear.antt` and
-//! `Images.antt` say what the other commands give. The words that ask for them, and the line and the
-//! status of a fault, are `ee_words`.
+//! (`specs/Report.antt`, `specs/Trace.antt`). `specs/Planning.antt`, `Settings.antt`,
+//! `SecondSchema.antt`, `Wear.antt` and `Images.antt` say what the other commands give. The words
+//! that ask for them, and the line and the status of a fault, are `ee_words`.
 //!
 //! What the program above may use: these calls, each with its faults. The program opens files and
 //! prints; it decides nothing.

@@ -1,6 +1,11 @@
 use super::trial::with_each_refusal;
+use ee_flash::Flash;
+use ee_image::read_image;
+use ee_settings::{Schema, StaleFault};
 use ee_shell::{get_setting, set_setting, stale_text, tidy_image};
+use ee_store::open;
 use ee_words::Fault;
+use std::test::Fail;
 
 /// Just formatted.
 const FORMATTED: &[u8] = b"ee 1 6
@@ -64,6 +69,30 @@ fn a_setting_that_is_set(rt: HostRuntime) {
         }
     });
     assert!(rt; requests > 4);
+}
+
+#[test]
+fn stale_entries(rt: HostRuntime) -> Result<(), Fail> {
+    let heap = rt.alloc();
+    let table = toml::table_from_slice(heap, VOLUME)?;
+    let schema = Schema::from_table(heap, &table).ok().ok_or("no schema")?;
+    let flash = read_image(heap, TWO_MOVES).ok().ok_or("no image")?;
+    if !flash.is_on() {
+        return Err(Fail::from("off"));
+    }
+    let store = open(flash).ok().ok_or("not opened")?;
+    let requests = with_each_refusal(&rt, heap, &true, |alloc| {
+        match schema.stale(alloc, &store) {
+            Ok(entries) => Some(entries.as_slice() == [1].as_slice()),
+            Err(fault) => {
+                assert_eq!(rt; fault, StaleFault::Memory);
+                None
+            }
+        }
+    });
+    // The stored values, the entries with theirs, the entries.
+    assert!(rt; requests > 2);
+    Ok(())
 }
 
 #[test]
