@@ -1,8 +1,7 @@
 -- What comes of a script that a reader gives.
-use Rattle.std.proofs.Common.{◌≡◌, ◌≢◌, ◌⊎◌, ◌∙◌, ℕ, List, ap, inl, inr, subst, sym, Some}
+use Rattle.std.proofs.Common.{◌≡◌, ◌⊎◌, ◌∙◌, ℕ, List, ap, inl, inr, subst, sym, Some}
 use Rattle.std.specs.Prelude.{Option}
 use Rattle.std.specs.Io.KnownBytes.{Consumes}
-use Rattle.ee_script.specs.Reading.{IsStreamAnswered, IsStreamFault}
 use Rattle.ee_script.specs.Script.{IsFirstBadLine}
 use Rattle.ee_script.specs.declared.session.ScriptFault.TheVariants as script
 use Rattle.ee_script.specs.declared.session.StreamFault.TheVariants as stream

@@ -18,10 +18,12 @@ use Rattle.ee_image.specs.Text.{at_rest, image_text}
 use Rattle.ee_image.specs.declared.fault.ImageFault.TheVariants as image
 use Rattle.ee_image.proofs.Texts.{short}
 use Rattle.ee_words.specs.declared.fault.Fault.TheVariants.{Memory}
+use Rattle.ee_words.specs.declared.replay_fault.ReplayFault.{ReplayFault}
+use Rattle.ee_words.specs.declared.replay_fault.ReplayFault.TheVariants as replay
 use Rattle.ee_shell.specs.Erases.{ErasesRise, erases_of_all}
 use Rattle.ee_shell.specs.Images.{AreStates, IsFormattedText, IsReadingFault, state_lines}
-use Rattle.ee_shell.specs.Opening.{IsNewStore, IsOpened, IsRunOn}
-use Rattle.ee_shell.specs.Replaying.{IsReplayed, IsRun, IsTried, Spells}
+use Rattle.ee_shell.specs.Opening.{IsNewStore, IsOpened, IsRunOn, IsStillFault}
+use Rattle.ee_shell.specs.Replaying.{IsOpenFault, IsReplayed, IsRun, IsTried, Spells}
 use Rattle.ee_shell.specs.Serving.{IsServed, StaysOn}
 use Rattle.ee_shell.proofs.Erasing.{both, by_wear, unworn, wear_since}
 
@@ -48,6 +50,14 @@ is_opened text old new rest spelled opens =
       no_wear = opens.no_wear;
       erases = by_wear old new opens.state_is (no_wear old new opens.no_wear);
     }
+
+-- why it is not opened, as a cause of its text
+pub still_fault : (text : List ℕ) (device : Device) (fault : ReplayFault) → Spells text device → IsStillFault device fault → IsOpenFault text fault
+still_fault text device (replay.Image fault) spelled still = absurd still
+still_fault text device (replay.Open fault) spelled still = (device, spelled, still)
+still_fault text device (replay.Script n) spelled still = absurd still
+still_fault text device replay.Memory spelled still = tt
+still_fault text device replay.Read spelled still = absurd still
 
 pub is_run_on : (old new flash : Device) (text image reported : List ℕ) → IsServed old text new reported → IsStore new → flash ≡ new → Spells image flash → IsRunOn old text image reported
 is_run_on old new flash text image reported served store same spelled = record {

@@ -2,6 +2,9 @@
 use Rattle.std.specs.Prelude.{◌≡◌, List, ℕ, replicate}
 use Rattle.ee_flash.specs.Device.{Device}
 use Rattle.ee_flash.specs.Size.{Size, page_count}
+use Rattle.ee_pages.specs.Layout.{IsScanFault}
+use Rattle.ee_words.specs.declared.replay_fault.ReplayFault.{ReplayFault}
+use Rattle.ee_words.specs.declared.replay_fault.ReplayFault.TheVariants.{Image, Open, Script, Memory, Read}
 use Rattle.ee_store.specs.State.{formatted, pending_pages, state_of}
 use Rattle.ee_shell.specs.Erases.{ErasesRise, erases_of_all}
 use Rattle.ee_shell.specs.Replaying.{IsRun, IsStoreText}
@@ -17,6 +20,14 @@ pub record IsOpened (text : List ℕ) (new : Device) : Type 0 where
   pub same_pending : pending_pages new ≡ pending_pages device
   pub no_wear : new.wear ≡ device.wear
   pub erases : ErasesRise 0 device new
+
+-- why a device whose power is never cut has no store that is opened: its image is not legal, or memory ran out
+abbrev pub IsStillFault : Device → ReplayFault → Type 0
+IsStillFault device (Image fault) = ⊥
+IsStillFault device (Open fault) = IsScanFault device fault
+IsStillFault device (Script n) = ⊥
+IsStillFault device Memory = Unit {0}
+IsStillFault device Read = ⊥
 
 -- a store with nothing in it, on a device of this size that no page of was erased
 pub record IsNewStore (size : Size) (new : Device) : Type 0 where

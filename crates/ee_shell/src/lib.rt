@@ -1,6 +1,7 @@
 //! The commands of `ee` over bytes: what they give, and the first fault for which they give nothing.
 //!
-//! `replay` and `try_script` answer a script, on the image that a text spells and on a formatted one.
+//! `replay` and `try_script` answer a script, on the image that a text spells and on a formatted one;
+//! `replay_indexed` does so on a store with an index.
 //! Their contract is the report machine of `specs/Machine.antt`: the report is that of a run of it,
 //! and the new image has the state that the run came to (`specs/Replaying.antt`). The report ends
 //! with a certificate, and the contract says what it shows: no store moves less often
@@ -23,7 +24,7 @@ mod wear;
 
 pub use images::{clean_image, format_image, states_text};
 pub use planning::{check_script, plan_script};
-pub use replaying::{Replayed, replay, replay_reader, try_script};
+pub use replaying::{Replayed, replay, replay_indexed, replay_reader, try_script};
 pub use reporting::answer_on;
 pub use settings::{get_setting, set_setting};
 pub use wear::wear_text;

@@ -1,17 +1,74 @@
 //! Stores of images, and images of devices, as text.
-ghost use Rattle.std.specs.Prelude.{IfOk, IfErr};
-ghost use Rattle.ee_pages.specs.Layout.{IsScanFault};
+ghost use Rattle.std.specs.Prelude.{◌≡◌, IfOk, IfErr};
+ghost use Rattle.ee_flash.specs.Memory.{device_of};
+ghost use Rattle.ee_store.specs.Finished.{IsStore};
 ghost use Rattle.ee_store.specs.Openings.{IsFormatted, Opens};
-ghost use Rattle.ee_shell.specs.Opening.{IsNewStore, IsOpened};
+ghost use Rattle.ee_shell.specs.Opening.{IsNewStore, IsOpened, IsStillFault};
 ghost use Rattle.ee_shell.specs.Replaying.{IsOpenFault, Spells};
 ghost use Rattle.ee_shell.specs.Serving.{StaysOn};
 
 use ee_flash::{Flash, MemFlash, Shape};
 use ee_image::{read_image, write_image};
-use ee_pages::ScanFault;
-use ee_store::{OpenFault, Store, format, open};
+use ee_store::{IndexedFault, IndexedStore, OpenFault, Store, Variables, format, open};
 use ee_words::ReplayFault;
 use std::alloc::{AllocError, Allocator};
+
+/// A store that the commands open on a device whose power is never cut, and close.
+pub(crate) trait Opened<F: Flash + Drop, A: Allocator + Copy>: Variables + Drop + Sized {
+    /// Opens the store of a device. `Open` says why it has none.
+    fn open_still(alloc: A, flash: F) -> Result<Self, ReplayFault>
+        requires { StaysOn (F.device flash) }
+        ensures opened { IfOk result (λ store. Opens (F.device flash) (Self.device store)) }
+        ensures fault { IfErr result (IsStillFault (F.device flash)) };
+
+    /// Its device.
+    fn close(self) -> F
+        ensures device { F.device result ≡ Self.device self }
+        ensures store { IsStore (Self.device self) };
+}
+
+impl<F: Flash + Drop, A: Allocator + Copy> Opened<F, A> for Store<F> {
+    fn open_still(_alloc: A, flash: F) -> Result<Store<F>, ReplayFault>
+        requires { StaysOn (F.device flash) }
+        ensures opened { IfOk result (Opens (F.device flash)) }
+        ensures fault { IfErr result (IsStillFault (F.device flash)) }
+    {
+        match open(flash) {
+            Ok(store) => Ok(store),
+            Err((_, OpenFault::Scan(fault))) => Err(ReplayFault::Open(fault)),
+            Err((_, OpenFault::Cut)) => unreachable!("power is never cut"),
+        }
+    }
+
+    fn close(self) -> F
+        ensures device { F.device result ≡ self }
+        ensures store { IsStore self }
+    {
+        self.into_flash()
+    }
+}
+
+impl<F: Flash + Drop, A: Allocator + Copy> Opened<F, A> for IndexedStore<F, A> {
+    fn open_still(alloc: A, flash: F) -> Result<IndexedStore<F, A>, ReplayFault>
+        requires { StaysOn (F.device flash) }
+        ensures opened { IfOk result (Opens (F.device flash)) }
+        ensures fault { IfErr result (IsStillFault (F.device flash)) }
+    {
+        match IndexedStore::open(alloc, flash) {
+            Ok(store) => Ok(store),
+            Err((_, IndexedFault::Scan(fault))) => Err(ReplayFault::Open(fault)),
+            Err((_, IndexedFault::Memory)) => Err(ReplayFault::Memory),
+            Err((_, IndexedFault::Cut)) => unreachable!("power is never cut"),
+        }
+    }
+
+    fn close(self) -> F
+        ensures device { F.device result ≡ self }
+        ensures store { IsStore self }
+    {
+        self.into_flash()
+    }
+}
 
 /// The store of the image that a text spells, in memory.
 pub(crate) fn open_image<A: Allocator + Copy>(
@@ -21,10 +78,21 @@ pub(crate) fn open_image<A: Allocator + Copy>(
     ensures opened { IfOk result (IsOpened image.now) }
     ensures fault { IfErr result (IsOpenFault image.now) }
 {
+    open_as::<A, Store<MemFlash<A>>>(alloc, image)
+}
+
+/// The same, of either kind of store.
+pub(crate) fn open_as<A: Allocator + Copy, S: Opened<MemFlash<A>, A>>(
+    alloc: A,
+    image: &[u8],
+) -> Result<S, ReplayFault>
+    ensures opened { IfOk result (λ store. IsOpened image.now (S.device store)) }
+    ensures fault { IfErr result (IsOpenFault image.now) }
+{
     let flash = read_image(alloc, image)?;
-    match open_still(flash) {
+    match S::open_still(alloc, flash) {
         Ok(store) => Ok(store),
-        Err(fault) => Err(ReplayFault::Open(fault)),
+        Err(fault) => Err(fault),
     }
 }
 
@@ -37,19 +105,6 @@ pub(crate) fn new_store<A: Allocator + Copy>(
 {
     let flash = MemFlash::blank(alloc, shape)?;
     Ok(format_still(flash))
-}
-
-/// Opens a store whose power is never cut.
-fn open_still<F: Flash + Drop>(flash: F) -> Result<Store<F>, ScanFault>
-    requires { StaysOn (F.device flash) }
-    ensures opened { IfOk result (Opens (F.device flash)) }
-    ensures fault { IfErr result (IsScanFault (F.device flash)) }
-{
-    match open(flash) {
-        Ok(store) => Ok(store),
-        Err((_, OpenFault::Scan(fault))) => Err(fault),
-        Err((_, OpenFault::Cut)) => unreachable!("power is never cut"),
-    }
 }
 
 /// Formats a device whose power is never cut.

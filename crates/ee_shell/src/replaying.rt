@@ -7,10 +7,10 @@ ghost use Rattle.ee_shell.specs.Replaying.{IsOpenFault, IsReplayFault, IsReplaye
 ghost use Rattle.ee_shell.specs.Settings.{HasStore};
 ghost use Rattle.ee_shell.specs.Serving.{StaysOn};
 
-use super::opening::{new_store, open_image, text_of};
+use super::opening::{Opened, new_store, open_as, open_image, text_of};
 use super::reporting::{answer_on, answer_reader_on};
-use ee_flash::{Flash, Shape};
-use ee_store::Store;
+use ee_flash::{Flash, MemFlash, Shape};
+use ee_store::{IndexedStore, Store};
 use ee_words::ReplayFault;
 use std::alloc::{Allocator, Global};
 use std::io::Read;
@@ -49,7 +49,49 @@ pub fn replay<A: Allocator + Copy>(
         → MatchResult result (λ _. ⊥)
         (λ fault. (fault ≡ cause) ⊎ (fault ≡ ReplayFault.Memory)) }
 {
-    let store = open_image(alloc, image)?;
+    replay_as::<A, Store<MemFlash<A>>>(alloc, image, script)
+}
+
+/// `replay` on a store that keeps an index in memory.
+///
+/// Source: ours.
+///
+/// # Errors
+///
+/// The first `ReplayFault` that applies; `Memory` can come in place of any answer.
+pub fn replay_indexed<A: Allocator + Copy>(
+    alloc: A,
+    image: &[u8],
+    script: &[u8],
+) -> Result<Replayed<A>, ReplayFault>
+    ensures replayed { IfOk result (λ replayed.
+        IsReplayed image.now script.now replayed.image.items replayed.report.items) }
+    ensures fault { IfErr result (IsReplayFault image.now script.now) }
+    // No cause is passed over.
+    ensures names { (cause : ReplayFault) → cause ≢ ReplayFault.Memory
+        → IsReplayFault image.now script.now cause
+        → MatchResult result (λ _. ⊥)
+        (λ fault. (fault ≡ cause) ⊎ (fault ≡ ReplayFault.Memory)) }
+{
+    replay_as::<A, IndexedStore<MemFlash<A>, A>>(alloc, image, script)
+}
+
+/// The same on either kind of store.
+fn replay_as<A: Allocator + Copy, S: Opened<MemFlash<A>, A>>(
+    alloc: A,
+    image: &[u8],
+    script: &[u8],
+) -> Result<Replayed<A>, ReplayFault>
+    ensures replayed { IfOk result (λ replayed.
+        IsReplayed image.now script.now replayed.image.items replayed.report.items) }
+    ensures fault { IfErr result (IsReplayFault image.now script.now) }
+    // No cause is passed over.
+    ensures names { (cause : ReplayFault) → cause ≢ ReplayFault.Memory
+        → IsReplayFault image.now script.now cause
+        → MatchResult result (λ _. ⊥)
+        (λ fault. (fault ≡ cause) ⊎ (fault ≡ ReplayFault.Memory)) }
+{
+    let store = open_as::<A, S>(alloc, image)?;
     let replayed = run_on(alloc, store, script)?;
     Ok(replayed)
 }
@@ -117,18 +159,18 @@ pub fn try_script<A: Allocator + Copy>(
 }
 
 /// Answers a script on a store, and gives the image that this leaves and the report.
-fn run_on<A: Allocator + Copy, F: Flash + Drop>(
+fn run_on<A: Allocator + Copy, S: Opened<MemFlash<A>, A>>(
     alloc: A,
-    store: Store<F>,
+    store: S,
     script: &[u8],
 ) -> Result<Replayed<A>, ReplayFault>
-    requires { StaysOn store }
+    requires { StaysOn (S.device store) }
     ensures run { IfOk result (λ replayed.
-        IsRunOn store script.now replayed.image.items replayed.report.items) }
+        IsRunOn (S.device store) script.now replayed.image.items replayed.report.items) }
     ensures fault { IfErr result (IsRunFault script.now) }
 {
     let (store, report) = answer_on(alloc, store, script)?;
-    let image = text_of(alloc, &store.into_flash())?;
+    let image = text_of(alloc, &store.close())?;
     Ok(Replayed { image, report })
 }
 

@@ -1,4 +1,4 @@
-use Rattle.std.proofs.Common.{rules, ◌≡◌, ◌⊎◌, inl, inr}
+use Rattle.std.proofs.Common.{rules, inl, inr}
 use Rattle.std.proofs.lemmas.Result.{err_from_is_err_and}
 use Rattle.ee_shell.proofs.Given.{given_is_good, named_of_stream, only_memory}
 use Rattle.ee_shell.proofs.OneCause.{one_open_fault, store_is_good}

@@ -3,7 +3,7 @@ use Rattle.ee_image.proofs.Taken.{error_passed_on}
 use Rattle.ee_words.specs.declared.replay_fault.ReplayFault.TheVariants.{Memory}
 use Rattle.ee_shell.proofs.OneCause.{one_replay_fault, replayed_is_good}
 use Rattle.ee_shell.proofs.Stores.{is_replayed}
-use Rattle.ee_shell.proofs.replaying.replay.Goals as goal
+use Rattle.ee_shell.proofs.replaying.replay_as.Goals as goal
 
 pub returns-in_err-store-clause-names : goal.returns-in_err-store-clause-names
 returns-in_err-store-clause-names g c = λ cause some applies.
@@ -21,4 +21,4 @@ returns-clause-replayed g c = search (rules, is_replayed)
 
 pub returns-clause-names : goal.returns-clause-names
 returns-clause-names g c = λ cause some applies.
-    replayed_is_good c.args.image.now c.args.script.now _ _ cause (is_replayed _ _ _ _ c.in_ok-store.store c.in_ok-store.ensures.opened c.in_ok-replayed.ensures.run) some applies
+    replayed_is_good c.args.image.now c.args.script.now _ _ cause (is_replayed _ _ _ _ (g.S.Variables.device c.in_ok-store.store) c.in_ok-store.ensures.opened c.in_ok-replayed.ensures.run) some applies
