@@ -5,6 +5,7 @@ mod commands;
 mod cuts;
 mod files;
 mod images;
+mod indexed;
 mod ledgers;
 mod memory;
 mod pieces;
