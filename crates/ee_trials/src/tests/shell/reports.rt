@@ -3,7 +3,7 @@ use super::images::{
     ALL_LIVE, CLEANED, FORMATTED, LAST_SLOT_FREE, ONE_MOVE, SPENT, TWO_MOVES, TWO_PAGES,
 };
 use ee_flash::Shape;
-use ee_shell::{check_script, format_image, plan_script, replay, try_script};
+use ee_shell::{check_script, format_image, plan_script, replay, replay_indexed, try_script};
 use std::alloc::Global;
 use std::process::Abort;
 use std::test::Fail;
@@ -19,7 +19,7 @@ struct Worked<'a> {
     after: &'a [u8],
 }
 
-/// The replay gives just this.
+/// The replay gives just this, and so does the one on a store with an index.
 fn assert_replayed(rt: &impl Abort, alloc: Global, worked: &Worked<'_>) -> Result<(), Fail> {
     let replayed = replay(alloc, worked.image, worked.script)
         .ok()
@@ -28,6 +28,11 @@ fn assert_replayed(rt: &impl Abort, alloc: Global, worked: &Worked<'_>) -> Resul
     report.extend_from_slice(worked.certificate)?;
     assert_eq!(rt; replayed.report.as_slice(), report.as_slice());
     assert_eq!(rt; replayed.image.as_slice(), worked.after);
+    let indexed = replay_indexed(alloc, worked.image, worked.script)
+        .ok()
+        .ok_or("not replayed")?;
+    assert_eq!(rt; indexed.report.as_slice(), report.as_slice());
+    assert_eq!(rt; indexed.image.as_slice(), worked.after);
     Ok(())
 }
 
