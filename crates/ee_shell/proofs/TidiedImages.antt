@@ -8,6 +8,7 @@ use Rattle.ee_store.specs.State.{State, state_of}
 use Rattle.ee_settings.proofs.Forgetting.{each_goes_on}
 use Rattle.ee_settings.proofs.TidiedMaps.{leaves_named, leaves_state, none_spent}
 use Rattle.ee_settings.specs.Setting.{Setting}
+use Rattle.ee_settings.specs.Stale.{stale_in}
 use Rattle.ee_settings.specs.Tidying.{IsSpentAmong, Tidies, after_forgettings, kept, unnamed_in}
 use Rattle.ee_settings.specs.declared.fault.TidyFault.TheVariants as tidy
 use Rattle.ee_words.specs.Fault.{fault_of_replay}
@@ -17,7 +18,7 @@ use Rattle.ee_words.specs.declared.replay_fault.ReplayFault.{ReplayFault}
 use Rattle.ee_shell.proofs.Named.{not_opened, one_rest, opening_good, opening_named, rested_state, settings_good, spelled_once}
 use Rattle.ee_shell.specs.Opening.{IsOpened}
 use Rattle.ee_shell.specs.Replaying.{IsOpenFault, Spells}
-use Rattle.ee_shell.specs.SecondSchema.{IsSpentFor, IsStaleTextFault, IsTidied, IsTidiedImage, IsTidyImageFault, tidied_text}
+use Rattle.ee_shell.specs.SecondSchema.{AreStaleLines, IsSpentFor, IsStaleTextFault, IsTidied, IsTidiedImage, IsTidyImageFault, stale_lines, tidied_text}
 use Rattle.ee_shell.specs.Serving.{StaysOn}
 use Rattle.ee_shell.specs.Settings.{IsSettingsFault, SpellsSettings}
 
@@ -43,6 +44,19 @@ is_tidied settings old new count on done =
       stays_on = record { on = power.same_power ∙ on.on; never_cut = power.same_cuts_left ∙ on.never_cut };
       same_size = power.same_size;
     }
+
+-- ---- what is told
+
+-- the lines of the opened store's stale entries are those of the image's
+pub are_stale_lines : (image text lines : List ℕ) (store : Device) (settings : List Setting) → IsOpened image store → SpellsSettings text settings
+    → lines ≡ stale_lines settings (stale_in (state_of store).map settings) → AreStaleLines image text lines
+are_stale_lines image text lines store settings opened spelled says = record {
+  device = opened.device;
+  old = opened.old;
+  settings = settings;
+  spelled = spelled;
+  lines_are = says ∙ ap (λ (state : State). stale_lines settings (stale_in state.map settings)) opened.state_is;
+}
 
 -- ---- the image that is left
 
