@@ -11,4 +11,3 @@ mod moves;
 mod order;
 mod refusals;
 mod replay;
-mod second_schema;
