@@ -1,29 +1,28 @@
 -- What steps in the set that a transfer fills make of it.
 use Rattle.ee_pages.specs.declared.state.Mark.TheVariants.{Receive}
 use Rattle.ee_pages.specs.Pushing.{slot_step}
-use Rattle.std.proofs.Common.{◌≡◌, inl, inr, ℕ, ◌+◌, Bool, true, false, not, ◌&&◌, List, [], length, get_or, refl, sym, subst, ap, ◌∙◌, arith, slice_set, ◌<◌, ◌*◌, ◌-◌, ◌≤◌, None}
-use Rattle.std.specs.List.{All, list_any}
+use Rattle.std.proofs.Common.{◌≡◌, inl, inr, ℕ, ◌+◌, Bool, true, false, ◌&&◌, List, get_or, refl, sym, subst, ap, ◌∙◌, arith, slice_set, ◌<◌, ◌*◌, ◌-◌, ◌≤◌, None}
+use Rattle.std.specs.List.{All}
 use Rattle.std.proofs.lemmas.Bool.{cases_lt}
 use Rattle.std.proofs.lemmas.Grind.{common_steps}
 use Rattle.std.proofs.lemmas.List.{get_or_past}
-use Rattle.std.proofs.lemmas.List.Elements.{All-get_or}
-use Rattle.std.proofs.lemmas.List.Folds.{list_any_at}
 use Rattle.ee_flash.specs.Device.{Device, IsFormed}
 use Rattle.ee_flash.specs.Laws.{IsStep}
 use Rattle.ee_flash.specs.Size.{Size, slot_count}
 use Rattle.ee_flash.specs.Step.{Program, completed}
 use Rattle.ee_flash.specs.declared.word.Word.{Word}
-use Rattle.ee_flash.specs.declared.word.Word.TheVariants.{Erased, Held, Torn}
+use Rattle.ee_flash.specs.declared.word.Word.TheVariants.{Erased, Held}
 use Rattle.ee_flash.proofs.Outcomes.{step_changes_one_page, step_keeps_formed}
 use Rattle.ee_codec.specs.Words.{receive, IsGeneration}
 use Rattle.ee_pages.specs.Filling.{IsFilling}
 use Rattle.ee_pages.specs.Legal.{fits, is_allowed, place_of}
 use Rattle.ee_pages.specs.Meaning.{meaning, value_said, Change, Spells, changed}
-use Rattle.ee_pages.specs.Page.{is_blank, is_written, word_in, marking}
+use Rattle.ee_pages.specs.Page.{is_blank, is_written, marking}
 use Rattle.ee_pages.specs.Sets.{fill_of, first_page, front, page_of_slot, place_of_slot, set_of, slots_of, word_of}
 use Rattle.ee_pages.specs.declared.side.Side.{Side}
 use Rattle.ee_pages.specs.declared.table.Place.{Place}
 use Rattle.ee_pages.specs.declared.table.Place.TheVariants.{Committing, Receiving, Marking, Erasing, InSlot}
+use Rattle.ee_pages.proofs.BlankWords.{blank_set}
 use Rattle.ee_pages.proofs.Front.{none_of}
 use Rattle.ee_pages.proofs.HeaderWrites.{IsHeaderWritten, first_or_further, header_written, place_of-receive}
 use Rattle.ee_pages.proofs.InTheSet.{IsObeyed, with_word_in}
@@ -86,33 +85,6 @@ opens_page page old new side generation count proper filling in_range behind tak
         },
         written.slots,
       )
-]
-
--- a blank page has no word that is written
-unwritten : (written : Bool) → (written ≡ true → false ≡ true) → written ≡ false
-unwritten true contrary = absurd (cc (contrary refl))
-unwritten false contrary = refl
-
-erased_word : (word : Word) → is_written word ≡ false → word ≡ Erased
-erased_word Erased e = refl
-erased_word (Held number) e = absurd (cc e)
-erased_word Torn e = absurd (cc e)
-
-not_any : (any : Bool) → not any ≡ true → any ≡ false
-not_any true e = absurd (cc e)
-not_any false e = refl
-
-blank_word : (words : List Word) (at : ℕ) → is_blank words ≡ true → word_in words at ≡ Erased
-blank_word words at blank = elim (cases_lt at (length words)) [
-  | inr past ↦ get_or_past words at Erased past
-  | inl within ↦ erased_word (word_in words at) (unwritten (is_written (word_in words at))
-      (λ written. sym (not_any (list_any is_written words) blank) ∙ list_any_at is_written words at Erased within written))
-]
-
-blank_set : (pages : List (List Word)) (page at : ℕ) → All (λ page. is_blank page ≡ true) pages → word_of pages page at ≡ Erased
-blank_set pages page at blank = elim (cases_lt page (length pages)) [
-  | inr past ↦ ap (λ words. word_in words at) (get_or_past pages page [] past)
-  | inl within ↦ blank_word (get_or pages page []) at (All-get_or (λ page. is_blank page ≡ true) pages page [] within blank)
 ]
 
 fits-erased : (generation : ℕ) (place : Place) → fits generation place Erased ≡ true

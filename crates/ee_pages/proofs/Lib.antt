@@ -1,6 +1,7 @@
 pub mod Slots
 pub mod Front
 pub mod Legal
+pub mod BlankWords
 pub mod Scans
 pub mod ScanFaults
 pub mod LastSaid

@@ -1,51 +1,23 @@
 -- An image has one fault at most for which a scan finds nothing, and a legal image none.
-use Rattle.std.proofs.Common.{◌≡◌, inl, inr, ℕ, ◌-◌, ◌≤◌, Bool, true, false, not, nat_lt, Option, Some, None, List, [], length, get_or, refl, sym, ap, ◌∙◌, subst, arith}
-use Rattle.std.specs.List.{All, list_any}
-use Rattle.std.proofs.lemmas.Bool.{cases_lt, cases_order}
+use Rattle.std.proofs.Common.{◌≡◌, inl, inr, ℕ, ◌-◌, ◌≤◌, Bool, true, false, nat_lt, Option, Some, None, List, refl, sym, ap, ◌∙◌, subst, arith}
+use Rattle.std.specs.List.{All}
+use Rattle.std.proofs.lemmas.Bool.{cases_order}
 use Rattle.std.proofs.lemmas.Grind.{common_steps}
-use Rattle.std.proofs.lemmas.List.{get_or_past}
-use Rattle.std.proofs.lemmas.List.Elements.{All-drop, All-get_or, All-take}
-use Rattle.std.proofs.lemmas.List.Folds.{list_any_at}
+use Rattle.std.proofs.lemmas.List.Elements.{All-drop, All-take}
 use Rattle.ee_flash.specs.Device.{Device}
 use Rattle.ee_flash.specs.Size.{Size}
 use Rattle.ee_flash.specs.declared.word.Word.{Word}
-use Rattle.ee_flash.specs.declared.word.Word.TheVariants.{Erased, Held, Torn}
 use Rattle.ee_pages.specs.Layout.{IsFirstForeign, IsScanFault}
 use Rattle.ee_pages.specs.Legal.{IsLegal, is_allowed_at}
-use Rattle.ee_pages.specs.Page.{is_blank, is_written, word_in}
-use Rattle.ee_pages.specs.Sets.{committed, first_page, greater, live_of, set_of, word_of}
+use Rattle.ee_pages.specs.Page.{is_blank}
+use Rattle.ee_pages.specs.Sets.{committed, first_page, greater, live_of, set_of}
 use Rattle.ee_pages.specs.declared.find.ScanFault.{ScanFault}
 use Rattle.ee_pages.specs.declared.find.ScanFault.TheVariants.{Unformatted, NoLiveSet, TwoLive, Foreign}
 use Rattle.ee_pages.specs.declared.side.Side.{Side}
 use Rattle.ee_pages.specs.declared.side.Side.TheVariants.{First, Second}
+use Rattle.ee_pages.proofs.BlankWords.{blank_set}
 
 -- ---- a device with no live set
-
-erased_word : (word : Word) → is_written word ≡ false → word ≡ Erased
-erased_word Erased e = refl
-erased_word (Held number) e = absurd (cc e)
-erased_word Torn e = absurd (cc e)
-
-unwritten : (written : Bool) → (written ≡ true → false ≡ true) → written ≡ false
-unwritten true contrary = absurd (cc (contrary refl))
-unwritten false contrary = refl
-
-not_any : (any : Bool) → not any ≡ true → any ≡ false
-not_any true e = absurd (cc e)
-not_any false e = refl
-
-blank_word : (words : List Word) (at : ℕ) → is_blank words ≡ true → word_in words at ≡ Erased
-blank_word words at blank = elim (cases_lt at (length words)) [
-  | inr past ↦ get_or_past words at Erased past
-  | inl within ↦ erased_word (word_in words at) (unwritten (is_written (word_in words at))
-      (λ written. sym (not_any (list_any is_written words) blank) ∙ list_any_at is_written words at Erased within written))
-]
-
-blank_set : (pages : List (List Word)) (page at : ℕ) → All (λ page. is_blank page ≡ true) pages → word_of pages page at ≡ Erased
-blank_set pages page at blank = elim (cases_lt page (length pages)) [
-  | inr past ↦ ap (λ words. word_in words at) (get_or_past pages page [] past)
-  | inl within ↦ blank_word (get_or pages page []) at (All-get_or (λ page. is_blank page ≡ true) pages page [] within blank)
-]
 
 uncommitted : (pages : List (List Word)) → All (λ page. is_blank page ≡ true) pages → committed pages ≡ None
 uncommitted pages blank = rw (blank_set pages 0 1 blank) refl
