@@ -23,7 +23,7 @@ live-preserved g c =
     record {
       below = search arith;
       few = omega (arith, last_rises map found above batch.next, batch.rest.0, c.live.invariant.few);
-      count = omega (arith, counted);
+      count = search (arith, counted);
     }
 
 pub returns-in_default : goal.returns-in_default
@@ -33,4 +33,4 @@ returns-in_default g c =
     let above = above_of c.live.after in
     let batch = subst (λ (through : Option ℕ). AreLiveThrough map above found through) c.in_default.is c.next_batch-batch.ensures.live in
     let counted = counted_all map found above c.live.count c.live.invariant.count c.live.invariant.below c.next_batch-batch.ensures.proper batch in
-    omega (arith, counted)
+    search (arith, counted)
