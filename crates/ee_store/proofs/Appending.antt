@@ -19,6 +19,7 @@ use Rattle.ee_pages.specs.Sets.{fill_of, first_page, other, page_of_slot, place_
 use Rattle.ee_pages.specs.declared.side.Side.{Side}
 use Rattle.ee_pages.specs.declared.state.Mark.{Mark}
 use Rattle.ee_pages.specs.declared.state.Mark.TheVariants as marks
+use Rattle.ee_pages.proofs.BlankWords.{erased_word}
 use Rattle.ee_pages.proofs.Legal.{fill-front, slots_behind}
 use Rattle.ee_pages.proofs.OtherPages.{step_keeps_other_pages}
 use Rattle.ee_pages.proofs.Slots.{page_in_range, place_in_range, slot_at}
@@ -29,11 +30,6 @@ use Rattle.ee_store.proofs.SetPages.{page_in_device, page_of_set}
 pub on_err : {T E : Type 0} (P : Type 0) (result : Result T E) → P → OnErr result P
 on_err P (Ok value) holds = tt
 on_err P (Err error) holds = holds
-
-is_erased : (word : Word) → is_written word ≡ false → word ≡ Erased
-is_erased Erased e = refl
-is_erased (Held number) e = cc
-is_erased Torn e = cc
 
 -- a program leaves every word but its own
 other_word : (image : List (List Word)) (page at k : ℕ) (word : Word) → page < length image → k ≢ at → get_or (get_or (set image page (set (get_or image page []) at word)) page []) k Erased ≡ get_or (get_or image page []) k Erased
@@ -77,7 +73,7 @@ slot_erased side generation fill old live fill_is free =
     let there = page_of_set side old (page_of_slot old.size fill) (page_in_range old fill free) in
     ap (λ (words : List Word). get_or words (place_of_slot old.size fill) Erased) (sym there)
     ∙ sym (slot_at side old fill live.formed free)
-    ∙ is_erased (get_or slots fill Erased) unwritten
+    ∙ erased_word (get_or slots fill Erased) unwritten
 
 -- the place of that slot, as the code says it
 module _ (side : Side) (generation fill first words : ℕ) (old : Device) (live : IsLive old side generation) (fill_is : fill ≡ fill_of (slots_of (set_of side old))) (free : fill < slot_count old.size) (first_is : first ≡ first_page old.size side) (words_is : words ≡ old.size.words) where

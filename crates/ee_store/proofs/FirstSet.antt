@@ -1,12 +1,8 @@
 -- How a blank device gets its first set.
-use Rattle.std.proofs.Common.{◌≡◌, ◌<◌, inl, inr, ℕ, ◌+◌, ◌-◌, ◌/◌, true, false, None, List, [], ◌∷◌, length, refl, sym, subst, ap, ◌∙◌, arith, suc}
+use Rattle.std.proofs.Common.{◌≡◌, ◌<◌, inl, ℕ, ◌+◌, ◌-◌, ◌/◌, true, false, None, List, [], ◌∷◌, refl, sym, subst, ap, ◌∙◌, arith, suc}
 use Rattle.std.specs.List.{All}
-use Rattle.std.specs.Prelude.{not}
 use Rattle.std.proofs.Math.Nat.{zero-div}
-use Rattle.std.proofs.lemmas.Bool.{cases_Bool, cases_lt, true≢false}
-use Rattle.std.proofs.lemmas.List.{get_or_past}
 use Rattle.std.proofs.lemmas.List.Elements.{All-drop, All-get_or, All-take}
-use Rattle.std.proofs.lemmas.List.Folds.{list_any_at}
 use Rattle.ee_flash.specs.Device.{Device, IsFormed, IsOn, page_at, word_at}
 use Rattle.ee_flash.specs.Laws.{IsStep}
 use Rattle.ee_flash.specs.Size.{page_count}
@@ -17,11 +13,12 @@ use Rattle.ee_flash.proofs.Outcomes.{step_changes_one_page}
 use Rattle.ee_pages.specs.Filling.{IsCommitted, IsFilling}
 use Rattle.ee_pages.specs.Layout.{IsLayout}
 use Rattle.ee_pages.specs.Meaning.{meaning}
-use Rattle.ee_pages.specs.Page.{is_blank, is_marked, is_written, marking, place_of_mark, word_in}
+use Rattle.ee_pages.specs.Page.{is_blank, is_marked, is_written, marking, place_of_mark}
 use Rattle.ee_pages.specs.Sets.{committed, fill_of, page_of_slot, pending_of, set_of, slots_of, word_of}
 use Rattle.ee_pages.specs.declared.side.Side.TheVariants.{First, Second}
 use Rattle.ee_pages.specs.declared.state.Mark.{Mark}
 use Rattle.ee_pages.specs.declared.state.Mark.TheVariants.{Active, Receive}
+use Rattle.ee_pages.proofs.BlankWords.{blank_word}
 use Rattle.ee_pages.proofs.FirstCommits.{first_commit_commits}
 use Rattle.ee_pages.proofs.OtherSet.{first_word, same_set}
 use Rattle.ee_pages.proofs.OwnSet.{page_of_set}
@@ -32,20 +29,10 @@ use Rattle.ee_store.proofs.States.{same_states, state_is}
 use Rattle.ee_store.specs.Finished.{IsMarked, last_used}
 use Rattle.ee_store.specs.State.{formatted, state_of}
 
--- no word of a blank page is written
-blank_word : (words : List Word) (at : ℕ) → is_blank words ≡ true → is_written (word_in words at) ≡ false
-blank_word words at blank = elim (cases_lt at (length words)) [
-  | inr past ↦ ap is_written (get_or_past words at Erased past)
-  | inl within ↦ elim (cases_Bool (is_written (word_in words at))) [
-    | inr erased ↦ erased
-    | inl written ↦ absurd (true≢false (sym blank ∙ ap not (list_any_at is_written words at Erased within written)))
-  ]
-]
-
 -- a blank page has no mark
 pub unmarked : (device : Device) (page : ℕ) (mark : Mark) → IsFormed device → All (λ words. is_blank words ≡ true) device.image → page < page_count device.size → is_marked device page mark ≡ false
 unmarked device page mark formed all h =
-    blank_word (page_at device page) (place_of_mark mark) (All-get_or (λ words. is_blank words ≡ true) device.image page [] (omega (arith, formed.image_length)) all)
+    ap is_written (blank_word (page_at device page) (place_of_mark mark) (All-get_or (λ words. is_blank words ≡ true) device.image page [] (omega (arith, formed.image_length)) all))
 
 erased_commits : (pages : List (List Word)) → word_of pages 0 1 ≡ Erased → committed pages ≡ None
 erased_commits pages e = rw e refl

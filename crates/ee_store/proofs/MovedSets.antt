@@ -23,7 +23,7 @@ use Rattle.ee_pages.specs.declared.state.Mark.TheVariants.{Active, Receive}
 use Rattle.ee_pages.proofs.Legal.{fill-front}
 use Rattle.ee_pages.proofs.Slots.{get_or-slots_of, length-page_at, length-set_of, pages-set_of}
 use Rattle.ee_store.proofs.Drawings.{drawn_as, drawn_both, mark_drawn, marked-written, put_apart, with_mark, with_word-elsewhere, with_word-there}
-use Rattle.ee_store.proofs.OtherSteps.{blank_word}
+use Rattle.ee_pages.proofs.BlankWords.{blank_word}
 use Rattle.ee_store.proofs.SetPages.{page_in_device, page_of_set}
 use Rattle.ee_store.specs.Finished.{last_used}
 use Rattle.ee_store.specs.Parts.{Holds, IsCommittedWith, SetsMark, opened}

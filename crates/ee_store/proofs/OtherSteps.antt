@@ -1,11 +1,10 @@
 -- Steps in the set that a transfer fills.
 use Rattle.std.proofs.Common.{◌≡◌, ◌⊎◌, inl, inr, ℕ, ◌+◌, ◌-◌, ◌<◌, Bool, true, false, None, List, [], length, refl, sym, subst, ap, ◌∙◌, arith}
 use Rattle.std.specs.List.{All}
-use Rattle.std.specs.Prelude.{not, Result, Ok, Err, slice_set}
-use Rattle.std.proofs.lemmas.Bool.{cases_Bool, cases_lt}
-use Rattle.std.proofs.lemmas.List.{get_or-drop, get_or-take, get_or_past}
+use Rattle.std.specs.Prelude.{Result, Ok, Err, slice_set}
+use Rattle.std.proofs.lemmas.Bool.{cases_Bool}
+use Rattle.std.proofs.lemmas.List.{get_or-drop, get_or-take}
 use Rattle.std.proofs.lemmas.List.Elements.{All-get_or}
-use Rattle.std.proofs.lemmas.List.Folds.{list_any_at}
 use Rattle.std.proofs.Math.Nat.{div-mul-le_self}
 use Rattle.ee_codec.specs.Words.{IsGeneration}
 use Rattle.ee_flash.specs.Device.{Device, IsFormed, IsOn, all_ones, word_at}
@@ -13,7 +12,7 @@ use Rattle.ee_flash.specs.Laws.{IsStep}
 use Rattle.ee_flash.specs.Size.{page_count, slot_count}
 use Rattle.ee_flash.specs.Step.{Program, IsCutIn, IsUntouched, MayFollow, completed}
 use Rattle.ee_flash.specs.declared.word.Word.{Word}
-use Rattle.ee_flash.specs.declared.word.Word.TheVariants.{Erased, Held, Torn}
+use Rattle.ee_flash.specs.declared.word.Word.TheVariants.{Erased, Held}
 use Rattle.ee_pages.specs.Filling.{IsCommitted, IsFilling}
 use Rattle.ee_pages.specs.Laws.{IsPageOf, Keeps}
 use Rattle.ee_pages.specs.Legal.{IsLive}
@@ -25,16 +24,12 @@ use Rattle.ee_pages.specs.declared.side.Side.{Side}
 use Rattle.ee_pages.specs.declared.side.Side.TheVariants.{First, Second}
 use Rattle.ee_pages.specs.declared.state.Mark.{Mark}
 use Rattle.ee_pages.specs.declared.state.Mark.TheVariants.{Active, Erasing, Receive, Valid}
+use Rattle.ee_pages.proofs.BlankWords.{blank_word, erased_word}
 use Rattle.ee_pages.proofs.Legal.{fill-front, slots_behind}
 use Rattle.ee_pages.proofs.OtherSet.{other_set_keeps_live}
 use Rattle.ee_pages.proofs.Slots.{length-set_of, page_in_range, place_in_range, slot_at}
 use Rattle.ee_pages.proofs.Commits.{commit_commits, whole_commit_commits}
 use Rattle.ee_pages.proofs.FillingSteps.{opens_page, opens_set, stages_change}
-
-not_written : (word : Word) → is_written word ≡ false → word ≡ Erased
-not_written Erased e = refl
-not_written (Held number) e = absurd (cc e)
-not_written Torn e = absurd (cc e)
 
 -- a word of a set, by its page's number in the device
 word_there : (side : Side) (device : Device) (page at : ℕ) → page < device.size.pages → word_of (set_of side device) page at ≡ word_at device (first_page device.size side + page) at
@@ -63,18 +58,6 @@ first_in_device Second device formed = omega (arith, formed.within_limits.some_p
 pub first_in_set : (side : Side) (device : Device) → IsFormed device → IsPageOf device.size side (first_page device.size side)
 first_in_set side device formed = record { from = omega arith; below = omega (arith, formed.within_limits.some_pages) }
 
--- a blank page's words are erased
-pub blank_word : (words : List Word) (at : ℕ) → is_blank words ≡ true → word_in words at ≡ Erased
-blank_word words at blank = elim (cases_lt at (length words)) [
-  | inr past ↦ get_or_past words at Erased past
-  | inl within ↦ elim (cases_Bool (is_written (word_in words at))) [
-    | inr erased ↦ not_written _ erased
-    | inl written ↦
-        let no : true ≡ false = sym blank ∙ ap not (list_any_at is_written words at Erased within written) in
-        cc no
-  ]
-]
-
 -- the first free slot is erased
 pub free_slot : (device : Device) (side : Side) (generation count : ℕ) → IsFilling device side generation count → count < slot_count device.size → word_at device (first_page device.size side + page_of_slot device.size count) (place_of_slot device.size count) ≡ Erased
 free_slot device side generation count filling free =
@@ -82,7 +65,7 @@ free_slot device side generation count filling free =
     let erased = slots_behind side device generation filling.formed filling.allowed count (omega arith) in
     sym (word_there side device (page_of_slot device.size count) (place_of_slot device.size count) (page_in_range device count free))
     ∙ sym (slot_at side device count filling.formed free)
-    ∙ not_written _ erased
+    ∙ erased_word _ erased
 
 module _ (old new : Device) (side : Side) (generation count number : ℕ) (live : IsLive old side generation) (filling : IsFilling old (other side) (generation + 1) count) (free : count < slot_count old.size) (below : number < all_ones) (follows : MayFollow (slot_step old.size (other side) count number) old new) where
   pub slot_taken : IsStep (slot_step old.size (other side) count number) old new
@@ -111,7 +94,7 @@ module _ (old new : Device) (page : ℕ) (mark : Mark) (formed : IsFormed old) (
   mark_taken : IsStep (marking page mark) old new
   mark_taken = record {
     formed = formed;
-    may = (in_range, omega (arith, place_below mark, formed.within_limits.some_words), not_written _ erased, below);
+    may = (in_range, omega (arith, place_below mark, formed.within_limits.some_words), erased_word _ erased, below);
     follows = follows;
   }
 

@@ -30,7 +30,7 @@ use Rattle.ee_store.specs.State.{State, state_of}
 use Rattle.ee_store.proofs.CopiedMaps.{forget-at, same_counts}
 use Rattle.ee_store.proofs.CopiedWords.{no_elements, one_further}
 use Rattle.ee_store.proofs.Drawings.{with_word-elsewhere}
-use Rattle.ee_store.proofs.OtherSteps.{blank_word}
+use Rattle.ee_pages.proofs.BlankWords.{blank_word}
 use Rattle.ee_store.proofs.SetPages.{page_of_set}
 
 abbrev side_in : Option (Side × ℕ) → Side
