@@ -24,6 +24,7 @@ use ee_pages::Layout;
 
 /// Makes a change to which no refusal applies: in a free slot if there is one, else with a transfer.
 /// The layout follows.
+#[inline(always)]
 pub(crate) fn make_change<F: Flash>(
     flash: &mut F,
     layout: &mut Layout,
@@ -54,6 +55,7 @@ pub(crate) fn make_change<F: Flash>(
 }
 
 /// Makes a change to which no refusal applies in the first free slot. The layout follows.
+#[inline(always)]
 pub(crate) fn append_change<F: Flash>(
     flash: &mut F,
     layout: &mut Layout,

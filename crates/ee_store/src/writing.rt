@@ -18,6 +18,7 @@ use ee_pages::{Layout, Mark, first_page};
 
 /// Writes a change into the first free slot of the live set. If that slot is the first of a further
 /// page, the page before it is marked valid and that one active first. The layout follows.
+#[inline(always)]
 pub(crate) fn append<F: Flash>(
     flash: &mut F,
     layout: &mut Layout,
@@ -59,6 +60,7 @@ pub(crate) fn append<F: Flash>(
 
 // Marks the page of the first free slot as the one that is used, if it is a further one, and the
 // page before it as used up.
+#[inline]
 fn open_page<F: Flash>(flash: &mut F, layout: &Layout) -> Result<(), Cut>
     requires layout { IsLayout (F.device flash.old) layout.now }
     requires marked { IsMarked (F.device flash.old) layout.now.side }
@@ -83,6 +85,7 @@ fn open_page<F: Flash>(flash: &mut F, layout: &Layout) -> Result<(), Cut>
 }
 
 // Programs a change into the first free slot of the live set.
+#[inline(always)]
 fn push<F: Flash>(flash: &mut F, layout: &Layout, change: Change) -> Result<(), Cut>
     requires layout { IsLayout (F.device flash.old) layout.now }
     requires free { layout.now.fill < slot_count (F.device flash.old).size }

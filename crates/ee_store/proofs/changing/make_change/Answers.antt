@@ -8,4 +8,4 @@ pub move_change-requires-clause-all_used : goal.move_change-requires-clause-all_
 move_change-requires-clause-all_used g c =
     let old = g.F.Flash.device c.args.flash.now in
     let slots : c.slots.result ≡ capacity old = c.slots.ensures.value ∙ ap slot_count c.shape.ensures in
-    omega (arith, slots, c.if-layout-slots.false, c.requires.layout.fill, few_within old c.args.layout.now.side (g.met.F.Flash.formed c.args.flash.now))
+    search (arith, slots, c.if-layout-slots.false, c.requires.layout.fill, few_within old c.args.layout.now.side (g.met.F.Flash.formed c.args.flash.now))

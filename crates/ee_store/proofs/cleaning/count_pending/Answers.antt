@@ -42,5 +42,5 @@ returns g c =
     let formed = g.met.F.Flash.formed c.args.flash.now in
     let first = c.first_page-first.result in
     let pages : c.pages-2.result ≡ device.size.pages = c.pages-2.ensures.value ∙ ap (λ (size : Size). size.pages) c.shape.ensures in
-    let end : c.pages.page ≡ first + device.size.pages = omega (arith, pages, c.pages.auto.page-end) in
+    let end : c.pages.page ≡ first + device.size.pages = search (arith, pages, c.pages.auto.page-end) in
     c.pages.invariant.count ∙ at_end c.args.side device formed first c.first_page-first.ensures c.pages.page end

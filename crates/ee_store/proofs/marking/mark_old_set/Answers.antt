@@ -109,4 +109,4 @@ returns-clause-old_pages g c =
     let first : c.first_page-first.result ≡ first_page old.size side = c.first_page-first.ensures ∙ ap (λ (set : Side). first_page old.size set) c.other.ensures in
     let pages = ap (λ (size : Size). size.pages) c.shape.ensures in
     retired_end side old c.first_page-first.result first new c.pages.page c.pages.invariant.stays.keeps.same_size
-    (omega (arith, c.pages-2.ensures.value, pages, c.pages-test.false, c.pages.auto.page-end)) c.pages.invariant.drawn
+    (search (arith, c.pages-2.ensures.value, pages, c.pages-test.false, c.pages.auto.page-end)) c.pages.invariant.drawn

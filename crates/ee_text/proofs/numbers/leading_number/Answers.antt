@@ -16,7 +16,7 @@ returns-then-not-is_plain-clause-only c = λ n behind small ends e.
 pub returns-then-value-from-clause-only : goal.returns-then-value-from-clause-only
 returns-then-value-from-clause-only c = λ n behind small ends e.
     let one = one_number c.args.text.now behind c.in_ok-value.count c.in_ok-value.value n c.in_ok-value.ensures.found.0 c.in_ok-value.ensures.found.1 (omega arith) ends e in
-    absurd (omega (arith, one.0))
+    absurd (search (arith, one.0))
 
 pub returns-clause-found : goal.returns-clause-found
 returns-clause-found c =
