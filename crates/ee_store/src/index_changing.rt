@@ -43,6 +43,7 @@ pub(crate) fn make_room<A: Allocator + Copy>(
 /// Makes a change to which no refusal applies, in a free slot if there is one, else with a transfer
 /// that goes over the live addresses by the index. An address that is put is in the index, and
 /// hidden if it has no value yet. The layout and the index follow, and that takes no memory.
+#[inline(always)]
 pub(crate) fn make_indexed<F: Flash, A: Allocator>(
     flash: &mut F,
     layout: &mut Layout,

@@ -1,4 +1,4 @@
-ghost use Rattle.std.specs.Prelude.{◌≡◌, ◌<◌, ◌⊎◌, ℕ, ◌+◌, OnErr, OnOk};
+ghost use Rattle.std.specs.Prelude.{◌≡◌, ◌<◌, ◌⊎◌, ℕ, ◌+◌, IfOk, OnErr, OnOk};
 ghost use Rattle.ee_flash.specs.Power.{Ends};
 ghost use Rattle.ee_flash.specs.Size.{slot_count};
 ghost use Rattle.ee_flash.specs.declared.word.Word.TheVariants.{Held};
@@ -51,16 +51,15 @@ pub(crate) fn append<F: Flash>(
     ensures power { Ends result (F.device flash.old) (F.device flash.new) }
 {
     open_page(flash, layout)?;
-    push(flash, layout, change)?;
-    let slots = flash.shape().words() - 4;
-    layout.current = first_page(flash, layout.side) + layout.fill / slots;
+    let page = push(flash, layout, change)?;
+    layout.current = page;
     layout.fill += 1;
     Ok(())
 }
 
 // Marks the page of the first free slot as the one that is used, if it is a further one, and the
 // page before it as used up.
-#[inline]
+#[inline(always)]
 fn open_page<F: Flash>(flash: &mut F, layout: &Layout) -> Result<(), Cut>
     requires layout { IsLayout (F.device flash.old) layout.now }
     requires marked { IsMarked (F.device flash.old) layout.now.side }
@@ -84,11 +83,13 @@ fn open_page<F: Flash>(flash: &mut F, layout: &Layout) -> Result<(), Cut>
     Ok(())
 }
 
-// Programs a change into the first free slot of the live set.
+// Programs a change into the first free slot of the live set, and gives the page of that slot.
 #[inline(always)]
-fn push<F: Flash>(flash: &mut F, layout: &Layout, change: Change) -> Result<(), Cut>
+fn push<F: Flash>(flash: &mut F, layout: &Layout, change: Change) -> Result<usize, Cut>
     requires layout { IsLayout (F.device flash.old) layout.now }
     requires free { layout.now.fill < slot_count (F.device flash.old).size }
+    ensures page { let size = (F.device flash.old).size in IfOk result
+        (λ page. page ≡ first_of size layout.now.side + page_of_slot size layout.now.fill) }
     ensures takes { OnOk result (
         Takes (F.device flash.old) (F.device flash.new) layout.now.side layout.now.generation
         (changed (meant change)
@@ -113,5 +114,5 @@ fn push<F: Flash>(flash: &mut F, layout: &Layout, change: Change) -> Result<(), 
     let slots = flash.shape().words() - 4;
     let page = first_page(flash, layout.side) + layout.fill / slots;
     flash.program(page, 4 + layout.fill % slots, change.word())?;
-    Ok(())
+    Ok(page)
 }

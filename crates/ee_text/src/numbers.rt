@@ -56,6 +56,7 @@ pub fn leading_number(text: &[u8], greatest: u32) -> Option<(u32, &[u8])>
 }
 
 /// Writes the number at the end. An `Err` leaves `out` as it was.
+#[inline(always)]
 pub fn push_number<A: Allocator>(out: &mut Vec<u8, A>, n: u64) -> Result<(), AllocError>
     ensures ok { OnOk result (out.new.items ≡ out.old.items ++ decimal n) }
     ensures err { OnErr result (out.new.items ≡ out.old.items) }

@@ -9,14 +9,14 @@ use Rattle.ee_store.proofs.writing.append.Goals as goal
 pub returns-clause-marked : goal.returns-clause-marked
 returns-clause-marked g c =
     let opened = c.open_page.ensures in
-    let pushed = c.in_ok-push.ensures in
+    let pushed = c.in_ok-page.ensures in
     let one_more = pushed.takes.one_more ∙ ap (λ n. n + 1) (opened.stays.keeps.same_fill ∙ sym c.requires.layout.fill) in
     appended_marked c.args.layout.now.side c.args.layout.now.fill (g.F.Flash.device c.args.flash.now) (g.F.Flash.device c.open_page.new.flash) (g.F.Flash.device c.push.new.flash) c.requires.layout.live.formed opened.stays.keeps.same_size pushed.takes.same_size one_more c.in_ok-open_page.ensures.ready c.push.ensures.marks opened.other c.push.ensures.other c.requires.marked
 
 pub returns-clause-takes : goal.returns-clause-takes
 returns-clause-takes g c =
     let keeps = c.open_page.ensures.stays.keeps in
-    let takes = c.in_ok-push.ensures.takes in
+    let takes = c.in_ok-page.ensures.takes in
     record {
       live = takes.live;
       same_size = takes.same_size ∙ keeps.same_size;
@@ -28,4 +28,4 @@ pub returns-clause-drawn : goal.returns-clause-drawn
 returns-clause-drawn g c =
     let layout = c.args.layout.now in
     appends_word layout.side (g.F.Flash.device c.args.flash.now) (g.F.Flash.device c.open_page.new.flash) (g.F.Flash.device c.push.new.flash) layout.fill (number_of c.args.change)
-    c.open_page.ensures.stays.keeps.same_size c.in_ok-push.ensures.takes.same_size c.in_ok-open_page.ensures.drawn c.in_ok-push.ensures.puts
+    c.open_page.ensures.stays.keeps.same_size c.in_ok-page.ensures.takes.same_size c.in_ok-open_page.ensures.drawn c.in_ok-page.ensures.puts

@@ -21,7 +21,7 @@ returns-then-value-from-clause-only c = λ n behind small ends e.
 pub returns-clause-found : goal.returns-clause-found
 returns-clause-found c =
     let rest = rest_is c.args.text.now c.in_ok-value.count in (
-      omega arith,
+      search arith,
       spelled c.args.text.now c.in_ok-value.count c.in_ok-value.value c.in_ok-value.ensures.found.0 (omega arith) c.if-not-is_plain.ensures.plain.0 c.if-not-is_plain.ensures.plain.1
           ∙ ap (λ l. decimal c.in_ok-value.value ++ l) (sym rest),
       subst StartsWithNoDigit (sym rest) c.in_ok-value.ensures.found.1,
