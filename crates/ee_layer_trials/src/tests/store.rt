@@ -5,7 +5,7 @@ mod cuts;
 mod each_cut;
 mod events;
 mod forgetting;
-mod image;
+pub mod image;
 mod many_pages;
 mod moves;
 mod order;
