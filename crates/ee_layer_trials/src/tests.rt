@@ -13,7 +13,31 @@ mod wear;
 
 use ee_check::Change;
 use ee_codec::Address;
+use ee_flash::Shape;
+use std::fmt::Debug;
+use std::process::Abort;
 use std::test::Fail;
+
+/// A value is the one that is wanted. Each assertion that stands in a test is proved there; a call
+/// of this one costs next to nothing.
+fn same<T: PartialEq + Debug + Copy>(rt: &impl Abort, found: T, wanted: T) {
+    assert_eq!(rt; found, wanted);
+}
+
+/// The same, with the place in a table or a loop that a failure names.
+fn same_at<P: Debug + Copy, T: PartialEq + Debug + Copy>(
+    rt: &impl Abort,
+    place: P,
+    found: T,
+    wanted: T,
+) {
+    assert_eq!(rt; found, wanted, "at {place:?}");
+}
+
+/// The shape with these numbers of pages and words, which are in range.
+fn shape(pages: usize, words: usize) -> Result<Shape, Fail> {
+    Ok(Shape::new(pages, words).ok_or("no shape")?)
+}
 
 /// The address of a number that has one.
 fn address(number: u16) -> Result<Address, Fail> {

@@ -1,5 +1,5 @@
 //! Worked certificates and texts, and each call once.
-use crate::tests::{address, forget, write};
+use crate::tests::{address, forget, same, write};
 use ee_check::{
     Change, CheckFault, Start, Stretch, TextFault, check, read_certificate, write_certificate,
 };
@@ -45,14 +45,14 @@ fn starts_have_limits(rt: HostRuntime) -> Result<(), Fail> {
         (2, 2, &[1, 2], true),
     ] {
         let live = addresses(rt.alloc(), live)?;
-        assert_eq!(rt; Start::new(slots, fill, live).is_some(), is);
+        same(&rt, Start::new(slots, fill, live).is_some(), is);
     }
     let start = start(rt.alloc(), 6, 3, &[7, 4])?;
-    assert_eq!(rt; start.slots(), 6);
-    assert_eq!(rt; start.fill(), 3);
-    assert_eq!(rt; start.live().len(), 2);
+    same(&rt, start.slots(), 6);
+    same(&rt, start.fill(), 3);
+    same(&rt, start.live().len(), 2);
     assert!(rt; start.live().contains(&address(4)?));
-    assert_eq!(rt; start.live_in(rt.alloc())?.len(), 2);
+    same(&rt, start.live_in(rt.alloc())?.len(), 2);
     Ok(())
 }
 
@@ -64,7 +64,7 @@ fn assert_two_moves<R: Abort + AllocGlobal>(
     let start = start(rt.alloc(), 2, 0, &[])?;
     let trace = [write(1)?, write(1)?, write(1)?, write(2)?, write(1)?];
     for (text, want) in cases {
-        assert_eq!(rt; checked(rt.alloc(), &start, &trace, text)?, *want);
+        same(rt, checked(rt.alloc(), &start, &trace, text)?, *want);
     }
     Ok(())
 }
@@ -116,7 +116,7 @@ fn numbers_up_to_the_greatest(rt: HostRuntime) -> Result<(), Fail> {
             Err(CheckFault::WrongStart),
         ),
     ] {
-        assert_eq!(rt; checked(rt.alloc(), &start, &trace, text)?, want);
+        same(&rt, checked(rt.alloc(), &start, &trace, text)?, want);
     }
     Ok(())
 }
@@ -125,10 +125,10 @@ fn numbers_up_to_the_greatest(rt: HostRuntime) -> Result<(), Fail> {
 fn empty_script_and_all_live(rt: HostRuntime) -> Result<(), Fail> {
     let empty = start(rt.alloc(), 2, 0, &[])?;
     let text = b"slots 2 fill 0 live 0 writes 0\ntransfers 0\n";
-    assert_eq!(rt; checked(rt.alloc(), &empty, &[], text)?, Ok(0));
+    same(&rt, checked(rt.alloc(), &empty, &[], text)?, Ok(0));
     let full = start(rt.alloc(), 2, 2, &[1, 2])?;
     let text = b"slots 2 fill 2 live 2 writes 1\nto 1 from 2\ntransfers 1\n";
-    assert_eq!(rt; checked(rt.alloc(), &full, &[write(2)?], text)?, Ok(1));
+    same(&rt, checked(rt.alloc(), &full, &[write(2)?], text)?, Ok(1));
     Ok(())
 }
 
@@ -137,7 +137,7 @@ fn one_slot(rt: HostRuntime) -> Result<(), Fail> {
     let start = start(rt.alloc(), 1, 0, &[])?;
     let text = b"slots 1 fill 0 live 0 writes 3\nto 2 from 0\nto 3 from 1\ntransfers 2\n";
     let trace = [write(1)?, write(1)?, write(1)?];
-    assert_eq!(rt; checked(rt.alloc(), &start, &trace, text)?, Ok(2));
+    same(&rt, checked(rt.alloc(), &start, &trace, text)?, Ok(2));
     Ok(())
 }
 
@@ -154,11 +154,15 @@ fn a_thousand_stretches(rt: HostRuntime) -> Result<(), Fail> {
     }
     text.push_str("transfers 1000\n")?;
     let certificate = read_certificate(rt.alloc(), text.as_bytes())?;
-    assert_eq!(rt; certificate.stretches.len(), 1000);
-    assert_eq!(rt; check(rt.alloc(), &start, &trace, &certificate), Ok(1000));
+    same(&rt, certificate.stretches.len(), 1000);
+    same(
+        &rt,
+        check(rt.alloc(), &start, &trace, &certificate),
+        Ok(1000),
+    );
     let mut out = Vec::new(rt.alloc());
     write_certificate(&certificate, &mut out)?;
-    assert_eq!(rt; out.as_slice(), text.as_bytes());
+    same(&rt, out.as_slice(), text.as_bytes());
     Ok(())
 }
 
@@ -167,15 +171,15 @@ fn forgettings(rt: HostRuntime) -> Result<(), Fail> {
     let two = start(rt.alloc(), 2, 0, &[])?;
     let trace = [write(1)?, write(2)?, forget(1)?, write(3)?];
     let text = b"slots 2 fill 0 live 0 writes 4\nto 3 from 0\ntransfers 1\n";
-    assert_eq!(rt; checked(rt.alloc(), &two, &trace, text)?, Ok(1));
+    same(&rt, checked(rt.alloc(), &two, &trace, text)?, Ok(1));
     let one = start(rt.alloc(), 1, 0, &[])?;
     let trace = [write(1)?, forget(1)?, write(2)?, forget(2)?];
     let text = b"slots 1 fill 0 live 0 writes 4\nto 2 from 0\nto 4 from 0\ntransfers 2\n";
-    assert_eq!(rt; checked(rt.alloc(), &one, &trace, text)?, Ok(2));
+    same(&rt, checked(rt.alloc(), &one, &trace, text)?, Ok(2));
     // forgetting what isn't live takes a slot all the same
     let trace = [forget(1)?, forget(1)?];
     let text = b"slots 1 fill 0 live 0 writes 2\nto 2 from 0\ntransfers 1\n";
-    assert_eq!(rt; checked(rt.alloc(), &one, &trace, text)?, Ok(1));
+    same(&rt, checked(rt.alloc(), &one, &trace, text)?, Ok(1));
     Ok(())
 }
 
@@ -183,19 +187,21 @@ fn forgettings(rt: HostRuntime) -> Result<(), Fail> {
 fn texts_are_read_and_written(rt: HostRuntime) -> Result<(), Fail> {
     let text = b"slots 2 fill 0 live 0 writes 5\nto 3 from 0\nto 5 from 1\ntransfers 2\n";
     let certificate = read_certificate(rt.alloc(), text)?;
-    assert_eq!(rt; certificate.slots, 2);
-    assert_eq!(rt; certificate.fill, 0);
-    assert_eq!(rt; certificate.live, 0);
-    assert_eq!(rt; certificate.writes, 5);
-    assert_eq!(rt;
+    same(&rt, certificate.slots, 2);
+    same(&rt, certificate.fill, 0);
+    same(&rt, certificate.live, 0);
+    same(&rt, certificate.writes, 5);
+    same(
+        &rt,
         certificate.stretches.as_slice(),
-        [Stretch { to: 3, from: 0 }, Stretch { to: 5, from: 1 }].as_slice()
+        [Stretch { to: 3, from: 0 }, Stretch { to: 5, from: 1 }].as_slice(),
     );
     let mut out = Vec::from_slice(rt.alloc(), b"end\n")?;
     write_certificate(&certificate, &mut out)?;
-    assert_eq!(rt;
+    same(
+        &rt,
         out.as_slice(),
-        b"end\nslots 2 fill 0 live 0 writes 5\nto 3 from 0\nto 5 from 1\ntransfers 2\n" as &[u8]
+        b"end\nslots 2 fill 0 live 0 writes 5\nto 3 from 0\nto 5 from 1\ntransfers 2\n" as &[u8],
     );
     Ok(())
 }
@@ -210,15 +216,16 @@ fn every_prefix_breaks_off_at_its_line(rt: HostRuntime) {
     let text = b"slots 2 fill 0 live 0 writes 5\nto 3 from 0\nto 5 from 1\ntransfers 2\n";
     let mut line: u64 = 1;
     for (length, byte) in text.iter().enumerate() {
-        assert_eq!(rt;
+        same(
+            &rt,
             fault_of(rt.alloc(), &text[..length]),
-            Some(TextFault::BadText(line))
+            Some(TextFault::BadText(line)),
         );
         if *byte == b'\n' {
             line = line.saturating_add(1);
         }
     }
-    assert_eq!(rt; fault_of(rt.alloc(), text), None);
+    same(&rt, fault_of(rt.alloc(), text), None);
 }
 
 #[test]
@@ -253,8 +260,12 @@ fn one_spelling_is_read(rt: HostRuntime) {
         (b"slots 2 fill 0 live 0 writes 5\ntransfers 0\n\n", 3),
         (b"slots 2 fill 0 live 0 writes 5\ntransfers 0\nto", 3),
     ] {
-        assert_eq!(rt; fault_of(rt.alloc(), text), Some(TextFault::BadText(line)));
+        same(
+            &rt,
+            fault_of(rt.alloc(), text),
+            Some(TextFault::BadText(line)),
+        );
     }
     let greatest = b"slots 18446744073709551615 fill 0 live 0 writes 5\ntransfers 0\n";
-    assert_eq!(rt; fault_of(rt.alloc(), greatest), None);
+    same(&rt, fault_of(rt.alloc(), greatest), None);
 }

@@ -1,5 +1,5 @@
 //! Worked words, and the numbers that are none.
-use crate::tests::address;
+use crate::tests::{address, same};
 use ee_codec::{
     Address, MARK, MarkRead, Slot, element_word, ends_in, forget_word, read_mark, read_receive,
     read_slot, receive_word,
@@ -12,7 +12,7 @@ fn addresses_are_1_to_65534(rt: HostRuntime) -> Result<(), Fail> {
     assert!(rt; Address::new(0).is_none());
     assert!(rt; Address::new(65535).is_none());
     for number in [1, 2, 65534] {
-        assert_eq!(rt; address(number)?.get(), number);
+        same(&rt, address(number)?.get(), number);
     }
     assert!(rt; address(1)? < address(2)?);
     Ok(())
@@ -29,10 +29,11 @@ fn elements_are_spelled(rt: HostRuntime) -> Result<(), Fail> {
         (1, 0, 0x0000_0000_0000_0001),
     ] {
         let address = address(number)?;
-        assert_eq!(rt; element_word(address, value), word);
-        assert_eq!(rt;
+        same(&rt, element_word(address, value), word);
+        same(
+            &rt,
             read_slot(Word::Held(word)),
-            Slot::Element { address, value }
+            Slot::Element { address, value },
         );
     }
     Ok(())
@@ -41,9 +42,9 @@ fn elements_are_spelled(rt: HostRuntime) -> Result<(), Fail> {
 #[test]
 fn forgettings_are_spelled(rt: HostRuntime) -> Result<(), Fail> {
     let address = address(1)?;
-    assert_eq!(rt; forget_word(address, 10), 0x0000_000a_0001_0001);
+    same(&rt, forget_word(address, 10), 0x0000_000a_0001_0001);
     let read = read_slot(Word::Held(0x0000_000a_0001_0001));
-    assert_eq!(rt; read, Slot::Forgotten { address, value: 10 });
+    same(&rt, read, Slot::Forgotten { address, value: 10 });
     Ok(())
 }
 
@@ -57,7 +58,7 @@ fn words_end_in_an_address(rt: HostRuntime) -> Result<(), Fail> {
         (Word::Erased, false),
         (Word::Torn, false),
     ] {
-        assert_eq!(rt; ends_in(word, address), ends);
+        same(&rt, ends_in(word, address), ends);
     }
     Ok(())
 }
@@ -73,10 +74,10 @@ fn other_numbers_are_no_slot(rt: HostRuntime) {
         0xaaaa_aaaa_ffff_ffff,
         0xaaaa_aaaa_aaaa_aaaa,
     ] {
-        assert_eq!(rt; read_slot(Word::Held(word)), Slot::Foreign);
+        same(&rt, read_slot(Word::Held(word)), Slot::Foreign);
     }
-    assert_eq!(rt; read_slot(Word::Erased), Slot::Free);
-    assert_eq!(rt; read_slot(Word::Torn), Slot::Spoiled);
+    same(&rt, read_slot(Word::Erased), Slot::Free);
+    same(&rt, read_slot(Word::Torn), Slot::Spoiled);
 }
 
 #[test]
@@ -85,8 +86,8 @@ fn receive_words_are_spelled(rt: HostRuntime) -> Result<(), Fail> {
         (1, 0xaaaa_aaaa_0000_0001),
         (4_294_967_294, 0xaaaa_aaaa_ffff_fffe),
     ] {
-        assert_eq!(rt; receive_word(generation), word);
-        assert_eq!(rt; read_receive(Word::Held(word)), Some(generation));
+        same(&rt, receive_word(generation), word);
+        same(&rt, read_receive(Word::Held(word)), Some(generation));
     }
     for word in [
         Word::Held(0x0000_000a_0000_0000),
@@ -97,26 +98,27 @@ fn receive_words_are_spelled(rt: HostRuntime) -> Result<(), Fail> {
         Word::Erased,
         Word::Torn,
     ] {
-        assert_eq!(rt; read_receive(word), None);
+        same(&rt, read_receive(word), None);
     }
     Ok(())
 }
 
 #[test]
 fn only_the_mark_is_a_mark(rt: HostRuntime) {
-    assert_eq!(rt; MARK, 0xaaaa_aaaa_aaaa_aaaa);
-    assert_eq!(rt;
+    same(&rt, MARK, 0xaaaa_aaaa_aaaa_aaaa);
+    same(
+        &rt,
         read_mark(Word::Held(0xaaaa_aaaa_aaaa_aaaa)),
-        MarkRead::Present
+        MarkRead::Present,
     );
-    assert_eq!(rt; read_mark(Word::Erased), MarkRead::Absent);
-    assert_eq!(rt; read_mark(Word::Torn), MarkRead::Broken);
+    same(&rt, read_mark(Word::Erased), MarkRead::Absent);
+    same(&rt, read_mark(Word::Torn), MarkRead::Broken);
     for word in [
         0x0000_000a_0000_0000,
         0xaaaa_aaaa_0000_0000,
         0xaaaa_aaaa_0000_0001,
     ] {
-        assert_eq!(rt; read_mark(Word::Held(word)), MarkRead::Foreign);
+        same(&rt, read_mark(Word::Held(word)), MarkRead::Foreign);
     }
 }
 
@@ -124,14 +126,15 @@ fn only_the_mark_is_a_mark(rt: HostRuntime) {
 #[test]
 fn a_word_is_told_by_its_place(rt: HostRuntime) -> Result<(), Fail> {
     let receive = Word::Held(0xaaaa_aaaa_0000_0001);
-    assert_eq!(rt;
+    same(
+        &rt,
         read_slot(receive),
         Slot::Element {
             address: address(1)?,
-            value: 2_863_311_530
-        }
+            value: 2_863_311_530,
+        },
     );
-    assert_eq!(rt; read_receive(receive), Some(1));
-    assert_eq!(rt; read_receive(Word::Held(MARK)), Some(2_863_311_530));
+    same(&rt, read_receive(receive), Some(1));
+    same(&rt, read_receive(Word::Held(MARK)), Some(2_863_311_530));
     Ok(())
 }

@@ -1,72 +1,45 @@
 //! The worked examples of cuts, and each call once.
+use crate::tests::store::image::{assert_image, device};
+use crate::tests::{same, same_at, shape};
 use ee_flash::{CellFault, Cut, Flash, Fuse, MemFlash, Shape, Tear, Word};
-use std::alloc::Global;
+use std::process::Abort;
 use std::test::Fail;
 
-// Steps as a caller takes them, with their conditions tested first.
-fn program<F: Flash>(flash: &mut F, page: usize, at: usize, value: u64) -> Option<Result<(), Cut>> {
+// A step as a caller takes it, with its condition tested first: it programs a word, or erases the
+// page where no word is named.
+fn step<F: Flash>(
+    flash: &mut F,
+    page: usize,
+    word: Option<(usize, u64)>,
+) -> Option<Result<(), Cut>> {
     let shape = flash.shape();
-    if page < 2 * shape.pages()
-        && at < shape.words()
-        && flash.word(page, at) == Word::Erased
-        && value < u64::MAX
-    {
-        Some(flash.program(page, at, value))
-    } else {
-        None
-    }
-}
-
-fn erase<F: Flash>(flash: &mut F, page: usize) -> Option<Result<(), Cut>> {
-    if page < 2 * flash.shape().pages() {
-        Some(flash.erase(page))
-    } else {
-        None
-    }
-}
-
-fn wear<F: Flash>(flash: &F, page: usize) -> Option<u64> {
-    (page < 2 * flash.shape().pages()).then(|| flash.wear(page))
-}
-
-// The words of a page of a device with six words a page.
-fn words<F: Flash>(flash: &F, page: usize) -> Option<[Word; 6]> {
-    if page >= 2 * flash.shape().pages() || flash.shape().words() != 6 {
+    if page >= 2 * shape.pages() {
         return None;
     }
-    Some([
-        flash.word(page, 0),
-        flash.word(page, 1),
-        flash.word(page, 2),
-        flash.word(page, 3),
-        flash.word(page, 4),
-        flash.word(page, 5),
-    ])
-}
-
-const MARK: Word = Word::Held(0xaaaa_aaaa_aaaa_aaaa);
-
-const FULL_PAGE: [Word; 6] = [
-    Word::Held(0xaaaa_aaaa_0000_0001),
-    MARK,
-    Word::Torn,
-    MARK,
-    Word::Held(0x0000_000a_0000_0001),
-    Word::Held(0x0000_000b_0000_0001),
-];
-
-const BLANK_PAGE: [Word; 6] = [Word::Erased; 6];
-
-// One page a set, the first of them full, and both worn as often.
-fn worn_device(alloc: Global, wear: u64) -> Result<MemFlash, Fail> {
-    let shape = Shape::new(1, 6).ok_or("a shape")?;
-    let mut cells = FULL_PAGE.to_vec(alloc)?;
-    cells.extend_from_slice(&BLANK_PAGE)?;
-    match MemFlash::from_cells(shape, cells, vec![in alloc; wear; 2]?) {
-        Ok(flash) => Ok(flash),
-        Err(_) => Err(Fail::from("cells")),
+    let Some((at, value)) = word else {
+        return Some(flash.erase(page));
+    };
+    if at >= shape.words() || value == u64::MAX || flash.word(page, at) != Word::Erased {
+        return None;
     }
+    Some(flash.program(page, at, value))
 }
+
+// Whether it is on, how often it was cut, how many cuts may come, and its steps.
+fn state(flash: &MemFlash) -> (bool, u64, Option<u64>, u64) {
+    (
+        flash.is_on(),
+        flash.cuts(),
+        flash.cuts_left(),
+        flash.steps(),
+    )
+}
+
+/// One page a set, the first of them full, and both worn as often.
+const WORN: &[&str] = &[
+    "3 aaaaaaaa00000001 aaaaaaaaaaaaaaaa ? aaaaaaaaaaaaaaaa 0000000a00000001 0000000b00000001",
+    "3 - - - - - -",
+];
 
 #[test]
 fn a_shape_has_limits(rt: HostRuntime) {
@@ -79,47 +52,35 @@ fn a_shape_has_limits(rt: HostRuntime) {
         (1, 4, None),
         (1, 513, None),
     ] {
-        assert_eq!(rt;
+        same_at(
+            &rt,
+            (pages, words),
             Shape::new(pages, words).map(|shape| shape.slots()),
             slots,
-            "{pages} {words}"
         );
     }
 }
 
 #[test]
 fn a_blank_device_is_on_and_erased(rt: HostRuntime) -> Result<(), Fail> {
-    let shape = Shape::new(1, 6).ok_or("a shape")?;
+    let shape = shape(1, 6)?;
     let flash = MemFlash::blank(rt.alloc(), shape)?;
-    assert_eq!(rt; flash.shape(), shape);
-    assert_eq!(rt; words(&flash, 0), Some(BLANK_PAGE));
-    assert_eq!(rt; words(&flash, 1), Some(BLANK_PAGE));
-    assert_eq!(rt; wear(&flash, 1), Some(0));
-    assert!(rt; flash.is_on());
-    assert_eq!(rt; flash.cuts(), 0);
-    assert_eq!(rt; flash.cuts_left(), Some(0));
-    assert_eq!(rt; flash.steps(), 0);
-    Ok(())
+    same(&rt, flash.shape(), shape);
+    same(&rt, state(&flash), (true, 0, Some(0), 0));
+    assert_image(&rt, &flash, &["0 - - - - - -", "0 - - - - - -"])
 }
 
 #[test]
 fn a_device_of_cells_is_those_cells(rt: HostRuntime) -> Result<(), Fail> {
-    let flash = worn_device(rt.alloc(), 7)?;
-    assert_eq!(rt; words(&flash, 0), Some(FULL_PAGE));
-    assert_eq!(rt; words(&flash, 1), Some(BLANK_PAGE));
-    assert_eq!(rt; wear(&flash, 1), Some(7));
-    assert!(rt; flash.is_on());
-    assert_eq!(rt;
-        (flash.cuts(), flash.cuts_left(), flash.steps()),
-        (0, Some(0), 0)
-    );
-    Ok(())
+    let flash = device(rt.alloc(), WORN)?;
+    same(&rt, state(&flash), (true, 0, Some(0), 0));
+    assert_image(&rt, &flash, WORN)
 }
 
 #[test]
 fn cells_that_are_no_device_are_refused(rt: HostRuntime) -> Result<(), Fail> {
     let alloc = rt.alloc();
-    let shape = Shape::new(1, 5).ok_or("a shape")?;
+    let shape = shape(1, 5)?;
     let ones = Word::Held(u64::MAX);
     for (cells, wears, first, fault) in [
         (9, 2, 9, CellFault::WrongLength),
@@ -132,106 +93,99 @@ fn cells_that_are_no_device_are_refused(rt: HostRuntime) -> Result<(), Fail> {
         words.resize(cells, ones)?;
         match MemFlash::from_cells(shape, words, vec![in alloc; 0; wears]?) {
             Ok(_) => panic!(rt; "taken"),
-            Err(found) => assert_eq!(rt; found, fault),
+            Err(found) => same(&rt, found, fault),
         }
     }
     Ok(())
 }
 
+// Cuts a step of the worn device. It leaves this image.
+fn assert_cut<R: Abort + AllocGlobal>(
+    rt: &R,
+    tear: Tear,
+    page: usize,
+    word: Option<(usize, u64)>,
+    image: &[&str],
+) -> Result<(), Fail> {
+    let mut flash = device(rt.alloc(), WORN)?;
+    flash.arm(Fuse { after: 0, tear });
+    same_at(rt, tear, state(&flash), (true, 0, Some(1), 0));
+    same_at(rt, tear, step(&mut flash, page, word), Some(Err(Cut)));
+    same_at(rt, tear, state(&flash), (false, 1, Some(0), 1));
+    assert_image(rt, &flash, image)
+}
+
 #[test]
 fn a_cut_program_leaves_what_its_tear_says(rt: HostRuntime) -> Result<(), Fail> {
+    let full =
+        "3 aaaaaaaa00000001 aaaaaaaaaaaaaaaa ? aaaaaaaaaaaaaaaa 0000000a00000001 0000000b00000001";
     for (tear, left) in [
-        (Tear::Nothing, Word::Erased),
-        (Tear::Done, Word::Held(5)),
-        (Tear::Torn, Word::Torn),
-        (Tear::Mixed, Word::Torn),
+        (Tear::Nothing, "3 - - - - - -"),
+        (Tear::Done, "3 - - - - 0000000000000005 -"),
+        (Tear::Torn, "3 - - - - ? -"),
+        (Tear::Mixed, "3 - - - - ? -"),
     ] {
-        let mut flash = worn_device(rt.alloc(), 0)?;
-        flash.arm(Fuse { after: 0, tear });
-        assert_eq!(rt; flash.cuts_left(), Some(1));
-        assert_eq!(rt; program(&mut flash, 1, 4, 5), Some(Err(Cut)), "{tear:?}");
-        let mut page = BLANK_PAGE;
-        page[4] = left;
-        assert_eq!(rt; words(&flash, 1), Some(page), "{tear:?}");
-        assert_eq!(rt; words(&flash, 0), Some(FULL_PAGE), "{tear:?}");
-        assert!(rt; !flash.is_on());
-        assert_eq!(rt;
-            (flash.cuts(), flash.cuts_left(), flash.steps()),
-            (1, Some(0), 1)
-        );
+        assert_cut(&rt, tear, 1, Some((4, 5)), &[full, left])?;
     }
     Ok(())
 }
 
 #[test]
 fn a_cut_erase_leaves_what_its_tear_says(rt: HostRuntime) -> Result<(), Fail> {
-    // Mixed: every third word stays, the next is erased, and the next torn.
-    let mixed = [
-        FULL_PAGE[0],
-        Word::Erased,
-        Word::Torn,
-        MARK,
-        Word::Erased,
-        Word::Torn,
-    ];
     for (tear, left) in [
-        (Tear::Nothing, FULL_PAGE),
-        (Tear::Done, BLANK_PAGE),
-        (Tear::Torn, [Word::Torn; 6]),
-        (Tear::Mixed, mixed),
+        (
+            Tear::Nothing,
+            "4 aaaaaaaa00000001 aaaaaaaaaaaaaaaa ? aaaaaaaaaaaaaaaa 0000000a00000001 0000000b00000001",
+        ),
+        (Tear::Done, "4 - - - - - -"),
+        (Tear::Torn, "4 ? ? ? ? ? ?"),
+        // Every third word stays, the next is erased, and the next torn.
+        (Tear::Mixed, "4 aaaaaaaa00000001 - ? aaaaaaaaaaaaaaaa - ?"),
     ] {
-        let mut flash = worn_device(rt.alloc(), 3)?;
-        flash.arm(Fuse { after: 0, tear });
-        assert_eq!(rt; erase(&mut flash, 0), Some(Err(Cut)), "{tear:?}");
-        assert_eq!(rt; words(&flash, 0), Some(left), "{tear:?}");
-        assert_eq!(rt; words(&flash, 1), Some(BLANK_PAGE), "{tear:?}");
-        assert_eq!(rt;
-            (wear(&flash, 0), wear(&flash, 1)),
-            (Some(4), Some(3)),
-            "{tear:?}"
-        );
-        assert!(rt; !flash.is_on());
+        assert_cut(&rt, tear, 0, None, &[left, "3 - - - - - -"])?;
     }
     Ok(())
 }
 
 #[test]
 fn a_fuse_lets_its_steps_pass_and_cuts_once(rt: HostRuntime) -> Result<(), Fail> {
-    let mut flash = worn_device(rt.alloc(), 0)?;
-    flash.arm(Fuse {
-        after: 9,
-        tear: Tear::Torn,
-    });
-    flash.arm(Fuse {
-        after: 2,
-        tear: Tear::Done,
-    });
-    assert_eq!(rt; program(&mut flash, 1, 4, 5), Some(Ok(())));
-    assert_eq!(rt; erase(&mut flash, 0), Some(Ok(())));
-    assert_eq!(rt; program(&mut flash, 1, 5, 6), Some(Err(Cut)));
-    // While it is off a step is no step, and nothing changes.
-    assert_eq!(rt; program(&mut flash, 0, 0, 1), Some(Err(Cut)));
-    assert_eq!(rt; erase(&mut flash, 1), Some(Err(Cut)));
-    let mut page = BLANK_PAGE;
-    page[4] = Word::Held(5);
-    page[5] = Word::Held(6);
-    assert_eq!(rt;
-        (words(&flash, 0), words(&flash, 1)),
-        (Some(BLANK_PAGE), Some(page))
-    );
-    assert_eq!(rt; (wear(&flash, 0), wear(&flash, 1)), (Some(1), Some(0)));
-    assert_eq!(rt; (flash.cuts(), flash.steps()), (1, 3));
+    let mut flash = device(rt.alloc(), WORN)?;
+    for (after, tear) in [(9, Tear::Torn), (2, Tear::Done)] {
+        flash.arm(Fuse { after, tear });
+    }
+    for (page, word, wanted) in [
+        (1, Some((4, 5)), Ok(())),
+        (0, None, Ok(())),
+        (1, Some((5, 6)), Err(Cut)),
+        // While it is off a step is no step, and nothing changes.
+        (0, Some((0, 1)), Err(Cut)),
+        (1, None, Err(Cut)),
+    ] {
+        same(&rt, step(&mut flash, page, word), Some(wanted));
+    }
+    let image = [
+        "4 - - - - - -",
+        "3 - - - - 0000000000000005 0000000000000006",
+    ];
+    assert_image(&rt, &flash, &image)?;
+    same(&rt, state(&flash), (false, 1, Some(0), 3));
     flash.power_on();
-    assert_eq!(rt; program(&mut flash, 0, 0, 1), Some(Ok(())));
-    assert_eq!(rt; (flash.cuts(), flash.steps()), (1, 4));
+    same(&rt, step(&mut flash, 0, Some((0, 1))), Some(Ok(())));
+    same(&rt, state(&flash), (true, 1, Some(0), 4));
     Ok(())
 }
 
 #[test]
 fn the_greatest_wear_stays(rt: HostRuntime) -> Result<(), Fail> {
-    let mut flash = worn_device(rt.alloc(), u64::MAX)?;
-    assert_eq!(rt; erase(&mut flash, 0), Some(Ok(())));
-    assert_eq!(rt; wear(&flash, 0), Some(u64::MAX));
-    assert_eq!(rt; words(&flash, 0), Some(BLANK_PAGE));
-    Ok(())
+    let image = [
+        "18446744073709551615 - - ? - - -",
+        "18446744073709551615 - - - - - -",
+    ];
+    let mut flash = device(rt.alloc(), &image)?;
+    same(&rt, step(&mut flash, 0, None), Some(Ok(())));
+    let left = [
+        "18446744073709551615 - - - - - -",
+        "18446744073709551615 - - - - - -",
+    ];
+    assert_image(&rt, &flash, &left)
 }

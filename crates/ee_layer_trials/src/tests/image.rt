@@ -1,7 +1,10 @@
 //! Worked texts and faults, and each call once.
-use ee_flash::{Flash, MemFlash, Shape, Word};
+use crate::tests::store::image::assert_image;
+use crate::tests::{same, shape};
+use ee_flash::{Flash, MemFlash};
 use ee_image::{ImageFault, read_image, write_image};
 use std::alloc::Global;
+use std::process::Abort;
 use std::test::Fail;
 
 /// A formatted image of one page a set and six words a page.
@@ -30,51 +33,33 @@ fn fault_of(alloc: Global, text: &[u8]) -> Option<ImageFault> {
 #[test]
 fn a_text_says_the_shape_of_a_device_that_is_on(rt: HostRuntime) -> Result<(), Fail> {
     let flash = read_image(rt.alloc(), GREATEST).ok().ok_or("not read")?;
-    assert_eq!(rt; flash.shape().pages(), 1);
-    assert_eq!(rt; flash.shape().words(), 6);
+    same(&rt, flash.shape().pages(), 1);
+    same(&rt, flash.shape().words(), 6);
     assert!(rt; flash.is_on());
-    assert_eq!(rt; flash.cuts(), 0);
-    assert_eq!(rt; flash.cuts_left(), Some(0));
-    assert_eq!(rt; flash.steps(), 0);
+    same(&rt, flash.cuts(), 0);
+    same(&rt, flash.cuts_left(), Some(0));
+    same(&rt, flash.steps(), 0);
     Ok(())
 }
 
 #[test]
 fn a_text_says_each_word_and_wear(rt: HostRuntime) -> Result<(), Fail> {
     let flash = read_image(rt.alloc(), GREATEST).ok().ok_or("not read")?;
-    for (page, wear, words) in [
-        (
-            0,
-            u64::MAX,
-            [
-                Word::Held(0xaaaa_aaaa_0000_0001),
-                Word::Held(0xaaaa_aaaa_aaaa_aaaa),
-                Word::Erased,
-                Word::Erased,
-                Word::Torn,
-                Word::Held(0x0000_000b_0000_0001),
-            ],
-        ),
-        (
-            1,
-            7,
-            [
-                Word::Erased,
-                Word::Erased,
-                Word::Erased,
-                Word::Erased,
-                Word::Erased,
-                Word::Held(u64::MAX - 1),
-            ],
-        ),
-    ] {
-        if page < 2 * flash.shape().pages() && flash.shape().words() == 6 {
-            assert_eq!(rt; flash.wear(page), wear);
-            for at in 0..6 {
-                assert_eq!(rt; flash.word(page, at), words[at]);
-            }
-        }
-    }
+    let image = [
+        "18446744073709551615 aaaaaaaa00000001 aaaaaaaaaaaaaaaa - - ? 0000000b00000001",
+        "7 - - - - - fffffffffffffffe",
+    ];
+    assert_image(&rt, &flash, &image)
+}
+
+// The image of a text is written as the text, behind what was there.
+fn assert_comes_back<R: Abort + AllocGlobal>(rt: &R, text: &[u8]) -> Result<(), Fail> {
+    let flash = read_image(rt.alloc(), text).ok().ok_or("not read")?;
+    let mut out = Vec::from_slice(rt.alloc(), b"before\n")?;
+    write_image(&flash, &mut out)?;
+    let mut wanted = Vec::from_slice(rt.alloc(), b"before\n")?;
+    wanted.extend_from_slice(text)?;
+    same(rt, out.as_slice(), wanted.as_slice());
     Ok(())
 }
 
@@ -94,24 +79,19 @@ fn worked_texts_come_back(rt: HostRuntime) -> Result<(), Fail> {
 0 aaaaaaaa00000002 ? - aaaaaaaaaaaaaaaa 0000000c00000001 -
 ",
     ] {
-        let flash = read_image(rt.alloc(), text).ok().ok_or("not read")?;
-        let mut out = Vec::from_slice(rt.alloc(), b"before\n")?;
-        write_image(&flash, &mut out)?;
-        assert_eq!(rt; out.len(), text.len() + 7);
-        assert_eq!(rt; &out[..7], b"before\n".as_slice());
-        assert_eq!(rt; &out[7..], text);
+        assert_comes_back(&rt, text)?;
     }
     Ok(())
 }
 
 #[test]
 fn the_largest_image(rt: HostRuntime) -> Result<(), Fail> {
-    let shape = Shape::new(64, 512).ok_or("no shape")?;
+    let shape = shape(64, 512)?;
     let mut out = Vec::new(rt.alloc());
     write_image(&MemFlash::blank(rt.alloc(), shape)?, &mut out)?;
-    assert_eq!(rt; out.len(), 10 + 128 * (2 + 1024));
+    same(&rt, out.len(), 10 + 128 * (2 + 1024));
     let flash = read_image(rt.alloc(), &out).ok().ok_or("not read")?;
-    assert_eq!(rt; flash.shape(), shape);
+    same(&rt, flash.shape(), shape);
     Ok(())
 }
 
@@ -119,15 +99,16 @@ fn the_largest_image(rt: HostRuntime) -> Result<(), Fail> {
 fn every_prefix_breaks_off_at_its_line(rt: HostRuntime) {
     let mut line: u64 = 1;
     for (length, byte) in TWO_MOVES.iter().enumerate() {
-        assert_eq!(rt;
+        same(
+            &rt,
             fault_of(rt.alloc(), &TWO_MOVES[..length]),
-            Some(ImageFault::BadLine(line))
+            Some(ImageFault::BadLine(line)),
         );
         if *byte == b'\n' {
             line = line.saturating_add(1);
         }
     }
-    assert_eq!(rt; fault_of(rt.alloc(), TWO_MOVES), None);
+    same(&rt, fault_of(rt.alloc(), TWO_MOVES), None);
 }
 
 #[test]
@@ -154,7 +135,7 @@ fn faults_of_the_first_line(rt: HostRuntime) {
         (b"ee 1 513\n", ImageFault::BadShape),
         (b"ee 64 512\n", ImageFault::BadLine(2)),
     ] {
-        assert_eq!(rt; fault_of(rt.alloc(), text), Some(fault));
+        same(&rt, fault_of(rt.alloc(), text), Some(fault));
     }
 }
 
@@ -185,17 +166,22 @@ fn faults_of_the_pages(rt: HostRuntime) {
         // the first bad line is named
         (b"ee 1 5\n0 - - - - x\n0\n0\n", 2),
     ] {
-        assert_eq!(rt; fault_of(rt.alloc(), text), Some(ImageFault::BadLine(line)));
+        same(
+            &rt,
+            fault_of(rt.alloc(), text),
+            Some(ImageFault::BadLine(line)),
+        );
     }
 }
 
 #[test]
 fn too_long(rt: HostRuntime) -> Result<(), Fail> {
     let text = vec![in rt.alloc(); b'-'; 4194305]?;
-    assert_eq!(rt; fault_of(rt.alloc(), &text), Some(ImageFault::TooLong));
-    assert_eq!(rt;
+    same(&rt, fault_of(rt.alloc(), &text), Some(ImageFault::TooLong));
+    same(
+        &rt,
         fault_of(rt.alloc(), &text[1..]),
-        Some(ImageFault::BadLine(1))
+        Some(ImageFault::BadLine(1)),
     );
     Ok(())
 }

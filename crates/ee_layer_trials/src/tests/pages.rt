@@ -1,6 +1,7 @@
 //! The worked examples of scans, and each call once.
+use crate::tests::{same, shape};
 use ee_codec::Address;
-use ee_flash::{Flash, MemFlash, Shape, Word};
+use ee_flash::{Flash, MemFlash, Word};
 use ee_pages::{
     Layout, Mark, ScanFault, Side, State, is_blank, latest, live_count, mark, next_live, scan,
     slot_word, state_of,
@@ -26,7 +27,7 @@ const BLANK_OF_FIVE: [Word; 5] = [FREE; 5];
 
 // A device of one page in each set, with six words a page.
 fn small(alloc: Global, pages: [[Word; 6]; 2]) -> Result<MemFlash, Fail> {
-    let shape = Shape::new(1, 6).ok_or("a shape")?;
+    let shape = shape(1, 6)?;
     let mut cells = pages[0].to_vec(alloc)?;
     cells.extend_from_slice(&pages[1])?;
     match MemFlash::from_cells(shape, cells, vec![in alloc; 0; 2]?) {
@@ -37,7 +38,7 @@ fn small(alloc: Global, pages: [[Word; 6]; 2]) -> Result<MemFlash, Fail> {
 
 // A device of two pages in each set, with five words a page; those of the second set are blank.
 fn of_two(alloc: Global, first: [Word; 5], second: [Word; 5]) -> Result<MemFlash, Fail> {
-    let shape = Shape::new(2, 5).ok_or("a shape")?;
+    let shape = shape(2, 5)?;
     let mut cells = first.to_vec(alloc)?;
     cells.extend_from_slice(&second)?;
     cells.extend_from_slice(&BLANK_OF_FIVE)?;
@@ -67,7 +68,7 @@ fn scan_faults_of_one_page(rt: HostRuntime) -> Result<(), Fail> {
         ([torn, BLANK_OF_SIX], ScanFault::NoLiveSet),
     ] {
         let flash = small(rt.alloc(), pages)?;
-        assert_eq!(rt; scan(&flash), Err(fault));
+        same(&rt, scan(&flash), Err(fault));
     }
     Ok(())
 }
@@ -95,7 +96,7 @@ fn scan_faults_of_two_pages(rt: HostRuntime) -> Result<(), Fail> {
         ),
     ] {
         let flash = of_two(rt.alloc(), first, second)?;
-        assert_eq!(rt; scan(&flash), Err(fault));
+        same(&rt, scan(&flash), Err(fault));
     }
     Ok(())
 }
@@ -113,7 +114,7 @@ fn torn_words_are_legal(rt: HostRuntime) -> Result<(), Fail> {
         fill: 1,
         current: 0,
     };
-    assert_eq!(rt; scan(&flash), Ok(found));
+    same(&rt, scan(&flash), Ok(found));
     Ok(())
 }
 
@@ -129,7 +130,7 @@ fn the_greater_generation_is_live(rt: HostRuntime) -> Result<(), Fail> {
             fill: 1,
             current,
         };
-        assert_eq!(rt; scan(&flash), Ok(found));
+        same(&rt, scan(&flash), Ok(found));
     }
     Ok(())
 }
@@ -145,7 +146,7 @@ fn a_mark_is_a_receive_word_too(rt: HostRuntime) -> Result<(), Fail> {
         fill: 0,
         current: 1,
     };
-    assert_eq!(rt; scan(&flash), Ok(found));
+    same(&rt, scan(&flash), Ok(found));
     Ok(())
 }
 
@@ -155,7 +156,7 @@ fn slots_are_read(rt: HostRuntime) -> Result<(), Fail> {
     else {
         return Err(Fail::from("addresses"));
     };
-    let shape = Shape::new(1, 10).ok_or("a shape")?;
+    let shape = shape(1, 10)?;
     let mut cells = [
         FIRST,
         MARK,
@@ -177,29 +178,29 @@ fn slots_are_read(rt: HostRuntime) -> Result<(), Fail> {
     let Ok(layout) = scan(&flash) else {
         return Err(Fail::from("a legal image"));
     };
-    assert_eq!(rt; layout.fill, 6);
-    assert_eq!(rt; latest(&flash, &layout, one), Some(11));
-    assert_eq!(rt; latest(&flash, &layout, two), None);
-    assert_eq!(rt; latest(&flash, &layout, three), Some(7));
-    assert_eq!(rt; live_count(&flash, &layout), 2);
-    assert_eq!(rt; next_live(&flash, &layout, None), Some((one, 11)));
-    assert_eq!(rt; next_live(&flash, &layout, Some(one)), Some((three, 7)));
-    assert_eq!(rt; next_live(&flash, &layout, Some(three)), None);
+    same(&rt, layout.fill, 6);
+    same(&rt, latest(&flash, &layout, one), Some(11));
+    same(&rt, latest(&flash, &layout, two), None);
+    same(&rt, latest(&flash, &layout, three), Some(7));
+    same(&rt, live_count(&flash, &layout), 2);
+    same(&rt, next_live(&flash, &layout, None), Some((one, 11)));
+    same(&rt, next_live(&flash, &layout, Some(one)), Some((three, 7)));
+    same(&rt, next_live(&flash, &layout, Some(three)), None);
     if flash.shape().slots() == 6 {
-        assert_eq!(rt; slot_word(&flash, &layout, 0), TEN);
-        assert_eq!(rt; slot_word(&flash, &layout, 3), TORN);
+        same(&rt, slot_word(&flash, &layout, 0), TEN);
+        same(&rt, slot_word(&flash, &layout, 3), TORN);
     }
     Ok(())
 }
 
 #[test]
 fn marks_name_the_state(rt: HostRuntime) -> Result<(), Fail> {
-    let shape = Shape::new(1, 6).ok_or("a shape")?;
+    let shape = shape(1, 6)?;
     let mut flash = MemFlash::blank(rt.alloc(), shape)?;
     if flash.shape().pages() != 1 {
         return Err(Fail::from("one page"));
     }
-    assert_eq!(rt; state_of(&flash, 1), State::Erased);
+    same(&rt, state_of(&flash, 1), State::Erased);
     assert!(rt; is_blank(&flash, 1));
     for (word, state, steps) in [
         (Mark::Receive(1), State::Receive, 1),
@@ -214,9 +215,9 @@ fn marks_name_the_state(rt: HostRuntime) -> Result<(), Fail> {
         {
             assert!(rt; mark(&mut flash, 1, word).is_ok());
         }
-        assert_eq!(rt; flash.steps(), steps);
+        same(&rt, flash.steps(), steps);
         if flash.shape().pages() == 1 {
-            assert_eq!(rt; state_of(&flash, 1), state);
+            same(&rt, state_of(&flash, 1), state);
             assert!(rt; !is_blank(&flash, 1));
         }
     }

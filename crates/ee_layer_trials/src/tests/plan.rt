@@ -1,7 +1,7 @@
 //! Worked traces: each plan with the values that it must have, and the checker's yes.
 mod starting;
 
-use crate::tests::{address, forget, write};
+use crate::tests::{address, forget, same, write};
 use ee_check::{Change, Start, Stretch, check};
 use ee_plan::{Plan, PlanFault, plan};
 use std::alloc::Global;
@@ -36,21 +36,22 @@ fn assert_planned(
         Ok(plan) => plan,
         Err(_) => return Err("no plan".into()),
     };
-    assert_eq!(rt; plan.transfers, stretches.len() as u64);
-    assert_eq!(rt; plan.moments.len(), stretches.len());
+    same(rt, plan.transfers, stretches.len() as u64);
+    same(rt, plan.moments.len(), stretches.len());
     for (moment, stretch) in plan.moments.iter().zip(stretches) {
-        assert_eq!(rt; *moment, stretch.to);
+        same(rt, *moment, stretch.to);
     }
-    assert_eq!(rt; plan.room, room);
+    same(rt, plan.room, room);
     let certificate = plan.certificate;
-    assert_eq!(rt; certificate.slots, start.slots());
-    assert_eq!(rt; certificate.fill, start.fill());
-    assert_eq!(rt; certificate.live, start.live().len() as u64);
-    assert_eq!(rt; certificate.writes, trace.len() as u64);
-    assert_eq!(rt; certificate.stretches.as_slice(), stretches);
-    assert_eq!(rt;
+    same(rt, certificate.slots, start.slots());
+    same(rt, certificate.fill, start.fill());
+    same(rt, certificate.live, start.live().len() as u64);
+    same(rt, certificate.writes, trace.len() as u64);
+    same(rt, certificate.stretches.as_slice(), stretches);
+    same(
+        rt,
         check(alloc, start, trace, &certificate),
-        Ok(plan.transfers)
+        Ok(plan.transfers),
     );
     Ok(())
 }
@@ -98,15 +99,17 @@ fn starts_count(rt: HostRuntime) -> Result<(), Fail> {
 fn not_fitting(rt: HostRuntime) -> Result<(), Fail> {
     let empty = start(rt.alloc(), 2, 0, &[])?;
     let trace = [write(1)?, write(2)?, write(3)?, write(4)?];
-    assert_eq!(rt;
+    same(
+        &rt,
         plan(rt.alloc(), &empty, &trace).err(),
-        Some(PlanFault::NotFitting(3))
+        Some(PlanFault::NotFitting(3)),
     );
     let live = start(rt.alloc(), 2, 2, &[1, 2])?;
     let trace = [write(2)?, forget(3)?, write(3)?];
-    assert_eq!(rt;
+    same(
+        &rt,
         plan(rt.alloc(), &live, &trace).err(),
-        Some(PlanFault::NotFitting(3))
+        Some(PlanFault::NotFitting(3)),
     );
     Ok(())
 }

@@ -1,4 +1,5 @@
 //! Worked lines and scripts, whole and in pieces.
+use crate::tests::same;
 use ee_codec::Address;
 use ee_script::{
     Answer, Command, ScriptFault, Serve, Session, StreamFault, answer_reader, answer_script,
@@ -37,23 +38,26 @@ fn good_lines_are_commands(rt: HostRuntime) -> Result<(), Fail> {
         address: last,
         value: 4_294_967_295,
     };
-    assert_eq!(rt;
+    same(
+        &rt,
         read_command(b"w 1 10"),
         Some(Command::Write {
             address: first,
-            value: 10
-        })
+            value: 10,
+        }),
     );
-    assert_eq!(rt; read_command(b"w 65534 4294967295"), Some(greatest));
-    assert_eq!(rt;
+    same(&rt, read_command(b"w 65534 4294967295"), Some(greatest));
+    same(
+        &rt,
         read_command(b"r 65534"),
-        Some(Command::Read { address: last })
+        Some(Command::Read { address: last }),
     );
-    assert_eq!(rt;
+    same(
+        &rt,
         read_command(b"f 1"),
-        Some(Command::Forget { address: first })
+        Some(Command::Forget { address: first }),
     );
-    assert_eq!(rt; read_command(b"c"), Some(Command::Clean));
+    same(&rt, read_command(b"c"), Some(Command::Clean));
     Ok(())
 }
 
@@ -105,9 +109,10 @@ fn answers_are_lines(rt: HostRuntime) -> Result<(), Fail> {
     ] {
         push_answer(&mut out, answer)?;
     }
-    assert_eq!(rt;
+    same(
+        &rt,
         out.as_slice(),
-        b"ok\nmoved\nfull\nspent\nclean\nidle\n4294967295\nnone\nabsent\n".as_slice()
+        b"ok\nmoved\nfull\nspent\nclean\nidle\n4294967295\nnone\nabsent\n".as_slice(),
     );
     Ok(())
 }
@@ -121,7 +126,7 @@ fn a_script_in_pieces_gives_one_report(rt: HostRuntime) -> Result<(), Fail> {
             session = session.feed(piece).ok().ok_or("a bad line")?;
         }
         let (_, report) = session.finish().ok().ok_or("an unfinished line")?;
-        assert_eq!(rt; report.as_slice(), b"ok\n10\nidle\n10\n".as_slice());
+        same(&rt, report.as_slice(), b"ok\n10\nidle\n10\n".as_slice());
     }
     Ok(())
 }
@@ -143,9 +148,10 @@ fn the_first_bad_line_is_named(rt: HostRuntime) {
         (b"c\nc\n\nc\n", 3),
     ];
     for (script, line) in faults {
-        assert_eq!(rt;
+        same(
+            &rt,
             fault_of(rt.alloc(), script),
-            Some(ScriptFault::BadLine(line))
+            Some(ScriptFault::BadLine(line)),
         );
     }
     assert!(rt; fault_of(rt.alloc(), b"").is_none());
@@ -157,10 +163,10 @@ fn an_end_at_the_last_read_call_is_an_end(rt: HostRuntime) -> Result<(), Fail> {
         let mut script: &[u8] = b"w 1 10\nr 1\n";
         match answer_reader(rt.alloc(), LastValue(0), &mut script, most) {
             Ok((_, report)) => {
-                assert_eq!(rt; wanted, Ok(()));
-                assert_eq!(rt; report.as_slice(), b"ok\n10\n".as_slice());
+                same(&rt, wanted, Ok(()));
+                same(&rt, report.as_slice(), b"ok\n10\n".as_slice());
             }
-            Err(fault) => assert_eq!(rt; wanted, Err(fault)),
+            Err(fault) => same(&rt, wanted, Err(fault)),
         }
     }
     Ok(())

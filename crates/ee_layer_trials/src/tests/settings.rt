@@ -1,4 +1,5 @@
 //! Worked texts, through `toml`'s reader: which are schemas, and the first fault of each other one.
+use crate::tests::same;
 use ee_settings::{Schema, SchemaFault};
 use std::alloc::Global;
 use std::process::Abort;
@@ -24,7 +25,7 @@ fn schemas(rt: HostRuntime) -> Result<(), Fail> {
         "a_name_of_thirty_two_characters_ = { address = 1, min = 0, max = 0, default = 0 }\n",
     ];
     for text in texts {
-        assert_eq!(rt; fault_of(rt.alloc(), text)?, None);
+        same(&rt, fault_of(rt.alloc(), text)?, None);
     }
     Ok(())
 }
@@ -36,7 +37,7 @@ fn assert_faults<R: Abort>(
     cases: &[(&str, SchemaFault)],
 ) -> Result<(), Fail> {
     for (text, fault) in cases {
-        assert_eq!(rt; fault_of(alloc, text)?, Some(*fault));
+        same(rt, fault_of(alloc, text)?, Some(*fault));
     }
     Ok(())
 }

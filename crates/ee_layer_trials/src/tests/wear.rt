@@ -1,5 +1,6 @@
 //! The worked wear, the greatest numbers, and erases between two ledgers.
-use ee_flash::{Flash, Fuse, MemFlash, Shape, Tear, Word};
+use crate::tests::{same, shape};
+use ee_flash::{Flash, Fuse, MemFlash, Tear, Word};
 use ee_wear::{Ledger, SinceFault};
 use std::alloc::Global;
 use std::process::Abort;
@@ -7,7 +8,7 @@ use std::test::Fail;
 
 // A device with these wears and nothing written.
 fn device(alloc: Global, pages: usize, words: usize, wear: &[u64]) -> Result<MemFlash, Fail> {
-    let shape = Shape::new(pages, words).ok_or("no shape")?;
+    let shape = shape(pages, words)?;
     let cells = vec![in alloc; Word::Erased; 2 * shape.pages() * shape.words()]?;
     let wear = Vec::from_slice(alloc, wear)?;
     Ok(
@@ -39,10 +40,11 @@ fn assert_counts(
     wear: &[u64],
     summary: (u128, u64, u64),
 ) -> Result<(), Fail> {
-    assert_eq!(rt; counts(alloc, ledger)?.as_slice(), wear);
-    assert_eq!(rt;
+    same(rt, counts(alloc, ledger)?.as_slice(), wear);
+    same(
+        rt,
         (ledger.total(), ledger.least(), ledger.greatest()),
-        summary
+        summary,
     );
     Ok(())
 }
@@ -58,14 +60,16 @@ fn wear(rt: HostRuntime) -> Result<(), Fail> {
         .ok()
         .ok_or("no difference")?;
     assert_counts(&rt, rt.alloc(), &since, &[0, 1], (1, 0, 1))?;
-    assert_eq!(rt;
+    same(
+        &rt,
         before.since(rt.alloc(), &after).err(),
-        Some(SinceFault::Backwards(1))
+        Some(SinceFault::Backwards(1)),
     );
     let larger = ledger(rt.alloc(), &[0, 0, 0, 0])?;
-    assert_eq!(rt;
+    same(
+        &rt,
         after.since(rt.alloc(), &larger).err(),
-        Some(SinceFault::OtherShape)
+        Some(SinceFault::OtherShape),
     );
     Ok(())
 }
@@ -74,9 +78,10 @@ fn wear(rt: HostRuntime) -> Result<(), Fail> {
 fn the_lowest_page_is_named(rt: HostRuntime) -> Result<(), Fail> {
     let before = ledger(rt.alloc(), &[5, 4, 3, 2])?;
     let after = ledger(rt.alloc(), &[5, 3, 9, 1])?;
-    assert_eq!(rt;
+    same(
+        &rt,
         after.since(rt.alloc(), &before).err(),
-        Some(SinceFault::Backwards(1))
+        Some(SinceFault::Backwards(1)),
     );
     Ok(())
 }
@@ -113,7 +118,7 @@ fn erases_are_counted(rt: HostRuntime) -> Result<(), Fail> {
     });
     for page in [1, 1, 0, 1] {
         let is_cut = flash.erase(page).is_err();
-        assert_eq!(rt; is_cut, !flash.is_on());
+        same(&rt, is_cut, !flash.is_on());
     }
     let after = Ledger::of(rt.alloc(), &flash)?;
     let since: Ledger = after

@@ -1,14 +1,14 @@
 //! Batches of live addresses: an empty one that goes on, and a transfer over several.
-use crate::tests::address;
+use crate::tests::{address, same, shape};
 use ee_codec::Address;
-use ee_flash::{MemFlash, Shape};
+use ee_flash::MemFlash;
 use ee_store::{Store, Variables, Written, format};
 use std::process::Abort;
 use std::test::Fail;
 
 // A store with 196 slots: 130 elements, and then forgettings of the first 66 of them.
 fn half_forgotten<R: Abort + AllocGlobal>(rt: &R) -> Result<Store<MemFlash>, Fail> {
-    let shape = Shape::new(1, 200).ok_or("no shape")?;
+    let shape = shape(1, 200)?;
     let flash = MemFlash::blank(rt.alloc(), shape)?;
     let mut store = format(flash).ok().ok_or("no store")?;
     for number in 1..131 {
@@ -37,9 +37,9 @@ fn assert_batch<R: Abort>(
     }
     let batch = store.next_batch(after);
     let found = batch.found.as_slice();
-    assert_eq!(rt; found.len(), length);
-    assert_eq!(rt; found.first().map(|live| live.0.get()), first);
-    assert_eq!(rt; batch.through.map(|last| last.get()), through);
+    same(rt, found.len(), length);
+    same(rt, found.first().map(|live| live.0.get()), first);
+    same(rt, batch.through.map(|last| last.get()), through);
     Ok(())
 }
 
@@ -52,7 +52,7 @@ fn batches_over_forgotten_addresses(rt: HostRuntime) -> Result<(), Fail> {
     if !store.is_on() {
         return Err("off".into());
     }
-    assert_eq!(rt; (store.fill(), store.live_count()), (196, 64));
+    same(&rt, (store.fill(), store.live_count()), (196, 64));
     Ok(())
 }
 
@@ -61,18 +61,18 @@ fn batches_over_forgotten_addresses(rt: HostRuntime) -> Result<(), Fail> {
 fn a_transfer_over_batches(rt: HostRuntime) -> Result<(), Fail> {
     let mut store = half_forgotten(&rt)?;
     let written = store.write(address(70)?, 5);
-    assert_eq!(rt; written.ok(), Some(Written::Moved));
+    same(&rt, written.ok(), Some(Written::Moved));
     if !store.is_on() {
         return Err("off".into());
     }
-    assert_eq!(rt; (store.fill(), store.live_count()), (64, 64));
+    same(&rt, (store.fill(), store.live_count()), (64, 64));
     for number in 1..131 {
         let value = match number {
             1..=66 => None,
             70 => Some(5),
             _ => Some(u32::from(number) + 1000),
         };
-        assert_eq!(rt; store.read(address(number)?).ok(), Some(value));
+        same(&rt, store.read(address(number)?).ok(), Some(value));
     }
     Ok(())
 }

@@ -2,7 +2,7 @@
 use super::image::copy_of;
 use super::moves::ONE_MOVE;
 use super::replay::{formatted, replay};
-use crate::tests::address;
+use crate::tests::{address, same};
 use ee_codec::Address;
 use ee_flash::{Cut, Flash, MemFlash, Shape, Word};
 use ee_store::{IndexedStore, Variables};
@@ -89,7 +89,7 @@ fn index_that_scans(rt: HostRuntime) -> Result<(), Fail> {
     let alone = words_read(rt.alloc(), &flash, address(1)?, 0)?;
     let live = words_read(rt.alloc(), &flash, address(1)?, 100)?;
     let absent = words_read(rt.alloc(), &flash, address(2)?, 100)?;
-    assert_eq!(rt; live.checked_sub(alone), Some(100));
-    assert_eq!(rt; absent, alone);
+    same(&rt, live.checked_sub(alone), Some(100));
+    same(&rt, absent, alone);
     Ok(())
 }

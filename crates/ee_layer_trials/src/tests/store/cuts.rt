@@ -1,7 +1,7 @@
 //! Power cuts at chosen steps, with the images that they leave once the store is open again.
 use super::image::assert_image;
 use super::moves::ONE_MOVE;
-use super::replay::{formatted, replay};
+use super::replay::{assert_leaves, formatted, replay};
 use std::test::Fail;
 
 #[test]
@@ -12,12 +12,11 @@ fn cut_append(rt: HostRuntime) -> Result<(), Fail> {
         ("w 1 11", "cut"),
         ("r 1", "off"),
     ];
-    let flash = replay(&rt, formatted(rt.alloc(), 1, 6)?, &answers)?;
     let image = [
         "0 aaaaaaaa00000001 aaaaaaaaaaaaaaaa - - 0000000a00000001 ?",
         "0 - - - - - -",
     ];
-    assert_image(&rt, &flash, &image)
+    assert_leaves(&rt, (1, 6), &[], &answers, &image)
 }
 
 #[test]
@@ -42,12 +41,11 @@ fn cut_append_torn(rt: HostRuntime) -> Result<(), Fail> {
         ("r 1", "11"),
         ("end", "generation 1 fill 2 room 0 live 1 pending 0"),
     ];
-    let flash = replay(&rt, formatted(rt.alloc(), 1, 6)?, &answers)?;
     let image = [
         "0 aaaaaaaa00000001 aaaaaaaaaaaaaaaa - - ? 0000000b00000001",
         "0 - - - - - -",
     ];
-    assert_image(&rt, &flash, &image)
+    assert_leaves(&rt, (1, 6), &[], &answers, &image)
 }
 
 #[test]
@@ -93,12 +91,11 @@ fn cut_commit(rt: HostRuntime) -> Result<(), Fail> {
         ("r 1", "12"),
         ("end", "generation 2 fill 1 room 1 live 1 pending 1"),
     ];
-    let flash = replay(&rt, formatted(rt.alloc(), 1, 6)?, &answers)?;
     let image = [
         "0 aaaaaaaa00000001 aaaaaaaaaaaaaaaa - aaaaaaaaaaaaaaaa 0000000a00000001 0000000b00000001",
         "0 aaaaaaaa00000002 aaaaaaaaaaaaaaaa - - 0000000c00000001 -",
     ];
-    assert_image(&rt, &flash, &image)
+    assert_leaves(&rt, (1, 6), &[], &answers, &image)
 }
 
 /// The commit is cut and torn: nothing is committed.
@@ -114,18 +111,16 @@ fn cut_commit_torn(rt: HostRuntime) -> Result<(), Fail> {
         ("r 1", "11"),
         ("end", "generation 1 fill 2 room 0 live 1 pending 1"),
     ];
-    let flash = replay(&rt, formatted(rt.alloc(), 1, 6)?, &answers)?;
     let image = [
         "0 aaaaaaaa00000001 aaaaaaaaaaaaaaaa - - 0000000a00000001 0000000b00000001",
         "0 aaaaaaaa00000002 ? - aaaaaaaaaaaaaaaa 0000000c00000001 -",
     ];
-    assert_image(&rt, &flash, &image)
+    assert_leaves(&rt, (1, 6), &[], &answers, &image)
 }
 
 /// The erase of a clean step leaves a mix of words.
 #[test]
 fn cut_clean(rt: HostRuntime) -> Result<(), Fail> {
-    let flash = replay(&rt, formatted(rt.alloc(), 1, 6)?, ONE_MOVE)?;
     let answers = [
         ("x 1 m", "armed"),
         ("c", "cut"),
@@ -133,18 +128,16 @@ fn cut_clean(rt: HostRuntime) -> Result<(), Fail> {
         ("r 1", "12"),
         ("end", "generation 2 fill 1 room 1 live 1 pending 1"),
     ];
-    let flash = replay(&rt, flash, &answers)?;
     let image = [
         "1 aaaaaaaa00000001 - ? aaaaaaaaaaaaaaaa - ?",
         "0 aaaaaaaa00000002 aaaaaaaaaaaaaaaa - - 0000000c00000001 -",
     ];
-    assert_image(&rt, &flash, &image)
+    assert_leaves(&rt, (1, 6), ONE_MOVE, &answers, &image)
 }
 
 /// The erase of a clean step does nothing, and two sets stand committed: the later one is live.
 #[test]
 fn cut_clean_with_nothing_done(rt: HostRuntime) -> Result<(), Fail> {
-    let flash = replay(&rt, formatted(rt.alloc(), 1, 6)?, ONE_MOVE)?;
     let answers = [
         ("x 1 n", "armed"),
         ("c", "cut"),
@@ -152,12 +145,11 @@ fn cut_clean_with_nothing_done(rt: HostRuntime) -> Result<(), Fail> {
         ("r 1", "12"),
         ("end", "generation 2 fill 1 room 1 live 1 pending 1"),
     ];
-    let flash = replay(&rt, flash, &answers)?;
     let image = [
         "1 aaaaaaaa00000001 aaaaaaaaaaaaaaaa - aaaaaaaaaaaaaaaa 0000000a00000001 0000000b00000001",
         "0 aaaaaaaa00000002 aaaaaaaaaaaaaaaa - - 0000000c00000001 -",
     ];
-    assert_image(&rt, &flash, &image)
+    assert_leaves(&rt, (1, 6), ONE_MOVE, &answers, &image)
 }
 
 /// The opening after a cut is cut in its turn: a torn mark is present, and takes no step.
@@ -175,12 +167,11 @@ fn cut_opening(rt: HostRuntime) -> Result<(), Fail> {
         ("steps", "0"),
         ("r 1", "11"),
     ];
-    let flash = replay(&rt, formatted(rt.alloc(), 1, 6)?, &answers)?;
     let image = [
         "0 aaaaaaaa00000001 aaaaaaaaaaaaaaaa - - 0000000a00000001 0000000b00000001",
         "0 aaaaaaaa00000002 - - ? ? -",
     ];
-    assert_image(&rt, &flash, &image)
+    assert_leaves(&rt, (1, 6), &[], &answers, &image)
 }
 
 /// A transfer that is cut at its commit, which stands, is ended by the opening in four steps.
@@ -198,14 +189,13 @@ fn nine_steps_in_two_parts(rt: HostRuntime) -> Result<(), Fail> {
         ("r 1", "3"),
         ("end", "generation 2 fill 2 room 0 live 2 pending 2"),
     ];
-    let flash = replay(&rt, formatted(rt.alloc(), 2, 5)?, &answers)?;
     let image = [
         "0 aaaaaaaa00000001 aaaaaaaaaaaaaaaa aaaaaaaaaaaaaaaa aaaaaaaaaaaaaaaa 0000000100000001",
         "0 - aaaaaaaaaaaaaaaa - aaaaaaaaaaaaaaaa 0000000200000002",
         "0 aaaaaaaa00000002 aaaaaaaaaaaaaaaa aaaaaaaaaaaaaaaa - 0000000300000001",
         "0 aaaaaaaa00000002 aaaaaaaaaaaaaaaa - - 0000000200000002",
     ];
-    assert_image(&rt, &flash, &image)
+    assert_leaves(&rt, (2, 5), &[], &answers, &image)
 }
 
 /// A forgetting that is cut and torn leaves the value; one that is cut and done takes it away.

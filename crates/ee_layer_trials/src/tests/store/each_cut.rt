@@ -1,6 +1,7 @@
 //! A cut at each step of a call, with each tear. The store is then opened again and read back.
 use super::moves::ONE_MOVE;
 use super::replay::{formatted, replay};
+use crate::tests::same;
 use ee_flash::{Fuse, Tear};
 use std::process::Abort;
 use std::test::Fail;
@@ -66,7 +67,7 @@ fn cut_each_step<R: Abort + AllocGlobal>(rt: &R, trial: &Trial) -> Result<(), Fa
     let before = flash.steps();
     let flash = replay(rt, flash, trial.call)?;
     let steps = flash.steps().checked_sub(before);
-    assert_eq!(rt; steps, Some(trial.outcomes.len() as u64));
+    same(rt, steps, Some(trial.outcomes.len() as u64));
     Ok(())
 }
 

@@ -2,7 +2,7 @@
 use super::image::assert_image;
 use super::moves::ONE_MOVE;
 use super::replay::{formatted, replay};
-use crate::tests::address;
+use crate::tests::{address, same, same_at};
 use ee_flash::{Flash, Fuse, MemFlash, Tear};
 use ee_store::{Answer, Driven, Event, ForgetFault, OpenFault, WriteFault, Written, drive};
 use std::alloc::Global;
@@ -67,10 +67,10 @@ fn cut_in<R: Abort + AllocGlobal>(
         Answer::Value(one),
         Answer::Value(two),
     ];
-    assert_eq!(rt; driven.log.as_slice(), answers.as_slice(), "{fuse:?}");
+    same_at(rt, fuse, driven.log.as_slice(), answers.as_slice());
     let kept_of_all: Vec<bool> = kept.into_iter().collect(rt.alloc())?;
-    assert_eq!(rt; driven.kept.as_slice(), kept_of_all.as_slice(), "{fuse:?}");
-    assert_eq!(rt; driven.flash.cuts(), 1);
+    same_at(rt, fuse, driven.kept.as_slice(), kept_of_all.as_slice());
+    same(rt, driven.flash.cuts(), 1);
     Ok(())
 }
 
@@ -123,7 +123,7 @@ fn events(rt: HostRuntime) -> Result<(), Fail> {
         Answer::Cleaned(false),
         Answer::Value(Some(13)),
     ];
-    assert_eq!(rt; driven.log.as_slice(), answers.as_slice());
+    same(&rt, driven.log.as_slice(), answers.as_slice());
     assert!(rt; driven.kept.is_empty());
     let image = [
         "1 - - - - - -",
@@ -251,10 +251,11 @@ fn the_opening_after_nine_steps(rt: HostRuntime) -> Result<(), Fail> {
             let mut flash = replay(&rt, formatted(rt.alloc(), 2, 5)?, &before)?;
             flash.arm(Fuse { after, tear });
             let driven = driven(rt.alloc(), flash, &events)?;
-            assert_eq!(rt;
+            same_at(
+                &rt,
+                (after, tear),
                 driven.log.as_slice(),
                 answers.as_slice(),
-                "{after} {tear:?}"
             );
             assert!(rt; driven.kept.is_empty());
         }

@@ -1,6 +1,5 @@
 //! Forgettings, with the images that they leave.
-use super::image::assert_image;
-use super::replay::{formatted, replay};
+use super::replay::assert_leaves;
 use std::test::Fail;
 
 #[test]
@@ -16,12 +15,11 @@ fn forget(rt: HostRuntime) -> Result<(), Fail> {
         ("end", "generation 2 fill 2 room 0 live 2 pending 1"),
         ("live", " 2:5 3:1"),
     ];
-    let flash = replay(&rt, formatted(rt.alloc(), 1, 6)?, &answers)?;
     let image = [
         "0 aaaaaaaa00000001 aaaaaaaaaaaaaaaa - aaaaaaaaaaaaaaaa 0000000a00000001 0000000500000002",
         "0 aaaaaaaa00000002 aaaaaaaaaaaaaaaa - - 0000000500000002 0000000100000003",
     ];
-    assert_image(&rt, &flash, &image)
+    assert_leaves(&rt, (1, 6), &[], &answers, &image)
 }
 
 #[test]
@@ -35,12 +33,11 @@ fn forget_absent(rt: HostRuntime) -> Result<(), Fail> {
         ("r 1", "11"),
         ("end", "generation 2 fill 1 room 1 live 1 pending 1"),
     ];
-    let flash = replay(&rt, formatted(rt.alloc(), 1, 6)?, &answers)?;
     let image = [
         "0 aaaaaaaa00000001 aaaaaaaaaaaaaaaa - aaaaaaaaaaaaaaaa 0000000a00000001 0000000a00010001",
         "0 aaaaaaaa00000002 aaaaaaaaaaaaaaaa - - 0000000b00000001 -",
     ];
-    assert_image(&rt, &flash, &image)
+    assert_leaves(&rt, (1, 6), &[], &answers, &image)
 }
 
 #[test]
@@ -56,12 +53,11 @@ fn forget_last(rt: HostRuntime) -> Result<(), Fail> {
         ("end", "generation 3 fill 0 room 1 live 0 pending 1"),
         ("live", ""),
     ];
-    let flash = replay(&rt, formatted(rt.alloc(), 1, 5)?, &answers)?;
     let image = [
         "1 aaaaaaaa00000003 aaaaaaaaaaaaaaaa - - -",
         "0 aaaaaaaa00000002 aaaaaaaaaaaaaaaa - aaaaaaaaaaaaaaaa 0000000200000002",
     ];
-    assert_image(&rt, &flash, &image)
+    assert_leaves(&rt, (1, 5), &[], &answers, &image)
 }
 
 /// With two pages a set: nothing to copy leaves the further page blank.
@@ -76,12 +72,11 @@ fn forget_last_of_two_pages(rt: HostRuntime) -> Result<(), Fail> {
         ("steps", "4"),
         ("end", "generation 2 fill 0 room 2 live 0 pending 2"),
     ];
-    let flash = replay(&rt, formatted(rt.alloc(), 2, 5)?, &answers)?;
     let image = [
         "0 aaaaaaaa00000001 aaaaaaaaaaaaaaaa aaaaaaaaaaaaaaaa aaaaaaaaaaaaaaaa 0000000100000001",
         "0 - aaaaaaaaaaaaaaaa - aaaaaaaaaaaaaaaa 0000000200000001",
         "0 aaaaaaaa00000002 aaaaaaaaaaaaaaaa - - -",
         "0 - - - - -",
     ];
-    assert_image(&rt, &flash, &image)
+    assert_leaves(&rt, (2, 5), &[], &answers, &image)
 }

@@ -4,6 +4,7 @@
 ghost use Rattle.std.specs.Prelude.{◌<◌};
 ghost use Rattle.ee_flash.specs.Size.{page_count};
 
+use crate::tests::{same, same_at};
 use ee_flash::{Flash, MemFlash, Shape, Word};
 use std::alloc::Global;
 use std::process::Abort;
@@ -66,14 +67,10 @@ pub fn assert_image<R: Abort + AllocGlobal, F: Flash>(
     flash: &F,
     lines: &[&str],
 ) -> Result<(), Fail> {
-    assert_eq!(rt; 2 * flash.shape().pages(), lines.len());
+    same(rt, 2 * flash.shape().pages(), lines.len());
     for page in 0..2 * flash.shape().pages() {
         let line = line_of(rt.alloc(), flash, page)?;
-        assert_eq!(rt;
-            Some(line.as_str()),
-            lines.get(page).copied(),
-            "page {page}"
-        );
+        same_at(rt, page, Some(line.as_str()), lines.get(page).copied());
     }
     Ok(())
 }
@@ -104,7 +101,7 @@ pub fn same_image<R: Abort + AllocGlobal, F: Flash, G: Flash>(
     for page in 0..2 * flash.shape().pages() {
         let line = line_of(rt.alloc(), flash, page)?;
         let other = line_of(rt.alloc(), wanted, page)?;
-        assert_eq!(rt; line.as_str(), other.as_str(), "page {page}");
+        same_at(rt, page, line.as_str(), other.as_str());
     }
     Ok(())
 }

@@ -1,9 +1,9 @@
 //! Sets of three pages and of sixty-four: an append into the third page, a transfer over all pages,
 //! and an opening after a cut there. The images are those of the procedure, written by hand.
 use super::image::assert_image;
-use super::replay::{formatted, replay};
-use crate::tests::address;
-use ee_flash::{MemFlash, Shape};
+use super::replay::{assert_leaves, formatted, replay};
+use crate::tests::{address, same, shape};
+use ee_flash::MemFlash;
 use ee_store::{Variables, Written, format};
 use std::alloc::Global;
 use std::test::Fail;
@@ -18,7 +18,6 @@ fn an_append_into_the_third_page(rt: HostRuntime) -> Result<(), Fail> {
         ("f 1", "ok"),
         ("w 5 14", "ok"),
     ];
-    let flash = replay(&rt, formatted(rt.alloc(), 3, 6)?, &answers)?;
     let image = [
         "0 aaaaaaaa00000001 aaaaaaaaaaaaaaaa aaaaaaaaaaaaaaaa - 0000000a00000001 0000000b00000002",
         "0 - aaaaaaaaaaaaaaaa aaaaaaaaaaaaaaaa - 0000000c00000003 0000000a00010001",
@@ -27,7 +26,7 @@ fn an_append_into_the_third_page(rt: HostRuntime) -> Result<(), Fail> {
         "0 - - - - - -",
         "0 - - - - - -",
     ];
-    assert_image(&rt, &flash, &image)
+    assert_leaves(&rt, (3, 6), &[], &answers, &image)
 }
 
 /// A transfer over three pages, cut at the second of its marks: the torn mark stays, and the opening
@@ -101,14 +100,14 @@ fn moved_lines(alloc: Global) -> Result<Vec<String>, Fail> {
 
 #[test]
 fn a_transfer_over_sixty_four_pages(rt: HostRuntime) -> Result<(), Fail> {
-    let shape = Shape::new(64, 5).ok_or("no shape")?;
+    let shape = shape(64, 5)?;
     let flash = MemFlash::blank(rt.alloc(), shape)?;
     let mut store = format(flash).ok().ok_or("no store")?;
     for number in 1..65 {
         let written = store.write(address(number)?, u32::from(number) + 100);
-        assert_eq!(&rt; written, Ok(Written::Appended));
+        same(&rt, written, Ok(Written::Appended));
     }
-    assert_eq!(&rt; store.write(address(40)?, 7), Ok(Written::Moved));
+    same(&rt, store.write(address(40)?, 7), Ok(Written::Moved));
     let lines = moved_lines(rt.alloc())?;
     let views: Vec<&str> = lines.iter().map(|line| line.as_str()).collect(rt.alloc())?;
     assert_image(&rt, &store.into_flash(), views.as_slice())

@@ -1,6 +1,6 @@
 //! Appends, transfers and clean steps, with the images and the number of steps that they leave.
 use super::image::{assert_image, device};
-use super::replay::{formatted, replay};
+use super::replay::{assert_leaves, assert_turns, formatted, replay};
 use std::test::Fail;
 
 /// Two elements of one address, of which the second is not copied, and a third.
@@ -31,23 +31,20 @@ fn format_marks_the_first_page(rt: HostRuntime) -> Result<(), Fail> {
 
 #[test]
 fn one_move(rt: HostRuntime) -> Result<(), Fail> {
-    let flash = replay(&rt, formatted(rt.alloc(), 1, 6)?, ONE_MOVE)?;
     let answers = [
         ("end", "generation 2 fill 1 room 1 live 1 pending 1"),
         ("r 1", "12"),
         ("r 2", "none"),
     ];
-    let flash = replay(&rt, flash, &answers)?;
     let image = [
         "0 aaaaaaaa00000001 aaaaaaaaaaaaaaaa - aaaaaaaaaaaaaaaa 0000000a00000001 0000000b00000001",
         "0 aaaaaaaa00000002 aaaaaaaaaaaaaaaa - - 0000000c00000001 -",
     ];
-    assert_image(&rt, &flash, &image)
+    assert_leaves(&rt, (1, 6), ONE_MOVE, &answers, &image)
 }
 
 #[test]
 fn two_moves(rt: HostRuntime) -> Result<(), Fail> {
-    let flash = replay(&rt, formatted(rt.alloc(), 1, 6)?, ONE_MOVE)?;
     let answers = [
         ("w 2 5", "ok"),
         ("steps", "1"),
@@ -57,25 +54,22 @@ fn two_moves(rt: HostRuntime) -> Result<(), Fail> {
         ("end", "generation 3 fill 2 room 0 live 2 pending 1"),
         ("live", " 1:13 2:5"),
     ];
-    let flash = replay(&rt, flash, &answers)?;
-    assert_image(&rt, &flash, AFTER_TWO_MOVES)
+    assert_leaves(&rt, (1, 6), ONE_MOVE, &answers, AFTER_TWO_MOVES)
 }
 
 /// With as many live addresses as slots, each write is a transfer.
 #[test]
 fn all_live(rt: HostRuntime) -> Result<(), Fail> {
-    let flash = device(rt.alloc(), AFTER_TWO_MOVES)?;
     let answers = [
         ("w 2 6", "moved"),
         ("end", "generation 4 fill 2 room 0 live 2 pending 1"),
         ("live", " 1:13 2:6"),
     ];
-    let flash = replay(&rt, flash, &answers)?;
     let image = [
         "1 aaaaaaaa00000003 aaaaaaaaaaaaaaaa - aaaaaaaaaaaaaaaa 0000000d00000001 0000000500000002",
         "1 aaaaaaaa00000004 aaaaaaaaaaaaaaaa - - 0000000600000002 0000000d00000001",
     ];
-    assert_image(&rt, &flash, &image)
+    assert_turns(&rt, AFTER_TWO_MOVES, &answers, &image)
 }
 
 #[test]
@@ -88,12 +82,11 @@ fn one_slot(rt: HostRuntime) -> Result<(), Fail> {
         ("r 1", "3"),
         ("w 2 1", "full"),
     ];
-    let flash = replay(&rt, formatted(rt.alloc(), 1, 5)?, &answers)?;
     let image = [
         "1 aaaaaaaa00000003 aaaaaaaaaaaaaaaa - - 0000000300000001",
         "0 aaaaaaaa00000002 aaaaaaaaaaaaaaaa - aaaaaaaaaaaaaaaa 0000000200000001",
     ];
-    assert_image(&rt, &flash, &image)
+    assert_leaves(&rt, (1, 5), &[], &answers, &image)
 }
 
 #[test]
@@ -110,14 +103,13 @@ fn two_pages(rt: HostRuntime) -> Result<(), Fail> {
         ("end", "generation 2 fill 1 room 1 live 1 pending 2"),
         ("r 1", "3"),
     ];
-    let flash = replay(&rt, formatted(rt.alloc(), 2, 5)?, &answers)?;
     let image = [
         "0 aaaaaaaa00000001 aaaaaaaaaaaaaaaa aaaaaaaaaaaaaaaa aaaaaaaaaaaaaaaa 0000000100000001",
         "0 - aaaaaaaaaaaaaaaa - aaaaaaaaaaaaaaaa 0000000200000001",
         "0 aaaaaaaa00000002 aaaaaaaaaaaaaaaa - - 0000000300000001",
         "0 - - - - -",
     ];
-    assert_image(&rt, &flash, &image)
+    assert_leaves(&rt, (2, 5), &[], &answers, &image)
 }
 
 #[test]
@@ -133,19 +125,17 @@ fn nine_steps(rt: HostRuntime) -> Result<(), Fail> {
         ("end", "generation 2 fill 2 room 0 live 2 pending 2"),
         ("live", " 1:3 2:2"),
     ];
-    let flash = replay(&rt, formatted(rt.alloc(), 2, 5)?, &answers)?;
     let image = [
         "0 aaaaaaaa00000001 aaaaaaaaaaaaaaaa aaaaaaaaaaaaaaaa aaaaaaaaaaaaaaaa 0000000100000001",
         "0 - aaaaaaaaaaaaaaaa - aaaaaaaaaaaaaaaa 0000000200000002",
         "0 aaaaaaaa00000002 aaaaaaaaaaaaaaaa aaaaaaaaaaaaaaaa - 0000000300000001",
         "0 aaaaaaaa00000002 aaaaaaaaaaaaaaaa - - 0000000200000002",
     ];
-    assert_image(&rt, &flash, &image)
+    assert_leaves(&rt, (2, 5), &[], &answers, &image)
 }
 
 #[test]
 fn clean(rt: HostRuntime) -> Result<(), Fail> {
-    let flash = replay(&rt, formatted(rt.alloc(), 1, 6)?, ONE_MOVE)?;
     let answers = [
         ("c", "clean"),
         ("steps", "1"),
@@ -154,18 +144,16 @@ fn clean(rt: HostRuntime) -> Result<(), Fail> {
         ("end", "generation 2 fill 1 room 1 live 1 pending 0"),
         ("r 1", "12"),
     ];
-    let flash = replay(&rt, flash, &answers)?;
     let image = [
         "1 - - - - - -",
         "0 aaaaaaaa00000002 aaaaaaaaaaaaaaaa - - 0000000c00000001 -",
     ];
-    assert_image(&rt, &flash, &image)
+    assert_leaves(&rt, (1, 6), ONE_MOVE, &answers, &image)
 }
 
 /// A transfer erases no blank page: the clean steps took its erases over.
 #[test]
 fn a_cleaned_set_is_not_erased_again(rt: HostRuntime) -> Result<(), Fail> {
-    let flash = replay(&rt, formatted(rt.alloc(), 1, 6)?, ONE_MOVE)?;
     let answers = [
         ("c", "clean"),
         ("w 2 5", "ok"),
@@ -173,8 +161,7 @@ fn a_cleaned_set_is_not_erased_again(rt: HostRuntime) -> Result<(), Fail> {
         ("w 1 13", "moved"),
         ("steps", "5"),
     ];
-    let flash = replay(&rt, flash, &answers)?;
-    assert_image(&rt, &flash, AFTER_TWO_MOVES)
+    assert_leaves(&rt, (1, 6), ONE_MOVE, &answers, AFTER_TWO_MOVES)
 }
 
 /// What the other set holds is not looked at, but for the two words that could commit it.
@@ -184,18 +171,16 @@ fn anything_in_the_other_set(rt: HostRuntime) -> Result<(), Fail> {
         "0 aaaaaaaa00000001 aaaaaaaaaaaaaaaa - - 0000000a00000001 -",
         "7 0123456789abcdef ? - - - 0000000a00010001",
     ];
-    let flash = device(rt.alloc(), &image)?;
     let answers = [
         ("w 1 11", "ok"),
         ("w 1 12", "moved"),
         ("end", "generation 2 fill 1 room 1 live 1 pending 1"),
     ];
-    let flash = replay(&rt, flash, &answers)?;
-    let image = [
+    let left = [
         "0 aaaaaaaa00000001 aaaaaaaaaaaaaaaa - aaaaaaaaaaaaaaaa 0000000a00000001 0000000b00000001",
         "8 aaaaaaaa00000002 aaaaaaaaaaaaaaaa - - 0000000c00000001 -",
     ];
-    assert_image(&rt, &flash, &image)
+    assert_turns(&rt, &image, &answers, &left)
 }
 
 /// A set may be full of torn slots, with nothing live.
@@ -224,12 +209,11 @@ fn digits(rt: HostRuntime) -> Result<(), Fail> {
         ("r 65534", "4294967295"),
         ("live", " 65534:4294967295"),
     ];
-    let flash = replay(&rt, formatted(rt.alloc(), 1, 6)?, &answers)?;
     let image = [
         "0 aaaaaaaa00000001 aaaaaaaaaaaaaaaa - - ffffffff0000fffe -",
         "0 - - - - - -",
     ];
-    assert_image(&rt, &flash, &image)
+    assert_leaves(&rt, (1, 6), &[], &answers, &image)
 }
 
 /// Three transfers with two pages a set, each followed by its clean steps: six erases in total.
@@ -255,7 +239,6 @@ fn erases_of_three_transfers(rt: HostRuntime) -> Result<(), Fail> {
         ("end", "generation 4 fill 1 room 1 live 1 pending 0"),
         ("r 1", "7"),
     ];
-    let flash = replay(&rt, formatted(rt.alloc(), 2, 5)?, &answers)?;
     // Wears of 2, 2, 1 and 1.
     let image = [
         "2 - - - - -",
@@ -263,5 +246,5 @@ fn erases_of_three_transfers(rt: HostRuntime) -> Result<(), Fail> {
         "1 aaaaaaaa00000004 aaaaaaaaaaaaaaaa - - 0000000700000001",
         "1 - - - - -",
     ];
-    assert_image(&rt, &flash, &image)
+    assert_leaves(&rt, (2, 5), &[], &answers, &image)
 }

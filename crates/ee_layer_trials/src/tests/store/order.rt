@@ -1,6 +1,7 @@
 //! The order of the steps: what a cut at a chosen step leaves, before the store is opened again.
 use super::image::{assert_image, device};
-use super::replay::{formatted, replay};
+use super::replay::{assert_leaves, formatted, replay};
+use crate::tests::same;
 use ee_flash::{Flash, Fuse, Tear};
 use ee_store::format;
 use std::process::Abort;
@@ -45,14 +46,13 @@ fn lowest_page_first(rt: HostRuntime) -> Result<(), Fail> {
         ("w 1 3", "moved"),
         ("c", "clean"),
     ];
-    let flash = replay(&rt, formatted(rt.alloc(), 2, 5)?, &answers)?;
     let image = [
         "1 - - - - -",
         "0 - aaaaaaaaaaaaaaaa - aaaaaaaaaaaaaaaa 0000000200000001",
         "0 aaaaaaaa00000002 aaaaaaaaaaaaaaaa - - 0000000300000001",
         "0 - - - - -",
     ];
-    assert_image(&rt, &flash, &image)
+    assert_leaves(&rt, (2, 5), &[], &answers, &image)
 }
 
 /// A transfer that finds both pages of the other set written erases the lower one first.
@@ -66,14 +66,13 @@ fn a_transfer_erases_the_lowest_page_first(rt: HostRuntime) -> Result<(), Fail> 
         ("x 2 n", "armed"),
         ("w 1 5", "cut"),
     ];
-    let flash = replay(&rt, formatted(rt.alloc(), 2, 5)?, &answers)?;
     let image = [
         "1 - - - - -",
         "1 - aaaaaaaaaaaaaaaa - aaaaaaaaaaaaaaaa 0000000200000001",
         "0 aaaaaaaa00000002 aaaaaaaaaaaaaaaa aaaaaaaaaaaaaaaa - 0000000300000001",
         "0 - aaaaaaaaaaaaaaaa - - 0000000400000001",
     ];
-    assert_image(&rt, &flash, &image)
+    assert_leaves(&rt, (2, 5), &[], &answers, &image)
 }
 
 /// An append into a further page marks the page before it valid, and only then that one active.
@@ -164,7 +163,7 @@ fn format_erases_what_is_written(rt: HostRuntime) -> Result<(), Fail> {
     };
     let flash = store.into_flash();
     // Two erases, the receive word, the active mark.
-    assert_eq!(rt; flash.steps(), 4);
+    same(&rt, flash.steps(), 4);
     let image = [
         "7 aaaaaaaa00000001 aaaaaaaaaaaaaaaa - - -",
         "9 - - - - -",

@@ -2,7 +2,8 @@
 //! device back.
 use super::image::{assert_image, device};
 use super::moves::AFTER_TWO_MOVES;
-use super::replay::replay;
+use super::replay::{assert_turns, replay};
+use crate::tests::same;
 use ee_flash::Flash;
 use ee_pages::ScanFault;
 use ee_store::{OpenFault, open};
@@ -18,19 +19,16 @@ const SPENT_STATE: &str = "generation 4294967294 fill 2 room 0 live 1 pending 0"
 
 #[test]
 fn full(rt: HostRuntime) -> Result<(), Fail> {
-    let flash = device(rt.alloc(), AFTER_TWO_MOVES)?;
     let answers = [
         ("w 3 1", "full"),
         ("steps", "0"),
         ("end", "generation 3 fill 2 room 0 live 2 pending 1"),
     ];
-    let flash = replay(&rt, flash, &answers)?;
-    assert_image(&rt, &flash, AFTER_TWO_MOVES)
+    assert_turns(&rt, AFTER_TWO_MOVES, &answers, AFTER_TWO_MOVES)
 }
 
 #[test]
 fn spent(rt: HostRuntime) -> Result<(), Fail> {
-    let flash = device(rt.alloc(), SPENT)?;
     let answers = [
         ("w 1 9", "spent"),
         ("w 2 9", "spent"),
@@ -38,8 +36,7 @@ fn spent(rt: HostRuntime) -> Result<(), Fail> {
         ("end", SPENT_STATE),
         ("r 1", "11"),
     ];
-    let flash = replay(&rt, flash, &answers)?;
-    assert_image(&rt, &flash, SPENT)
+    assert_turns(&rt, SPENT, &answers, SPENT)
 }
 
 /// In the last generation a free slot is still taken.
@@ -50,19 +47,17 @@ fn spent_with_a_slot_free(rt: HostRuntime) -> Result<(), Fail> {
         "0 - - - - - -",
     ];
     let answers = [("w 1 9", "ok"), ("w 1 8", "spent"), ("r 1", "9")];
-    let flash = replay(&rt, device(rt.alloc(), &image)?, &answers)?;
-    let image = [
+    let left = [
         "0 aaaaaaaafffffffe aaaaaaaaaaaaaaaa - - 0000000a00000001 0000000900000001",
         "0 - - - - - -",
     ];
-    assert_image(&rt, &flash, &image)
+    assert_turns(&rt, &image, &answers, &left)
 }
 
 #[test]
 fn forget_spent(rt: HostRuntime) -> Result<(), Fail> {
     let answers = [("f 1", "spent"), ("f 2", "absent"), ("steps", "0")];
-    let flash = replay(&rt, device(rt.alloc(), SPENT)?, &answers)?;
-    assert_image(&rt, &flash, SPENT)
+    assert_turns(&rt, SPENT, &answers, SPENT)
 }
 
 /// While the device is off each call answers so, and takes no step.
@@ -102,9 +97,13 @@ fn scan_faults(rt: HostRuntime) -> Result<(), Fail> {
         let Err((flash, found)) = open(flash) else {
             return Err(Fail::from("opened"));
         };
-        assert_eq!(rt; found, OpenFault::Scan(fault));
+        same(&rt, found, OpenFault::Scan(fault));
         assert_image(&rt, &flash, &lines)?;
-        assert_eq!(rt; (flash.is_on(), flash.steps(), flash.cuts()), (true, 0, 0));
+        same(
+            &rt,
+            (flash.is_on(), flash.steps(), flash.cuts()),
+            (true, 0, 0),
+        );
     }
     Ok(())
 }

@@ -3,9 +3,10 @@
 ghost use Rattle.ee_flash.specs.Device.{IsOn};
 ghost use Rattle.ee_flash.specs.Memory.{device_of};
 
-use super::image::{copy_of, same_image};
+use super::image::{assert_image, copy_of, device, same_image};
+use crate::tests::{same_at, shape};
 use ee_codec::Address;
-use ee_flash::{Flash, Fuse, MemFlash, Shape, Tear};
+use ee_flash::{Flash, Fuse, MemFlash, Tear};
 use ee_store::{
     ForgetFault, IndexedFault, IndexedStore, Off, OpenFault, Store, Variables, WriteFault, Written,
     format, open,
@@ -16,13 +17,13 @@ use std::test::Fail;
 
 /// A store, or its device while none is open.
 #[derive(Drop)]
-enum Place<S: Drop> {
+pub enum Place<S: Drop> {
     Open(S),
     Closed(MemFlash),
 }
 
 /// A store that a script is run on.
-trait Opened: Variables + Drop + Sized {
+pub trait Opened: Variables + Drop + Sized {
     /// Opens the store of a device that is on.
     fn reopen(alloc: Global, flash: MemFlash) -> (Place<Self>, &'static str)
         requires { IsOn (device_of flash) };
@@ -62,7 +63,7 @@ impl Opened for IndexedStore<MemFlash> {
 
 /// A blank device, formatted.
 pub fn formatted(alloc: Global, pages: usize, words: usize) -> Result<MemFlash, Fail> {
-    let shape = Shape::new(pages, words).ok_or("no shape")?;
+    let shape = shape(pages, words)?;
     let flash = MemFlash::blank(alloc, shape)?;
     match format(flash) {
         Ok(store) => Ok(store.into_flash()),
@@ -93,6 +94,32 @@ pub fn replay<R: Abort + AllocGlobal>(
     Ok(flash)
 }
 
+/// Runs two scripts on a formatted device with so many pages a set and words a page. They leave this
+/// image.
+pub fn assert_leaves<R: Abort + AllocGlobal>(
+    rt: &R,
+    size: (usize, usize),
+    before: &[(&str, &str)],
+    script: &[(&str, &str)],
+    image: &[&str],
+) -> Result<(), Fail> {
+    let (pages, words) = size;
+    let flash = replay(rt, formatted(rt.alloc(), pages, words)?, before)?;
+    let flash = replay(rt, flash, script)?;
+    assert_image(rt, &flash, image)
+}
+
+/// Runs a script on the device of an image, and it leaves this one.
+pub fn assert_turns<R: Abort + AllocGlobal>(
+    rt: &R,
+    image: &[&str],
+    script: &[(&str, &str)],
+    left: &[&str],
+) -> Result<(), Fail> {
+    let flash = replay(rt, device(rt.alloc(), image)?, script)?;
+    assert_image(rt, &flash, left)
+}
+
 // Runs the script on one kind of store.
 fn replay_on<S: Opened, R: Abort + AllocGlobal>(
     rt: &R,
@@ -111,7 +138,7 @@ fn replay_on<S: Opened, R: Abort + AllocGlobal>(
             serve(rt.alloc(), place, line)?
         };
         place = next;
-        assert_eq!(rt; answer.as_str(), *wanted, "{line}");
+        same_at(rt, *line, answer.as_str(), *wanted);
     }
     Ok(device_of(place))
 }
@@ -129,6 +156,14 @@ fn reopen<S: Opened>(alloc: Global, flash: MemFlash) -> (Place<S>, &'static str)
         return (Place::Closed(flash), "off");
     }
     S::reopen(alloc, flash)
+}
+
+/// The store of a device.
+pub fn store_of<S: Opened>(alloc: Global, flash: MemFlash) -> Result<S, Fail> {
+    match reopen(alloc, flash).0 {
+        Place::Open(store) => Ok(store),
+        Place::Closed(_) => Err(Fail::from("not opened")),
+    }
 }
 
 // All steps so far. An open store gives its device back and is opened again.
@@ -281,7 +316,8 @@ fn end_text<V: Variables>(alloc: Global, store: &V) -> Result<String, Fail> {
     )?)
 }
 
-fn live_text<V: Variables>(alloc: Global, store: &V) -> Result<String, Fail> {
+/// Each address that has a value, with it.
+pub fn live_text<V: Variables>(alloc: Global, store: &V) -> Result<String, Fail> {
     let mut text = String::new(alloc);
     let mut after = None;
     for _ in 0..store.slots() {
