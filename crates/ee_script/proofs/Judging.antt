@@ -1,11 +1,14 @@
 -- Every text is a script or has a first bad line: whether a good line stands at its front can be found out, since there
--- are only so many addresses and values.
+-- are only so many addresses, values and steps.
 use Rattle.std.proofs.Common.{◌≡◌, ◌⊎◌, ◌∙◌, ◌+◌, ◌<◌, ◌≤◌, ◌^◌, ◌++◌, ℕ, zero, suc, List, [], ◌∷◌, length, inl, inr, refl, sym, ap, arith, append_assoc, length-append}
 use Rattle.std.proofs.lemmas.Bool.{cases_lt}
+use Rattle.ee_flash.specs.declared.fuse.Fuse.{Fuse}
+use Rattle.ee_flash.specs.declared.fuse.Tear.{Tear}
+use Rattle.ee_flash.specs.declared.fuse.Tear.TheVariants.{Nothing, Done, Torn, Mixed}
 use Rattle.ee_text.specs.Line.{line_of}
 use Rattle.ee_text.proofs.Deciding.{begins_so, some_below}
 use Rattle.ee_script.specs.declared.command.Command.{Command}
-use Rattle.ee_script.specs.declared.command.Command.TheVariants.{Write, Read, Forget, Clean}
+use Rattle.ee_script.specs.declared.command.Command.TheVariants.{Write, Read, Forget, Clean, Arm, PowerOn}
 use Rattle.ee_script.specs.Command.{IsCommand, spelling}
 use Rattle.ee_script.specs.Script.{script, NoLine, IsScript, IsFirstBadLine}
 
@@ -59,14 +62,85 @@ some_value text address = elim (some_below (λ value. BeginsWith text (Write add
   | inr none ↦ inr (λ begins. none begins.0 begins.1.proper.1 begins.1)
 ]
 
--- no line of a write, of a read, of a forgetting, of a clean step
+-- the fuse of this step and tear
+fuse_of : ℕ → Tear → Fuse
+fuse_of after tear = record { after = after; tear = tear }
+
+stands_arm : (text : List ℕ) (after : ℕ) (tear : Tear)
+    → BeginsWith text (Arm (fuse_of after tear)) ⊎ (BeginsWith text (Arm (fuse_of after tear)) → ⊥)
+unfolding fuse_of
+stands_arm text after tear = elim (cases_lt (after + 1) (2 ^ 64)) [
+  | inr large ↦ inr (λ begins. omega (arith, begins.proper))
+  | inl fits ↦ stands text (Arm (fuse_of after tear)) fits
+]
+
+-- whether some tear follows this step
+SomeTear : List ℕ → ℕ → Type 0
+SomeTear text after = (tear : Tear) × BeginsWith text (Arm (fuse_of after tear))
+
+no_tear : (text : List ℕ) (after : ℕ) → (BeginsWith text (Arm (fuse_of after Nothing)) → ⊥) → (BeginsWith text (Arm (fuse_of after Done)) → ⊥)
+    → (BeginsWith text (Arm (fuse_of after Torn)) → ⊥) → (BeginsWith text (Arm (fuse_of after Mixed)) → ⊥)
+    → (tear : Tear) → BeginsWith text (Arm (fuse_of after tear)) → ⊥
+no_tear text after nothing done torn mixed Nothing = nothing
+no_tear text after nothing done torn mixed Done = done
+no_tear text after nothing done torn mixed Torn = torn
+no_tear text after nothing done torn mixed Mixed = mixed
+
+some_tear : (text : List ℕ) (after : ℕ) → SomeTear text after ⊎ (SomeTear text after → ⊥)
+unfolding SomeTear
+some_tear text after = elim (stands_arm text after Nothing) [
+  | inl begins ↦ inl (Nothing, begins)
+  | inr nothing ↦ elim (stands_arm text after Done) [
+    | inl begins ↦ inl (Done, begins)
+    | inr done ↦ elim (stands_arm text after Torn) [
+      | inl begins ↦ inl (Torn, begins)
+      | inr torn ↦ elim (stands_arm text after Mixed) [
+        | inl begins ↦ inl (Mixed, begins)
+        | inr mixed ↦ inr (λ some. no_tear text after nothing done torn mixed some.0 some.1)
+      ]
+    ]
+  ]
+]
+
+-- whether the line of a cut to come stands at the front, and which
+SomeArm : List ℕ → Type 0
+SomeArm text = (fuse : Fuse) × BeginsWith text (Arm fuse)
+
+some_arm : (text : List ℕ) → SomeArm text ⊎ (SomeArm text → ⊥)
+unfolding SomeArm SomeTear fuse_of
+some_arm text = elim (some_below (SomeTear text) (some_tear text) (2 ^ 64)) [
+  | inl one ↦ inl (fuse_of one.0 one.2.0, one.2.1)
+  | inr none ↦ inr (λ some. none some.0.after (omega (arith, some.1.proper)) (some.0.tear, some.1))
+]
+
+-- no line of a write, of a read, of a forgetting, of a cut to come, of a command that is one letter
 no_line : (text : List ℕ) → ((address : ℕ) → address < 65535 → ((value : ℕ) × BeginsWith text (Write address value)) → ⊥)
     → ((address : ℕ) → address < 65535 → BeginsWith text (Read address) → ⊥)
-    → ((address : ℕ) → address < 65535 → BeginsWith text (Forget address) → ⊥) → (BeginsWith text Clean → ⊥) → NoLine text
-no_line text writes reads forgets clean (Write address value) more proper e = writes address proper.0.1 (value, record { proper = proper; more = more; text_is = e })
-no_line text writes reads forgets clean (Read address) more proper e = reads address proper.1 record { proper = proper; more = more; text_is = e }
-no_line text writes reads forgets clean (Forget address) more proper e = forgets address proper.1 record { proper = proper; more = more; text_is = e }
-no_line text writes reads forgets clean Clean more proper e = clean record { proper = proper; more = more; text_is = e }
+    → ((address : ℕ) → address < 65535 → BeginsWith text (Forget address) → ⊥)
+    → (SomeArm text → ⊥) → (BeginsWith text Clean → ⊥) → (BeginsWith text PowerOn → ⊥) → NoLine text
+unfolding SomeArm
+no_line text writes reads forgets arms clean power (Write address value) more proper e = writes address proper.0.1 (value, record { proper = proper; more = more; text_is = e })
+no_line text writes reads forgets arms clean power (Read address) more proper e = reads address proper.1 record { proper = proper; more = more; text_is = e }
+no_line text writes reads forgets arms clean power (Forget address) more proper e = forgets address proper.1 record { proper = proper; more = more; text_is = e }
+no_line text writes reads forgets arms clean power Clean more proper e = clean record { proper = proper; more = more; text_is = e }
+no_line text writes reads forgets arms clean power (Arm fuse) more proper e = arms (fuse, record { proper = proper; more = more; text_is = e })
+no_line text writes reads forgets arms clean power PowerOn more proper e = power record { proper = proper; more = more; text_is = e }
+
+-- where none of the lines with an address stands at the front, whether another does
+other_at_front : (text : List ℕ) → ((address : ℕ) → address < 65535 → ((value : ℕ) × BeginsWith text (Write address value)) → ⊥)
+    → ((address : ℕ) → address < 65535 → BeginsWith text (Read address) → ⊥)
+    → ((address : ℕ) → address < 65535 → BeginsWith text (Forget address) → ⊥) → ((command : Command) × BeginsWith text command) ⊎ NoLine text
+unfolding SomeArm
+other_at_front text writes reads forgets = elim (some_arm text) [
+  | inl arm ↦ inl (Arm arm.0, arm.1)
+  | inr arms ↦ elim (stands text Clean tt) [
+    | inl clean ↦ inl (Clean, clean)
+    | inr clean ↦ elim (stands text PowerOn tt) [
+      | inl power ↦ inl (PowerOn, power)
+      | inr power ↦ inr (no_line text writes reads forgets arms clean power)
+    ]
+  ]
+]
 
 -- whether a good line stands at the front, and which
 at_front : (text : List ℕ) → ((command : Command) × BeginsWith text command) ⊎ NoLine text
@@ -76,10 +150,7 @@ at_front text = elim (some_below (λ address. (value : ℕ) × BeginsWith text (
     | inl read ↦ inl (Read read.0, read.2)
     | inr reads ↦ elim (some_below (λ address. BeginsWith text (Forget address)) (stands_forget text) 65535) [
       | inl forget ↦ inl (Forget forget.0, forget.2)
-      | inr forgets ↦ elim (stands text Clean tt) [
-        | inl clean ↦ inl (Clean, clean)
-        | inr none ↦ inr (no_line text writes reads forgets none)
-      ]
+      | inr forgets ↦ other_at_front text writes reads forgets
     ]
   ]
 ]

@@ -1,15 +1,18 @@
 -- A text is read in one way.
-use Rattle.std.proofs.Common.{◌≡◌, ℕ, ◌+◌, ◌++◌, List, [], ◌∷◌, length, get_or, refl, sym, ◌∙◌, ap, arith, append_assoc, length-append, inl}
+use Rattle.std.proofs.Common.{◌≡◌, ℕ, ◌+◌, ◌<◌, ◌^◌, ◌++◌, List, [], ◌∷◌, length, get_or, refl, sym, ◌∙◌, ap, arith, append_assoc, length-append, inl}
 use Rattle.std.specs.Fmt.{decimal}
 use Rattle.std.proofs.lemmas.Fmt.{decimal_injective}
 use Rattle.std.proofs.lemmas.List.{append-nil}
 use Rattle.ee_codec.specs.Words.{IsAddress, IsValue}
+use Rattle.ee_flash.specs.declared.fuse.Fuse.{Fuse}
+use Rattle.ee_flash.specs.declared.fuse.Tear.{Tear}
+use Rattle.ee_flash.specs.declared.fuse.Tear.TheVariants.{Nothing, Done, Torn, Mixed}
 use Rattle.ee_text.specs.Line.{line_of}
 use Rattle.ee_text.proofs.Lacking.{first_place, Lacks-decimal}
 use Rattle.ee_text.proofs.LineFeeds.{first_line}
 use Rattle.ee_script.specs.declared.command.Command.{Command}
-use Rattle.ee_script.specs.declared.command.Command.TheVariants.{Write, Read, Forget, Clean}
-use Rattle.ee_script.specs.Command.{IsCommand, spelling}
+use Rattle.ee_script.specs.declared.command.Command.TheVariants.{Write, Read, Forget, Clean, Arm, PowerOn}
+use Rattle.ee_script.specs.Command.{IsCommand, letter, spelling}
 use Rattle.ee_script.specs.Script.{script, AreCommands, NoLine, IsScript, IsFirstBadLine}
 use Rattle.ee_script.proofs.Spelling.{Lacks-spelling}
 
@@ -19,6 +22,37 @@ write_injective : (a v b w : ℕ) → IsAddress a × IsValue v → IsAddress b �
 write_injective a v b w h k e =
     let parts = first_place 32 (decimal a) (decimal b) (decimal v) (decimal w) (Lacks-decimal 32 a (inl (omega arith)) (omega arith)) (Lacks-decimal 32 b (inl (omega arith)) (omega arith)) e in
     (decimal_injective a b (omega arith) (omega arith) parts.0, decimal_injective v w (omega arith) (omega arith) parts.1)
+
+letter_injective : (s t : Tear) → letter s ≡ letter t → s ≡ t
+letter_injective Nothing Nothing e = refl
+letter_injective Nothing Done e = absurd (omega (arith, ap (λ l. get_or l 0 0) e))
+letter_injective Nothing Torn e = absurd (omega (arith, ap (λ l. get_or l 0 0) e))
+letter_injective Nothing Mixed e = absurd (omega (arith, ap (λ l. get_or l 0 0) e))
+letter_injective Done Nothing e = absurd (omega (arith, ap (λ l. get_or l 0 0) e))
+letter_injective Done Done e = refl
+letter_injective Done Torn e = absurd (omega (arith, ap (λ l. get_or l 0 0) e))
+letter_injective Done Mixed e = absurd (omega (arith, ap (λ l. get_or l 0 0) e))
+letter_injective Torn Nothing e = absurd (omega (arith, ap (λ l. get_or l 0 0) e))
+letter_injective Torn Done e = absurd (omega (arith, ap (λ l. get_or l 0 0) e))
+letter_injective Torn Torn e = refl
+letter_injective Torn Mixed e = absurd (omega (arith, ap (λ l. get_or l 0 0) e))
+letter_injective Mixed Nothing e = absurd (omega (arith, ap (λ l. get_or l 0 0) e))
+letter_injective Mixed Done e = absurd (omega (arith, ap (λ l. get_or l 0 0) e))
+letter_injective Mixed Torn e = absurd (omega (arith, ap (λ l. get_or l 0 0) e))
+letter_injective Mixed Mixed e = refl
+
+pub same_fuse : (f g : Fuse) → f.after ≡ g.after → f.tear ≡ g.tear → f ≡ g
+same_fuse f g after tear =
+    ap (λ (n : ℕ). record { after = n; tear = f.tear }) after ∙ ap (λ (t : Tear). record { after = g.after; tear = t }) tear
+
+arm_injective : (f g : Fuse) → f.after + 1 < 2 ^ 64 → g.after + 1 < 2 ^ 64
+    → decimal (f.after + 1) ++ 32 ∷ letter f.tear ≡ decimal (g.after + 1) ++ 32 ∷ letter g.tear → f ≡ g
+arm_injective f g h k e =
+    let parts = first_place 32 (decimal (f.after + 1)) (decimal (g.after + 1)) (letter f.tear) (letter g.tear)
+    (Lacks-decimal 32 (f.after + 1) (inl (omega arith)) h) (Lacks-decimal 32 (g.after + 1) (inl (omega arith)) k) e in
+    let after : f.after ≡ g.after = omega (arith, decimal_injective (f.after + 1) (g.after + 1) h k parts.0) in
+    let tear : f.tear ≡ g.tear = letter_injective f.tear g.tear parts.1 in
+    same_fuse f g after tear
 
 pub spelling_injective : (c d : Command) → IsCommand c → IsCommand d → spelling c ≡ spelling d → c ≡ d
 spelling_injective (Write a v) (Write b w) h k e =
@@ -30,22 +64,44 @@ spelling_injective (Write a v) (Write b w) h k e =
 spelling_injective (Write a v) (Read b) h k e = absurd (omega (arith, ap (λ l. get_or l 0 0) e))
 spelling_injective (Write a v) (Forget b) h k e = absurd (omega (arith, ap (λ l. get_or l 0 0) e))
 spelling_injective (Write a v) Clean h k e = absurd (omega (arith, ap (λ l. get_or l 0 0) e))
+spelling_injective (Write a v) (Arm g) h k e = absurd (omega (arith, ap (λ l. get_or l 0 0) e))
+spelling_injective (Write a v) PowerOn h k e = absurd (omega (arith, ap (λ l. get_or l 0 0) e))
 spelling_injective (Read a) (Write b w) h k e = absurd (omega (arith, ap (λ l. get_or l 0 0) e))
 spelling_injective (Read a) (Read b) h k e =
     let rest : decimal a ≡ decimal b = cc in
     ap Read (decimal_injective a b (omega arith) (omega arith) rest)
 spelling_injective (Read a) (Forget b) h k e = absurd (omega (arith, ap (λ l. get_or l 0 0) e))
 spelling_injective (Read a) Clean h k e = absurd (omega (arith, ap (λ l. get_or l 0 0) e))
+spelling_injective (Read a) (Arm g) h k e = absurd (omega (arith, ap (λ l. get_or l 0 0) e))
+spelling_injective (Read a) PowerOn h k e = absurd (omega (arith, ap (λ l. get_or l 0 0) e))
 spelling_injective (Forget a) (Write b w) h k e = absurd (omega (arith, ap (λ l. get_or l 0 0) e))
 spelling_injective (Forget a) (Read b) h k e = absurd (omega (arith, ap (λ l. get_or l 0 0) e))
 spelling_injective (Forget a) (Forget b) h k e =
     let rest : decimal a ≡ decimal b = cc in
     ap Forget (decimal_injective a b (omega arith) (omega arith) rest)
 spelling_injective (Forget a) Clean h k e = absurd (omega (arith, ap (λ l. get_or l 0 0) e))
+spelling_injective (Forget a) (Arm g) h k e = absurd (omega (arith, ap (λ l. get_or l 0 0) e))
+spelling_injective (Forget a) PowerOn h k e = absurd (omega (arith, ap (λ l. get_or l 0 0) e))
 spelling_injective Clean (Write b w) h k e = absurd (omega (arith, ap (λ l. get_or l 0 0) e))
 spelling_injective Clean (Read b) h k e = absurd (omega (arith, ap (λ l. get_or l 0 0) e))
 spelling_injective Clean (Forget b) h k e = absurd (omega (arith, ap (λ l. get_or l 0 0) e))
 spelling_injective Clean Clean h k e = refl
+spelling_injective Clean (Arm g) h k e = absurd (omega (arith, ap (λ l. get_or l 0 0) e))
+spelling_injective Clean PowerOn h k e = absurd (omega (arith, ap (λ l. get_or l 0 0) e))
+spelling_injective (Arm f) (Write b w) h k e = absurd (omega (arith, ap (λ l. get_or l 0 0) e))
+spelling_injective (Arm f) (Read b) h k e = absurd (omega (arith, ap (λ l. get_or l 0 0) e))
+spelling_injective (Arm f) (Forget b) h k e = absurd (omega (arith, ap (λ l. get_or l 0 0) e))
+spelling_injective (Arm f) Clean h k e = absurd (omega (arith, ap (λ l. get_or l 0 0) e))
+spelling_injective (Arm f) (Arm g) h k e =
+    let rest : decimal (f.after + 1) ++ 32 ∷ letter f.tear ≡ decimal (g.after + 1) ++ 32 ∷ letter g.tear = cc in
+    ap Arm (arm_injective f g h k rest)
+spelling_injective (Arm f) PowerOn h k e = absurd (omega (arith, ap (λ l. get_or l 0 0) e))
+spelling_injective PowerOn (Write b w) h k e = absurd (omega (arith, ap (λ l. get_or l 0 0) e))
+spelling_injective PowerOn (Read b) h k e = absurd (omega (arith, ap (λ l. get_or l 0 0) e))
+spelling_injective PowerOn (Forget b) h k e = absurd (omega (arith, ap (λ l. get_or l 0 0) e))
+spelling_injective PowerOn Clean h k e = absurd (omega (arith, ap (λ l. get_or l 0 0) e))
+spelling_injective PowerOn (Arm g) h k e = absurd (omega (arith, ap (λ l. get_or l 0 0) e))
+spelling_injective PowerOn PowerOn h k e = refl
 
 -- ---- the good lines at the front of a text
 

@@ -2,7 +2,7 @@
 use Rattle.std.specs.Prelude.{◌≡◌, ◌++◌, ℕ, List, decimal, codes, flat_map}
 use Rattle.ee_text.specs.Line.{line_of}
 use Rattle.ee_script.specs.declared.answer.Answer.{Answer}
-use Rattle.ee_script.specs.declared.answer.Answer.TheVariants.{Appended, Moved, Full, Spent, Cleaned, Idle, Value, NoValue, Absent}
+use Rattle.ee_script.specs.declared.answer.Answer.TheVariants.{Appended, Moved, Full, Spent, Cleaned, Idle, Value, NoValue, Absent, Armed, Cut, Off, Opened}
 
 -- what its line says, without the line feed
 abbrev pub wording : Answer → List ℕ
@@ -15,6 +15,10 @@ wording Idle = codes "idle"
 wording (Value value) = decimal value
 wording NoValue = codes "none"
 wording Absent = codes "absent"
+wording Armed = codes "armed"
+wording Cut = codes "cut"
+wording Off = codes "off"
+wording Opened = codes "open"
 
 -- one line for each answer
 abbrev pub report : List Answer → List ℕ

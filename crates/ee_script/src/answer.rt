@@ -25,6 +25,14 @@ pub enum Answer {
     NoValue,
     /// `absent`: the address has no value to forget.
     Absent,
+    /// `armed`: a cut is to come.
+    Armed,
+    /// `cut`: power was cut. No store is open.
+    Cut,
+    /// `off`: no store is open.
+    Off,
+    /// `open`: a store is open.
+    Opened,
 }
 
 /// Writes the answer's line at the end of a report. After an error the report has what it had, and
@@ -46,5 +54,9 @@ pub fn push_answer<A: Allocator>(out: &mut Vec<u8, A>, answer: Answer) -> Result
         }
         Answer::NoValue => out.extend_from_slice(b"none\n"),
         Answer::Absent => out.extend_from_slice(b"absent\n"),
+        Answer::Armed => out.extend_from_slice(b"armed\n"),
+        Answer::Cut => out.extend_from_slice(b"cut\n"),
+        Answer::Off => out.extend_from_slice(b"off\n"),
+        Answer::Opened => out.extend_from_slice(b"open\n"),
     }
 }

@@ -1,14 +1,16 @@
-ghost use Rattle.std.specs.Prelude.{◌≡◌, ◌++◌, ◌∷◌, ℕ, List, Some, IfNone, IfSome, IsSomeAnd, decimal, codes};
+ghost use Rattle.std.specs.Prelude.{◌≡◌, ◌+◌, ◌<◌, ◌^◌, ◌++◌, ◌∷◌, ℕ, List, Some};
+ghost use Rattle.std.specs.Prelude.{IfNone, IfSome, IsSomeAnd, decimal, codes};
 ghost use Rattle.ee_codec.specs.Words.{IsAddress, IsValue};
 ghost use Rattle.ee_text.specs.Line.{line_of};
 ghost use Rattle.ee_text.specs.Number.{StartsWithNoDigit};
-ghost use Rattle.ee_script.specs.Command.{IsCommand, spelling};
+ghost use Rattle.ee_script.specs.Command.{IsCommand, letter, spelling};
 ghost use Rattle.ee_script.specs.Script.{NoLine};
 ghost use Rattle.ee_script.specs.declared.command.Command.TheVariants as commands;
 
 use super::command::Command;
 use ee_codec::Address;
-use ee_text::leading_number;
+use ee_flash::{Fuse, Tear};
+use ee_text::{leading_number, next_field, number};
 
 /// The command that a line spells, without its line feed. None where it spells none.
 pub fn read_command(line: &[u8]) -> Option<Command>
@@ -40,8 +42,8 @@ pub fn next_command(text: &[u8]) -> Option<(Command, &[u8])>
     }
 }
 
-/// The command that is spelled at the front of a text, up to the first byte that is no digit of its
-/// last number, and what stands behind it.
+/// The command that is spelled at the front of a text, and what stands behind it: a number that ends
+/// it goes up to the first byte that is no digit.
 fn leading_command(text: &[u8]) -> Option<(Command, &[u8])>
     ensures found { IfSome result (λ parts. IsCommand parts.0
         × (text.now ≡ spelling parts.0 ++ parts.1.now)) }
@@ -60,6 +62,8 @@ fn leading_command(text: &[u8]) -> Option<(Command, &[u8])>
             None => None,
         },
         [b'c', behind @ ..] => Some((Command::Clean, behind)),
+        [b'x', b' ', fields @ ..] => leading_arm(fields),
+        [b'p', behind @ ..] => Some((Command::PowerOn, behind)),
         _ => None,
     }
 }
@@ -91,4 +95,36 @@ fn leading_address(text: &[u8]) -> Option<(Address, &[u8])>
 {
     let (number, behind) = leading_number(text, u32::from(u16::MAX))?;
     Some((Address::new(number as u16)?, behind))
+}
+
+/// The cut to come whose step and tear stand at the front of a text.
+fn leading_arm(text: &[u8]) -> Option<(Command, &[u8])>
+    ensures found { IfSome result (λ parts. IsCommand parts.0
+        × (codes "x " ++ text.now ≡ spelling parts.0 ++ parts.1.now)) }
+    ensures only { (fuse : Fuse) (behind : List ℕ) → fuse.after + 1 < 2 ^ 64
+        → text.now ≡ decimal (fuse.after + 1) ++ 32 ∷ (letter fuse.tear ++ behind)
+        → IsSomeAnd result (λ parts. (parts.0 ≡ commands.Arm fuse) × (parts.1.now ≡ behind)) }
+{
+    let (step, Some(rest)) = next_field(text) else {
+        return None;
+    };
+    let after = number(step)?.checked_sub(1)?;
+    let (tear, behind) = leading_tear(rest)?;
+    let fuse = Fuse { after, tear };
+    Some((Command::Arm { fuse }, behind))
+}
+
+/// The tear whose letter stands at the front of a text.
+fn leading_tear(text: &[u8]) -> Option<(Tear, &[u8])>
+    ensures found { IfSome result (λ parts. text.now ≡ letter parts.0 ++ parts.1.now) }
+    ensures only { (tear : Tear) (behind : List ℕ) → text.now ≡ letter tear ++ behind
+        → IsSomeAnd result (λ parts. (parts.0 ≡ tear) × (parts.1.now ≡ behind)) }
+{
+    match text {
+        [b'n', behind @ ..] => Some((Tear::Nothing, behind)),
+        [b'd', behind @ ..] => Some((Tear::Done, behind)),
+        [b't', behind @ ..] => Some((Tear::Torn, behind)),
+        [b'm', behind @ ..] => Some((Tear::Mixed, behind)),
+        _ => None,
+    }
 }

@@ -21,9 +21,9 @@ use Rattle.ee_plan.specs.Start.{AreLive, IsStartOf}
 use Rattle.ee_script.specs.Run.{Run}
 use Rattle.ee_script.specs.Script.{AreCommands}
 use Rattle.ee_script.specs.declared.answer.Answer.{Answer}
-use Rattle.ee_script.specs.declared.answer.Answer.TheVariants.{Appended, Moved, Full, Spent, Cleaned, Idle, Value, NoValue, Absent}
+use Rattle.ee_script.specs.declared.answer.Answer.TheVariants.{Appended, Moved, Full, Spent, Cleaned, Idle, Value, NoValue, Absent, Armed, Opened}
 use Rattle.ee_script.specs.declared.command.Command.{Command}
-use Rattle.ee_script.specs.declared.command.Command.TheVariants.{Write, Read, Forget, Clean}
+use Rattle.ee_script.specs.declared.command.Command.TheVariants.{Write, Read, Forget, Clean, Arm, PowerOn}
 use Rattle.ee_shell.specs.Machine.{Step}
 use Rattle.ee_shell.specs.Trace.{AreFewest, Fits, ForgetsWhatIsHeld, NoneEndsWithMoreRoom, accepted, moved_at, moves, map_changes, trace_of}
 use Rattle.ee_plan.proofs.Fitting.{keeps_more, keeps_tail}
@@ -278,6 +278,12 @@ module _ (size : Size) where
   late_run (Clean ∷ commands) (Idle ∷ answers) old new start are is proper run =
       no_move (slot_count size) start commands answers new Clean Idle refl (λ n. refl)
       (late_run commands answers run.0 new start are.1 (stays old run.0 start run.1.1 is) proper run.2)
+  late_run (Arm fuse ∷ commands) (Armed ∷ answers) old new start are is proper run =
+      no_move (slot_count size) start commands answers new (Arm fuse) Armed refl (λ n. refl)
+      (late_run commands answers run.0 new start are.1 (stays old run.0 start run.1 is) proper run.2)
+  late_run (PowerOn ∷ commands) (Opened ∷ answers) old new start are is proper run =
+      no_move (slot_count size) start commands answers new PowerOn Opened refl (λ n. refl)
+      (late_run commands answers run.0 new start are.1 (stays old run.0 start run.1 is) proper run.2)
   late_run (command ∷ commands) (answer ∷ answers) old new start are is proper run = absurd run.1
 
 -- ---- the moves are the fewest
@@ -349,6 +355,10 @@ module _ (size : Size) where
       values_are commands answers run.0 new run.2 ∙ ap (λ s. changed_by (map_changes (accepted commands answers)) s.map) run.1.1
   values_are (Clean ∷ commands) (Idle ∷ answers) old new run =
       values_are commands answers run.0 new run.2 ∙ ap (λ s. changed_by (map_changes (accepted commands answers)) s.map) run.1.1
+  values_are (Arm fuse ∷ commands) (Armed ∷ answers) old new run =
+      values_are commands answers run.0 new run.2 ∙ ap (λ s. changed_by (map_changes (accepted commands answers)) s.map) run.1
+  values_are (PowerOn ∷ commands) (Opened ∷ answers) old new run =
+      values_are commands answers run.0 new run.2 ∙ ap (λ s. changed_by (map_changes (accepted commands answers)) s.map) run.1
   values_are (command ∷ commands) (answer ∷ answers) old new run = absurd run.1
 
   -- ---- where all changes fit
@@ -434,6 +444,12 @@ module _ (size : Size) where
   all_put (Clean ∷ commands) (Idle ∷ answers) old new start are is run fits =
       all_put commands answers run.0 new start are.1 (stays size old run.0 start run.1.1 is) run.2
       (fits_on old run.0 start Clean commands refl (λ h. h) (ap (λ s. s.generation) run.1.1) (ap (λ s. s.map) run.1.1) fits)
+  all_put (Arm fuse ∷ commands) (Armed ∷ answers) old new start are is run fits =
+      all_put commands answers run.0 new start are.1 (stays size old run.0 start run.1 is) run.2
+      (fits_on old run.0 start (Arm fuse) commands refl (λ h. h) (ap (λ s. s.generation) run.1) (ap (λ s. s.map) run.1) fits)
+  all_put (PowerOn ∷ commands) (Opened ∷ answers) old new start are is run fits =
+      all_put commands answers run.0 new start are.1 (stays size old run.0 start run.1 is) run.2
+      (fits_on old run.0 start PowerOn commands refl (λ h. h) (ap (λ s. s.generation) run.1) (ap (λ s. s.map) run.1) fits)
   all_put (command ∷ commands) (answer ∷ answers) old new start are is run fits = absurd run.1
 
 -- ---- the run of a script, together

@@ -15,3 +15,9 @@ pub mod OneTask
 pub mod Planned
 pub mod Given
 pub mod TidiedImages
+pub mod Desks
+pub mod Arming
+pub mod UncutRuns
+pub mod LegalAlone
+pub mod Powering
+pub mod Calling

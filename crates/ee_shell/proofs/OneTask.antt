@@ -16,10 +16,9 @@ use Rattle.ee_pages.specs.declared.side.Side.TheVariants.{First, Second}
 use Rattle.ee_store.specs.State.{State, state_in, state_of}
 use Rattle.ee_image.specs.Text.{at_rest}
 use Rattle.ee_image.proofs.Texts.{one_device_lem}
-use Rattle.ee_script.specs.Whole.{IsScriptFault}
 use Rattle.ee_script.specs.declared.session.ScriptFault.{ScriptFault}
 use Rattle.ee_script.specs.declared.session.ScriptFault.TheVariants as script
-use Rattle.ee_script.proofs.Reading.{one_first_bad_line_lem, one_script_lem, scripts_are_good_lem}
+use Rattle.ee_script.proofs.Reading.{one_script_lem}
 use Rattle.ee_check.specs.declared.change.Change.{Change}
 use Rattle.ee_check.specs.declared.checking.CheckFault.{CheckFault}
 use Rattle.ee_check.specs.declared.checking.CheckFault.TheVariants as check
@@ -40,10 +39,11 @@ use Rattle.ee_words.specs.declared.fault.Fault.TheVariants.{Memory, NotFitting}
 use Rattle.ee_words.specs.declared.replay_fault.ReplayFault.{ReplayFault}
 use Rattle.ee_words.specs.declared.replay_fault.ReplayFault.TheVariants as replay
 use Rattle.ee_shell.specs.Opening.{IsOpened}
-use Rattle.ee_shell.specs.Planning.{IsCertificateFault, IsCheckingFault, IsImageStart, IsPlanningFault, IsRefusal, IsTask, IsTaskFault, IsTrace}
+use Rattle.ee_shell.specs.Planning.{IsCertificateFault, IsCheckingFault, IsImageStart, IsPlanningFault, IsRefusal, IsTask, IsTaskFault, IsTrace, IsTraceFault}
 use Rattle.ee_shell.specs.Replaying.{IsOpenFault, IsStoreText, Spells}
 use Rattle.ee_shell.specs.Trace.{trace_of}
 use Rattle.ee_shell.proofs.OneCause.{one_open_fault, store_is_good}
+use Rattle.ee_shell.proofs.Traces.{one_first_bad_line, traces_are_good}
 
 -- ---- one start
 
@@ -123,10 +123,10 @@ memory_or (replay.Script n) = inr (λ e. cc e)
 memory_or replay.Memory = inl refl
 memory_or replay.Read = inr (λ e. cc e)
 
-one_script_fault : (text : List ℕ) (cause fault : ScriptFault) → cause ≢ script.Memory → IsScriptFault text cause → IsScriptFault text fault → (fault ≡ cause) ⊎ (fault ≡ script.Memory)
-one_script_fault text (script.BadLine m) (script.BadLine n) some h i = inl (ap script.BadLine (one_first_bad_line_lem text n m i h))
-one_script_fault text (script.BadLine m) script.Memory some h i = inr refl
-one_script_fault text script.Memory fault some h i = absurd (some refl)
+one_trace_fault : (text : List ℕ) (cause fault : ScriptFault) → cause ≢ script.Memory → IsTraceFault text cause → IsTraceFault text fault → (fault ≡ cause) ⊎ (fault ≡ script.Memory)
+one_trace_fault text (script.BadLine m) (script.BadLine n) some h i = inl (ap script.BadLine (one_first_bad_line text n m i h))
+one_trace_fault text (script.BadLine m) script.Memory some h i = inr refl
+one_trace_fault text script.Memory fault some h i = absurd (some refl)
 
 -- where a store is opened an image's fault is want of memory
 opened_memory : (image : List ℕ) (device : Device) (cause : ReplayFault) → IsStoreText image device → IsOpenFault image cause → cause ≡ replay.Memory
@@ -135,10 +135,10 @@ opened_memory image device cause store bad = elim (memory_or cause) [
   | inr some ↦ absurd (store_is_good image device cause store some bad)
 ]
 
--- where there is a script its fault is want of memory
-script_memory : (text : List ℕ) (trace : List Change) (cause : ScriptFault) → IsTrace text trace → IsScriptFault text cause → cause ≡ script.Memory
-script_memory text trace (script.BadLine n) is bad = absurd (scripts_are_good_lem text is.commands n is.is_script bad)
-script_memory text trace script.Memory is bad = refl
+-- where there is a trace its fault is want of memory
+trace_memory : (text : List ℕ) (trace : List Change) (cause : ScriptFault) → IsTrace text trace → IsTraceFault text cause → cause ≡ script.Memory
+trace_memory text trace (script.BadLine n) is bad = absurd (traces_are_good text trace n is bad)
+trace_memory text trace script.Memory is bad = refl
 
 pub one_task_fault : (image text : List ℕ) (cause fault : Fault) → cause ≢ Memory → IsTaskFault image text cause → IsTaskFault image text fault → (fault ≡ cause) ⊎ (fault ≡ Memory)
 one_task_fault image text cause fault some (inl h) (inl i) =
@@ -150,13 +150,13 @@ one_task_fault image text cause fault some (inr h) (inl i) =
     inr (i.fault_is ∙ ap fault_of_replay (opened_memory image h.0.0 i.cause h.0.1 i.applies))
 one_task_fault image text cause fault some (inr h) (inr i) =
     one_name fault_of_script cause fault h.1.cause i.1.cause script.Memory h.1.fault_is i.1.fault_is refl
-    (one_script_fault text h.1.cause i.1.cause (other_cause fault_of_script cause h.1.cause script.Memory some h.1.fault_is refl) h.1.applies i.1.applies)
+    (one_trace_fault text h.1.cause i.1.cause (other_cause fault_of_script cause h.1.cause script.Memory some h.1.fault_is refl) h.1.applies i.1.applies)
 
 -- where a start and a trace are had it is want of memory
 pub only_memory : (image text : List ℕ) (start : Situation) (trace : List Change) (fault : Fault) → IsTask image text start trace → IsTaskFault image text fault → fault ≡ Memory
 only_memory image text start trace fault task (inl h) =
     h.fault_is ∙ ap fault_of_replay (opened_memory image task.start_is.device h.cause task.start_is.store h.applies)
-only_memory image text start trace fault task (inr h) = h.1.fault_is ∙ ap fault_of_script (script_memory text trace h.1.cause task.trace_is h.1.applies)
+only_memory image text start trace fault task (inr h) = h.1.fault_is ∙ ap fault_of_script (trace_memory text trace h.1.cause task.trace_is h.1.applies)
 
 -- ---- one fault of a plan
 
@@ -259,7 +259,7 @@ is_task image text store start trace opened start_is trace_is = record {
 pub trace_renamed : (image text : List ℕ) (start : Situation) (trace other : List Change) → IsTask image text start trace → trace ≡ other → IsTask image text start other
 trace_renamed image text start trace other task same = subst (λ changes. IsTask image text start changes) same task
 
-pub no_trace : (image text : List ℕ) (store : Device) (fault : ScriptFault) → IsOpened image store → IsScriptFault text fault → IsTaskFault image text (fault_of_script fault)
+pub no_trace : (image text : List ℕ) (store : Device) (fault : ScriptFault) → IsOpened image store → IsTraceFault text fault → IsTaskFault image text (fault_of_script fault)
 no_trace image text store fault opened bad = inr ((opened.device, opened.old), record { cause = fault; applies = bad; fault_is = refl })
 
 -- a claim that is read and refused

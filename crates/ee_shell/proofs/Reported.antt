@@ -1,5 +1,5 @@
 -- What a report says in the end.
-use Rattle.std.proofs.Common.{◌≡◌, ◌∙◌, ◌-◌, ◌++◌, ℕ, List, ap, append_assoc, codes, decimal, length, sym}
+use Rattle.std.proofs.Common.{◌≡◌, ◌∙◌, ◌-◌, ◌++◌, ℕ, List, ap, append_assoc, codes, decimal, false, inl, length, refl, subst, sym, true}
 use Rattle.ee_flash.specs.Device.{Device}
 use Rattle.ee_flash.specs.Size.{Size, slot_count}
 use Rattle.ee_check.specs.Schedule.{IsProper, Situation}
@@ -10,11 +10,16 @@ use Rattle.ee_script.specs.Script.{IsFirstBadLine}
 use Rattle.ee_script.proofs.Reading.{scripts_are_good_lem}
 use Rattle.ee_pages.specs.Meaning.{live_in}
 use Rattle.ee_store.specs.State.{State, state_of}
-use Rattle.ee_shell.specs.Report.{end_line, report_text}
-use Rattle.ee_shell.specs.Serving.{IsServed, IsTraced, Notes, claim_noted}
+use Rattle.ee_store.specs.Events.{Point}
+use Rattle.ee_script.specs.Run.{Run}
+use Rattle.ee_shell.specs.Machine.{Desk, DeskStep, desk_with, was_cut}
+use Rattle.ee_shell.specs.Report.{IsReported, cut_report_text, desk_line, end_line}
+use Rattle.ee_shell.specs.Serving.{IsServed, IsTraced, Notes, StaysOn, claim_noted, desk_of, serving_on}
 use Rattle.ee_shell.specs.Trace.{moves}
-use Rattle.ee_shell.proofs.Late.{all_put, run_count, run_fewest, run_room, values_are}
-use Rattle.ee_shell.proofs.Runs.{machine_run, whole_run}
+use Rattle.ee_shell.proofs.Desks.{desk_run}
+use Rattle.ee_shell.proofs.Late.{all_put, run_fewest, run_room, values_are}
+use Rattle.ee_shell.proofs.Runs.{machine_run}
+use Rattle.ee_shell.proofs.UncutRuns.{made_of, run_open}
 
 -- a name and a number written behind what was written before them
 further : (old mid new before name number : List ℕ) → mid ≡ old ++ before → new ≡ mid ++ (name ++ number) → new ≡ old ++ (before ++ name ++ number)
@@ -36,51 +41,80 @@ end_written old one two three four five new slots transfers fill room live pendi
 
 -- ---- the whole report
 
--- what was answered, and the certificate of what was noted
-module _ (old new : Device) (text lines : List ℕ) (notes : Notes) (start : Situation) (run : IsTraced old text new notes lines)
-    (is : IsStartOf (slot_count old.size) (state_of old) start) (proper : IsProper start) where
+-- what was answered, and what was noted
+module _ (old : Device) (new : Point) (text lines : List ℕ) (notes : Notes) (run : IsTraced old text new notes lines) where
   -- the parts of the report, put together
-  report_is : (ended reported : List ℕ) (transfers : ℕ) → new.size ≡ old.size → transfers ≡ moves run.answered.answers
-      → ended ≡ lines ++ end_line (slot_count new.size) (state_of new) transfers → reported ≡ ended ++ text_of (claim_noted start notes)
-      → reported ≡ report_text (slot_count old.size) run.answered.answers (state_of new) (claim_noted start notes)
-  report_is ended reported transfers same_size count end all =
-      let sized : end_line (slot_count new.size) (state_of new) transfers ≡ end_line (slot_count old.size) (state_of new) (moves run.answered.answers) =
-      ap (λ (size : Size). end_line (slot_count size) (state_of new) transfers) same_size ∙ ap (λ n. end_line (slot_count old.size) (state_of new) n) count in
-      all ∙ ap (λ l. l ++ text_of (claim_noted start notes))
-      (end ∙ ap (λ l. l ++ end_line (slot_count new.size) (state_of new) transfers) run.answered.report_is ∙ ap (λ l. report run.answered.answers ++ l) sized)
-      ∙ append_assoc (report run.answered.answers) (end_line (slot_count old.size) (state_of new) (moves run.answered.answers)) (text_of (claim_noted start notes))
+  all_parts : (ended reported line rest : List ℕ) → ended ≡ lines ++ line → reported ≡ ended ++ rest → reported ≡ report run.answered.answers ++ (line ++ rest)
+  all_parts ended reported line rest end all =
+      all ∙ ap (λ l. l ++ rest) (end ∙ ap (λ l. l ++ line) run.answered.report_is) ∙ append_assoc (report run.answered.answers) line rest
 
-  pub is_served : (ended reported : List ℕ) → ended ≡ lines ++ end_line (slot_count new.size) (state_of new) (length notes.stretches)
-      → reported ≡ ended ++ text_of (claim_noted start notes) → IsServed old text new reported
-  is_served ended reported end all =
-      let commands = run.answered.commands in
-      let answers = run.answered.answers in
-      let are = run.answered.is_script.proper in
-      let claim = claim_noted start notes in
-      let machine = machine_run old new commands answers run.answered.run in
-      let tight = run.tight start is proper in
-      let count = run_count old.size commands answers (state_of old) (state_of new) start claim are is proper machine.run tight in
-      record {
-        report = record {
-          commands = commands;
-          answers = answers;
+  -- how the desk stands at the end
+  line_is : (ended : List ℕ) → new.device.size ≡ old.size → ended ≡ lines ++ desk_line (slot_count new.device.size) new.serving (state_of new.device) (length notes.stretches)
+      → ended ≡ lines ++ desk_line (slot_count old.size) new.serving (state_of new.device) (moves run.answered.answers)
+  line_is ended same_size end =
+      end ∙ ap (λ (size : Size). lines ++ desk_line (slot_count size) new.serving (state_of new.device) (length notes.stretches)) same_size
+      ∙ ap (λ n. lines ++ desk_line (slot_count old.size) new.serving (state_of new.device) n) run.transfers
+
+  -- after a cut
+  cut_report : (ended reported : List ℕ) → new.device.size ≡ old.size
+      → ended ≡ lines ++ desk_line (slot_count new.device.size) new.serving (state_of new.device) (length notes.stretches)
+      → reported ≡ ended ++ codes "no certificate\n" → reported ≡ cut_report_text (slot_count old.size) run.answered.answers (desk_of new)
+  cut_report ended reported same_size end all = all_parts ended reported _ (codes "no certificate\n") (line_is ended same_size end) all
+
+  -- and where no line was cut
+  module _ (start : Situation) (is : IsStartOf (slot_count old.size) (state_of old) start) (proper : IsProper start) (plain : was_cut run.answered.answers ≡ false) where
+    uncut_report : (ended reported : List ℕ) → ended ≡ lines ++ desk_line (slot_count new.device.size) new.serving (state_of new.device) (length notes.stretches)
+        → reported ≡ ended ++ text_of (claim_noted start notes) → IsReported old.size (state_of old) run.answered.commands run.answered.answers (state_of new.device) reported
+    uncut_report ended reported end all =
+        let commands = run.answered.commands in
+        let answers = run.answered.answers in
+        let are = run.answered.is_script.proper in
+        let claim = claim_noted start notes in
+        let whole = run_open old new commands answers plain run.answered.run in
+        let machine = machine_run old new.device commands answers whole.run in
+        let tight = run.tight plain start is proper in
+        let line = line_is ended machine.same_size end in
+        let standing : ended ≡ lines ++ end_line (slot_count old.size) (state_of new.device) (moves answers) =
+        line ∙ ap (λ serving. lines ++ desk_line (slot_count old.size) serving (state_of new.device) (moves answers)) whole.still in
+        record {
           start = start;
           claim = claim;
-          is_script = run.answered.is_script;
           run = machine.run;
           start_is = is;
-          fewest = run_fewest old.size commands answers (state_of old) (state_of new) start claim are is proper machine.run tight;
-          room = run_room old.size commands answers (state_of old) (state_of new) start claim are is proper machine.run tight;
-          values = values_are old.size commands answers (state_of old) (state_of new) machine.run;
-          all_accepted = all_put old.size commands answers (state_of old) (state_of new) start are is machine.run;
-          report_is = report_is ended reported (length notes.stretches) machine.same_size (sym count) end all;
-        };
-        calls = whole_run old new commands answers run.answered.run;
-        erases = machine.erases;
-        stays_on = run.stays_on;
-        same_size = machine.same_size;
-      }
+          fewest = run_fewest old.size commands answers (state_of old) (state_of new.device) start claim are is proper machine.run tight;
+          room = run_room old.size commands answers (state_of old) (state_of new.device) start claim are is proper machine.run tight;
+          values = values_are old.size commands answers (state_of old) (state_of new.device) machine.run;
+          all_accepted = all_put old.size commands answers (state_of old) (state_of new.device) start are is machine.run;
+          report_is = all_parts ended reported _ (text_of claim) standing all;
+        }
+
+-- no cut is to come yet
+unarmed : (old : Device) → StaysOn old → desk_of (serving_on old) ≡ desk_with (state_of old)
+unarmed old stays = rw stays.never_cut refl
+
+-- the report of a script that was answered
+pub is_served : (old : Device) (new : Point) (text lines : List ℕ) (notes : Notes) (start : Situation) → IsTraced old text new notes lines
+    → IsStartOf (slot_count old.size) (state_of old) start → IsProper start → StaysOn old → (ended reported : List ℕ)
+    → ended ≡ lines ++ desk_line (slot_count new.device.size) new.serving (state_of new.device) (length notes.stretches)
+    → (notes.cut ≡ true → reported ≡ ended ++ codes "no certificate\n") → (notes.cut ≡ false → reported ≡ ended ++ text_of (claim_noted start notes))
+    → IsServed old text new reported
+is_served old new text lines notes start run is proper stays ended reported end cut plain =
+    let commands = run.answered.commands in
+    let answers = run.answered.answers in
+    let desk = desk_run (serving_on old) new commands answers (inl stays.never_cut) run.answered.run in
+    record {
+      report = record {
+        commands = commands;
+        answers = answers;
+        is_script = run.answered.is_script;
+        run = subst (λ (state : Desk). Run (DeskStep old.size) state commands answers (desk_of new)) (unarmed old stays) desk.run;
+        uncut = λ e. uncut_report old new text lines notes run start is proper e ended reported end (plain (run.cut ∙ e));
+        cut = λ e. cut_report old new text lines notes run ended reported desk.same_size end (cut (run.cut ∙ e));
+      };
+      made = made_of old new commands answers run.answered.run;
+      same_size = desk.same_size;
+    }
 
 -- a script that was answered has no bad line
-pub no_bad_line : (old new : Device) (text lines : List ℕ) (notes : Notes) (n : ℕ) → IsTraced old text new notes lines → IsFirstBadLine text n → ⊥
+pub no_bad_line : (old : Device) (new : Point) (text lines : List ℕ) (notes : Notes) (n : ℕ) → IsTraced old text new notes lines → IsFirstBadLine text n → ⊥
 no_bad_line old new text lines notes n run bad = scripts_are_good_lem text run.answered.commands n run.answered.is_script bad

@@ -11,9 +11,9 @@ use Rattle.ee_pages.specs.Page.{is_written}
 use Rattle.ee_pages.specs.Sets.{pending_of}
 use Rattle.ee_store.proofs.NotBlank.{length-not_blank}
 use Rattle.ee_store.proofs.Wears.{no_wear, wears_rise}
+use Rattle.ee_store.specs.Events.{Point}
 use Rattle.ee_store.specs.Finished.{IsStore}
 use Rattle.ee_store.specs.Openings.{IsFormatted, Opens}
-use Rattle.ee_store.specs.Runs.{IsWholeRun}
 use Rattle.ee_store.specs.State.{State, formatted, not_blank_pages, state_of}
 use Rattle.ee_image.specs.Text.{at_rest, image_text}
 use Rattle.ee_image.specs.declared.fault.ImageFault.TheVariants as image
@@ -25,7 +25,7 @@ use Rattle.ee_shell.specs.Erases.{ErasesRise, erases_of_all}
 use Rattle.ee_shell.specs.Images.{AreStates, IsFormattedText, IsReadingFault, state_lines}
 use Rattle.ee_shell.specs.Opening.{IsNewStore, IsOpened, IsRunOn, IsStillFault}
 use Rattle.ee_shell.specs.Replaying.{IsOpenFault, IsReplayed, IsRun, IsTried, Spells}
-use Rattle.ee_shell.specs.Serving.{IsServed, StaysOn, calls_of}
+use Rattle.ee_shell.specs.Serving.{IsMade, IsServed, IsSound, StaysOn}
 use Rattle.ee_shell.proofs.Erasing.{both, by_wear, unworn, wear_since}
 
 -- a device in memory is formed
@@ -61,22 +61,21 @@ still_fault text device (replay.Script n) spelled still = absurd still
 still_fault text device replay.Memory spelled still = tt
 still_fault text device replay.Read spelled still = absurd still
 
-pub is_run_on : (old new flash : Device) (text image reported : List ℕ) → IsServed old text new reported → IsStore new → flash ≡ new → Spells image flash → IsRunOn old text image reported
-is_run_on old new flash text image reported served store same spelled = record {
+pub is_run_on : (old flash : Device) (new : Point) (text image reported : List ℕ) → IsServed old text new reported → IsSound new → flash ≡ new.device → Spells image flash
+    → IsRunOn old text image reported
+is_run_on old flash new text image reported served sound same spelled = record {
   run = record {
     last = new;
-    left = record { spelled = subst (Spells image) same spelled; store = store; stays_on = served.stays_on; same_size = served.same_size };
+    left = record { spelled = subst (Spells image) same spelled; sound = sound; same_size = served.same_size };
     report = served.report;
   };
-  calls = served.calls;
-  erases = served.erases;
+  made = served.made;
 }
 
 -- a run of the machine of this size from this state, on this store
 abbrev RunFrom : Size → State → List ℕ → List ℕ → List ℕ → Device → Type 0
 RunFrom size start text image reported store =
-    (run : IsRun size start text image reported) × ErasesRise (erases_of_all size run.report.answers) store run.last
-    × IsWholeRun (calls_of run.report.commands run.report.answers) store run.last
+    (run : IsRun size start text image reported) × IsMade store run.report.commands run.report.answers run.last
 
 -- the same run, of a machine that is known by another size and state
 from_there : (size other : Size) (start from : State) (text image reported : List ℕ) (store : Device) → size ≡ other → start ≡ from
@@ -88,31 +87,39 @@ from_there size other start from text image reported store sizes starts run =
 pub is_replayed : (old_image text image reported : List ℕ) (store : Device) → IsOpened old_image store → IsRunOn store text image reported
     → IsReplayed old_image text image reported
 is_replayed old_image text image reported store opened on =
-    let there = from_there store.size opened.device.size (state_of store) (state_of opened.device) text image reported store opened.same_size opened.state_is (on.run, on.erases, on.calls) in
-    let pages = erases_of_all opened.device.size there.0.report.answers in
+    let there = from_there store.size opened.device.size (state_of store) (state_of opened.device) text image reported store opened.same_size opened.state_is (on.run, on.made) in
+    let answers = there.0.report.answers in
+    let pages = erases_of_all opened.device.size answers in
     record {
       device = opened.device;
       old = opened.old;
       run = there.0;
       opened = store;
       opens = opened.opens;
-      calls = there.2;
-      erases = both opened.device store there.0.last 0 pages pages opened.erases there.1 (omega arith);
+      made = there.1;
+      erases = λ plain.
+          let further = subst (λ (size : Size). ErasesRise (erases_of_all size answers) store there.0.last.device) opened.same_size (there.1.erases plain) in
+          both opened.device store there.0.last.device 0 pages pages opened.erases further (omega arith);
     }
 
 -- a run from what was formatted
 pub is_tried : (size : Size) (text image reported : List ℕ) (store : Device) → IsNewStore size store → IsRunOn store text image reported → IsTried size text image reported
 is_tried size text image reported store new on =
-    let there = from_there store.size size (state_of store) formatted text image reported store new.size_is new.state_is (on.run, on.erases, on.calls) in
+    let there = from_there store.size size (state_of store) formatted text image reported store new.size_is new.state_is (on.run, on.made) in
+    let answers = there.0.report.answers in
     let pending : (state_of store).pending ≡ 0 = ap (λ (s : State). s.pending) new.state_is in
     record {
       run = there.0;
       fresh = store;
       formats = new.formats;
-      calls = there.2;
-      erased = there.1.erased;
-      wear = wear_since store (blank_device size) there.0.last there.1.erased new.no_wear there.1.wear;
-      rise = omega (arith, there.1.rise, pending);
+      made = there.1;
+      worn = λ plain.
+          let rises = subst (λ (s : Size). ErasesRise (erases_of_all s answers) store there.0.last.device) new.size_is (there.1.erases plain) in
+          record {
+            erased = rises.erased;
+            wear = wear_since store (blank_device size) there.0.last.device rises.erased new.no_wear rises.wear;
+            rise = omega (arith, rises.rise, pending);
+          };
     }
 
 -- ---- a new device

@@ -1,8 +1,10 @@
 pub mod Machine
+pub mod Laws
 pub mod Erases
 pub mod Trace
 pub mod Report
 pub mod Serving
+pub mod Desk
 pub mod Replaying
 pub mod Reading
 pub mod Opening

@@ -6,11 +6,10 @@ use Rattle.ee_pages.specs.Layout.{IsScanFault}
 use Rattle.ee_words.specs.declared.replay_fault.ReplayFault.{ReplayFault}
 use Rattle.ee_words.specs.declared.replay_fault.ReplayFault.TheVariants.{Image, Open, Script, Memory, Read}
 use Rattle.ee_store.specs.Openings.{IsFormatted, Opens}
-use Rattle.ee_store.specs.Runs.{IsWholeRun}
 use Rattle.ee_store.specs.State.{formatted, pending_pages, state_of}
-use Rattle.ee_shell.specs.Erases.{ErasesRise, erases_of_all}
+use Rattle.ee_shell.specs.Erases.{ErasesRise}
 use Rattle.ee_shell.specs.Replaying.{IsRun, IsStoreText}
-use Rattle.ee_shell.specs.Serving.{StaysOn, calls_of}
+use Rattle.ee_shell.specs.Serving.{IsMade, StaysOn}
 
 -- the store of the image that the text spells, with its state; the same pages wait, and none was erased
 pub record IsOpened (text : List ℕ) (new : Device) : Type 0 where
@@ -40,8 +39,7 @@ pub record IsNewStore (size : Size) (new : Device) : Type 0 where
   pub state_is : state_of new ≡ formatted
   pub no_wear : new.wear ≡ replicate (page_count size) 0
 
--- the script was run on this store, each line by a call of it
+-- the script was run on this store, line by line
 pub record IsRunOn (store : Device) (text new_image reported : List ℕ) : Type 0 where
   pub run : IsRun store.size (state_of store) text new_image reported
-  pub calls : IsWholeRun (calls_of run.report.commands run.report.answers) store run.last
-  pub erases : ErasesRise (erases_of_all store.size run.report.answers) store run.last
+  pub made : IsMade store run.report.commands run.report.answers run.last

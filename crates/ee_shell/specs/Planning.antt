@@ -1,5 +1,6 @@
 -- What is planned and what is checked for a script on an image, and why not.
-use Rattle.std.specs.Prelude.{◌≡◌, ◌⊎◌, ◌≤◌, ℕ, List, [], ◌∷◌, length, decimal, codes}
+use Rattle.std.specs.Prelude.{◌≡◌, ◌≢◌, ◌⊎◌, ◌≤◌, ◌+◌, ◌++◌, ℕ, List, [], ◌∷◌, length, decimal, codes}
+use Rattle.std.specs.List.{AllByRecursion}
 use Rattle.ee_text.specs.Field.{joined}
 use Rattle.ee_text.specs.Line.{line_of}
 use Rattle.ee_flash.specs.Device.{Device}
@@ -15,8 +16,11 @@ use Rattle.ee_check.specs.Text.{IsText, IsTextFault, text_of}
 use Rattle.ee_plan.specs.Plan.{IsPlanFault}
 use Rattle.ee_plan.specs.Start.{IsStartOf}
 use Rattle.ee_script.specs.declared.command.Command.{Command}
-use Rattle.ee_script.specs.Script.{IsScript}
-use Rattle.ee_script.specs.Whole.{IsScriptFault}
+use Rattle.ee_script.specs.declared.command.Command.TheVariants.{Arm, PowerOn}
+use Rattle.ee_script.specs.declared.session.ScriptFault.{ScriptFault}
+use Rattle.ee_script.specs.declared.session.ScriptFault.TheVariants.{BadLine, Memory}
+use Rattle.ee_script.specs.Command.{IsCommand, spelling}
+use Rattle.ee_script.specs.Script.{AreCommands, IsScript, script}
 use Rattle.ee_words.specs.Fault.{fault_of_certificate, fault_of_check, fault_of_plan, fault_of_script}
 use Rattle.ee_words.specs.declared.fault.Fault.{Fault}
 use Rattle.ee_shell.specs.Images.{IsOpeningFault}
@@ -29,10 +33,18 @@ pub record IsImageStart (image : List ℕ) (start : Situation) : Type 0 where
   pub store : IsStoreText image device
   pub start_is : IsStartOf (slot_count device.size) (state_of device) start
 
--- these are the writes and forgettings of the script that the text is; what it reads and what it cleans changes no value
+-- a command that a trace's script may have: it writes, forgets, reads or cleans
+abbrev pub KeepsPower : Command → Type 0
+KeepsPower (Arm fuse) = ⊥
+KeepsPower PowerOn = ⊥
+KeepsPower command = Unit {0}
+
+-- these are the writes and forgettings of the script that the text is, which neither cuts power nor turns it on; what it
+-- reads and what it cleans changes no value
 pub record IsTrace (text : List ℕ) (trace : List Change) : Type 0 where
   pub commands : List Command
   pub is_script : IsScript text commands
+  pub keep_power : AllByRecursion KeepsPower commands
   pub trace_is : trace ≡ trace_of commands
 
 -- the start that the image gives, and the trace of the script
@@ -75,11 +87,32 @@ pub record Names {Cause : Type 0} (named : Cause → Fault) (Applies : Cause →
   pub applies : Applies cause
   pub fault_is : fault ≡ named cause
 
+-- no line of a command that a trace's script may have stands at the front of the text
+abbrev pub NoTraceLine : List ℕ → Type 0
+NoTraceLine text = (command : Command) (more : List ℕ) → IsCommand command → KeepsPower command → text ≢ line_of (spelling command) ++ more
+
+-- Line n is the first bad one of a trace's script: the good lines before it are one fewer, and after them the text goes
+-- on, but not with a good line. A line that cuts power or turns it on is bad too.
+pub record IsFirstBadTraceLine (text : List ℕ) (n : ℕ) : Type 0 where
+  pub good : List Command
+  pub rest : List ℕ
+  pub proper : AreCommands good
+  pub keep_power : AllByRecursion KeepsPower good
+  pub text_is : text ≡ script good ++ rest
+  pub goes_on : rest ≢ []
+  pub bad : NoTraceLine rest
+  pub number : n ≡ length good + 1
+
+-- why a text gives no trace: its first bad line, or want of memory
+abbrev pub IsTraceFault : List ℕ → ScriptFault → Type 0
+IsTraceFault text (BadLine n) = IsFirstBadTraceLine text n
+IsTraceFault text Memory = Unit {0}
+
 -- why a start and a trace can't be had, the first cause that applies: no store is opened from the image, or one is and the
--- script has a bad line; or memory ran out
+-- script has a line that is bad for a trace; or memory ran out
 abbrev pub IsTaskFault : List ℕ → List ℕ → Fault → Type 0
 IsTaskFault image text fault =
-    IsOpeningFault image fault ⊎ (((device : Device) × IsStoreText image device) × Names fault_of_script (IsScriptFault text) fault)
+    IsOpeningFault image fault ⊎ (((device : Device) × IsStoreText image device) × Names fault_of_script (IsTraceFault text) fault)
 
 -- why there is no plan, the first cause that applies: the start and the trace can't be had, or they can and the trace does
 -- not fit; or memory ran out

@@ -1,12 +1,12 @@
 -- What a script leaves of an image, and why it can't be replayed.
-use Rattle.std.specs.Prelude.{◌≡◌, ◌⊎◌, ◌+◌, ℕ, List}
+use Rattle.std.specs.Prelude.{◌≡◌, ◌⊎◌, ◌+◌, ℕ, false, List}
 use Rattle.ee_flash.specs.Device.{Device, IsFormed, blank_device}
 use Rattle.ee_flash.specs.Size.{Size}
 use Rattle.ee_pages.specs.Layout.{IsScanFault}
 use Rattle.ee_pages.specs.Legal.{IsLegal}
+use Rattle.ee_store.specs.Events.{Point}
 use Rattle.ee_store.specs.Finished.{IsStore}
 use Rattle.ee_store.specs.Openings.{IsFormatted, Opens}
-use Rattle.ee_store.specs.Runs.{IsWholeRun}
 use Rattle.ee_store.specs.State.{State, WearRises, formatted, state_of}
 use Rattle.ee_image.specs.Text.{image_text}
 use Rattle.ee_image.specs.Fault.{IsTextFault}
@@ -14,8 +14,9 @@ use Rattle.ee_script.specs.Script.{IsFirstBadLine}
 use Rattle.ee_words.specs.declared.replay_fault.ReplayFault.{ReplayFault}
 use Rattle.ee_words.specs.declared.replay_fault.ReplayFault.TheVariants.{Image, Open, Script, Memory, Read}
 use Rattle.ee_shell.specs.Erases.{ErasesRise, erases_of_all}
-use Rattle.ee_shell.specs.Report.{IsReported}
-use Rattle.ee_shell.specs.Serving.{StaysOn, calls_of}
+use Rattle.ee_shell.specs.Machine.{was_cut}
+use Rattle.ee_shell.specs.Report.{IsDeskReported}
+use Rattle.ee_shell.specs.Serving.{IsMade, IsSound, StaysOn, desk_of}
 
 -- this device's text is the text
 pub record Spells (text : List ℕ) (device : Device) : Type 0 where
@@ -34,36 +35,46 @@ pub record IsStoreLeft (size : Size) (text : List ℕ) (device : Device) : Type 
   pub stays_on : StaysOn device
   pub same_size : device.size ≡ size
 
--- From this state, on a device of this size, the script was answered with this report, as the report machine answers it,
--- with no more moves than any store makes; and the text is that of a store with the state that the machine came to.
-pub record IsRun (size : Size) (start : State) (text new_image reported : List ℕ) : Type 0 where
-  pub last : Device
-  pub left : IsStoreLeft size new_image last
-  pub report : IsReported size start text (state_of last) reported
+-- The text is that of the device on the desk, which is of this size: its image is legal, and where a store is open it is on,
+-- and no mark is left to set.
+pub record IsDeskLeft (size : Size) (text : List ℕ) (point : Point) : Type 0 where
+  pub spelled : Spells text point.device
+  pub sound : IsSound point
+  pub same_size : point.device.size ≡ size
 
--- The script was run on the store that was opened of the device whose image the first text spells: each line by a call of
--- the store, in none of which power was cut. So the new image is, word for word and erase for erase, what these calls
--- leave. Each move left the pages of a set to be erased, and nothing else did.
+-- From a store that is open with this state, on a device of this size, the script was answered with this report, as the
+-- report machine answers it; and the text is that of the device at the end, with what the machine came to.
+pub record IsRun (size : Size) (start : State) (text new_image reported : List ℕ) : Type 0 where
+  pub last : Point
+  pub left : IsDeskLeft size new_image last
+  pub report : IsDeskReported size start text (desk_of last) reported
+
+-- The script was run on the store that was opened of the device whose image the first text spells, line by line. So the new
+-- image is, word for word and erase for erase, what the lines leave. Where none was cut, each move left the pages of a set
+-- to be erased, and nothing else did.
 pub record IsReplayed (old_image text new_image reported : List ℕ) : Type 0 where
   pub device : Device
   pub old : IsStoreText old_image device
   pub run : IsRun device.size (state_of device) text new_image reported
   pub opened : Device
   pub opens : Opens device opened
-  pub calls : IsWholeRun (calls_of run.report.commands run.report.answers) opened run.last
-  pub erases : ErasesRise (erases_of_all device.size run.report.answers) device run.last
+  pub made : IsMade opened run.report.commands run.report.answers run.last
+  pub erases : was_cut run.report.answers ≡ false → ErasesRise (erases_of_all device.size run.report.answers) device run.last.device
 
--- The script was run on a store with nothing in it, just formatted, on a device of this size of which no page was erased:
--- each line by a call of the store, in none of which power was cut. Each move left the pages of a set to be erased, and
--- nothing else did.
+-- how often pages of a fresh device were erased, or wait to be: those of a set for each move
+pub record IsWornBy (size : Size) (pages : ℕ) (last : Device) : Type 0 where
+  pub erased : ℕ
+  pub wear : WearRises erased (blank_device size) last
+  pub rise : erased + (state_of last).pending ≡ pages
+
+-- The script was run on a store with nothing in it, just formatted, on a device of this size of which no page was erased,
+-- line by line. Where none was cut, each move left the pages of a set to be erased, and nothing else did.
 pub record IsTried (size : Size) (text new_image reported : List ℕ) : Type 0 where
   pub run : IsRun size formatted text new_image reported
   pub fresh : Device
   pub formats : IsFormatted (blank_device size) fresh
-  pub calls : IsWholeRun (calls_of run.report.commands run.report.answers) fresh run.last
-  pub erased : ℕ
-  pub wear : WearRises erased (blank_device size) run.last
-  pub rise : erased + (state_of run.last).pending ≡ erases_of_all size run.report.answers
+  pub made : IsMade fresh run.report.commands run.report.answers run.last
+  pub worn : was_cut run.report.answers ≡ false → IsWornBy size (erases_of_all size run.report.answers) run.last.device
 
 -- why no store is opened from an image's text: the text is no device's, or the device has no legal image; or memory ran
 -- out

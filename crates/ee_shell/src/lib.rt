@@ -13,7 +13,9 @@
 //! prints; it decides nothing.
 #![tactic(auto)]
 
+mod desk;
 mod images;
+pub mod laws;
 mod noting;
 mod opening;
 mod planning;
@@ -27,7 +29,6 @@ mod wear;
 pub use images::{clean_image, format_image, states_text};
 pub use planning::{check_script, plan_script};
 pub use replaying::{Replayed, replay, replay_indexed, replay_reader, try_script};
-pub use reporting::answer_on;
 pub use second_schema::{stale_text, tidy_image};
 pub use settings::{get_setting, set_setting};
 pub use wear::wear_text;

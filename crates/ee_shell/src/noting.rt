@@ -2,7 +2,7 @@
 ghost use Rattle.std.specs.Prelude.{◌≡◌, ◌<◌, ◌+◌, ◌^◌, IfOk, OnErr, OnOk, length};
 ghost use Rattle.ee_check.specs.Certificate.{claim_of};
 ghost use Rattle.ee_shell.specs.Serving.{claim_noted, no_notes, noted, stored};
-ghost use Rattle.ee_script.specs.declared.answer.Answer.TheVariants.{Appended, Moved};
+ghost use Rattle.ee_script.specs.declared.answer.Answer.TheVariants.{Appended, Cut, Moved};
 
 use ee_check::{Certificate, Start, Stretch};
 use ee_script::Answer;
@@ -10,8 +10,8 @@ use ee_store::Written;
 use std::alloc::{AllocError, Allocator, Global};
 use std::marker::Model;
 
-/// What is noted of the changes that a store accepted. It takes memory for each move, and none for
-/// any other change.
+/// What is noted of the changes that a store accepted, and whether power was cut. It takes memory for
+/// each move, and none for anything else.
 #[derive(Drop)]
 pub(crate) struct Notes<A: Allocator = Global> {
     // how many they are
@@ -20,6 +20,8 @@ pub(crate) struct Notes<A: Allocator = Global> {
     from: u64,
     // the stretches that have ended
     stretches: Vec<Stretch, A>,
+    // whether power was cut
+    cut: bool,
 }
 
 impl<A: Allocator> Model for Notes<A> {
@@ -27,7 +29,12 @@ impl<A: Allocator> Model for Notes<A> {
 
     ghost Value = { Notes };
 
-    ghost view = { λ n. record { changes = n.changes; from = n.from; stretches = n.stretches.items } };
+    ghost view = { λ n. record {
+      changes = n.changes;
+      from = n.from;
+      stretches = n.stretches.items;
+      cut = n.cut;
+    } };
 }
 
 impl<A: Allocator> Notes<A> {
@@ -39,6 +46,7 @@ impl<A: Allocator> Notes<A> {
             changes: 0,
             from: fill,
             stretches: Vec::new(alloc),
+            cut: false,
         }
     }
 
@@ -82,6 +90,22 @@ impl<A: Allocator> Notes<A> {
         self.changes += 1;
         self.from = fill;
         Ok(())
+    }
+
+    /// Notes that power was cut, and gives the answer to it.
+    pub(crate) fn note_cut(&mut self) -> Answer
+        ensures answer { result ≡ Cut }
+        ensures noted { self.new ≡ noted Cut 0 self.old }
+    {
+        self.cut = true;
+        Answer::Cut
+    }
+
+    /// Whether power was cut.
+    pub(crate) fn was_cut(&self) -> bool
+        ensures { result ≡ self.now.cut }
+    {
+        self.cut
     }
 
     /// How many moves there were.

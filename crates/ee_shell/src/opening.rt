@@ -2,7 +2,8 @@
 ghost use Rattle.std.specs.Prelude.{◌≡◌, IfOk, IfErr};
 ghost use Rattle.ee_flash.specs.Memory.{device_of};
 ghost use Rattle.ee_store.specs.Finished.{IsStore};
-ghost use Rattle.ee_store.specs.Openings.{IsFormatted, Opens};
+ghost use Rattle.ee_flash.specs.Device.{Device, IsOn};
+ghost use Rattle.ee_store.specs.Openings.{IndexedOpenFails, IsFormatted, OpenFails, Opens};
 ghost use Rattle.ee_shell.specs.Opening.{IsNewStore, IsOpened, IsStillFault};
 ghost use Rattle.ee_shell.specs.Replaying.{IsOpenFault, Spells};
 ghost use Rattle.ee_shell.specs.Serving.{StaysOn};
@@ -13,13 +14,14 @@ use ee_store::{IndexedFault, IndexedStore, OpenFault, Store, Variables, format, 
 use ee_words::ReplayFault;
 use std::alloc::{AllocError, Allocator};
 
-/// A store that the commands open on a device whose power is never cut, and close.
+/// A store that the commands open on a device, and close.
 pub(crate) trait Opened<F: Flash + Drop, A: Allocator + Copy>: Variables + Drop + Sized {
-    /// Opens the store of a device. `Open` says why it has none.
-    fn open_still(alloc: A, flash: F) -> Result<Self, ReplayFault>
-        requires { StaysOn (F.device flash) }
+    /// Opens the store of a device that is on.
+    fn open_on(alloc: A, flash: F) -> Result<Self, (F, IndexedFault)>
+        requires { IsOn (F.device flash) }
         ensures opened { IfOk result (λ store. Opens (F.device flash) (Self.device store)) }
-        ensures fault { IfErr result (IsStillFault (F.device flash)) };
+        ensures failed { IfErr result
+            (λ failed. IndexedOpenFails (F.device flash) failed.1 (F.device failed.0)) };
 
     /// Its device.
     fn close(self) -> F
@@ -27,16 +29,26 @@ pub(crate) trait Opened<F: Flash + Drop, A: Allocator + Copy>: Variables + Drop 
         ensures store { IsStore (Self.device self) };
 }
 
+/// The same fault of a store that could also want memory.
+fn fault_of_open(fault: OpenFault) -> IndexedFault
+    ensures { (old new : Device) → OpenFails old fault new → IndexedOpenFails old result new }
+{
+    match fault {
+        OpenFault::Scan(fault) => IndexedFault::Scan(fault),
+        OpenFault::Cut => IndexedFault::Cut,
+    }
+}
+
 impl<F: Flash + Drop, A: Allocator + Copy> Opened<F, A> for Store<F> {
-    fn open_still(_alloc: A, flash: F) -> Result<Store<F>, ReplayFault>
-        requires { StaysOn (F.device flash) }
+    fn open_on(_alloc: A, flash: F) -> Result<Store<F>, (F, IndexedFault)>
+        requires { IsOn (F.device flash) }
         ensures opened { IfOk result (Opens (F.device flash)) }
-        ensures fault { IfErr result (IsStillFault (F.device flash)) }
+        ensures failed { IfErr result
+            (λ failed. IndexedOpenFails (F.device flash) failed.1 (F.device failed.0)) }
     {
         match open(flash) {
             Ok(store) => Ok(store),
-            Err((_, OpenFault::Scan(fault))) => Err(ReplayFault::Open(fault)),
-            Err((_, OpenFault::Cut)) => unreachable!("power is never cut"),
+            Err((flash, fault)) => Err((flash, fault_of_open(fault))),
         }
     }
 
@@ -49,17 +61,13 @@ impl<F: Flash + Drop, A: Allocator + Copy> Opened<F, A> for Store<F> {
 }
 
 impl<F: Flash + Drop, A: Allocator + Copy> Opened<F, A> for IndexedStore<F, A> {
-    fn open_still(alloc: A, flash: F) -> Result<IndexedStore<F, A>, ReplayFault>
-        requires { StaysOn (F.device flash) }
+    fn open_on(alloc: A, flash: F) -> Result<IndexedStore<F, A>, (F, IndexedFault)>
+        requires { IsOn (F.device flash) }
         ensures opened { IfOk result (Opens (F.device flash)) }
-        ensures fault { IfErr result (IsStillFault (F.device flash)) }
+        ensures failed { IfErr result
+            (λ failed. IndexedOpenFails (F.device flash) failed.1 (F.device failed.0)) }
     {
-        match IndexedStore::open(alloc, flash) {
-            Ok(store) => Ok(store),
-            Err((_, IndexedFault::Scan(fault))) => Err(ReplayFault::Open(fault)),
-            Err((_, IndexedFault::Memory)) => Err(ReplayFault::Memory),
-            Err((_, IndexedFault::Cut)) => unreachable!("power is never cut"),
-        }
+        IndexedStore::open(alloc, flash)
     }
 
     fn close(self) -> F
@@ -90,9 +98,26 @@ pub(crate) fn open_as<A: Allocator + Copy, S: Opened<MemFlash<A>, A>>(
     ensures fault { IfErr result (IsOpenFault image.now) }
 {
     let flash = read_image(alloc, image)?;
-    match S::open_still(alloc, flash) {
+    match open_still(alloc, flash) {
         Ok(store) => Ok(store),
         Err(fault) => Err(fault),
+    }
+}
+
+/// Opens the store of a device whose power is never cut. `Open` says why it has none.
+fn open_still<F: Flash + Drop, A: Allocator + Copy, S: Opened<F, A>>(
+    alloc: A,
+    flash: F,
+) -> Result<S, ReplayFault>
+    requires { StaysOn (F.device flash) }
+    ensures opened { IfOk result (λ store. Opens (F.device flash) (S.device store)) }
+    ensures fault { IfErr result (IsStillFault (F.device flash)) }
+{
+    match S::open_on(alloc, flash) {
+        Ok(store) => Ok(store),
+        Err((_, IndexedFault::Scan(fault))) => Err(ReplayFault::Open(fault)),
+        Err((_, IndexedFault::Memory)) => Err(ReplayFault::Memory),
+        Err((_, IndexedFault::Cut)) => unreachable!("power is never cut"),
     }
 }
 

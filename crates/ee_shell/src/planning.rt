@@ -1,8 +1,9 @@
 //! Plans of scripts on images, and the certificates that prove them.
 ghost use Rattle.std.specs.Prelude.{◌≡◌, ◌≢◌, ◌⊎◌, ◌++◌, ◌∷◌, [], IfErr, IfNone, IfOk, IfSome, MatchResult, OnOk};
 ghost use Rattle.ee_text.specs.Line.{line_of};
-ghost use Rattle.ee_script.specs.Whole.{IsScriptFault};
-ghost use Rattle.ee_shell.specs.Planning.{IsCheckingFault, IsPlanned, IsPlanningFault, IsProved, IsTask, IsTaskFault, IsTrace, proved_text};
+ghost use Rattle.ee_script.specs.Command.{IsCommand, spelling};
+ghost use Rattle.ee_shell.specs.Planning.{IsCheckingFault, IsPlanned, IsPlanningFault, IsProved, IsTask, IsTaskFault};
+ghost use Rattle.ee_shell.specs.Planning.{IsTrace, IsTraceFault, KeepsPower, NoTraceLine, proved_text};
 ghost use Rattle.ee_shell.specs.Trace.{trace_of};
 
 use super::opening::open_image;
@@ -21,8 +22,9 @@ use std::alloc::{AllocError, Allocator};
 ///
 /// # Errors
 ///
-/// The first cause that applies: the image is no device's, or not legal; the script has a bad line; the
-/// writes make more addresses live than there are slots. `Memory` can come in place of any answer.
+/// The first cause that applies: the image is no device's, or not legal; the script has a bad line, as
+/// is here a line that cuts power or turns it on; the writes make more addresses live than there are
+/// slots. `Memory` can come in place of any answer.
 pub fn plan_script<A: Allocator + Copy>(
     alloc: A,
     image: &[u8],
@@ -50,8 +52,9 @@ pub fn plan_script<A: Allocator + Copy>(
 ///
 /// # Errors
 ///
-/// The first cause that applies: the image is no device's, or not legal; the script has a bad line, or
-/// the certificate's text has; the certificate is refused. `Memory` can come in place of any answer.
+/// The first cause that applies: the image is no device's, or not legal; the script has a bad line, as
+/// is here a line that cuts power or turns it on, or the certificate's text has; the certificate is
+/// refused. `Memory` can come in place of any answer.
 pub fn check_script<A: Allocator + Copy>(
     alloc: A,
     image: &[u8],
@@ -93,23 +96,36 @@ fn read_task<A: Allocator + Copy>(
     Ok((start, trace))
 }
 
-/// The writes and forgettings of a script.
+/// The writes and forgettings of a script that leaves power alone.
 fn read_trace<A: Allocator + Copy>(alloc: A, script: &[u8]) -> Result<Vec<Change, A>, ScriptFault>
     ensures trace { IfOk result (λ trace. IsTrace script.now trace.items) }
-    ensures fault { IfErr result (IsScriptFault script.now) }
+    ensures fault { IfErr result (IsTraceFault script.now) }
 {
     let mut trace = Vec::new(alloc);
     let mut rest = script;
     let mut line = 0;
     'lines: while !rest.is_empty() {
         line += 1;
-        let Some((command, more)) = next_command(rest) else {
+        let Some((command, more)) = next_of_trace(rest) else {
             return Err(ScriptFault::BadLine(line));
         };
         push_change(&mut trace, command)?;
         rest = more;
     }
     Ok(trace)
+}
+
+/// The command whose line stands at the front of a text, and what stands behind the line. None where
+/// no line stands there that a trace's script may have.
+fn next_of_trace(text: &[u8]) -> Option<(Command, &[u8])>
+    ensures found { IfSome result (λ parts. IsCommand parts.0 × KeepsPower parts.0
+        × (text.now ≡ line_of (spelling parts.0) ++ parts.1.now)) }
+    ensures none { IfNone result (NoTraceLine text.now) }
+{
+    match next_command(text) {
+        Some((Command::Arm { .. } | Command::PowerOn, _)) => None,
+        found => found,
+    }
 }
 
 /// Puts a command at the end of a trace, if it is a change.
@@ -119,7 +135,7 @@ fn push_change<A: Allocator>(trace: &mut Vec<Change, A>, command: Command) -> Re
     match command {
         Command::Write { address, .. } => trace.push(Change::Write(address))?,
         Command::Forget { address } => trace.push(Change::Forget(address))?,
-        Command::Read { .. } | Command::Clean => {}
+        Command::Read { .. } | Command::Clean | Command::Arm { .. } | Command::PowerOn => {}
     }
     Ok(())
 }

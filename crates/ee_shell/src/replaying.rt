@@ -9,7 +9,7 @@ ghost use Rattle.ee_shell.specs.Serving.{StaysOn};
 
 use super::opening::{Opened, new_store, open_as, open_image, text_of};
 use super::reporting::{answer_on, answer_reader_on};
-use ee_flash::{Flash, MemFlash, Shape};
+use ee_flash::{MemFlash, Shape};
 use ee_store::{IndexedStore, Store};
 use ee_words::ReplayFault;
 use std::alloc::{Allocator, Global};
@@ -23,7 +23,7 @@ pub struct Replayed<A: Allocator = Global> {
     /// The text of the image afterwards.
     pub image: Vec<u8, A>,
     /// One line for each line of the script, the line of the end, and the text of the certificate that
-    /// no store makes the accepted changes with fewer moves.
+    /// no store makes the accepted changes with fewer moves, or that there is none, after a cut.
     pub report: Vec<u8, A>,
 }
 
@@ -169,25 +169,25 @@ fn run_on<A: Allocator + Copy, S: Opened<MemFlash<A>, A>>(
         IsRunOn (S.device store) script.now replayed.image.items replayed.report.items) }
     ensures fault { IfErr result (IsRunFault script.now) }
 {
-    let (store, report) = answer_on(alloc, store, script)?;
-    let image = text_of(alloc, &store.close())?;
+    let (flash, report) = answer_on(alloc, store, script)?;
+    let image = text_of(alloc, &flash)?;
     Ok(Replayed { image, report })
 }
 
 /// The same of a script that a reader gives.
-fn run_reader<A: Allocator + Copy, F: Flash + Drop, R: Read>(
+fn run_reader<A: Allocator + Copy, S: Opened<MemFlash<A>, A>, R: Read>(
     alloc: A,
-    store: Store<F>,
+    store: S,
     reader: &mut R,
 ) -> Result<Replayed<A>, ReplayFault>
-    requires { StaysOn store }
+    requires { StaysOn (S.device store) }
     ensures run { IfOk result (λ replayed. (script : List ℕ)
         × IsGiven (R.remaining reader.old) (R.remaining reader.new) script
-        × IsRunOn store script replayed.image.items replayed.report.items) }
+        × IsRunOn (S.device store) script replayed.image.items replayed.report.items) }
     ensures fault { IfErr result
         (IsNotAnswered (R.remaining reader.old) (R.remaining reader.new)) }
 {
-    let (store, report) = answer_reader_on(alloc, store, reader)?;
-    let image = text_of(alloc, &store.into_flash())?;
+    let (flash, report) = answer_reader_on(alloc, store, reader)?;
+    let image = text_of(alloc, &flash)?;
     Ok(Replayed { image, report })
 }

@@ -1,112 +1,154 @@
-//! Scripts on a store: what serves a script's commands, and the answers to a whole one.
+//! Scripts at a desk: what serves a script's commands, and the answers to a whole one.
 ghost use Rattle.std.specs.Prelude.{◌≡◌, ◌⊎◌, ℕ, List, IfOk, IfErr, MatchResult};
 ghost use Rattle.ee_script.specs.Script.{IsFirstBadLine};
 ghost use Rattle.ee_script.specs.Whole.{IsScriptFault};
-ghost use Rattle.ee_script.specs.declared.command.Command.TheVariants.{Write, Read, Forget, Clean};
+ghost use Rattle.ee_script.specs.declared.command.Command.TheVariants.{Write, Read, Forget, Clean, Arm, PowerOn};
 ghost use Rattle.ee_script.specs.Reading.{IsStreamFault};
 ghost use Rattle.ee_store.specs.Finished.{IsStore};
 ghost use Rattle.ee_store.specs.State.{state_of};
+ghost use Rattle.ee_shell.specs.Desk.{IsLegalDesk, IsLegalSo, point_of};
 ghost use Rattle.ee_shell.specs.Reading.{IsGiven};
-ghost use Rattle.ee_shell.specs.Serving.{IsCounted, IsTraced, Serves, StaysOn, no_notes, noted};
+ghost use Rattle.ee_shell.specs.Serving.{Attends, IsCounted, IsTraced, StaysOn, no_notes, noted, serving_on};
 
+use super::desk::Desk;
 use super::noting::Notes;
+use super::opening::Opened;
 use ee_codec::Address;
+use ee_flash::{Fuse, MemFlash};
 use ee_script::{Answer, Command, ScriptFault, Serve, StreamFault, answer_reader, answer_script};
 use ee_store::{ForgetFault, Off, Variables, WriteFault};
 use ee_words::MOST_READS;
 use std::alloc::{AllocError, Allocator, Global};
 use std::io::Read;
+use std::mem::replace;
 
-/// A store on a device whose power stays on, and what is noted of the changes that it accepted.
+/// A desk, and what is noted of the changes that the store on it accepted.
 #[derive(Drop)]
-struct Server<V: Variables + Drop, A: Allocator = Global> {
-    store: V,
+struct Server<S: Opened<MemFlash<A>, A>, A: Allocator + Copy = Global> {
+    alloc: A,
+    desk: Desk<S, A>,
     notes: Notes<A>,
-    ghost powered: { StaysOn (V.device store) },
-    ghost counted: { IsCounted (V.device store) notes },
+    ghost legal: { IsLegalSo desk },
+    ghost counted: { IsCounted (point_of S.device desk).device notes },
 }
 
-impl<V: Variables + Drop, A: Allocator> Server<V, A> {
+impl<S: Opened<MemFlash<A>, A>, A: Allocator + Copy> Server<S, A> {
+    ghost use Rattle.ee_shell.specs.Serving.{Records, with_notes};
+
     /// What serves with this store, before the first command.
-    fn new(alloc: A, store: V) -> Server<V, A>
-        requires on { StaysOn (V.device store) }
-        requires legal { IsStore (V.device store) }
-        ensures store { V.device result.store ≡ V.device store }
-        ensures notes { result.notes ≡ no_notes (state_of (V.device store)).fill }
+    fn new(alloc: A, store: S) -> Server<S, A>
+        requires on { StaysOn (S.device store) }
+        requires legal { IsStore (S.device store) }
+        ensures point { point_of S.device result.desk ≡ serving_on (S.device store) }
+        ensures notes { result.notes ≡ no_notes (state_of (S.device store)).fill }
     {
         let notes = Notes::new(alloc, store.fill() as u64);
-        Server { store, notes }
+        Server {
+            alloc,
+            desk: Desk::Open(store),
+            notes,
+        }
     }
 
     /// Writes, as a line of a script says. An error says that memory ran out.
     fn write(&mut self, address: Address, value: u32) -> Result<Answer, AllocError>
-        ensures serves { IfOk result (λ answer. Serves (V.device self.old.store)
-            (Write address value) answer (V.device self.new.store)) }
-        ensures notes { IfOk result (λ answer. self.new.notes
-            ≡ noted answer (state_of (V.device self.new.store)).fill self.old.notes) }
+        ensures { IfOk result (λ answer. Records
+            (with_notes (point_of S.device self.old.desk) self.old.notes) (Write address value)
+            answer (with_notes (point_of S.device self.new.desk) self.new.notes)) }
     {
-        match self.store.write(address, value) {
+        match self.desk.write(address, value) {
             Ok(written) => {
-                let fill = self.store.fill();
+                let fill = self.desk.fill();
                 self.notes.note(written, fill as u64)
             }
             Err(WriteFault::Full) => Ok(Answer::Full),
             Err(WriteFault::Spent) => Ok(Answer::Spent),
             Err(WriteFault::Memory) => Err(AllocError),
-            Err(WriteFault::Off | WriteFault::Cut) => unreachable!("power stays on"),
+            Err(WriteFault::Off) => Ok(Answer::Off),
+            Err(WriteFault::Cut) => Ok(self.notes.note_cut()),
         }
     }
 
     /// Forgets, as a line of a script says. An error says that memory ran out.
     fn forget(&mut self, address: Address) -> Result<Answer, AllocError>
-        ensures serves { IfOk result (λ answer. Serves (V.device self.old.store)
-            (Forget address) answer (V.device self.new.store)) }
-        ensures notes { IfOk result (λ answer. self.new.notes
-            ≡ noted answer (state_of (V.device self.new.store)).fill self.old.notes) }
+        ensures { IfOk result (λ answer. Records
+            (with_notes (point_of S.device self.old.desk) self.old.notes) (Forget address)
+            answer (with_notes (point_of S.device self.new.desk) self.new.notes)) }
     {
-        match self.store.forget(address) {
+        match self.desk.forget(address) {
             Ok(written) => {
-                let fill = self.store.fill();
+                let fill = self.desk.fill();
                 self.notes.note(written, fill as u64)
             }
             Err(ForgetFault::Absent) => Ok(Answer::Absent),
             Err(ForgetFault::Spent) => Ok(Answer::Spent),
-            Err(ForgetFault::Off | ForgetFault::Cut) => unreachable!("power stays on"),
+            Err(ForgetFault::Off) => Ok(Answer::Off),
+            Err(ForgetFault::Cut) => Ok(self.notes.note_cut()),
         }
     }
 
     /// Reads.
     fn read(&self, address: Address) -> Answer
-        ensures serves { Serves (V.device self.now.store) (Read address) result
-            (V.device self.now.store) }
-        ensures notes { (fill : ℕ) → noted result fill self.now.notes ≡ self.now.notes }
+        ensures { Records
+            (with_notes (point_of S.device self.now.desk) self.now.notes) (Read address)
+            result (with_notes (point_of S.device self.now.desk) self.now.notes) }
     {
-        match self.store.read(address) {
+        match self.desk.read(address) {
             Ok(Some(value)) => Answer::Value(value),
             Ok(None) => Answer::NoValue,
-            Err(Off) => unreachable!("power stays on"),
+            Err(Off) => Answer::Off,
         }
     }
 
     /// Takes a clean step.
     fn clean(&mut self) -> Answer
-        ensures serves { Serves (V.device self.old.store) Clean result (V.device self.new.store) }
-        ensures notes { self.new.notes
-            ≡ noted result (state_of (V.device self.new.store)).fill self.old.notes }
+        ensures { Records
+            (with_notes (point_of S.device self.old.desk) self.old.notes) Clean
+            result (with_notes (point_of S.device self.new.desk) self.new.notes) }
     {
-        match self.store.clean_step() {
+        match self.desk.clean_step() {
             Ok(true) => Answer::Cleaned,
             Ok(false) => Answer::Idle,
-            Err(_) => unreachable!("power stays on, and a clean step takes no memory"),
+            Err(WriteFault::Off) => Answer::Off,
+            Err(WriteFault::Cut) => self.notes.note_cut(),
+            Err(_) => unreachable!("a clean step takes no memory and needs no slot"),
+        }
+    }
+
+    /// Arms a cut. An error says that memory ran out.
+    fn arm(&mut self, fuse: Fuse) -> Result<Answer, AllocError>
+        ensures { IfOk result (λ answer. Records
+            (with_notes (point_of S.device self.old.desk) self.old.notes) (Arm fuse)
+            answer (with_notes (point_of S.device self.new.desk) self.new.notes)) }
+    {
+        let desk = replace(&mut self.desk, Desk::Gone);
+        let (desk, answer) = desk.arm(self.alloc, fuse);
+        self.desk = desk;
+        answer
+    }
+
+    /// Turns power on and opens the store. An error says that memory ran out.
+    fn power_on(&mut self) -> Result<Answer, AllocError>
+        ensures { IfOk result (λ answer. Records
+            (with_notes (point_of S.device self.old.desk) self.old.notes) PowerOn
+            answer (with_notes (point_of S.device self.new.desk) self.new.notes)) }
+    {
+        let desk = replace(&mut self.desk, Desk::Gone);
+        let (desk, answer) = desk.power_on(self.alloc);
+        self.desk = desk;
+        match answer {
+            Ok(Answer::Cut) => Ok(self.notes.note_cut()),
+            answer => answer,
         }
     }
 }
 
-impl<V: Variables + Drop, A: Allocator> Serve for Server<V, A> {
+impl<S: Opened<MemFlash<A>, A>, A: Allocator + Copy> Serve for Server<S, A> {
     ghost use Rattle.ee_shell.specs.Serving.{Records, with_notes};
 
-    ghost serves = { λ old command answer new. Records (with_notes (V.device old.store) old.notes)
-        command answer (with_notes (V.device new.store) new.notes) };
+    ghost serves = { λ old command answer new.
+        Records (with_notes (point_of S.device old.desk) old.notes) command answer
+        (with_notes (point_of S.device new.desk) new.notes) };
 
     fn serve(&mut self, command: Command) -> Result<Answer, AllocError> {
         match command {
@@ -114,66 +156,48 @@ impl<V: Variables + Drop, A: Allocator> Serve for Server<V, A> {
             Command::Forget { address } => self.forget(address),
             Command::Read { address } => Ok(self.read(address)),
             Command::Clean => Ok(self.clean()),
+            Command::Arm { fuse } => self.arm(fuse),
+            Command::PowerOn => self.power_on(),
         }
     }
 }
 
-impl<V: Variables + Drop, A: Allocator> Server<V, A> {
-    /// Answers a whole script.
-    fn answer(self, alloc: A, script: &[u8]) -> Result<(Server<V, A>, Vec<u8, A>), ScriptFault>
-        requires { self.notes ≡ no_notes (state_of (V.device self.store)).fill }
-        ensures traced { IfOk result (λ done. IsTraced (V.device self.store) script.now
-            (V.device done.0.store) done.0.notes done.1.items) }
-        ensures fault { IfErr result (IsScriptFault script.now) }
-        ensures bad { (n : ℕ) → IsFirstBadLine script.now n
-            → MatchResult result (λ _. ⊥)
-            (λ fault. (fault ≡ ScriptFault.BadLine n) ⊎ (fault ≡ ScriptFault.Memory)) }
+impl<S: Opened<MemFlash<A>, A>, A: Allocator + Copy> Server<S, A> {
+    /// The desk and what was noted at the end, with the lines of the answers.
+    fn into_traced(self, lines: Vec<u8, A>) -> Traced<S, A>
+        ensures point { point_of S.device result.desk ≡ point_of S.device self.desk }
+        ensures legal { IsLegalDesk result.desk }
+        ensures notes { result.notes ≡ self.notes }
+        ensures lines { result.lines ≡ lines }
     {
-        let (server, report) = answer_script(alloc, self, script)?;
-        Ok((server, report))
-    }
-
-    /// Answers a whole script that a reader gives.
-    fn answer_reader<R: Read>(
-        self,
-        alloc: A,
-        reader: &mut R,
-    ) -> Result<(Server<V, A>, Vec<u8, A>), StreamFault>
-        requires { self.notes ≡ no_notes (state_of (V.device self.store)).fill }
-        ensures traced { IfOk result (λ done. (script : List ℕ)
-            × IsGiven (R.remaining reader.old) (R.remaining reader.new) script
-            × IsTraced (V.device self.store) script
-            (V.device done.0.store) done.0.notes done.1.items) }
-        ensures fault { IfErr result
-            (IsStreamFault (R.remaining reader.old) (R.remaining reader.new)) }
-    {
-        let (server, report) = answer_reader(alloc, self, reader, MOST_READS)?;
-        Ok((server, report))
+        let Server { desk, notes, .. } = self;
+        Traced { desk, notes, lines }
     }
 }
 
-/// What a script left: the store, what is noted of the changes that it accepted, and the lines of the
-/// answers.
+/// What a script left: the desk, what is noted of the changes that were accepted on it, and the lines
+/// of the answers.
 #[derive(Drop)]
-pub(crate) struct Traced<V: Variables + Drop, A: Allocator = Global> {
-    /// The store.
-    pub(crate) store: V,
-    /// How many changes were accepted, and the stretches of their certificate.
+pub(crate) struct Traced<S: Variables + Drop, A: Allocator = Global> {
+    /// The device, with a store open on it or without.
+    pub(crate) desk: Desk<S, A>,
+    /// How many changes were accepted, the stretches of their certificate, and whether power was cut.
     pub(crate) notes: Notes<A>,
     /// A line for each line of the script.
     pub(crate) lines: Vec<u8, A>,
 }
 
-/// Answers each line of a script on a store whose device is on and is never cut.
-pub(crate) fn trace_on<A: Allocator + Copy, V: Variables + Drop>(
+/// Answers each line of a script, from a store on a device that is on, and on which no cut is to come.
+pub(crate) fn trace_on<A: Allocator + Copy, S: Opened<MemFlash<A>, A>>(
     alloc: A,
-    store: V,
+    store: S,
     script: &[u8],
-) -> Result<Traced<V, A>, ScriptFault>
-    requires on { StaysOn (V.device store) }
-    requires legal { IsStore (V.device store) }
-    ensures traced { IfOk result (λ left. IsTraced (V.device store) script.now
-        (V.device left.store) left.notes left.lines.items) }
+) -> Result<Traced<S, A>, ScriptFault>
+    requires on { StaysOn (S.device store) }
+    requires legal { IsStore (S.device store) }
+    ensures traced { IfOk result (λ left. IsTraced (S.device store) script.now
+        (point_of S.device left.desk) left.notes left.lines.items) }
+    ensures bare { IfOk result (λ left. IsLegalDesk left.desk) }
     ensures fault { IfErr result (IsScriptFault script.now) }
     // A bad line is never passed over.
     ensures bad { (n : ℕ) → IsFirstBadLine script.now n
@@ -181,34 +205,27 @@ pub(crate) fn trace_on<A: Allocator + Copy, V: Variables + Drop>(
         (λ fault. (fault ≡ ScriptFault.BadLine n) ⊎ (fault ≡ ScriptFault.Memory)) }
 {
     let server = Server::new(alloc, store);
-    let (Server { store, notes }, lines) = server.answer(alloc, script)?;
-    Ok(Traced {
-        store,
-        notes,
-        lines,
-    })
+    let (server, lines) = answer_script(alloc, server, script)?;
+    Ok(server.into_traced(lines))
 }
 
-/// Answers each line of a script that a reader gives, on a store whose device is on and is never cut.
-pub(crate) fn trace_reader<A: Allocator + Copy, V: Variables + Drop, R: Read>(
+/// The same of a script that a reader gives.
+pub(crate) fn trace_reader<A: Allocator + Copy, S: Opened<MemFlash<A>, A>, R: Read>(
     alloc: A,
-    store: V,
+    store: S,
     reader: &mut R,
-) -> Result<Traced<V, A>, StreamFault>
-    requires on { StaysOn (V.device store) }
-    requires legal { IsStore (V.device store) }
+) -> Result<Traced<S, A>, StreamFault>
+    requires on { StaysOn (S.device store) }
+    requires legal { IsStore (S.device store) }
     ensures traced { IfOk result (λ left. (script : List ℕ)
         × IsGiven (R.remaining reader.old) (R.remaining reader.new) script
-        × IsTraced (V.device store) script
-        (V.device left.store) left.notes left.lines.items) }
+        × IsTraced (S.device store) script
+        (point_of S.device left.desk) left.notes left.lines.items) }
+    ensures bare { IfOk result (λ left. IsLegalDesk left.desk) }
     ensures fault { IfErr result
         (IsStreamFault (R.remaining reader.old) (R.remaining reader.new)) }
 {
     let server = Server::new(alloc, store);
-    let (Server { store, notes }, lines) = server.answer_reader(alloc, reader)?;
-    Ok(Traced {
-        store,
-        notes,
-        lines,
-    })
+    let (server, lines) = answer_reader(alloc, server, reader, MOST_READS)?;
+    Ok(server.into_traced(lines))
 }

@@ -26,6 +26,8 @@ impl Serve for LastValue {
             Command::Forget { .. } => Answer::Absent,
             Command::Read { .. } => Answer::Value(self.0),
             Command::Clean => Answer::Idle,
+            Command::Arm { .. } => Answer::Armed,
+            Command::PowerOn => Answer::Opened,
         })
     }
 }

@@ -2,6 +2,7 @@
 use ee_words::{Fault, File, fault_line, read_whole, status_of, write_whole};
 use std::test::Fail;
 
+mod brown_outs;
 mod commands;
 mod images;
 mod planning;
