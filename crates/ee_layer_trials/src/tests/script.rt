@@ -1,6 +1,7 @@
 //! Worked lines and scripts, whole and in pieces.
 use crate::tests::same;
 use ee_codec::Address;
+use ee_flash::{Fuse, Tear};
 use ee_script::{
     Answer, Command, ScriptFault, Serve, Session, StreamFault, answer_reader, answer_script,
     push_answer, read_command,
@@ -60,12 +61,18 @@ fn good_lines_are_commands(rt: HostRuntime) -> Result<(), Fail> {
         Some(Command::Forget { address: first }),
     );
     same(&rt, read_command(b"c"), Some(Command::Clean));
+    let fuse = Fuse {
+        after: 0,
+        tear: Tear::Torn,
+    };
+    same(&rt, read_command(b"x 1 t"), Some(Command::Arm { fuse }));
+    same(&rt, read_command(b"p"), Some(Command::PowerOn));
     Ok(())
 }
 
 #[test]
 fn bad_lines_are_none(rt: HostRuntime) {
-    let lines: [&[u8]; 18] = [
+    let lines: [&[u8]; 22] = [
         b"",
         b"w 0 1",
         b"w 65535 1",
@@ -81,16 +88,15 @@ fn bad_lines_are_none(rt: HostRuntime) {
         b"f",
         b"f 1 1",
         b"c ",
+        b"x 0 t",
+        b"x 1 z",
+        b"x 1",
+        b"p ",
         b"W 1 1",
         b"c\r",
         b"\xef\xbb\xbfc",
     ];
     for line in lines {
-        assert!(rt; read_command(line).is_none(), "{line:?}");
-    }
-    // These commands come later.
-    let later: [&[u8]; 2] = [b"x 1 t", b"p"];
-    for line in later {
         assert!(rt; read_command(line).is_none(), "{line:?}");
     }
 }
@@ -108,13 +114,17 @@ fn answers_are_lines(rt: HostRuntime) -> Result<(), Fail> {
         Answer::Value(4_294_967_295),
         Answer::NoValue,
         Answer::Absent,
+        Answer::Armed,
+        Answer::Cut,
+        Answer::Off,
+        Answer::Opened,
     ] {
         push_answer(&mut out, answer)?;
     }
     same(
         &rt,
         out.as_slice(),
-        b"ok\nmoved\nfull\nspent\nclean\nidle\n4294967295\nnone\nabsent\n".as_slice(),
+        b"ok\nmoved\nfull\nspent\nclean\nidle\n4294967295\nnone\nabsent\narmed\ncut\noff\nopen\n".as_slice(),
     );
     Ok(())
 }
