@@ -1,6 +1,7 @@
+use crate::saving::save;
 use ee_flash::Shape;
 use ee_shell::{
-    check_script, clean_image, format_image, get_setting, plan_script, replay, replay_indexed,
+    check_script, clean_image, format_image, get_setting, list_text, plan_script, replay, replay_indexed,
     set_setting, stale_text, states_text, tidy_image, try_script, wear_text,
 };
 use ee_words::{Fault, File, Job, fault_line, job, read_whole, status_of, write_whole};
@@ -66,6 +67,13 @@ fn work<R: Files + Input + Print + AllocGlobal>(rt: &R, job: &Job<'_>) -> Result
         Job::Clean { image } => clean_file(rt, image),
         Job::Stale { image, settings } => tell_stale(rt, image, settings),
         Job::Tidy { image, settings } => tidy_file(rt, image, settings),
+        Job::List { image, settings } => tell_values(rt, image, settings),
+        Job::Size {
+            words,
+            script,
+            cycles,
+            runs,
+        } => tell_sizes(rt, words, script, cycles, runs),
     }
 }
 
@@ -86,7 +94,7 @@ fn format_file<R: Files + Print + AllocGlobal>(
     image: &str,
 ) -> Result<(), Fault> {
     let formatted = format_image(rt.alloc(), shape)?;
-    write_image(rt, image, formatted.as_slice())?;
+    write_image(rt, image, None, formatted.as_slice())?;
     print(rt, b"formatted\n")
 }
 
@@ -105,7 +113,7 @@ fn run_files<R: Files + Print + AllocGlobal>(
     } else {
         replay(rt.alloc(), before.as_slice(), lines.as_slice())?
     };
-    write_image(rt, image, replayed.image.as_slice())?;
+    write_image(rt, image, Some(before.as_slice()), replayed.image.as_slice())?;
     print(rt, replayed.report.as_slice())
 }
 
@@ -142,7 +150,7 @@ fn set_file<R: Files + Print + AllocGlobal>(
         name,
         value,
     )?;
-    write_image(rt, image, written.as_slice())?;
+    write_image(rt, image, Some(before.as_slice()), written.as_slice())?;
     print(rt, text.as_slice())
 }
 
@@ -205,7 +213,7 @@ fn tell_states<R: Files + Print + AllocGlobal>(rt: &R, image: &str) -> Result<()
 fn clean_file<R: Files + Print + AllocGlobal>(rt: &R, image: &str) -> Result<(), Fault> {
     let before = read_file(rt, File::Image, image)?;
     let (cleaned, text) = clean_image(rt.alloc(), before.as_slice())?;
-    write_image(rt, image, cleaned.as_slice())?;
+    write_image(rt, image, Some(before.as_slice()), cleaned.as_slice())?;
     print(rt, text.as_slice())
 }
 
@@ -233,7 +241,24 @@ fn tidy_file<R: Files + Print + AllocGlobal>(
     let table = read_file(rt, File::Settings, settings)?;
     let (alloc, heap) = (rt.alloc(), rt.alloc());
     let (tidied, text) = tidy_image(alloc, heap, before.as_slice(), table.as_slice())?;
-    write_image(rt, image, tidied.as_slice())?;
+    write_image(rt, image, Some(before.as_slice()), tidied.as_slice())?;
+    print(rt, text.as_slice())
+}
+
+/// Prints what each address of an image has, with the names of settings where their file is named.
+fn tell_values<R: Files + Print + AllocGlobal>(
+    rt: &R,
+    image: &str,
+    settings: Option<&str>,
+) -> Result<(), Fault> {
+    let image = read_file(rt, File::Image, image)?;
+    let (alloc, heap) = (rt.alloc(), rt.alloc());
+    let Some(settings) = settings else {
+        let text = list_text(alloc, heap, image.as_slice(), None)?;
+        return print(rt, text.as_slice());
+    };
+    let table = read_file(rt, File::Settings, settings)?;
+    let text = list_text(alloc, heap, image.as_slice(), Some(table.as_slice()))?;
     print(rt, text.as_slice())
 }
 
@@ -249,13 +274,15 @@ fn read_file<R: Files + AllocGlobal>(rt: &R, file: File, path: &str) -> Result<V
     }
 }
 
-/// Writes an image in the place of its file, which is closed afterwards.
-fn write_image<R: Files>(rt: &R, path: &str, image: &[u8]) -> Result<(), Fault> {
-    let mut writer = match fs::create(rt, path) {
-        Ok(writer) => writer,
-        Err(_) => return Err(Fault::CannotWriteImage),
-    };
-    match write_whole(&mut writer, image) {
+/// Writes an image in the place of its file, of which `before` was read, if it was. Its file is
+/// closed afterwards.
+fn write_image<R: Files + AllocGlobal>(
+    rt: &R,
+    path: &str,
+    before: Option<&[u8]>,
+    image: &[u8],
+) -> Result<(), Fault> {
+    match save(rt, path, before, image) {
         Ok(()) => Ok(()),
         Err(_) => Err(Fault::CannotWriteImage),
     }

@@ -3,6 +3,7 @@ pub mod Readings
 pub mod Addresses
 pub mod Proper
 pub mod Stored
+pub mod Listings
 pub mod Outdated
 pub mod Forgetting
 pub mod Unnamed

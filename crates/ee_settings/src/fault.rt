@@ -60,6 +60,17 @@ pub enum StaleFault {
     Memory,
 }
 
+/// Why what a store holds can't be listed, the first cause that applies.
+///
+/// Source: ours.
+#[derive(Clone, Copy, Debug, PartialEq, Eq)]
+pub enum ListFault {
+    /// The device is off.
+    Off,
+    /// Memory ran out. It can come in place of any answer but `Off`.
+    Memory,
+}
+
 /// Why a store isn't tidied, or not to the end. Before `Spent` and `Cut` the first of the addresses
 /// were forgotten, and nothing else changed.
 ///

@@ -4,7 +4,8 @@
 //! `specs/Setting.antt` says what settings are and what they read as, `specs/File.antt` what a
 //! table of settings says and each fault of it, `specs/Calls.antt` what reading and setting answer
 //! and leave, `specs/Stale.antt` which entries' stored values a later schema doesn't take,
-//! `specs/Tidying.antt` what is forgotten that it doesn't name, and `specs/Laws.antt` what follows for
+//! `specs/Tidying.antt` what is forgotten that it doesn't name, `specs/Listing.antt` what a store holds by the
+//! names of a schema, and `specs/Laws.antt` what follows for
 //! the readings.
 //!
 //! The layers above may use: a table is read exactly by the rules, or its first fault is named; a
@@ -15,6 +16,7 @@
 mod entry;
 mod fault;
 pub mod laws;
+mod listing;
 mod numbers;
 mod reading;
 mod schema;
@@ -23,7 +25,8 @@ mod settings;
 mod stale;
 mod tidying;
 
-pub use fault::{GetFault, SchemaFault, SetFault, StaleFault, TidyFault};
+pub use fault::{GetFault, ListFault, SchemaFault, SetFault, StaleFault, TidyFault};
+pub use listing::{Held, Listed};
 pub use reading::Reading;
 pub use schema::Schema;
 pub use stale::Stale;

@@ -6,6 +6,7 @@ ghost use Rattle.ee_settings.specs.File.{IsTableOf, fields_of};
 ghost use Rattle.ee_settings.specs.Setting.{AreProper};
 ghost use Rattle.ee_settings.specs.declared.numbers.Fields.{Fields};
 
+use crate::listing::Held;
 use crate::reading::Reading;
 use ee_codec::Address;
 use toml::{Table, Value};
@@ -30,6 +31,7 @@ pub(crate) struct Numbers {
 
 impl Numbers {
     ghost use Rattle.std.specs.Prelude.{◌≡◌};
+    ghost use Rattle.ee_settings.specs.Listing.{held_by};
     ghost use Rattle.ee_settings.specs.Setting.{reading_of};
 
     /// What a setting of these numbers reads as, with this value stored.
@@ -45,6 +47,16 @@ impl Numbers {
         match stored {
             Some(value) if min <= value && value <= max => Reading::Stored(value),
             _ => Reading::Default(default),
+        }
+    }
+
+    /// What a value is to a setting of these numbers.
+    pub(crate) fn held(self, value: u32) -> Held
+        ensures { result ≡ held_by self value }
+    {
+        match self.reading(Some(value)) {
+            Reading::Stored(_) => Held::Value(value),
+            Reading::Default(_) => Held::Stale(value),
         }
     }
 }

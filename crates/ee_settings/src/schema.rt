@@ -33,9 +33,22 @@ impl<A: Allocator> Model for Schema<A> {
 }
 
 impl<A: Allocator> Schema<A> {
-    ghost use Rattle.std.specs.Prelude.{◌≡◌, IfSome, IfNone, length};
+    ghost use Rattle.std.specs.Prelude.{◌≡◌, [], IfSome, IfNone, length};
     ghost use Rattle.ee_settings.specs.Stale.{IsNameOf, entry_of};
     ghost use Rattle.ee_settings.specs.Calls.{IsNumbersOf, IsUnknown};
+
+    /// The schema with no settings.
+    ///
+    /// Source: ours.
+    pub fn empty(alloc: A) -> Schema<A>
+    where
+        A: Copy,
+        ensures { result ≡ [] }
+    {
+        Schema {
+            settings: Settings::new(alloc),
+        }
+    }
 
     /// The schema that a table spells. Each entry of the table is a setting: its key is the name,
     /// its value a table of the whole numbers `address`, `min`, `max` and `default`. A table with

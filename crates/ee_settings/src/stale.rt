@@ -115,7 +115,7 @@ fn push_stale<A: Allocator>(
 
 /// The values of all addresses that have one. It looks through the slots once for each batch, and
 /// not once for each address.
-fn stored_values<A: Allocator + Copy, V: Variables>(
+pub(crate) fn stored_values<A: Allocator + Copy, V: Variables>(
     alloc: A,
     store: &V,
 ) -> Result<BTreeMap<Address, u32, A>, AllocError>

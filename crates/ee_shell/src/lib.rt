@@ -6,7 +6,7 @@
 //! and the new image has the state that the run came to (`specs/Replaying.antt`). The report ends
 //! with a certificate, and the contract says what it shows: no store moves less often
 //! (`specs/Report.antt`, `specs/Trace.antt`). `specs/Planning.antt`, `Settings.antt`,
-//! `SecondSchema.antt`, `Wear.antt` and `Images.antt` say what the other commands give. The words
+//! `SecondSchema.antt`, `Listing.antt`, `Wear.antt` and `Images.antt` say what the other commands give. The words
 //! that ask for them, and the line and the status of a fault, are `ee_words`.
 //!
 //! What the program above may use: these calls, each with its faults. The program opens files and
@@ -16,6 +16,7 @@
 mod desk;
 mod images;
 pub mod laws;
+mod listing;
 mod noting;
 mod opening;
 mod planning;
@@ -27,6 +28,7 @@ mod settings;
 mod wear;
 
 pub use images::{clean_image, format_image, states_text};
+pub use listing::list_text;
 pub use planning::{check_script, plan_script};
 pub use replaying::{Replayed, replay, replay_indexed, replay_reader, try_script};
 pub use second_schema::{stale_text, tidy_image};

@@ -4,7 +4,7 @@ use Rattle.ee_text.specs.Line.{line_of}
 use Rattle.ee_words.specs.declared.fault.File.{File}
 use Rattle.ee_words.specs.declared.fault.File.TheVariants.{Image, Before, Script, Certificate, Settings}
 use Rattle.ee_words.specs.declared.fault.Fault.{Fault}
-use Rattle.ee_words.specs.declared.fault.Fault.TheVariants.{CannotRead, TooLong, CannotWriteImage, CannotWriteOutput, BadLine, BadShape, Unformatted, NoLiveSet, TwoLive, Foreign, SettingsText, BadName, BadField, BadRange, SameAddress, UnknownName, OutOfRange, Full, Spent, NotFitting, WrongStart, NotRising, WrongFrom, NotForced, OtherShape, Backwards, Memory}
+use Rattle.ee_words.specs.declared.fault.Fault.TheVariants.{CannotRead, TooLong, CannotWriteImage, CannotWriteOutput, BadLine, BadShape, Unformatted, NoLiveSet, TwoLive, Foreign, SettingsText, BadName, BadField, BadRange, SameAddress, UnknownName, OutOfRange, Full, Spent, NotFitting, WrongStart, NotRising, WrongFrom, NotForced, OtherShape, Backwards, NoSizeEnough, Memory}
 use Rattle.ee_image.specs.declared.fault.ImageFault.{ImageFault}
 use Rattle.ee_image.specs.declared.fault.ImageFault.TheVariants as image
 use Rattle.ee_pages.specs.declared.find.ScanFault.{ScanFault}
@@ -61,6 +61,7 @@ cause (WrongFrom stretch) = codes "wrong from " ++ decimal stretch
 cause (NotForced stretch) = codes "not forced " ++ decimal stretch
 cause OtherShape = codes "other shape"
 cause (Backwards page) = codes "wear backwards " ++ decimal page
+cause NoSizeEnough = codes "no size is enough"
 cause Memory = codes "out of memory"
 
 abbrev pub fault_text : Fault → List ℕ
@@ -79,6 +80,7 @@ status (WrongFrom stretch) = 4
 status (NotForced stretch) = 4
 status OtherShape = 4
 status (Backwards page) = 4
+status NoSizeEnough = 4
 status Memory = 5
 status fault = 3
 

@@ -1,5 +1,5 @@
 -- The commands of the program, and the words that spell them.
-use Rattle.std.specs.Prelude.{◌≡◌, ◌≢◌, ◌<◌, ◌^◌, ◌⊎◌, ℕ, List, [], ◌∷◌, map, codes, decimal}
+use Rattle.std.specs.Prelude.{◌≡◌, ◌≢◌, ◌<◌, ◌≤◌, ◌^◌, ◌⊎◌, ℕ, List, [], ◌∷◌, map, codes, decimal}
 use Rattle.std.specs.Prelude.{Bool, true, false, Option, Some, None, option_map}
 use Rattle.std.specs.Borrow.{Bor}
 use Rattle.ee_flash.specs.Size.{IsWithinLimits, Size, size_of}
@@ -20,6 +20,8 @@ pub data Row : Type 0 where
   Clean : List ℕ → Row
   Stale : List ℕ → List ℕ → Row
   Tidy : List ℕ → List ℕ → Row
+  Listing : List ℕ → Option (List ℕ) → Row
+  Sizing : ℕ → List ℕ → ℕ → ℕ → Row
 
 -- the row of a job: its words as texts
 abbrev pub row_of : Job → Row
@@ -35,12 +37,23 @@ row_of (job.States image) = States image.now
 row_of (job.Clean image) = Clean image.now
 row_of (job.Stale image settings) = Stale image.now settings.now
 row_of (job.Tidy image settings) = Tidy image.now settings.now
+row_of (job.List image settings) = Listing image.now (option_map (λ path. path.now) settings)
+row_of (job.Size words script cycles runs) = Sizing words script.now cycles runs
 
 -- the texts of the words
 abbrev pub texts_of : List (Bor (List ℕ)) → List (List ℕ)
 texts_of words = map (λ word. word.now) words
 
--- its size is within the limits, its value has 32 bits, and an image to run on is not named `--indexed`
+-- how many words a page can have
+abbrev pub ArePageWords : ℕ → Type 0
+ArePageWords words = (5 ≤ words) × (words ≤ 512)
+
+-- one at least, and of 32 bits
+abbrev pub IsCount : ℕ → Type 0
+IsCount count = (1 ≤ count) × (count < 2 ^ 32)
+
+-- its size is within the limits, its value has 32 bits, an image to run on is not named `--indexed`, and cycles and runs are
+-- counts
 abbrev pub IsRow : Row → Type 0
 IsRow (Try size) = IsWithinLimits size
 IsRow (Format size image) = IsWithinLimits size
@@ -54,6 +67,8 @@ IsRow (States image) = Unit {0}
 IsRow (Clean image) = Unit {0}
 IsRow (Stale image settings) = Unit {0}
 IsRow (Tidy image settings) = Unit {0}
+IsRow (Listing image settings) = Unit {0}
+IsRow (Sizing words script cycles runs) = ArePageWords words × IsCount cycles × IsCount runs
 
 -- the words say this row; no words say `try 1 6`
 abbrev pub AreWordsOf : List (List ℕ) → Row → Type 0
@@ -74,3 +89,7 @@ AreWordsOf words (States image) = words ≡ codes "states" ∷ image ∷ []
 AreWordsOf words (Clean image) = words ≡ codes "clean" ∷ image ∷ []
 AreWordsOf words (Stale image settings) = words ≡ codes "stale" ∷ image ∷ settings ∷ []
 AreWordsOf words (Tidy image settings) = words ≡ codes "tidy" ∷ image ∷ settings ∷ []
+AreWordsOf words (Listing image None) = words ≡ codes "list" ∷ image ∷ []
+AreWordsOf words (Listing image (Some settings)) = words ≡ codes "list" ∷ image ∷ settings ∷ []
+AreWordsOf words (Sizing page_words script cycles runs) =
+    words ≡ codes "size" ∷ decimal page_words ∷ script ∷ decimal cycles ∷ decimal runs ∷ []

@@ -125,6 +125,9 @@ pub enum Fault {
     /// This page, counted from 0 and the lowest of its kind, has less wear than before.
     #[error("wear backwards {0}")]
     Backwards(usize),
+    /// No number of pages bears so many runs.
+    #[error("no size is enough")]
+    NoSizeEnough,
     /// Memory ran out.
     #[error("out of memory")]
     Memory,
@@ -336,6 +339,7 @@ fn cause_text<A: Allocator + Copy>(alloc: A, fault: &Fault) -> Result<String<A>,
         Fault::NotForced(stretch) => format!(in alloc; "not forced {stretch}"),
         Fault::OtherShape => format!(in alloc; "other shape"),
         Fault::Backwards(page) => format!(in alloc; "wear backwards {page}"),
+        Fault::NoSizeEnough => format!(in alloc; "no size is enough"),
         Fault::Memory => format!(in alloc; "out of memory"),
     }
 }
@@ -371,7 +375,8 @@ pub fn status_of(fault: &Fault) -> u8
         | Fault::WrongFrom(_)
         | Fault::NotForced(_)
         | Fault::OtherShape
-        | Fault::Backwards(_) => 4,
+        | Fault::Backwards(_)
+        | Fault::NoSizeEnough => 4,
         Fault::Memory => 5,
     }
 }

@@ -70,4 +70,17 @@ pub enum Job<'a> {
         image: &'a str,
         settings: &'a str,
     },
+    /// `list IMAGE [SETTINGS]`: tells what each address has, with the names of settings.
+    List {
+        image: &'a str,
+        settings: Option<&'a str>,
+    },
+    /// `size W SCRIPT CYCLES RUNS`: tells for each number of pages of W words, which is 5 to 512, whether
+    /// pages that bear so many erases bear so many runs of the script; both are 1 to 4294967295.
+    Size {
+        words: u16,
+        script: &'a str,
+        cycles: u32,
+        runs: u32,
+    },
 }

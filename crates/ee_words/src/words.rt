@@ -2,7 +2,7 @@
 ghost use Rattle.std.specs.Prelude.{◌≡◌, ◌∷◌, ◌<◌, ◌^◌, ℕ, Some, IfSome, codes, decimal};
 ghost use Rattle.std.specs.Prelude.{option_map};
 ghost use Rattle.ee_flash.specs.Size.{IsWithinLimits, Size};
-ghost use Rattle.ee_words.specs.Job.{IsRow, Row, AreWordsOf, row_of, texts_of};
+ghost use Rattle.ee_words.specs.Job.{ArePageWords, IsCount, IsRow, Row, AreWordsOf, row_of, texts_of};
 
 use super::jobs::Job;
 use ee_flash::Shape;
@@ -48,6 +48,8 @@ fn command_job<'a>(command: &str, operands: &[&'a str]) -> Option<Job<'a>>
         "clean" => clean_job(operands),
         "stale" => stale_job(operands),
         "tidy" => tidy_job(operands),
+        "list" => list_job(operands),
+        "size" => size_job(operands),
         _ => None,
     }
 }
@@ -243,6 +245,70 @@ fn tidy_job<'a>(operands: &[&'a str]) -> Option<Job<'a>>
         [image, settings] => Some(Job::Tidy { image, settings }),
         _ => None,
     }
+}
+
+/// The job of `list` with these operands.
+fn list_job<'a>(operands: &[&'a str]) -> Option<Job<'a>>
+    ensures found { IfSome result (λ job. IsRow (row_of job)
+        × AreWordsOf (codes "list" ∷ texts_of operands.now) (row_of job)) }
+    ensures only { (row : Row) → IsRow row → AreWordsOf (codes "list" ∷ texts_of operands.now) row
+        → option_map row_of result ≡ Some row }
+{
+    match *operands {
+        [image] => Some(Job::List {
+            image,
+            settings: None,
+        }),
+        [image, settings] => Some(Job::List {
+            image,
+            settings: Some(settings),
+        }),
+        _ => None,
+    }
+}
+
+/// The job of `size` with these operands.
+fn size_job<'a>(operands: &[&'a str]) -> Option<Job<'a>>
+    ensures found { IfSome result (λ job. IsRow (row_of job)
+        × AreWordsOf (codes "size" ∷ texts_of operands.now) (row_of job)) }
+    ensures only { (row : Row) → IsRow row → AreWordsOf (codes "size" ∷ texts_of operands.now) row
+        → option_map row_of result ≡ Some row }
+{
+    match *operands {
+        [words, script, cycles, runs] => Some(Job::Size {
+            words: page_words_of(words)?,
+            script,
+            cycles: count_of(cycles)?,
+            runs: count_of(runs)?,
+        }),
+        _ => None,
+    }
+}
+
+/// The words of a page that a word spells.
+fn page_words_of(word: &str) -> Option<u16>
+    ensures found { IfSome result (λ words. ArePageWords words × (word.now ≡ decimal words)) }
+    ensures only { (words : ℕ) → ArePageWords words → word.now ≡ decimal words
+        → result ≡ Some words }
+{
+    let words = number_up_to(word.as_bytes(), 512)?;
+    if words < 5 {
+        return None;
+    }
+    Some(words as u16)
+}
+
+/// The count, one at least, that a word spells.
+fn count_of(word: &str) -> Option<u32>
+    ensures found { IfSome result (λ count. IsCount count × (word.now ≡ decimal count)) }
+    ensures only { (count : ℕ) → IsCount count → word.now ≡ decimal count
+        → result ≡ Some count }
+{
+    let count = value_of(word)?;
+    if count == 0 {
+        return None;
+    }
+    Some(count)
 }
 
 /// The shape that two words spell.

@@ -1,0 +1,47 @@
+-- What a store holds, address by address, as a schema names it.
+use Rattle.std.specs.Prelude.{◌+◌, ◌==◌, ℕ, zero, suc, List, [], ◌∷◌, ◌++◌, if◌then◌else◌, Option, Some, None}
+use Rattle.ee_flash.specs.Device.{Device, IsOff, IsOn}
+use Rattle.ee_pages.specs.Meaning.{Map}
+use Rattle.ee_settings.specs.Setting.{Setting, is_in_range}
+use Rattle.ee_settings.specs.declared.fault.ListFault.{ListFault}
+use Rattle.ee_settings.specs.declared.fault.ListFault.TheVariants as fault
+use Rattle.ee_settings.specs.declared.listing.Held.{Held}
+use Rattle.ee_settings.specs.declared.listing.Held.TheVariants.{Value, Stale, Default}
+use Rattle.ee_settings.specs.declared.listing.Listed.{Listed}
+use Rattle.ee_settings.specs.declared.numbers.Numbers.{Numbers}
+
+-- the entry whose setting has the address, and the setting's numbers, where the first setting is the entry of this number
+abbrev pub named_from : ℕ → List Setting → ℕ → Option (ℕ × Numbers)
+named_from entry [] address = None
+named_from entry (setting ∷ settings) address =
+    if setting.numbers.address == address then Some (entry, setting.numbers) else named_from (entry + 1) settings address
+
+-- entries are counted from 1
+abbrev pub named_in : List Setting → ℕ → Option (ℕ × Numbers)
+named_in settings address = named_from 1 settings address
+
+-- what a value is to the setting that has its address
+abbrev pub held_by : Numbers → ℕ → Held
+held_by numbers value = if is_in_range numbers value then Value value else Stale value
+
+-- what there is to say of an address, by its setting and its value
+abbrev pub listed_of : ℕ → Option (ℕ × Numbers) → Option ℕ → List Listed
+listed_of address None None = []
+listed_of address None (Some value) = record { address = address; entry = None; held = Value value } ∷ []
+listed_of address (Some named) None = record { address = address; entry = Some named.0; held = Default named.1.default } ∷ []
+listed_of address (Some named) (Some value) = record { address = address; entry = Some named.0; held = held_by named.1 value } ∷ []
+
+-- of the addresses 1 to this one, by rising address
+unfoldable pub listed_to : List Setting → Map → ℕ → List Listed
+listed_to settings map zero = []
+listed_to settings map (suc address) =
+    listed_to settings map address ++ listed_of (suc address) (named_in settings (suc address)) (map (suc address))
+
+-- of all addresses
+abbrev pub listed_in : List Setting → Map → List Listed
+listed_in settings map = listed_to settings map 65534
+
+-- why nothing is listed: the device is off; or memory ran out
+abbrev pub IsListFault : Device → ListFault → Type 0
+IsListFault device fault.Off = IsOff device
+IsListFault device fault.Memory = IsOn device
