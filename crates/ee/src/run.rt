@@ -2,7 +2,7 @@ use crate::saving::save;
 use ee_flash::Shape;
 use ee_shell::{
     check_script, clean_image, format_image, get_setting, list_text, plan_script, replay, replay_indexed,
-    set_setting, stale_text, states_text, tidy_image, try_script, wear_text,
+    set_setting, size_parts, stale_text, states_text, tidy_image, try_script, wear_text,
 };
 use ee_words::{Fault, File, Job, fault_line, job, read_whole, status_of, write_whole};
 use std::rt::Files;
@@ -260,6 +260,24 @@ fn tell_values<R: Files + Print + AllocGlobal>(
     let table = read_file(rt, File::Settings, settings)?;
     let text = list_text(alloc, heap, image.as_slice(), Some(table.as_slice()))?;
     print(rt, text.as_slice())
+}
+
+/// Prints for each number of pages whether it bears so many runs of a script. Where none does, that is
+/// told behind it.
+fn tell_sizes<R: Files + Print + AllocGlobal>(
+    rt: &R,
+    words: u16,
+    script: &str,
+    cycles: u32,
+    runs: u32,
+) -> Result<(), Fault> {
+    let script = read_file(rt, File::Script, script)?;
+    let sizes = size_parts(rt.alloc(), words, script.as_slice(), cycles, runs)?;
+    print(rt, sizes.text.as_slice())?;
+    if sizes.some_enough {
+        return Ok(());
+    }
+    Err(Fault::NoSizeEnough)
 }
 
 /// All bytes of a file.

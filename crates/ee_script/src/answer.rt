@@ -37,6 +37,8 @@ pub enum Answer {
 
 /// Writes the answer's line at the end of a report. After an error the report has what it had, and
 /// perhaps a front of the line.
+// One for each line of a script; its call would cost as much as most lines.
+#[inline(always)]
 pub fn push_answer<A: Allocator>(out: &mut Vec<u8, A>, answer: Answer) -> Result<(), AllocError>
     ensures ok { OnOk result (out.new.items ≡ out.old.items ++ report (answer ∷ [])) }
     ensures err { OnErr result (GrowsByFront out.old.items (report (answer ∷ [])) out.new.items) }

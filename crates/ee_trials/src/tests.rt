@@ -5,6 +5,7 @@ mod commands;
 mod cuts;
 mod events;
 mod files;
+mod hostile;
 mod images;
 mod indexed;
 mod ledgers;

@@ -64,15 +64,30 @@ fn with_script<'a>(alloc: Global, table: Command<'a>) -> Result<Command<'a>, Fai
     )
 }
 
+/// The command that tells how large a part must be.
+fn of_sizes<'a>(alloc: Global) -> Result<Command<'a>, Fail> {
+    let count = |id| word(alloc, id).value_parser(value_parser!(u64).range(1..=4_294_967_295));
+    Ok(
+        Command::new(alloc, "size")
+            .arg(word(alloc, "W").value_parser(value_parser!(u64).range(5..=512)))?
+            .arg(word(alloc, "SCRIPT"))?
+            .arg(count("CYCLES"))?
+            .arg(count("RUNS"))?,
+    )
+}
+
 /// The commands with words.
 fn table<'a>(alloc: Global) -> Result<Command<'a>, Fail> {
     let before = Arg::new(alloc, "BEFORE").action(ArgAction::Set);
+    let names = Arg::new(alloc, "SETTINGS").action(ArgAction::Set);
     let table = Command::new(alloc, "ee")
         .subcommand(sized(alloc, "try")?)?
         .subcommand(sized(alloc, "format")?.arg(word(alloc, "IMAGE"))?)?
         .subcommand(on_image(alloc, "wear")?.arg(before)?)?
         .subcommand(on_image(alloc, "states")?)?
-        .subcommand(on_image(alloc, "clean")?)?;
+        .subcommand(on_image(alloc, "clean")?)?
+        .subcommand(on_image(alloc, "list")?.arg(names)?)?
+        .subcommand(of_sizes(alloc)?)?;
     with_script(alloc, with_settings(alloc, table)?)
 }
 
@@ -83,14 +98,25 @@ fn shape(found: &ArgMatches<'_>) -> Option<Shape> {
     Shape::new(usize::try_from(pages).ok()?, usize::try_from(words).ok()?)
 }
 
+/// The sizes that are asked for.
+fn sizes<'a>(found: &ArgMatches<'a>) -> Option<Job<'a>> {
+    Some(Job::Size {
+        words: u16::try_from(found.get_one::<u64>("W")?).ok()?,
+        script: found.get_str("SCRIPT")?,
+        cycles: u32::try_from(found.get_one::<u64>("CYCLES")?).ok()?,
+        runs: u32::try_from(found.get_one::<u64>("RUNS")?).ok()?,
+    })
+}
+
 /// The job that was found.
 fn job_of<'a>(name: &str, found: &ArgMatches<'a>) -> Option<Job<'a>> {
-    if name == "try" {
-        return Some(Job::Try {
+    match name {
+        "try" => Some(Job::Try {
             shape: shape(found)?,
-        });
+        }),
+        "size" => sizes(found),
+        _ => job_on(name, found.get_str("IMAGE")?, found),
     }
-    job_on(name, found.get_str("IMAGE")?, found)
 }
 
 /// The job on an image that was found.
@@ -123,6 +149,10 @@ fn job_on<'a>(name: &str, image: &'a str, found: &ArgMatches<'a>) -> Option<Job<
             image,
             before: found.get_str("BEFORE"),
         }),
+        "list" => Some(Job::List {
+            image,
+            settings: found.get_str("SETTINGS"),
+        }),
         "states" => Some(Job::States { image }),
         "clean" => Some(Job::Clean { image }),
         _ => job_with_script(name, image, found.get_str("SCRIPT")?, found),
@@ -154,7 +184,7 @@ fn job_with_script<'a>(
 
 #[test]
 fn clap_finds_the_same_jobs(rt: HostRuntime) -> Result<(), Fail> {
-    let lines: [&[&str]; 14] = [
+    let lines: [&[&str]; 17] = [
         &["ee", "try", "2", "5"],
         &["ee", "format", "64", "512", "a.image"],
         &["ee", "run", "a.image", "a.script"],
@@ -169,6 +199,9 @@ fn clap_finds_the_same_jobs(rt: HostRuntime) -> Result<(), Fail> {
         &["ee", "clean", "a.image"],
         &["ee", "stale", "a.image", "a.settings"],
         &["ee", "tidy", "a.image", "a.settings"],
+        &["ee", "list", "a.image"],
+        &["ee", "list", "a.image", "a.settings"],
+        &["ee", "size", "512", "a.script", "10000", "4294967295"],
     ];
     for words in lines {
         let matches = table(rt.alloc())?.try_get_matches_from(words)?;

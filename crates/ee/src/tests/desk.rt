@@ -1,9 +1,10 @@
 //! A runtime for tests: the host's files, an input of known bytes, and outputs that are kept.
 use std::alloc::{AllocError, Allocator, Global};
-use std::cell::RefCell;
+use std::cell::{Cell, RefCell};
 use std::fmt::Display;
-use std::fs::{Metadata, OpenOptions};
-use std::io::{self, BufRead, ErrorKind, Lines};
+use std::fs::{Metadata, OpenFile, OpenOptions, Permissions};
+use std::io::{self, BufRead, ErrorKind, Lines, Read, Seek, SeekFrom, Write};
+use std::path::PathBuf;
 use std::rt::Files;
 
 /// A host whose standard streams are the test's.
@@ -14,6 +15,10 @@ pub struct Desk<'a, R> {
     pub input: &'static [u8],
     /// Whether standard output refuses what is written.
     pub closed: bool,
+    /// How many bytes the disk takes before it is full, once; behind that it takes all.
+    pub room: Option<&'a Cell<usize>>,
+    /// Whether the files know no more than to be opened, renamed and removed.
+    pub bare: bool,
     /// What was written to standard output.
     printed: RefCell<Vec<u8>>,
     /// What was written to standard error.
@@ -27,6 +32,8 @@ impl<'a, R: Files + AllocGlobal + Input> Desk<'a, R> {
             rt,
             input: b"",
             closed: false,
+            room: None,
+            bare: false,
             printed: RefCell::new(Vec::new(rt.alloc())),
             told: RefCell::new(Vec::new(rt.alloc())),
         }
@@ -110,13 +117,86 @@ impl<R: Input> Input for Desk<'_, R> {
     }
 }
 
-impl<R: Files> Files for Desk<'_, R> {
-    type File = R::File;
+/// A file on a disk that may be full.
+#[derive(Drop)]
+pub struct Cramped<'a, F> {
+    file: F,
+    room: Option<&'a Cell<usize>>,
+}
+
+impl<F: Read> Read for Cramped<'_, F> {
+    fn read(&mut self, buf: &mut [u8]) -> io::Result<usize> {
+        self.file.read(buf)
+    }
+}
+
+impl<F: Write> Write for Cramped<'_, F> {
+    fn write(&mut self, buf: &[u8]) -> io::Result<usize> {
+        let Some(room) = self.room else {
+            return self.file.write(buf);
+        };
+        let left = room.get();
+        if left == 0 {
+            room.set(usize::MAX);
+            return Err(io::Error::from(ErrorKind::StorageFull));
+        }
+        let count = if buf.len() < left { buf.len() } else { left };
+        let written = self.file.write(&buf[..count])?;
+        room.set(left - written);
+        Ok(written)
+    }
+
+    fn flush(&mut self) -> io::Result<()> {
+        self.file.flush()
+    }
+}
+
+impl<F: Seek> Seek for Cramped<'_, F> {
+    fn seek(&mut self, to: SeekFrom) -> io::Result<u64> {
+        self.file.seek(to)
+    }
+}
+
+impl<F: OpenFile> OpenFile for Cramped<'_, F> {
+    fn metadata(&self) -> io::Result<Metadata> {
+        self.file.metadata()
+    }
+
+    fn set_len(&self, size: u64) -> io::Result<()> {
+        self.file.set_len(size)
+    }
+
+    fn sync_all(&self) -> io::Result<()> {
+        self.file.sync_all()
+    }
+
+    fn sync_data(&self) -> io::Result<()> {
+        self.file.sync_data()
+    }
+}
+
+impl<'a, R: Files> Files for Desk<'a, R> {
+    type File = Cramped<'a, R::File>;
 
     type Dir = R::Dir;
 
-    fn open_file(&self, how: &OpenOptions, path: &str) -> io::Result<R::File> {
-        self.rt.open_file(how, path)
+    fn open_file(&self, how: &OpenOptions, path: &str) -> io::Result<Cramped<'a, R::File>> {
+        let file = self.rt.open_file(how, path)?;
+        Ok(Cramped {
+            file,
+            room: self.room,
+        })
+    }
+
+    fn canonicalize<B: Allocator>(&self, alloc: B, path: &str) -> io::Result<PathBuf<B>> {
+        if self.bare {
+            return Err(io::Error::from(ErrorKind::Unsupported));
+        }
+        self.rt.canonicalize(alloc, path)
+    }
+
+    fn set_permissions(&self, path: &str, perm: Permissions) -> io::Result<()> {
+        self.rt.set_permissions(path, perm)
     }
 
     fn open_dir(&self, path: &str) -> io::Result<R::Dir> {

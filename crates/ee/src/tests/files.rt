@@ -1,6 +1,8 @@
 //! The program over files: each status, and what stands in the files afterwards.
 use super::desk::Desk;
-use std::fs;
+use std::cell::Cell;
+use std::fs::{self, Permissions};
+use std::os::unix::fs::{PermissionsExt, symlink};
 use std::process::Abort;
 use std::rt::Files;
 use std::test::Fail;
@@ -268,6 +270,85 @@ fn a_later_schema_tidies(rt: HostRuntime) -> Result<(), Fail> {
     holds(&rt, "later.image", SPENT)?;
     fs::remove_file(&rt, "later.image")?;
     fs::remove_file(&rt, "later.toml")?;
+    Ok(())
+}
+
+#[test]
+fn what_an_image_holds_is_listed(rt: HostRuntime) -> Result<(), Fail> {
+    fs::write(&rt, "list.image", TWO_MOVES)?;
+    fs::write(&rt, "list.toml", SETTINGS)?;
+    says(&rt, &["list", "list.image"], 0, b"1 13\n2 5\n", b"")?;
+    let named: &[&str] = &["list", "list.image", "list.toml"];
+    says(&rt, named, 0, b"1 13 stale volume\n2 5\n", b"")?;
+    holds(&rt, "list.image", TWO_MOVES)?;
+    fs::remove_file(&rt, "list.image")?;
+    fs::remove_file(&rt, "list.toml")?;
+    Ok(())
+}
+
+#[test]
+fn a_part_is_sized(rt: HostRuntime) -> Result<(), Fail> {
+    let script = b"w 1 10\nw 1 11\nw 1 12\nw 2 5\nw 1 13\n".as_slice();
+    fs::write(&rt, "size.script", script)?;
+    let desk = Desk::new(&rt);
+    assert_eq!(rt; desk.run(&["size", "6", "size.script", "4", "2"])?, 0);
+    let (printed, told) = desk.written();
+    let lines = b"pages 1 slots 2 transfers 7 erases 4 enough\npages 2 slots 4 transfers 2 erases 1 enough\n";
+    assert!(rt; printed.as_slice().starts_with(lines));
+    assert_eq!(rt; told.as_slice(), b"".as_slice());
+    let desk = Desk::new(&rt);
+    assert_eq!(rt; desk.run(&["size", "6", "size.script", "1", "4294967295"])?, 4);
+    let (printed, told) = desk.written();
+    let line = b"pages 1 slots 2 transfers 21474836472 erases 10737418236 worn\n";
+    assert!(rt; printed.as_slice().starts_with(line));
+    assert_eq!(rt; told.as_slice(), b"ee: no size is enough\n".as_slice());
+    fs::remove_file(&rt, "size.script")?;
+    Ok(())
+}
+
+/// Cleans an image on a disk that is full after so many bytes: the old image stands, and nothing beside it.
+fn keeps_the_image<R: Files + AllocGlobal + Input + Abort>(
+    rt: &R,
+    bytes: usize,
+    bare: bool,
+) -> Result<(), Fail> {
+    let room = Cell::new(bytes);
+    let mut desk = Desk::new(rt);
+    desk.room = Some(&room);
+    desk.bare = bare;
+    assert_eq!(rt; desk.run(&["clean", "full.image"])?, 3);
+    let (_, told) = desk.written();
+    assert_eq!(rt; told.as_slice(), b"ee: cannot write image\n".as_slice());
+    holds(rt, "full.image", MOVED)?;
+    assert!(rt; !fs::exists(rt, "full.image.ee-saving")?);
+    Ok(())
+}
+
+#[test]
+fn a_full_disk_leaves_the_old_image(rt: HostRuntime) -> Result<(), Fail> {
+    fs::write(&rt, "full.image", MOVED)?;
+    for bytes in 0..CLEANED.len() {
+        keeps_the_image(&rt, bytes, false)?;
+        keeps_the_image(&rt, bytes, true)?;
+    }
+    fs::remove_file(&rt, "full.image")?;
+    Ok(())
+}
+
+#[test]
+fn a_link_and_a_mode_stay(rt: HostRuntime) -> Result<(), Fail> {
+    fs::write(&rt, "kept.image", MOVED)?;
+    // What a broken run left doesn't hinder.
+    fs::write(&rt, "kept.image.ee-saving", b"".as_slice())?;
+    fs::set_permissions(&rt, "kept.image", Permissions::from_mode(0o640))?;
+    symlink(&rt, "kept.image", "link.image")?;
+    says(&rt, &["clean", "link.image"], 0, b"cleaned 1\n", b"")?;
+    holds(&rt, "kept.image", CLEANED)?;
+    assert!(rt; fs::symlink_metadata(&rt, "link.image")?.is_symlink());
+    let mode = fs::metadata(&rt, "kept.image")?.permissions().mode();
+    assert_eq!(rt; mode & 0o777, 0o640);
+    fs::remove_file(&rt, "link.image")?;
+    fs::remove_file(&rt, "kept.image")?;
     Ok(())
 }
 

@@ -2,7 +2,7 @@ use super::trial::with_each_refusal;
 use ee_flash::Flash;
 use ee_image::read_image;
 use ee_settings::{Schema, StaleFault};
-use ee_shell::{get_setting, set_setting, stale_text, tidy_image};
+use ee_shell::{get_setting, list_text, set_setting, stale_text, tidy_image};
 use ee_store::open;
 use ee_words::Fault;
 use std::test::Fail;
@@ -37,6 +37,48 @@ min = 0
 max = 10
 default = 5
 ";
+
+/// With 99 at address 1 and 5 at address 7.
+const LISTED: &[u8] = b"ee 1 8
+0 aaaaaaaa00000001 aaaaaaaaaaaaaaaa - - 0000006300000001 0000000500000007 - -
+0 - - - - - - - -
+";
+
+const TONE: &[u8] = b"[tone]
+address = 3
+min = 0
+max = 9
+default = 4
+
+[volume]
+address = 1
+min = 0
+max = 10
+default = 5
+";
+
+#[test]
+fn what_an_image_holds(rt: HostRuntime) {
+    let heap = rt.alloc();
+    let listed = b"1 99 stale volume\n3 default 4 tone\n7 5\n".as_slice();
+    let requests = with_each_refusal(&rt, heap, &(true, true), |alloc| {
+        let named = match list_text(alloc, heap, LISTED, Some(TONE)) {
+            Ok(text) => text.as_slice() == listed,
+            Err(fault) => {
+                assert_eq!(rt; fault, Fault::Memory);
+                return None;
+            }
+        };
+        match list_text(alloc, heap, LISTED, None) {
+            Ok(text) => Some((named, text.as_slice() == b"1 99\n7 5\n".as_slice())),
+            Err(fault) => {
+                assert_eq!(rt; fault, Fault::Memory);
+                None
+            }
+        }
+    });
+    assert!(rt; requests > 12);
+}
 
 #[test]
 fn a_setting_that_is_read(rt: HostRuntime) {
