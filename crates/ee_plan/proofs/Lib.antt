@@ -5,3 +5,8 @@ pub mod Best
 pub mod Whole
 pub mod Gathering
 pub mod LiveLists
+pub mod Repeating
+pub mod Counted
+pub mod Stations
+pub mod Demanded
+pub mod Answering

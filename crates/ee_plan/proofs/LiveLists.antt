@@ -31,23 +31,23 @@ use Rattle.ee_plan.specs.Start.{AreLive, IsStartOf}
 
 -- ---- numbers in ascending order
 
-smaller : (a b : ℕ) → a < b → nat_cmp a b ≡ Less
+pub smaller : (a b : ℕ) → a < b → nat_cmp a b ≡ Less
 smaller a b h = grind (arith, common_steps)
 
-same : (a b : ℕ) → a ≡ b → nat_cmp a b ≡ Equal
+pub same : (a b : ℕ) → a ≡ b → nat_cmp a b ≡ Equal
 same a b h = grind (arith, common_steps)
 
-greater : (a b : ℕ) → b < a → nat_cmp a b ≡ Greater
+pub greater : (a b : ℕ) → b < a → nat_cmp a b ≡ Greater
 greater a b h = grind (arith, common_steps)
 
 -- a removal passes any other number
-not_at : (k x : ℕ) → (k ≡ x → ⊥) → is_at (nat_cmp k) x ≡ false
+pub not_at : (k x : ℕ) → (k ≡ x → ⊥) → is_at (nat_cmp k) x ≡ false
 not_at k x apart = elim (cases_lt k x) [
   | inl before ↦ rw (smaller k x before) refl
   | inr behind ↦ rw (greater k x (omega arith)) refl
 ]
 
-from_less : (a b : ℕ) → nat_cmp a b ≡ Less → a < b
+pub from_less : (a b : ℕ) → nat_cmp a b ≡ Less → a < b
 from_less a b h = ranked a b Less (sym h)
 
 -- what is above a number is above a smaller one
@@ -57,7 +57,7 @@ above_both k x [] h above = tt
 above_both k x (y ∷ ys) h above =
     (smaller k y (let g : x < y = from_less x y above.0 in omega arith), above_both k x ys h above.1)
 
-insert_sorted : (xs : List ℕ) (k : ℕ) → IsStrictlySortedBy nat_cmp xs → IsStrictlySortedBy nat_cmp (insert_key nat_cmp xs k)
+pub insert_sorted : (xs : List ℕ) (k : ℕ) → IsStrictlySortedBy nat_cmp xs → IsStrictlySortedBy nat_cmp (insert_key nat_cmp xs k)
 unfolding IsStrictlySortedBy
 insert_sorted [] k sorted = (tt, tt)
 insert_sorted (x ∷ xs) k sorted = elim (cases_lt k x) [
@@ -165,7 +165,7 @@ none_below k xs above =
     let P = λ (y : ℕ). nat_cmp k y ≡ Less in
     All-weaker P (λ y. y ≢ k) (λ y h e. let g : k < y = from_less k y h in omega arith) xs (All-from_recursion P xs above)
 
-remove_sorted : (xs : List ℕ) (k : ℕ) → IsStrictlySortedBy nat_cmp xs
+pub remove_sorted : (xs : List ℕ) (k : ℕ) → IsStrictlySortedBy nat_cmp xs
     → IsStrictlySortedBy nat_cmp (remove_key (is_at (nat_cmp k)) xs)
 unfolding IsStrictlySortedBy
 remove_sorted [] k sorted = tt

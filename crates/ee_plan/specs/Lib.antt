@@ -1,3 +1,5 @@
 pub mod Plan
 pub mod LateStore
 pub mod Start
+pub mod Rounds
+pub mod Places

@@ -8,13 +8,22 @@
 //! schedule reaches it, and wherever the trace is broken off, the moments so far are those of the tight
 //! certificate, which no schedule betters. `start_of` gives what a store gives a trace to start from: its
 //! slots, how many are used, and the live addresses.
+//!
+//! `Rounds` answers the same of a trace that is made many times over, on a set that starts empty: the
+//! length of its tight certificate, for any number of slots, without writing the trace out.
 #![tactic(auto)]
 
+mod counts;
+mod demand;
 mod late_store;
 mod planned;
 mod planning;
+mod rounds;
 mod starting;
+mod walking;
 
+pub use demand::{Demand, RoundsFault};
 pub use planned::{Plan, PlanFault};
 pub use planning::plan;
+pub use rounds::Rounds;
 pub use starting::start_of;

@@ -1,0 +1,98 @@
+-- The places of the transfers, one further and whole periods further.
+use Rattle.std.proofs.Common.{◌≡◌, ℕ, zero, suc, ◌+◌, ◌-◌, ◌*◌, ◌<◌, ◌≤◌, refl, sym, ap, ◌∙◌, arith, add-one}
+use Rattle.std.proofs.Math.Nat.{suc-mul}
+use Rattle.ee_plan.specs.declared.walking.Walk.{Walk}
+use Rattle.ee_plan.specs.Places.{next_place, place_of, IsOnWay}
+
+pub place_first : (count : ℕ → ℕ) (slots : ℕ) → place_of count slots 0 ≡ 0
+unfolding place_of
+place_first count slots = refl
+
+place_suc : (count : ℕ → ℕ) (slots k : ℕ) → place_of count slots (suc k) ≡ next_place count slots (place_of count slots k)
+unfolding place_of
+place_suc count slots k = refl
+
+pub place_next : (count : ℕ → ℕ) (slots k : ℕ) → place_of count slots (k + 1) ≡ next_place count slots (place_of count slots k)
+place_next count slots k = ap (place_of count slots) (add-one k) ∙ place_suc count slots k
+
+-- a store that has used as many slots d changes later goes on as it did, d changes later
+shifted : (count : ℕ → ℕ) (slots from d k later : ℕ) → ((n : ℕ) → from ≤ n → count (n + d) ≡ count n) → from ≤ place_of count slots k
+    → place_of count slots later ≡ place_of count slots k + d
+    → (j : ℕ) → (place_of count slots (later + j) ≡ place_of count slots (k + j) + d) × (from ≤ place_of count slots (k + j))
+shifted count slots from d k later same behind e zero =
+    let a : later + 0 ≡ later = omega arith in
+    let b : k + 0 ≡ k = omega arith in
+    rw (a, b) (e, behind)
+shifted count slots from d k later same behind e (suc j) =
+    let so_far = shifted count slots from d k later same behind e j in
+    let a : place_of count slots (later + suc j) ≡ next_place count slots (place_of count slots (later + j)) =
+    ap (place_of count slots) (omega arith) ∙ place_next count slots (later + j) in
+    let b : place_of count slots (k + suc j) ≡ next_place count slots (place_of count slots (k + j)) =
+    ap (place_of count slots) (omega arith) ∙ place_next count slots (k + j) in
+    let c : count (place_of count slots (later + j)) ≡ count (place_of count slots (k + j)) =
+    ap count so_far.0 ∙ same (place_of count slots (k + j)) so_far.1 in
+    let f = so_far.0 in let g = so_far.1 in
+    (omega arith, omega arith)
+
+-- as often as one likes
+periods_on : (count : ℕ → ℕ) (slots from d k gain : ℕ) → ((n : ℕ) → from ≤ n → count (n + d) ≡ count n) → from ≤ place_of count slots k
+    → place_of count slots (k + gain) ≡ place_of count slots k + d
+    → (periods : ℕ) → place_of count slots (k + periods * gain) ≡ place_of count slots k + periods * d
+periods_on count slots from d k gain same behind e zero =
+    let a : k + 0 * gain ≡ k = omega arith in
+    rw a (omega arith)
+periods_on count slots from d k gain same behind e (suc periods) =
+    let so_far = periods_on count slots from d k gain same behind e periods in
+    let a : k + suc periods * gain ≡ k + gain + periods * gain = let h = suc-mul periods gain in omega arith in
+    let b = (shifted count slots from d k (k + gain) same behind e (periods * gain)).0 in
+    let h = suc-mul periods d in
+    rw a (omega arith)
+
+-- a walk that has come to a place d changes on from where it was, after so many transfers more
+pub leapt : (count : ℕ → ℕ) (slots total from periods : ℕ) (mark walk far : Walk)
+    → ((n : ℕ) → from ≤ n → count (n + (walk.place - mark.place)) ≡ count n) → from ≤ mark.place
+    → IsOnWay count slots total mark → IsOnWay count slots total walk → mark.place ≤ walk.place → mark.made ≤ walk.made
+    → far.place ≡ walk.place + periods * (walk.place - mark.place) → far.made ≡ walk.made + periods * (walk.made - mark.made)
+    → far.place ≤ total → far.made ≤ far.place → IsOnWay count slots total far
+leapt count slots total from periods mark walk far same behind marked walked further more place made within rising =
+    let d = walk.place - mark.place in
+    let gain = walk.made - mark.made in
+    let start = marked.place in
+    let behind_walk : from ≤ place_of count slots walk.made = let a = walked.place in omega arith in
+    let ends : mark.made + gain ≡ walk.made = omega arith in
+    let once : place_of count slots (mark.made + gain) ≡ place_of count slots mark.made + d =
+    ap (place_of count slots) ends ∙ (let a = walked.place in omega arith) in
+    let behind_mark : from ≤ place_of count slots mark.made = omega arith in
+    let again : place_of count slots (walk.made + gain) ≡ place_of count slots walk.made + d =
+    let a = (shifted count slots from d mark.made walk.made same behind_mark (let a = walked.place in omega arith) gain).0 in
+    let b = ap (place_of count slots) ends in let c = walked.place in
+    omega arith in
+    let on = periods_on count slots from d walk.made gain same behind_walk again periods in
+    let there = ap (place_of count slots) made in
+    let c = walked.place in
+    record { place = omega arith; within = within; rising = rising }
+
+-- the next transfer comes, if the trace goes on so far
+pub stepped : (count : ℕ → ℕ) (slots total place : ℕ) (walk next : Walk) → IsOnWay count slots total walk → place ≡ next_place count slots walk.place
+    → next.place ≡ place → next.made ≡ walk.made + 1 → place ≤ total → IsOnWay count slots total next
+stepped count slots total place walk next on is there made within =
+    let a = place_next count slots walk.made in
+    let b = ap (next_place count slots) on.place in
+    let c = ap (place_of count slots) made in
+    record {
+      place = omega arith;
+      within = omega arith;
+      rising = let r = on.rising in omega arith;
+    }
+
+-- before the first change
+pub begun : (count : ℕ → ℕ) (slots total : ℕ) → IsOnWay count slots total record { place = 0; made = 0 }
+begun count slots total = record { place = sym (place_first count slots); within = omega arith; rising = omega arith }
+
+-- the transfer behind its last one comes behind the trace
+pub beyond : (count : ℕ → ℕ) (slots total place : ℕ) (walk : Walk) → IsOnWay count slots total walk → place ≡ next_place count slots walk.place → total < place
+    → total < place_of count slots (walk.made + 1)
+beyond count slots total place walk on is h =
+    let a = place_next count slots walk.made in
+    let b = ap (next_place count slots) on.place in
+    omega arith

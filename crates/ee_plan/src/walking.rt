@@ -1,0 +1,112 @@
+//! From transfer to transfer through a trace that is made many times over.
+ghost use Rattle.std.specs.Prelude.{◌≡◌, ℕ, ◌+◌, ◌-◌, ◌*◌, ◌^◌, ◌<◌, ◌≤◌, length, IfNone, IfSome};
+ghost use Rattle.ee_plan.specs.Places.{AreRounds, IsFirstOver, IsOnWay, count_after, next_place, place_of};
+
+use super::counts::Counts;
+use std::alloc::Allocator;
+
+/// How far a store has come that transfers exactly when each slot is used.
+#[derive(Clone, Copy)]
+pub(crate) struct Walk {
+    // the change that its last transfer came with, or 0
+    pub(crate) place: u64,
+    // how many transfers it has made
+    pub(crate) made: u64,
+}
+
+/// How many transfers such a store makes in all these changes.
+pub(crate) fn transfers<A: Allocator>(counts: &Counts<A>, slots: u64, total: u64) -> u64
+    requires rounds { AreRounds counts.now }
+    requires slots { slots < 2 ^ 32 }
+    requires total { total < 2 ^ 63 }
+    ensures made { place_of (count_after counts.now) slots result ≤ total }
+    ensures all { total < place_of (count_after counts.now) slots (result + 1) }
+{
+    let mut walk = leap(counts, slots, total);
+    'walking: loop {
+        let place = next(counts, slots, walk.place);
+        if total < place {
+            return walk.made;
+        }
+        walk = Walk {
+            place,
+            made: walk.made + 1,
+        };
+    }
+}
+
+/// Walks until it comes to a change of the trace at which it has transferred before, and from there by as
+/// many whole periods at once as there are changes for. Where it has been is remembered of one place only,
+/// each time that the transfers have doubled.
+fn leap<A: Allocator>(counts: &Counts<A>, slots: u64, total: u64) -> Walk
+    requires rounds { AreRounds counts.now }
+    requires slots { slots < 2 ^ 32 }
+    requires total { total < 2 ^ 63 }
+    ensures { IsOnWay (count_after counts.now) slots total result }
+{
+    let mut walk = Walk { place: 0, made: 0 };
+    let mut mark = walk;
+    'leaping: loop {
+        let place = next(counts, slots, walk.place);
+        if total < place {
+            return walk;
+        }
+        walk = Walk {
+            place,
+            made: walk.made + 1,
+        };
+        let length = counts.later.len() as u64;
+        if length <= mark.place && (walk.place - mark.place) % length == 0 {
+            return by_periods(mark, walk, total);
+        }
+        if 2 * mark.made < walk.made {
+            mark = walk;
+        }
+    }
+}
+
+/// As many times as there are changes for, what it walked since the mark.
+fn by_periods(mark: Walk, walk: Walk, total: u64) -> Walk
+    requires further { mark.place < walk.place }
+    requires more { mark.made ≤ walk.made }
+    requires slow { walk.made + mark.place ≤ walk.place + mark.made }
+    requires rising { walk.made ≤ walk.place }
+    requires within { walk.place ≤ total }
+    requires total { total < 2 ^ 63 }
+    ensures walked { (periods : ℕ) × (result.place ≡ walk.place + periods * (walk.place - mark.place))
+        × (result.made ≡ walk.made + periods * (walk.made - mark.made)) }
+    ensures within { result.place ≤ total }
+    ensures rising { result.made ≤ result.place }
+{
+    let periods = (total - walk.place) / (walk.place - mark.place);
+    Walk {
+        place: walk.place + periods * (walk.place - mark.place),
+        made: walk.made + periods * (walk.made - mark.made),
+    }
+}
+
+/// The change that the next transfer comes with.
+fn next<A: Allocator>(counts: &Counts<A>, slots: u64, place: u64) -> u64
+    requires rounds { AreRounds counts.now }
+    requires slots { slots < 2 ^ 32 }
+    requires place { place < 2 ^ 63 }
+    ensures { result ≡ next_place (count_after counts.now) slots place }
+{
+    place + slots.saturating_sub(counts.after(place)) + 1
+}
+
+/// The first change, from 0 to the last, after which more addresses are live than there are slots.
+pub(crate) fn first_over<A: Allocator>(counts: &Counts<A>, slots: u64, last: u64) -> Option<u64>
+    requires rounds { AreRounds counts.now }
+    requires last { last < 2 ^ 63 }
+    ensures found { IfSome result (IsFirstOver (count_after counts.now) slots) }
+    ensures within { IfSome result (λ n. n ≤ last) }
+    ensures none { IfNone result ((n : ℕ) → n ≤ last → count_after counts.now n ≤ slots) }
+{
+    for number in 0..last + 1 {
+        if slots < counts.after(number) {
+            return Some(number);
+        }
+    }
+    None
+}
