@@ -22,3 +22,4 @@ pub mod LegalAlone
 pub mod Powering
 pub mod Calling
 pub mod Listings
+pub mod Sizes

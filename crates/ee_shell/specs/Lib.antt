@@ -14,3 +14,4 @@ pub mod Planning
 pub mod Settings
 pub mod SecondSchema
 pub mod Listing
+pub mod Sizing

@@ -5,7 +5,8 @@ use Rattle.ee_plan.proofs.walking.transfers.Goals as goal
 
 pub returns-then-total-place-clause-all : goal.returns-then-total-place-clause-all
 returns-then-total-place-clause-all g c =
-    beyond (count_after c.args.counts.now) c.args.slots c.args.total c.next-place.result c.walking.walk c.walking.invariant c.next-place.ensures (omega arith)
+    let further = beyond (count_after c.args.counts.now) c.args.slots c.args.total c.next-place.result c.walking.walk c.walking.invariant c.next-place.ensures (omega arith) in
+    omega arith
 
 pub walking-preserved : goal.walking-preserved
 walking-preserved g c =

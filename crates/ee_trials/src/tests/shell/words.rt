@@ -92,7 +92,7 @@ fn reads_wear_with_and_without_an_image_before(rt: HostRuntime) {
 
 #[test]
 fn refuses_other_words(rt: HostRuntime) {
-    let lines: [&[&str]; 18] = [
+    let lines: [&[&str]; 22] = [
         &["try"],
         &["try", "1", "6", "6"],
         &["try", "0", "6"],
@@ -111,6 +111,10 @@ fn refuses_other_words(rt: HostRuntime) {
         &["plan", "a"],
         &["check", "a", "b"],
         &["wear", "a", "b", "c"],
+        &["list", "a", "s", "t"],
+        &["size", "4", "a", "1", "1"],
+        &["size", "513", "a", "1", "1"],
+        &["size", "5", "a", "0", "1"],
     ];
     for words in lines {
         assert_eq!(rt; job(words), None);
