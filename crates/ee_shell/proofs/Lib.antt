@@ -21,3 +21,4 @@ pub mod UncutRuns
 pub mod LegalAlone
 pub mod Powering
 pub mod Calling
+pub mod Sizes

@@ -105,11 +105,11 @@ one_trace text trace other first second =
 -- ---- names
 
 -- a cause whose name isn't want of memory isn't either
-other_cause : {Cause : Type 0} (named : Cause → Fault) (fault : Fault) (cause memory : Cause) → fault ≢ Memory → fault ≡ named cause → named memory ≡ Memory → cause ≢ memory
+pub other_cause : {Cause : Type 0} (named : Cause → Fault) (fault : Fault) (cause memory : Cause) → fault ≢ Memory → fault ≡ named cause → named memory ≡ Memory → cause ≢ memory
 other_cause named fault cause memory some is wanting = λ e. some (is ∙ ap named e ∙ wanting)
 
 -- one cause has one name
-one_name : {Cause : Type 0} (named : Cause → Fault) (fault other : Fault) (cause second memory : Cause) → fault ≡ named cause → other ≡ named second → named memory ≡ Memory
+pub one_name : {Cause : Type 0} (named : Cause → Fault) (fault other : Fault) (cause second memory : Cause) → fault ≡ named cause → other ≡ named second → named memory ≡ Memory
     → (second ≡ cause) ⊎ (second ≡ memory) → (other ≡ fault) ⊎ (other ≡ Memory)
 one_name named fault other cause second memory is too wanting (inl same) = inl (too ∙ ap named same ∙ sym is)
 one_name named fault other cause second memory is too wanting (inr none) = inr (too ∙ ap named none ∙ wanting)
@@ -123,7 +123,7 @@ memory_or (replay.Script n) = inr (λ e. cc e)
 memory_or replay.Memory = inl refl
 memory_or replay.Read = inr (λ e. cc e)
 
-one_trace_fault : (text : List ℕ) (cause fault : ScriptFault) → cause ≢ script.Memory → IsTraceFault text cause → IsTraceFault text fault → (fault ≡ cause) ⊎ (fault ≡ script.Memory)
+pub one_trace_fault : (text : List ℕ) (cause fault : ScriptFault) → cause ≢ script.Memory → IsTraceFault text cause → IsTraceFault text fault → (fault ≡ cause) ⊎ (fault ≡ script.Memory)
 one_trace_fault text (script.BadLine m) (script.BadLine n) some h i = inl (ap script.BadLine (one_first_bad_line text n m i h))
 one_trace_fault text (script.BadLine m) script.Memory some h i = inr refl
 one_trace_fault text script.Memory fault some h i = absurd (some refl)
@@ -136,7 +136,7 @@ opened_memory image device cause store bad = elim (memory_or cause) [
 ]
 
 -- where there is a trace its fault is want of memory
-trace_memory : (text : List ℕ) (trace : List Change) (cause : ScriptFault) → IsTrace text trace → IsTraceFault text cause → cause ≡ script.Memory
+pub trace_memory : (text : List ℕ) (trace : List Change) (cause : ScriptFault) → IsTrace text trace → IsTraceFault text cause → cause ≡ script.Memory
 trace_memory text trace (script.BadLine n) is bad = absurd (traces_are_good text trace n is bad)
 trace_memory text trace script.Memory is bad = refl
 

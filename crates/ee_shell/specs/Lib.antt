@@ -13,3 +13,4 @@ pub mod Wear
 pub mod Planning
 pub mod Settings
 pub mod SecondSchema
+pub mod Sizing

@@ -1,4 +1,5 @@
 //! Worked traces: each plan with the values that it must have, and the checker's yes.
+mod rounds;
 mod starting;
 
 use crate::tests::{address, forget, same, write};
