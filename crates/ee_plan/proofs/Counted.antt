@@ -1,16 +1,16 @@
 -- The counts of two rounds count the live addresses of all of them.
-use Rattle.std.proofs.Common.{◌≡◌, ℕ, zero, suc, ◌+◌, ◌-◌, ◌*◌, ◌%◌, ◌/◌, ◌<◌, ◌≤◌, List, [], ◌∷◌, ◌++◌, length, take, get_or, inl, inr, refl, sym, ap, subst, ◌∙◌, arith}
+use Rattle.std.proofs.Common.{◌≡◌, ℕ, zero, suc, ◌+◌, ◌-◌, ◌*◌, ◌%◌, ◌/◌, ◌<◌, ◌≤◌, List, [], ◌∷◌, ◌++◌, length, take, get_or, inl, inr, refl, sym, ap, subst, ◌∙◌, arith, replicate, set}
 use Rattle.std.specs.Prelude.{nat_lt, true, false}
-use Rattle.std.proofs.lemmas.Bool.{cases_lt, lt-ltb, le-ltb}
-use Rattle.std.proofs.lemmas.List.{take-append-le}
+use Rattle.std.proofs.lemmas.Bool.{cases_eq, cases_lt, lt-ltb, le-ltb}
+use Rattle.std.proofs.lemmas.List.{get_or-replicate, get_or-set_other, get_or-set_same, length-replicate, length-set, take-append-le}
 use Rattle.std.proofs.Math.Seq.{take-append-add}
-use Rattle.std.proofs.Math.Nat.{mod-eq_of_lt, mod-lt, add-mod_left, add-mul-mod_self_left, mod-mod, div-add-mod}
+use Rattle.std.proofs.Math.Nat.{mod-eq_of_lt, mod-lt, add-mod_left, add-mul-mod_self_left, mod-mod, mod-add-mod, div-add-mod}
 use Rattle.ee_check.specs.declared.change.Change.{Change}
 use Rattle.ee_check.specs.Live.{changed, live_after, live_count}
 use Rattle.ee_check.proofs.Walks.{live_after-append}
 use Rattle.ee_plan.specs.declared.counts.Counts.{Counts}
 use Rattle.ee_plan.specs.Rounds.{repeated}
-use Rattle.ee_plan.specs.Places.{counts_before, AreCounts, AreRounds, count_after}
+use Rattle.ee_plan.specs.Places.{counts_before, AreCounts, AreFlats, AreRounds, count_after}
 use Rattle.ee_plan.proofs.Repeating.{left_again}
 
 -- ---- the counts of one round
@@ -31,7 +31,7 @@ pub are_rounds : {A : Type 0} (trace : List Change) (counts : Counts A) → AreC
 are_rounds trace counts are some =
     let a = ap length are.first ∙ counts_length [] trace in
     let b = later_length trace counts are in
-    record { some = omega arith; as_many = omega arith }
+    record { some = omega arith; as_many = omega arith; flats = are.flats }
 
 -- ---- rounds that leave the addresses which they find
 
@@ -91,6 +91,63 @@ counted trace counts (suc runs) n are some within = elim (cases_lt n (length tra
       later_count trace counts n are some (omega arith) ∙ ap (live_count left trace) turn ∙ sym more
       ∙ sym (ap (λ l. length (live_after [] l)) split ∙ ap length (live_after-append [] trace (take m (repeated runs trace))))
 ]
+
+-- in the second round the place in it needs no division
+pub one_round_back : (n size : ℕ) → size ≤ n → n - size < size → n % size ≡ n - size
+one_round_back n size behind second =
+    let e : n ≡ size + (n - size) = omega arith in
+    ap (λ k. k % size) e ∙ add-mod_left size (n - size) ∙ mod-eq_of_lt second
+
+-- while the counts of a round stay the same, so do those after so many changes
+pub stays_flat : {A : Type 0} (counts : Counts A) (n j : ℕ) → AreRounds counts → length counts.later.items ≤ n
+    → j ≤ get_or counts.flats.items (n % length counts.later.items) 0 → count_after counts (n + j) ≡ count_after counts n
+stays_flat counts n j rounds behind within =
+    let size = length counts.later.items in
+    let place = n % size in
+    let small : place < size = mod-lt n rounds.some in
+    let flat = rounds.flats.same place j small within in
+    let turn : (n + j) % size ≡ place + j = sym (mod-add-mod n size j) ∙ mod-eq_of_lt flat.0 in
+    let one : nat_lt (n + j) size ≡ false = le-ltb (n + j) size (omega arith) in
+    let other : nat_lt n size ≡ false = le-ltb n size behind in
+    rw (one, other, turn) flat.1
+
+-- none is known to stay so at first
+pub no_flats : (counts flats : List ℕ) → flats ≡ replicate (length counts) 0 → AreFlats counts flats
+no_flats counts flats is = record {
+  as_many = ap length is ∙ length-replicate (length counts) 0;
+  same = λ i j within h.
+      let none : get_or flats i 0 ≡ 0 = ap (λ l. get_or l i 0) is ∙ get_or-replicate (length counts) i 0 0 within in
+      let e : i + j ≡ i = omega arith in
+      (omega arith, ap (λ k. get_or counts k 0) e);
+}
+
+-- what stays so ends within the round
+pub flat_within : (counts flats : List ℕ) (i : ℕ) → AreFlats counts flats → i < length counts → get_or flats i 0 < length counts
+flat_within counts flats i are within = let h = (are.same i (get_or flats i 0) within (omega arith)).0 in omega arith
+
+-- one that is the same as the one behind it stays so as long, and once more
+pub flat_more : (counts flats : List ℕ) (at : ℕ) → AreFlats counts flats → at + 1 < length counts → get_or counts at 0 ≡ get_or counts (at + 1) 0
+    → AreFlats counts (set flats at (get_or flats (at + 1) 0 + 1))
+flat_more counts flats at are within same = record {
+  as_many = length-set flats at (get_or flats (at + 1) 0 + 1) ∙ are.as_many;
+  same = λ i j h k. elim (cases_eq i at) [
+    | inl here ↦
+        let there : get_or (set flats at (get_or flats (at + 1) 0 + 1)) at 0 ≡ get_or flats (at + 1) 0 + 1 =
+        get_or-set_same flats at (get_or flats (at + 1) 0 + 1) 0 (let e = are.as_many in omega arith) in
+        let most : j ≤ get_or flats (at + 1) 0 + 1 = let e = ap (λ n. get_or (set flats at (get_or flats (at + 1) 0 + 1)) n 0) here in omega arith in
+        elim (cases_eq j 0) [
+          | inl none ↦ (omega arith, ap (λ n. get_or counts n 0) (let e : i + j ≡ i = omega arith in e))
+          | inr some ↦
+              let next = are.same (at + 1) (j - 1) within (omega arith) in
+              let e : i + j ≡ at + 1 + (j - 1) = omega arith in
+              (let a = next.0 in omega arith, ap (λ n. get_or counts n 0) e ∙ next.1 ∙ sym same ∙ ap (λ n. get_or counts n 0) (sym here))
+        ]
+    | inr apart ↦
+        let there : get_or (set flats at (get_or flats (at + 1) 0 + 1)) i 0 ≡ get_or flats i 0 =
+        get_or-set_other flats at i (get_or flats (at + 1) 0 + 1) 0 apart in
+        are.same i j h (omega arith)
+  ];
+}
 
 -- ---- the counts come round
 

@@ -1,6 +1,6 @@
 -- The places of the transfers, one further and whole periods further.
-use Rattle.std.proofs.Common.{◌≡◌, ℕ, zero, suc, ◌+◌, ◌-◌, ◌*◌, ◌<◌, ◌≤◌, refl, sym, ap, ◌∙◌, arith, add-one}
-use Rattle.std.proofs.Math.Nat.{suc-mul}
+use Rattle.std.proofs.Common.{◌≡◌, ℕ, zero, suc, ◌+◌, ◌-◌, ◌*◌, ◌/◌, ◌<◌, ◌≤◌, refl, sym, ap, subst, ◌∙◌, arith, add-one}
+use Rattle.std.proofs.Math.Nat.{div-mul-le_self, le-mul_of_pos_right, lt-mul-div-succ, mul-le-mul_right, suc-mul}
 use Rattle.ee_plan.specs.declared.walking.Walk.{Walk}
 use Rattle.ee_plan.specs.Places.{next_place, place_of, IsOnWay}
 
@@ -72,27 +72,54 @@ leapt count slots total from periods mark walk far same behind marked walked fur
     let c = walked.place in
     record { place = omega arith; within = within; rising = rising }
 
--- the next transfer comes, if the trace goes on so far
-pub stepped : (count : ℕ → ℕ) (slots total place : ℕ) (walk next : Walk) → IsOnWay count slots total walk → place ≡ next_place count slots walk.place
-    → next.place ≡ place → next.made ≡ walk.made + 1 → place ≤ total → IsOnWay count slots total next
-stepped count slots total place walk next on is there made within =
-    let a = place_next count slots walk.made in
-    let b = ap (next_place count slots) on.place in
-    let c = ap (place_of count slots) made in
-    record {
-      place = omega arith;
-      within = omega arith;
-      rising = let r = on.rising in omega arith;
-    }
+-- transfers between which as many addresses stay live come one step apart
+in_steps : (count : ℕ → ℕ) (slots k flat step : ℕ) → step ≡ slots - count (place_of count slots k) + 1
+    → ((j : ℕ) → j ≤ flat → count (place_of count slots k + j) ≡ count (place_of count slots k))
+    → (times : ℕ) → times * step ≤ flat + step → place_of count slots (k + times) ≡ place_of count slots k + times * step
+in_steps count slots k flat step is same zero within =
+    let a : k + 0 ≡ k = omega arith in
+    let b : 0 * step ≡ 0 = omega arith in
+    rw (a, b) (omega arith)
+in_steps count slots k flat step is same (suc times) within =
+    let product = suc-mul times step in
+    let so_far = in_steps count slots k flat step is same times (omega arith) in
+    let a : place_of count slots (k + suc times) ≡ next_place count slots (place_of count slots (k + times)) =
+    ap (place_of count slots) (omega arith) ∙ place_next count slots (k + times) in
+    let b : count (place_of count slots (k + times)) ≡ count (place_of count slots k) = ap count so_far ∙ same (times * step) (omega arith) in
+    omega arith
 
 -- before the first change
 pub begun : (count : ℕ → ℕ) (slots total : ℕ) → IsOnWay count slots total record { place = 0; made = 0 }
 begun count slots total = record { place = sym (place_first count slots); within = omega arith; rising = omega arith }
 
+-- so many transfers at once, where the changes go on so far
+pub stepped : (count : ℕ → ℕ) (slots total flat step times : ℕ) (walk further : Walk) → IsOnWay count slots total walk
+    → step ≡ slots - count walk.place + 1 → ((j : ℕ) → j ≤ flat → count (walk.place + j) ≡ count walk.place)
+    → times ≤ flat / step + 1 → times ≤ (total - walk.place) / step
+    → further.place ≡ walk.place + times * step → further.made ≡ walk.made + times → IsOnWay count slots total further
+stepped count slots total flat step times walk further on is same in_flat in_all there made =
+    let place = on.place in
+    let some : 0 < step = omega arith in
+    let a : flat / step * step ≤ flat = div-mul-le_self flat step in
+    let b : (total - walk.place) / step * step ≤ total - walk.place = div-mul-le_self (total - walk.place) step in
+    let c : times * step ≤ (flat / step + 1) * step = mul-le-mul_right step in_flat in
+    let d : times * step ≤ (total - walk.place) / step * step = mul-le-mul_right step in_all in
+    let e : (flat / step + 1) * step ≡ flat / step * step + step = rw add-one (suc-mul (flat / step) step) in
+    let f : times ≤ times * step = le-mul_of_pos_right times some in
+    let is_here : step ≡ slots - count (place_of count slots walk.made) + 1 = is ∙ ap (λ n. slots - count n + 1) place in
+    let same_here : (j : ℕ) → j ≤ flat → count (place_of count slots walk.made + j) ≡ count (place_of count slots walk.made) =
+    subst (λ n. (j : ℕ) → j ≤ flat → count (n + j) ≡ count n) place same in
+    let steps = in_steps count slots walk.made flat step is_here same_here times (omega arith) in
+    let g = ap (place_of count slots) made in
+    record { place = omega arith; within = let h = on.within in omega arith; rising = let h = on.rising in omega arith }
+
 -- the transfer behind its last one comes behind the trace
-pub beyond : (count : ℕ → ℕ) (slots total place : ℕ) (walk : Walk) → IsOnWay count slots total walk → place ≡ next_place count slots walk.place → total < place
-    → total < place_of count slots (walk.made + 1)
-beyond count slots total place walk on is h =
+pub beyond : (count : ℕ → ℕ) (slots total step : ℕ) (walk : Walk) → IsOnWay count slots total walk → step ≡ slots - count walk.place + 1
+    → (total - walk.place) / step ≡ 0 → total < place_of count slots (walk.made + 1)
+beyond count slots total step walk on is none =
     let a = place_next count slots walk.made in
     let b = ap (next_place count slots) on.place in
+    let some : 0 < step = omega arith in
+    let c = lt-mul-div-succ (total - walk.place) some in
+    let d : step * ((total - walk.place) / step + 1) ≡ step = ap (λ n. step * (n + 1)) none ∙ (omega arith) in
     omega arith

@@ -10,16 +10,24 @@ abbrev pub counts_before : List ℕ → List Change → List ℕ
 counts_before live [] = []
 counts_before live (change ∷ changes) = length live ∷ counts_before (changed live change) changes
 
+-- behind each count come so many more that are the same
+pub record AreFlats (counts flats : List ℕ) : Type 0 where
+  pub as_many : length flats ≡ length counts
+  pub same : (i j : ℕ) → i < length counts → j ≤ slice_index flats i
+      → (i + j < length counts) × (slice_index counts (i + j) ≡ slice_index counts i)
+
 -- the counts of the first round, and those of each later one: whatever a trace finds, it leaves the same addresses the
 -- second time as the first
 pub record AreCounts {A : Type 0} (trace : List Change) (counts : Counts A) : Type 0 where
   pub first : counts.first.items ≡ counts_before [] trace
   pub later : counts.later.items ≡ counts_before (live_after [] trace) trace
+  pub flats : AreFlats counts.later.items counts.flats.items
 
 -- rounds of some changes, as many in the first as in a later one
 pub record AreRounds {A : Type 0} (counts : Counts A) : Type 0 where
   pub some : 0 < length counts.later.items
   pub as_many : length counts.first.items ≡ length counts.later.items
+  pub flats : AreFlats counts.later.items counts.flats.items
 
 -- how many addresses are live after n changes in all
 abbrev pub count_after : {A : Type 0} → Counts A → ℕ → ℕ

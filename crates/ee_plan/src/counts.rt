@@ -1,7 +1,7 @@
 //! How many addresses are live after each change of a trace that is made many times over.
-ghost use Rattle.std.specs.Prelude.{◌≡◌, IfOk, OnOk};
+ghost use Rattle.std.specs.Prelude.{◌≡◌, ◌+◌, ◌≤◌, ℕ, IfOk, OnOk};
 ghost use Rattle.ee_check.specs.Live.{live_after};
-ghost use Rattle.ee_plan.specs.Places.{AreCounts, AreRounds, count_after, counts_before};
+ghost use Rattle.ee_plan.specs.Places.{AreCounts, AreFlats, AreRounds, count_after, counts_before};
 
 use ee_check::Change;
 use ee_codec::Address;
@@ -14,6 +14,8 @@ use std::collections::BTreeSet;
 pub(crate) struct Counts<A: Allocator> {
     pub(crate) first: Vec<u64, A>,
     pub(crate) later: Vec<u64, A>,
+    // for how many changes more of a later round as many addresses are live
+    flats: Vec<usize, A>,
 }
 
 impl<A: Allocator + Copy> Counts<A> {
@@ -24,12 +26,18 @@ impl<A: Allocator + Copy> Counts<A> {
         let mut live = BTreeSet::new(alloc);
         let first = count(alloc, trace, &mut live)?;
         let later = count(alloc, trace, &mut live)?;
-        Ok(Counts { first, later })
+        let flats = flats(alloc, &later)?;
+        Ok(Counts {
+            first,
+            later,
+            flats,
+        })
     }
 }
 
 impl<A: Allocator> Counts<A> {
     /// How many addresses are live after so many changes in all.
+    #[tactic(auto, using(crate::proofs::Counted::one_round_back))]
     pub(crate) fn after(&self, number: u64) -> u64
         requires { AreRounds self.now }
         ensures { result ≡ count_after self.now number }
@@ -37,8 +45,24 @@ impl<A: Allocator> Counts<A> {
         let length = self.later.len() as u64;
         if number < length {
             self.first[number as usize]
+        } else if number - length < length {
+            // without a division
+            self.later[(number - length) as usize]
         } else {
             self.later[(number % length) as usize]
+        }
+    }
+
+    /// For how many changes more as many addresses are live, by what is known.
+    pub(crate) fn flat(&self, number: u64) -> u64
+        requires { AreRounds self.now }
+        ensures { (j : ℕ) → j ≤ result → count_after self.now (number + j) ≡ count_after self.now number }
+    {
+        let length = self.later.len() as u64;
+        if number < length {
+            0
+        } else {
+            self.flats[(number % length) as usize] as u64
         }
     }
 }
@@ -59,4 +83,18 @@ fn count<A: Allocator + Copy>(
         change.make(live)?;
     }
     Ok(counts)
+}
+
+/// For how many changes behind each one the count stays the same.
+fn flats<A: Allocator + Copy>(alloc: A, counts: &[u64]) -> Result<Vec<usize, A>, AllocError>
+    ensures { IfOk result (λ flats. AreFlats counts.now flats.items) }
+{
+    let mut flats = vec![in alloc; 0; counts.len()]?;
+    for back in 1..counts.len() {
+        let at = counts.len() - 1 - back;
+        if counts[at] == counts[at + 1] {
+            flats[at] = flats[at + 1] + 1;
+        }
+    }
+    Ok(flats)
 }

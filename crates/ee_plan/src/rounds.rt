@@ -12,7 +12,7 @@ use ee_check::Change;
 use std::alloc::{Allocator, Global};
 use std::marker::Model;
 
-/// A trace that is made so many times, one after another. It takes two numbers of memory for each change
+/// A trace that is made so many times, one after another. It takes three numbers of memory for each change
 /// of the trace, however often it is made.
 #[derive(Drop)]
 pub struct Rounds<A: Allocator = Global> {

@@ -1,6 +1,6 @@
 //! From transfer to transfer through a trace that is made many times over.
-ghost use Rattle.std.specs.Prelude.{◌≡◌, ℕ, ◌+◌, ◌-◌, ◌*◌, ◌^◌, ◌<◌, ◌≤◌, length, IfNone, IfSome};
-ghost use Rattle.ee_plan.specs.Places.{AreRounds, IsFirstOver, IsOnWay, count_after, next_place, place_of};
+ghost use Rattle.std.specs.Prelude.{◌≡◌, ◌≢◌, ℕ, ◌+◌, ◌-◌, ◌*◌, ◌^◌, ◌<◌, ◌≤◌, length, IfNone, IfSome};
+ghost use Rattle.ee_plan.specs.Places.{AreRounds, IsFirstOver, IsOnWay, count_after, place_of};
 
 use super::counts::Counts;
 use std::alloc::Allocator;
@@ -24,14 +24,11 @@ pub(crate) fn transfers<A: Allocator>(counts: &Counts<A>, slots: u64, total: u64
 {
     let mut walk = leap(counts, slots, total);
     'walking: loop {
-        let place = next(counts, slots, walk.place);
-        if total < place {
+        let further = onward(counts, slots, total, walk);
+        if further.made == walk.made {
             return walk.made;
         }
-        walk = Walk {
-            place,
-            made: walk.made + 1,
-        };
+        walk = further;
     }
 }
 
@@ -47,14 +44,11 @@ fn leap<A: Allocator>(counts: &Counts<A>, slots: u64, total: u64) -> Walk
     let mut walk = Walk { place: 0, made: 0 };
     let mut mark = walk;
     'leaping: loop {
-        let place = next(counts, slots, walk.place);
-        if total < place {
+        let further = onward(counts, slots, total, walk);
+        if further.made == walk.made {
             return walk;
         }
-        walk = Walk {
-            place,
-            made: walk.made + 1,
-        };
+        walk = further;
         let length = counts.later.len() as u64;
         if length <= mark.place && (walk.place - mark.place) % length == 0 {
             return by_periods(mark, walk, total);
@@ -85,14 +79,27 @@ fn by_periods(mark: Walk, walk: Walk, total: u64) -> Walk
     }
 }
 
-/// The change that the next transfer comes with.
-fn next<A: Allocator>(counts: &Counts<A>, slots: u64, place: u64) -> u64
+/// One transfer further, or as many at once as come while as many addresses are live; none, where the
+/// next one would come behind the last change.
+fn onward<A: Allocator>(counts: &Counts<A>, slots: u64, total: u64, walk: Walk) -> Walk
     requires rounds { AreRounds counts.now }
     requires slots { slots < 2 ^ 32 }
-    requires place { place < 2 ^ 63 }
-    ensures { result ≡ next_place (count_after counts.now) slots place }
+    requires total { total < 2 ^ 63 }
+    requires walked { IsOnWay (count_after counts.now) slots total walk }
+    ensures walked { IsOnWay (count_after counts.now) slots total result }
+    ensures last { result.made ≡ walk.made → total < place_of (count_after counts.now) slots (walk.made + 1) }
+    ensures further { result.made ≢ walk.made → walk.place < result.place }
+    ensures more { walk.made ≤ result.made }
+    ensures slow { result.made + walk.place ≤ result.place + walk.made }
 {
-    place + slots.saturating_sub(counts.after(place)) + 1
+    let step = slots.saturating_sub(counts.after(walk.place)) + 1;
+    let more = counts.flat(walk.place) / step;
+    let left = (total - walk.place) / step;
+    let times = if more < left { more + 1 } else { left };
+    Walk {
+        place: walk.place + times * step,
+        made: walk.made + times,
+    }
 }
 
 /// The first change, from 0 to the last, after which more addresses are live than there are slots.

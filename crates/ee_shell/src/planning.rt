@@ -97,7 +97,10 @@ fn read_task<A: Allocator + Copy>(
 }
 
 /// The writes and forgettings of a script that leaves power alone.
-pub(crate) fn read_trace<A: Allocator + Copy>(alloc: A, script: &[u8]) -> Result<Vec<Change, A>, ScriptFault>
+pub(crate) fn read_trace<A: Allocator + Copy>(
+    alloc: A,
+    script: &[u8],
+) -> Result<Vec<Change, A>, ScriptFault>
     ensures trace { IfOk result (λ trace. IsTrace script.now trace.items) }
     ensures fault { IfErr result (IsTraceFault script.now) }
 {

@@ -1,5 +1,4 @@
-use Rattle.std.proofs.Common.{◌≡◌, ◌+◌, length, arith, rules, subst, sym}
-use Rattle.std.proofs.lemmas.List.{length-append}
+use Rattle.std.proofs.Common.{rules, subst}
 use Rattle.ee_plan.specs.Rounds.{IsDemand, fresh}
 use Rattle.ee_shell.proofs.Sizes.{demands_grow}
 use Rattle.ee_shell.proofs.sizing.demands_of.Goals as goal
