@@ -1,5 +1,6 @@
 """The cases of bench/test: the worked examples, texts at the limits, and random cases."""
 import random
+import re
 from collections import namedtuple
 
 # Scripts that are answered one after another, each on the image that the one before it left.
@@ -44,7 +45,7 @@ MOVED = image_text(1, 6, [
 SPENT = f"0 aaaaaaaafffffffe {MARK} - - 0000000a00000001 "
 FIRST = f"0 aaaaaaaa00000001 {MARK} - -"
 BAD_LINES = ["w 0 1", "w 65535 1", "w 1 4294967296", "w 01 1", "", "c ", "w 1 1\r", "r 1 1", "f 1 1", "w 1",
-             "f 0", "x 0 t", "x 1 q", "x 1", "x 18446744073709551616 t", "p 1", "r\t1", "W 1 1"]
+             "f 0", "x 0 t", "x 1 q", "x 1", "x 18446744073709551616 t", "x 01 t", "p 1", "r\t1", "W 1 1"]
 
 EXAMPLES = [
     ("first-run", SIX, "w 1 10, r 1, r 2"),
@@ -71,7 +72,7 @@ EXAMPLES = [
     ("cut-append-torn", SIX, "x 1 t, w 1 10, p, w 1 11, r 1"),
     ("cut-opening", SIX, "w 1 10, w 1 11, x 2 t, w 1 12, x 1 t, p, p, r 1"),
     ("cut-append", SIX, "w 1 10, x 1 t, w 1 11"),
-    ("a cut that doesn't come", SIX, "x 9 t, w 1 10"),
+    ("a cut that doesn't come", SIX, "x 9 t, w 1 10, x 18446744073709551615 t, w 1 10"),
     ("forget", SIX, "w 1 10, w 2 5, w 3 1, f 1, w 3 1"),
     ("forget-absent", SIX, "w 1 10, f 1, f 1, f 2"),
     ("forget-last", SIX, "w 1 10, w 1 11, f 1, r 1, w 2 2"),
@@ -138,11 +139,12 @@ def random_wear(dice):
 
 
 def odd_word(dice):
-    """A word that stands in few places, or in none."""
+    """A word that stands in few places, or in none; seldom one that no image may have."""
     value, address = random_value(dice), dice.randrange(65536)
-    return dice.choice(["-", "?", MARK, "0" * 16, "f" * 15 + "e", f"aaaaaaaa{dice.randrange(2 ** 32):08x}",
-                        f"{value:08x}00000000", f"{value:08x}0000ffff", f"{value:08x}0002{address:04x}",
-                        f"{value:08x}0001{address:04x}", f"{dice.randrange(MOST_WEAR):016x}"])
+    return dice.choice(["-", "?", "-", "?", MARK, "0" * 16, "f" * 15 + dice.choice("0eeeef"),
+                        f"aaaaaaaa{dice.randrange(2 ** 32):08x}", f"{value:08x}00000000", f"{value:08x}0000ffff",
+                        f"{value:08x}0001{address:04x}", f"{value:08x}0002{address:04x}",
+                        f"{dice.randrange(MOST_WEAR):016x}"])
 
 
 def random_slots(dice, count, addresses):
@@ -207,8 +209,10 @@ def random_image(dice, pages, words, addresses):
     if dice.random() < 0.5:
         sets.reverse()
     rows = sets[0] + sets[1]
-    if dice.random() < 0.06:
-        dice.choice(rows)[dice.randrange(words)] = odd_word(dice)
+    if dice.random() < 0.08:
+        row = dice.choice(rows)
+        written = [at for at, word in enumerate(row) if word != "-"]
+        row[dice.choice(written or range(words))] = odd_word(dice)
     return image_text(pages, words, [" ".join([str(random_wear(dice))] + row) for row in rows])
 
 
@@ -219,7 +223,7 @@ def random_command(dice, kind, addresses):
     if kind in "fr":
         return f"{kind} {address}"
     if kind == "x":
-        step = dice.choice([1, 1, 2, 3, dice.randrange(1, 13), dice.randrange(1, 41), dice.randrange(1, 2 ** 64)])
+        step = dice.choice([1, 1, 2, 3, dice.randrange(1, 13), dice.randrange(1, 41), dice.choice([10, 2 ** 64 - 1])])
         return f"x {step} {dice.choice('ndtm')}"
     return kind
 
@@ -244,6 +248,18 @@ def change_bytes(dice, text):
             byte = bytes([dice.randrange(256)])
         text = text[:at] + dice.choice([byte + text[at + 1:], text[at + 1:], byte + text[at:]])
     return text
+
+
+def change_number(dice, text):
+    """The text with a number replaced: one at a limit, or one that isn't spelled so."""
+    places = list(re.finditer(rb"(?<![0-9a-f])[0-9]+(?![0-9a-f])", text))
+    if not places:
+        return text
+    place = dice.choice(places)
+    number = dice.choice([0, 1, 4, 5, 6, 64, 65, 512, 513, 65534, 65535, 65536, 65537, 2 ** 32 - 1, 2 ** 32,
+                          2 ** 64 - 1, 2 ** 64, 10 ** 19, 10 ** 20, 10 ** 40])
+    spelled = dice.choice([str(number), str(number), "", "+1", "-1", "00", "1.0", "0x1", "0" + place[0].decode()])
+    return text[:place.start()] + spelled.encode() + text[place.end():]
 
 
 def change_lines(dice, text):
@@ -277,8 +293,10 @@ def spell_elsewhere(dice, text):
 
 def damaged(dice, text):
     kind = dice.random()
-    if kind < 0.6:
+    if kind < 0.5:
         return change_bytes(dice, text)
+    if kind < 0.65:
+        return change_number(dice, text)
     if kind < 0.75:
         return text[:dice.randrange(len(text) + 1)]
     if kind < 0.85:

@@ -74,6 +74,7 @@ impl Device {
     }
 
     /// Programs a word of a header, unless it is written already.
+    #[inline]
     pub fn mark(&mut self, set: usize, page: usize, at: usize, word: u64) -> Result<(), Cut> {
         let set = &mut self.sets[set];
         if set.headers[page][at] != ERASED {
@@ -88,6 +89,7 @@ impl Device {
     }
 
     /// Programs a slot, by its number in the set.
+    #[inline]
     pub fn program_slot(&mut self, set: usize, slot: usize, word: u64) -> Result<(), Cut> {
         let set = &mut self.sets[set];
         let Some(tear) = self.power.begin_step() else {

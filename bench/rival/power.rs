@@ -32,6 +32,7 @@ impl Power {
         }
     }
 
+    #[inline]
     pub fn is_on(&self) -> bool {
         self.on
     }
@@ -47,6 +48,7 @@ impl Power {
     }
 
     /// Begins a step. Gives what is left of it if it is cut, and then power is off.
+    #[inline]
     pub fn begin_step(&mut self) -> Option<Tear> {
         let (passing, tear) = self.fuse?;
         if let Some(fewer) = passing.checked_sub(1) {
