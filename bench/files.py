@@ -36,7 +36,7 @@ REFUSED = {
     "a bad script": ["run", "image", "bad"],
     "a bad script, indexed": ["run", "--indexed", "image", "bad"],
     "no script": ["run", "image", "none"],
-    "a script for an image": ["run", "script", "script"],
+    "no image": ["run", "settings", "script"],
     "a folder for a script": ["run", "image", "."],
     "an unknown name": ["set", "image", "settings", "treble", "1"],
     "out of range": ["set", "image", "settings", "volume", "11"],
@@ -204,17 +204,43 @@ def full_output_reader(place, reader):
 
 
 def in_place(place, writer, options):
-    """Where no file may be made beside it, an image is written in its place."""
+    """Where no file may be made beside it, or none may replace it, an image is written in its place."""
     new = written_by(place, writer)
-    os.chmod(place.path("image"), 0o666)
-    os.chmod(place.folder, 0o555)
-    before = os.stat(place.path("image")).st_ino
-    ended = place.run(WRITERS[writer], **options)
-    os.chmod(place.folder, 0o755)
-    expect((0, b""), (ended[0], ended[2]), "the end")
+    for mode in (0o555, 0o1777) if options else (0o555,):
+        place.put("image", MOVED, 0o666)
+        os.chmod(place.folder, mode)
+        before = os.stat(place.path("image")).st_ino
+        ended = place.run(WRITERS[writer], **options)
+        os.chmod(place.folder, 0o755)
+        expect((0, b""), (ended[0], ended[2]), "the end")
+        expect(new, place.text(), "the image")
+        expect(before, os.stat(place.path("image")).st_ino, "which file it is")
+        expect(sorted(INPUTS), place.names(), "files")
+
+
+def owner(place, writer):
+    """An image keeps its owner, whoever writes it."""
+    new = written_by(place, writer)
+    os.chown(place.path("image"), 65533, 65532)
+    expect(0, place.run(WRITERS[writer])[0], "status")
     expect(new, place.text(), "the image")
-    expect(before, os.stat(place.path("image")).st_ino, "which file it is")
-    expect(sorted(INPUTS), place.names(), "files")
+    found = os.stat(place.path("image"))
+    expect((65533, 65532), (found.st_uid, found.st_gid), "the owner")
+
+
+# Fills a small file system that is mounted on `there`, and tells what a command leaves of an image in it.
+FILLING = """mount -t tmpfs -o size=8k none there && cp image there || exit
+cat /dev/zero > there/fill 2> /dev/null; "$@"; echo "status $?"; cat there/image; ls there"""
+
+
+def full_system(place, writer):
+    """Where a file system is full the old image stands."""
+    os.mkdir(place.path("there"))
+    words = ["there/image" if word == "image" else word for word in WRITERS[writer]]
+    if writer == "format":
+        words[1:3] = ["64", "100"]
+    ended = place.run(words, prefix=["unshare", "-m", "sh", "-c", FILLING, "sh"])
+    expect((0, b"status 3\n" + MOVED + b"fill\nimage\n", b"ee: cannot write image\n"), ended, "the end")
 
 
 def full_device(place, _, options):
@@ -269,7 +295,7 @@ def calls_of(place, words):
     kind and a path."""
     log = place.path("strace")
     place.run(words, prefix=["strace", "-f", "-y", "-o", log, "-e",
-                             "trace=open,openat,creat,read,pread64,readv,rename,renameat,renameat2,truncate,ftruncate"])
+                             "trace=open,openat,creat,read,pread64,readv,rename,renameat,renameat2,truncate"])
     with open(log) as file:
         lines = file.read().splitlines()
     os.unlink(log)
@@ -306,32 +332,48 @@ def system_calls(place, name):
         raise Wrong(f"{calls[writes[0]]} comes before the last read of an input")
 
 
+def can_mount(folder):
+    """Whether a file system can be mounted where no other program sees it."""
+    words = ["unshare", "-m", "mount", "-t", "tmpfs", "none", folder]
+    return shutil.which(words[0]) and subprocess.run(words, stderr=subprocess.DEVNULL).returncode == 0
+
+
+def usual_checks():
+    """The checks that can be made everywhere: a function, and the names that it is given."""
+    return [(no_room, WRITERS), (links, WRITERS), (modes, WRITERS), (leftover, WRITERS),
+            (full_output_writer, WRITERS), (full_output_reader, [name for name in READERS if name != "stale"]),
+            (output_as_image, ["format"]), (new_image, ["format"]), (refused, REFUSED)]
+
+
 def all_checks(program, folder):
-    """Each check: its name, its function, and what that is given beside a place."""
-    for function, names in ((no_room, WRITERS), (links, WRITERS), (modes, WRITERS), (leftover, WRITERS),
-                            (full_output_writer, WRITERS), (full_output_reader, list(READERS)[:-1]),
-                            (output_as_image, ["format"]), (new_image, ["format"]), (refused, REFUSED)):
-        for name in names:
-            yield f"{function.__name__}, {name}", function, (name,)
+    """Each check: a function, the name that it is given, and what else."""
+    functions = usual_checks()
+    if os.getuid() == 0:
+        functions.append((owner, WRITERS))
+    if can_mount(folder):
+        functions.append((full_system, WRITERS))
+    else:
+        print("files: no full file system was tried, since none can be mounted")
+    if shutil.which("strace"):
+        functions.append((system_calls, [*WRITERS, *READERS, *REFUSED]))
+    else:
+        print("files: system calls were not looked at, for want of strace")
+    for function, names in functions:
+        yield from ((function, name) for name in names)
     options = other_user(program, folder)
     if options is None:
-        print("files: not tried as another user, who can't run the program")
+        print("files: folders that may not be written were not tried, since another user can't run the program")
     else:
-        for name in WRITERS:
-            yield f"in_place, {name}", in_place, (name, options)
-        yield "full_device, format", full_device, ("format", options)
-    if shutil.which("strace") is None:
-        print("files: system calls not looked at, for want of strace")
-    else:
-        for name in [*WRITERS, *READERS, *REFUSED]:
-            yield f"system_calls, {name}", system_calls, (name,)
+        yield from ((in_place, name, options) for name in WRITERS)
+        yield full_device, "format", options
 
 
 def checks(program, folder):
     """Makes each check in a folder of its own, and gives its name and what was found, if anything."""
     os.makedirs(folder, exist_ok=True)
-    for name, function, given in all_checks(program, folder):
+    for function, *given in all_checks(program, folder):
         place = Place(program, os.path.join(folder, "place"))
+        name = f"{function.__name__}, {given[0]}"
         try:
             function(place, *given)
         except (Wrong, OSError, subprocess.TimeoutExpired) as found:
