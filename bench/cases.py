@@ -320,4 +320,4 @@ def random_case(seed, number):
         image = damaged(dice, image)
     elif kind < 0.24:
         scripts[-1] = damaged(dice, scripts[-1])
-    return Case(f"case {number}", image, scripts)
+    return Case(f"seed {seed} case {number}", image, scripts)
