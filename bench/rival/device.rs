@@ -1,5 +1,6 @@
-//! The flash device, and its image as text.
+//! The flash device, its steps, and its image as text.
 
+use crate::power::{Cut, Power, Tear};
 use crate::text::{push_hex, push_number, Reader};
 
 /// How an erased word reads. No word holds this number.
@@ -16,6 +17,7 @@ pub struct Device {
     pages: usize,
     words: usize,
     pub sets: [Set; 2],
+    pub power: Power,
 }
 
 /// The pages of a set, with the slots of all of them in one row.
@@ -40,8 +42,13 @@ impl Device {
         }
         let first = Set::parse(&mut reader, pages, words)?;
         let second = Set::parse(&mut reader, pages, words)?;
-        let sets = [first, second];
-        reader.is_done().then_some(Device { pages, words, sets })
+        let device = Device {
+            pages,
+            words,
+            sets: [first, second],
+            power: Power::new(),
+        };
+        reader.is_done().then_some(device)
     }
 
     pub fn text(&self) -> Vec<u8> {
@@ -64,6 +71,45 @@ impl Device {
 
     pub fn slots_per_page(&self) -> usize {
         self.words - HEADER
+    }
+
+    /// Programs a word of a header, unless it is written already.
+    #[inline]
+    pub fn mark(&mut self, set: usize, page: usize, at: usize, word: u64) -> Result<(), Cut> {
+        let set = &mut self.sets[set];
+        if set.headers[page][at] != ERASED {
+            return Ok(());
+        }
+        let Some(tear) = self.power.begin_step() else {
+            set.headers[page][at] = word;
+            return Ok(());
+        };
+        set.cut_program(page, at, word, tear);
+        Err(Cut)
+    }
+
+    /// Programs a slot, by its number in the set.
+    #[inline]
+    pub fn program_slot(&mut self, set: usize, slot: usize, word: u64) -> Result<(), Cut> {
+        let set = &mut self.sets[set];
+        let Some(tear) = self.power.begin_step() else {
+            set.slots[slot] = word;
+            return Ok(());
+        };
+        let (page, at) = set.place_of_slot(slot);
+        set.cut_program(page, at, word, tear);
+        Err(Cut)
+    }
+
+    pub fn erase(&mut self, set: usize, page: usize) -> Result<(), Cut> {
+        let set = &mut self.sets[set];
+        set.wear[page] = set.wear[page].saturating_add(1);
+        let Some(tear) = self.power.begin_step() else {
+            set.erase(page);
+            return Ok(());
+        };
+        set.cut_erase(page, tear);
+        Err(Cut)
     }
 }
 
@@ -132,8 +178,13 @@ impl Set {
 
     /// The same by the number of a slot in the set.
     pub fn is_slot_torn(&self, slot: usize) -> bool {
+        let (page, at) = self.place_of_slot(slot);
+        self.is_torn(page, at)
+    }
+
+    fn place_of_slot(&self, slot: usize) -> (usize, usize) {
         let slots = self.slots_per_page();
-        self.is_torn(slot / slots, HEADER + slot % slots)
+        (slot / slots, HEADER + slot % slots)
     }
 
     pub fn is_blank(&self, page: usize) -> bool {
@@ -144,20 +195,46 @@ impl Set {
                 .all(|&word| word == ERASED)
     }
 
-    pub fn erase(&mut self, page: usize) {
+    fn erase(&mut self, page: usize) {
         let slots = self.slots_per_page();
         let words = HEADER + slots;
         self.headers[page] = [ERASED; HEADER];
         self.slots[page * slots..][..slots].fill(ERASED);
         self.torn[page * words..][..words].fill(false);
-        self.wear[page] = self.wear[page].saturating_add(1);
     }
 
-    /// Programs a word of a header, unless it is written already.
-    pub fn mark(&mut self, page: usize, at: usize, word: u64) {
-        let place = &mut self.headers[page][at];
-        if *place == ERASED {
-            *place = word;
+    fn put(&mut self, page: usize, at: usize, word: u64, torn: bool) {
+        let slots = self.slots_per_page();
+        match at.checked_sub(HEADER) {
+            None => self.headers[page][at] = word,
+            Some(slot) => self.slots[page * slots + slot] = word,
+        }
+        self.torn[page * (HEADER + slots) + at] = torn;
+    }
+
+    /// Leaves of an erased word what a cut leaves that comes while it is programmed.
+    fn cut_program(&mut self, page: usize, at: usize, word: u64, tear: Tear) {
+        match tear {
+            Tear::Nothing => {}
+            Tear::Done => self.put(page, at, word, false),
+            Tear::Torn | Tear::Mixed => self.put(page, at, TORN, true),
+        }
+    }
+
+    /// Leaves of a page what a cut leaves that comes while it is erased.
+    fn cut_erase(&mut self, page: usize, tear: Tear) {
+        for at in 0..HEADER + self.slots_per_page() {
+            let fate = match tear {
+                Tear::Nothing => 0,
+                Tear::Done => 1,
+                Tear::Torn => 2,
+                Tear::Mixed => at % 3,
+            };
+            match fate {
+                0 => {}
+                1 => self.put(page, at, ERASED, false),
+                _ => self.put(page, at, TORN, true),
+            }
         }
     }
 }

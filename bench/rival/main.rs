@@ -9,6 +9,9 @@
 #![forbid(unsafe_code)]
 
 mod device;
+mod layout;
+mod power;
+mod report;
 mod script;
 mod store;
 mod text;
@@ -65,6 +68,6 @@ fn run<W: Way>(image: &[u8], script: &[u8]) -> Option<(Vec<u8>, Vec<u8>)> {
         return None;
     }
     let mut store = Store::<W>::open(Device::parse(image)?)?;
-    let report = script::answer(&mut store, script)?;
+    let report = report::answer(&mut store, script)?;
     Some((store.into_device().text(), report))
 }

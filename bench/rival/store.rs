@@ -1,157 +1,121 @@
-//! The store: appends, transfers and clean steps.
+//! The store: appends, transfers, clean steps and openings.
 
-use crate::device::{Device, Set, ERASED, HEADER};
-use crate::ways::{element, Way};
+use crate::device::Device;
+use crate::layout::{
+    Layout, ACTIVE_AT, ERASING_AT, LAST_GENERATION, MARK, RECEIVE, RECEIVE_AT, VALID_AT,
+};
+use crate::power::{Cut, Tear};
+use crate::ways::{element, forgetting, Way};
 
-const MARK: u64 = 0xAAAA_AAAA_AAAA_AAAA;
-const RECEIVE: u64 = 0xAAAA_AAAA_0000_0000;
-const LAST_GENERATION: u32 = 4_294_967_294;
-
-/// Words of a page's header.
-const RECEIVE_AT: usize = 0;
-const ACTIVE_AT: usize = 1;
-const VALID_AT: usize = 2;
-const ERASING_AT: usize = 3;
-
-pub enum Written {
+/// How a change was made.
+pub enum Changed {
     Appended,
     Moved,
-    Full,
-    Spent,
 }
 
+/// Why a call was not done.
+pub enum Refused {
+    Full,
+    Absent,
+    Spent,
+    /// Power was cut in the call.
+    Cut,
+    /// No store is open.
+    Off,
+}
+
+impl From<Cut> for Refused {
+    fn from(_: Cut) -> Self {
+        Refused::Cut
+    }
+}
+
+/// A store, which is open as long as its device is on.
 pub struct Store<W: Way> {
     device: Device,
-    /// Which set is live.
-    live: usize,
-    generation: u32,
-    fill: usize,
-    /// The page in use, and the number of the slot behind its last one.
-    page: usize,
-    page_end: usize,
-    /// Which pages of the other set are not blank, and how many.
-    dirty: Vec<bool>,
-    pending: usize,
+    layout: Layout,
     way: W,
+    /// The words that a transfer writes.
+    moving: Vec<u64>,
 }
 
 impl<W: Way> Store<W> {
     /// Opens the store of a legal image, and sets the marks that a power cut left to set.
-    pub fn open(mut device: Device) -> Option<Self> {
-        let (live, generation) = match device.sets.each_ref().map(committed) {
-            [Some(first), Some(second)] if first == second => return None,
-            [Some(first), second] if Some(first) > second => (0, first),
-            [_, Some(second)] => (1, second),
-            _ => return None,
-        };
-        let slots = device.slots_per_page();
-        let fill = legal_fill(&device.sets[live], generation, slots)?;
-        let page = fill.saturating_sub(1) / slots;
-        let set = &mut device.sets[live];
-        for used_up in 0..page {
-            set.mark(used_up, VALID_AT, MARK);
-        }
-        set.mark(page, ACTIVE_AT, MARK);
-        let way = W::open(&set.slots[..fill]);
-        let other = &mut device.sets[1 - live];
-        let dirty: Vec<bool> = (0..other.headers.len())
-            .map(|page| !other.is_blank(page))
-            .collect();
-        let mut pending = 0;
-        for (page, _) in dirty.iter().enumerate().filter(|(_, dirty)| **dirty) {
-            other.mark(page, ERASING_AT, MARK);
-            pending += 1;
-        }
-        let page_end = (page + 1) * slots;
-        Some(Store {
+    pub fn open(device: Device) -> Option<Self> {
+        let layout = Layout::of(&device)?;
+        let way = W::open(&device.sets[layout.live].slots[..layout.fill]);
+        let mut store = Store {
             device,
-            live,
-            generation,
-            fill,
-            page,
-            page_end,
-            dirty,
-            pending,
+            layout,
             way,
-        })
+            moving: Vec::new(),
+        };
+        store.finish_marks().ok()?;
+        Some(store)
     }
 
-    pub fn read(&self, address: u16) -> Option<u32> {
-        self.way.get(self.written(), address)
-    }
-
-    pub fn write(&mut self, address: u16, value: u32) -> Written {
-        if self.fill == self.slots() {
-            return self.transfer(address, value);
+    /// Turns power on and opens the store. Where it is open already nothing is done.
+    pub fn turn_on(&mut self) -> Result<(), Cut> {
+        if self.is_open() {
+            return Ok(());
         }
-        let slots_per_page = self.device.slots_per_page();
-        let set = &mut self.device.sets[self.live];
-        if self.fill == self.page_end {
-            set.mark(self.page, VALID_AT, MARK);
-            self.page += 1;
-            self.page_end += slots_per_page;
-            set.mark(self.page, ACTIVE_AT, MARK);
-        }
-        set.slots[self.fill] = element(address, value);
-        self.fill += 1;
-        self.way.put(address, value);
-        Written::Appended
+        self.device.power.turn_on();
+        self.layout = Layout::of(&self.device).expect("a cut leaves a legal image");
+        self.way = W::open(&self.device.sets[self.layout.live].slots[..self.layout.fill]);
+        self.finish_marks()
     }
 
-    /// Moves the live set to the other set, with a write.
-    fn transfer(&mut self, address: u16, value: u32) -> Written {
-        let slots = self.device.slots_per_page();
-        let [first, second] = &mut self.device.sets;
-        let (from, into) = if self.live == 0 {
-            (first, second)
+    pub fn is_open(&self) -> bool {
+        self.device.power.is_on()
+    }
+
+    /// Arms a cut: so many further steps pass, and the next is cut.
+    pub fn arm(&mut self, passing: u64, tear: Tear) {
+        self.device.power.arm(passing, tear);
+    }
+
+    pub fn read(&self, address: u16) -> Result<Option<u32>, Refused> {
+        self.check_open()?;
+        Ok(self.way.get(self.written(), address))
+    }
+
+    pub fn write(&mut self, address: u16, value: u32) -> Result<Changed, Refused> {
+        self.check_open()?;
+        let word = element(address, value);
+        let changed = if self.has_room() {
+            self.append(word)?
         } else {
-            (second, first)
+            let had_value = self.collect(Some(word), address);
+            if !had_value && self.moving.len() > self.slots() {
+                return Err(Refused::Full);
+            }
+            self.transfer()?
         };
-        let Some(others) = self.way.others(&from.slots, address) else {
-            return Written::Full;
+        self.way.put(address, Some(value));
+        Ok(changed)
+    }
+
+    pub fn forget(&mut self, address: u16) -> Result<Changed, Refused> {
+        let value = self.read(address)?.ok_or(Refused::Absent)?;
+        let changed = if self.has_room() {
+            self.append(forgetting(address, value))?
+        } else {
+            self.collect(None, address);
+            self.transfer()?
         };
-        if self.generation == LAST_GENERATION {
-            return Written::Spent;
-        }
-        for (page, _) in self.dirty.iter().enumerate().filter(|(_, dirty)| **dirty) {
-            into.erase(page);
-        }
-        into.slots[0] = element(address, value);
-        into.slots[1..][..others.len()].copy_from_slice(others);
-        self.generation += 1;
-        self.fill = 1 + others.len();
-        self.page = others.len() / slots;
-        self.page_end = (self.page + 1) * slots;
-        for header in &mut into.headers[..=self.page] {
-            header[RECEIVE_AT] = RECEIVE | u64::from(self.generation);
-        }
-        for header in &mut into.headers[..self.page] {
-            header[VALID_AT] = MARK;
-        }
-        into.headers[0][ACTIVE_AT] = MARK;
-        into.headers[self.page][ACTIVE_AT] = MARK;
-        for page in 0..from.headers.len() {
-            from.mark(page, ERASING_AT, MARK);
-        }
-        self.live = 1 - self.live;
-        self.dirty.fill(true);
-        self.pending = self.dirty.len();
-        self.way.put(address, value);
-        Written::Moved
+        self.way.put(address, None);
+        Ok(changed)
     }
 
     /// Erases the lowest page of the other set that is not blank; false if there is none.
-    pub fn clean(&mut self) -> bool {
-        if self.pending == 0 {
-            return false;
-        }
-        let Some(page) = self.dirty.iter().position(|&dirty| dirty) else {
-            return false;
+    pub fn clean(&mut self) -> Result<bool, Refused> {
+        self.check_open()?;
+        let Some(page) = self.layout.first_dirty() else {
+            return Ok(false);
         };
-        self.device.sets[1 - self.live].erase(page);
-        self.dirty[page] = false;
-        self.pending -= 1;
-        true
+        self.device.erase(1 - self.layout.live, page)?;
+        self.layout.note_erased(page);
+        Ok(true)
     }
 
     pub fn slots(&self) -> usize {
@@ -159,67 +123,93 @@ impl<W: Way> Store<W> {
     }
 
     pub fn fill(&self) -> usize {
-        self.fill
+        self.layout.fill
     }
 
     pub fn pending(&self) -> usize {
-        self.pending
+        self.layout.pending
     }
 
     /// How many addresses have a value.
     pub fn count(&mut self) -> usize {
         self.way
-            .count(&self.device.sets[self.live].slots[..self.fill])
+            .count(&self.device.sets[self.layout.live].slots[..self.layout.fill])
     }
 
     pub fn into_device(self) -> Device {
         self.device
     }
 
-    fn written(&self) -> &[u64] {
-        &self.device.sets[self.live].slots[..self.fill]
-    }
-}
-
-/// The generation of a set, if it is committed.
-fn committed(set: &Set) -> Option<u32> {
-    let [receive, active, ..] = set.headers[0];
-    let generation = receive as u32;
-    let is_receive =
-        receive & !0xFFFF_FFFF == RECEIVE && (1..=LAST_GENERATION).contains(&generation);
-    (is_receive && active == MARK).then_some(generation)
-}
-
-/// How many slots of the live set are written, if each of its words may stand in its place.
-fn legal_fill(set: &Set, generation: u32, slots: usize) -> Option<usize> {
-    let fill = set
-        .slots
-        .iter()
-        .position(|&word| word == ERASED)
-        .unwrap_or(set.slots.len());
-    let is_slot = |slot: usize, word: u64| {
-        let address = word as u16;
-        let is_change = word >> 16 & 0xFFFE == 0 && (1..=65534).contains(&address);
-        is_change || set.is_slot_torn(slot)
-    };
-    let (written, free) = set.slots.split_at(fill);
-    let legal_slots = written
-        .iter()
-        .enumerate()
-        .all(|(slot, &word)| is_slot(slot, word))
-        && free.iter().all(|&word| word == ERASED);
-    let legal_headers = set.headers.iter().enumerate().all(|(page, header)| {
-        if page * slots > fill {
-            return *header == [ERASED; HEADER];
+    fn check_open(&self) -> Result<(), Refused> {
+        if self.is_open() {
+            Ok(())
+        } else {
+            Err(Refused::Off)
         }
-        let receive = RECEIVE | u64::from(generation);
-        let may = |at: usize, word: u64| {
-            header[at] == ERASED || header[at] == word || set.is_torn(page, at)
-        };
-        may(RECEIVE_AT, receive)
-            && may(ACTIVE_AT, MARK)
-            && may(VALID_AT, MARK)
-            && header[ERASING_AT] == ERASED
-    });
-    (legal_slots && legal_headers).then_some(fill)
+    }
+
+    fn has_room(&self) -> bool {
+        self.layout.fill < self.slots()
+    }
+
+    fn written(&self) -> &[u64] {
+        &self.device.sets[self.layout.live].slots[..self.layout.fill]
+    }
+
+    fn append(&mut self, word: u64) -> Result<Changed, Cut> {
+        let Store { device, layout, .. } = self;
+        if layout.fill == layout.page_end {
+            device.mark(layout.live, layout.page, VALID_AT, MARK)?;
+            device.mark(layout.live, layout.page + 1, ACTIVE_AT, MARK)?;
+            layout.page += 1;
+            layout.page_end += device.slots_per_page();
+        }
+        device.program_slot(layout.live, layout.fill, word)?;
+        layout.fill += 1;
+        Ok(Changed::Appended)
+    }
+
+    /// Collects what a transfer writes: the change's own word, if it has one, and the elements of
+    /// all addresses but the change's. Says whether that one has a value.
+    fn collect(&mut self, change: Option<u64>, address: u16) -> bool {
+        let written = &self.device.sets[self.layout.live].slots[..self.layout.fill];
+        self.moving.clear();
+        self.moving.extend(change);
+        self.way.push_others(written, address, &mut self.moving)
+    }
+
+    /// Writes what was collected to the other set, and makes that one live.
+    fn transfer(&mut self) -> Result<Changed, Refused> {
+        if self.layout.generation == LAST_GENERATION {
+            return Err(Refused::Spent);
+        }
+        while self.clean()? {}
+        let slots = self.device.slots_per_page();
+        let into = 1 - self.layout.live;
+        let receive = RECEIVE | u64::from(self.layout.generation + 1);
+        self.device.mark(into, 0, RECEIVE_AT, receive)?;
+        for (page, words) in self.moving.chunks(slots).enumerate() {
+            self.device.mark(into, page, RECEIVE_AT, receive)?;
+            for (at, &word) in words.iter().enumerate() {
+                self.device.program_slot(into, page * slots + at, word)?;
+            }
+        }
+        self.device.mark(into, 0, ACTIVE_AT, MARK)?;
+        self.layout.move_over(self.moving.len(), slots);
+        self.finish_marks()?;
+        Ok(Changed::Moved)
+    }
+
+    /// Sets the marks that a transfer or a cut left to set.
+    fn finish_marks(&mut self) -> Result<(), Cut> {
+        let Store { device, layout, .. } = self;
+        for used_up in 0..layout.page {
+            device.mark(layout.live, used_up, VALID_AT, MARK)?;
+        }
+        device.mark(layout.live, layout.page, ACTIVE_AT, MARK)?;
+        for (page, _) in layout.dirty.iter().enumerate().filter(|(_, dirty)| **dirty) {
+            device.mark(1 - layout.live, page, ERASING_AT, MARK)?;
+        }
+        Ok(())
+    }
 }

@@ -10,22 +10,26 @@ impl<'a> Reader<'a> {
         Reader { rest: text }
     }
 
+    #[inline]
     pub fn is_done(&self) -> bool {
         self.rest.is_empty()
     }
 
+    #[inline]
     pub fn byte(&mut self) -> Option<u8> {
         let (&first, rest) = self.rest.split_first()?;
         self.rest = rest;
         Some(first)
     }
 
+    #[inline]
     pub fn expect(&mut self, what: &[u8]) -> Option<()> {
         self.rest = self.rest.strip_prefix(what)?;
         Some(())
     }
 
     /// A decimal number of at most `most`, without a sign or a zero in front.
+    #[inline]
     pub fn number(&mut self, most: u64) -> Option<u64> {
         let (&first, mut rest) = self.rest.split_first()?;
         let mut value = digit(first)?;

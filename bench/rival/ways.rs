@@ -7,6 +7,11 @@ pub fn element(address: u16, value: u32) -> u64 {
     u64::from(value) << 32 | u64::from(address)
 }
 
+/// The word that says that `address`, which had `value`, has none.
+pub fn forgetting(address: u16, value: u32) -> u64 {
+    element(address, value) | 1 << 16
+}
+
 /// The address that the word of a slot is about; 0, which is none, where the slot is torn.
 fn address_of(word: u64) -> u16 {
     word as u16
@@ -23,66 +28,60 @@ pub trait Way {
 
     fn get(&self, written: &[u64], address: u16) -> Option<u32>;
 
-    /// Takes note of a write that was made.
-    fn put(&mut self, address: u16, value: u32);
+    /// Takes note of a change that was made: the address has the value from there on, or none.
+    fn put(&mut self, address: u16, value: Option<u32>);
 
     /// How many addresses have a value.
     fn count(&mut self, written: &[u64]) -> usize;
 
-    /// The elements of all addresses but this one, by rising address, where every slot is written.
-    /// None if `address` has no value and there are as many others as slots.
-    fn others(&mut self, written: &[u64], address: u16) -> Option<&[u64]>;
+    /// Appends the elements of all addresses but one, by rising address, and says whether that one
+    /// has a value.
+    fn push_others(&mut self, written: &[u64], but: u16, out: &mut Vec<u64>) -> bool;
 }
 
 /// An ordered map in memory from addresses to values.
 pub struct Index {
     values: BTreeMap<u16, u32>,
-    elements: Vec<u64>,
 }
 
 impl Way for Index {
     fn open(written: &[u64]) -> Self {
-        let mut values = BTreeMap::new();
+        let mut index = Index {
+            values: BTreeMap::new(),
+        };
         for &word in written {
-            match (address_of(word), value_of(word)) {
-                (0, _) => {}
-                (address, Some(value)) => {
-                    values.insert(address, value);
-                }
-                (address, None) => {
-                    values.remove(&address);
-                }
+            if address_of(word) > 0 {
+                index.put(address_of(word), value_of(word));
             }
         }
-        Index {
-            values,
-            elements: Vec::new(),
-        }
+        index
     }
 
     fn get(&self, _: &[u64], address: u16) -> Option<u32> {
         self.values.get(&address).copied()
     }
 
-    fn put(&mut self, address: u16, value: u32) {
-        self.values.insert(address, value);
+    fn put(&mut self, address: u16, value: Option<u32>) {
+        match value {
+            Some(value) => self.values.insert(address, value),
+            None => self.values.remove(&address),
+        };
     }
 
     fn count(&mut self, _: &[u64]) -> usize {
         self.values.len()
     }
 
-    fn others(&mut self, written: &[u64], address: u16) -> Option<&[u64]> {
-        if self.values.len() == written.len() && !self.values.contains_key(&address) {
-            return None;
-        }
-        self.elements.clear();
-        for (&other, &value) in &self.values {
-            if other != address {
-                self.elements.push(element(other, value));
+    fn push_others(&mut self, _: &[u64], but: u16, out: &mut Vec<u64>) -> bool {
+        let mut found = false;
+        for (&address, &value) in &self.values {
+            if address == but {
+                found = true;
+            } else {
+                out.push(element(address, value));
             }
         }
-        Some(&self.elements)
+        found
     }
 }
 
@@ -91,14 +90,12 @@ impl Way for Index {
 pub struct Scan {
     /// A bit for each address that was met in a pass; all clear between passes.
     met: Vec<u64>,
-    elements: Vec<u64>,
 }
 
 impl Scan {
-    /// Collects the elements of all addresses but one, newest first, and says whether that one has
-    /// a value. Address 0 is none.
-    fn collect(&mut self, written: &[u64], but: u16) -> bool {
-        self.elements.clear();
+    /// Appends the elements of all addresses but one, newest first, and says whether that one has a
+    /// value. Address 0 is none.
+    fn collect(&mut self, written: &[u64], but: u16, out: &mut Vec<u64>) -> bool {
         let mut found = false;
         for &word in written.iter().rev() {
             let address = address_of(word);
@@ -116,7 +113,7 @@ impl Scan {
             if address == but {
                 found = true;
             } else {
-                self.elements.push(word);
+                out.push(word);
             }
         }
         if written.len() < self.met.len() {
@@ -134,7 +131,6 @@ impl Way for Scan {
     fn open(_: &[u64]) -> Self {
         Scan {
             met: vec![0; 1 << 10],
-            elements: Vec::new(),
         }
     }
 
@@ -146,19 +142,19 @@ impl Way for Scan {
         value_of(*newest)
     }
 
-    fn put(&mut self, _: u16, _: u32) {}
+    fn put(&mut self, _: u16, _: Option<u32>) {}
 
     fn count(&mut self, written: &[u64]) -> usize {
-        self.collect(written, 0);
-        self.elements.len()
+        let mut live = Vec::new();
+        self.collect(written, 0, &mut live);
+        live.len()
     }
 
-    fn others(&mut self, written: &[u64], address: u16) -> Option<&[u64]> {
-        if !self.collect(written, address) && self.elements.len() == written.len() {
-            return None;
-        }
+    fn push_others(&mut self, written: &[u64], but: u16, out: &mut Vec<u64>) -> bool {
+        let start = out.len();
+        let found = self.collect(written, but, out);
         // A stable sort finds the long run that the last transfer left.
-        self.elements.sort_by_key(|&word| address_of(word));
-        Some(&self.elements)
+        out[start..].sort_by_key(|&word| address_of(word));
+        found
     }
 }

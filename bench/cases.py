@@ -1,0 +1,323 @@
+"""The cases of bench/test: the worked examples, texts at the limits, and random cases."""
+import random
+import re
+from collections import namedtuple
+
+# Scripts that are answered one after another, each on the image that the one before it left.
+Case = namedtuple("Case", "name image scripts")
+
+MARK = "a" * 16
+LAST_GENERATION = 4294967294
+MOST_WEAR = 2 ** 64 - 1
+IMAGE_BYTES = 4194304
+SCRIPT_BYTES = 16777216
+
+
+def image_text(pages, words, lines=()):
+    """An image of these lines, with blank pages behind them."""
+    blank = "0" + " -" * words
+    lines = list(lines) + [blank] * (2 * pages - len(lines))
+    return ("\n".join([f"ee {pages} {words}"] + lines) + "\n").encode()
+
+
+def fresh(pages, words, generation=1):
+    """A formatted image."""
+    first = f"0 aaaaaaaa{generation:08x} {MARK}" + " -" * (words - 2)
+    return image_text(pages, words, [first])
+
+
+def script_text(*lines):
+    return "".join(line + "\n" for line in lines).encode()
+
+
+def listed(line):
+    """A script as docs/EXAMPLES.md writes it, with commas for line ends."""
+    return script_text(*line.split(", "))
+
+
+SIX = fresh(1, 6)
+FIVE = fresh(2, 5)
+ONE_MOVE = "w 1 10, w 1 11, w 1 12"
+MOVED = image_text(1, 6, [
+    f"1 aaaaaaaa00000003 {MARK} - - 0000000d00000001 0000000500000002",
+    f"0 aaaaaaaa00000002 {MARK} - {MARK} 0000000c00000001 0000000500000002",
+])
+SPENT = f"0 aaaaaaaafffffffe {MARK} - - 0000000a00000001 "
+FIRST = f"0 aaaaaaaa00000001 {MARK} - -"
+BAD_LINES = ["w 0 1", "w 65535 1", "w 1 4294967296", "w 01 1", "", "c ", "w 1 1\r", "r 1 1", "f 1 1", "w 1",
+             "f 0", "x 0 t", "x 1 q", "x 1", "x 18446744073709551616 t", "x 01 t", "p 1", "r\t1", "W 1 1"]
+
+EXAMPLES = [
+    ("first-run", SIX, "w 1 10, r 1, r 2"),
+    ("one-move", SIX, ONE_MOVE),
+    ("two-moves", SIX, ONE_MOVE + ", w 2 5, w 1 13"),
+    ("all-live", MOVED, "w 2 6"),
+    ("full", MOVED, "w 3 1"),
+    ("one-slot", fresh(1, 5), "w 1 1, w 1 2, w 1 3"),
+    ("two-pages", FIVE, "w 1 1, w 1 2, w 1 3"),
+    ("nine-steps", FIVE, "w 1 1, w 2 2, w 1 3"),
+    ("nine-steps, cut at the commit", FIVE, "w 1 1, w 2 2, x 5 d, w 1 3, p, r 1"),
+    ("a-transfer-over-three-pages", fresh(3, 6),
+     "w 1 10, w 2 11, w 3 12, w 4 13, w 5 14, w 6 15, x 12 t, w 3 16, p"),
+    ("spent", image_text(1, 6, [SPENT + "0000000b00000001"]), "w 1 9, w 2 9, f 1, f 2"),
+    ("spent, a slot free", image_text(1, 6, [SPENT + "-"]), "w 1 9, w 1 9"),
+    ("clean", SIX, ONE_MOVE + ", c, c"),
+    ("digits", SIX, "w 65534 4294967295, r 65534"),
+    ("cut-transfer", SIX, "w 1 10, w 1 11, x 2 t, w 1 12, r 1, p, r 1"),
+    ("brown-out", SIX, "w 1 10, w 1 11, x 2 t, w 1 12, r 1, p, r 1, w 1 12, r 1"),
+    ("cut-commit, done", SIX, "w 1 10, w 1 11, x 3 d, w 1 12, r 1, p, r 1"),
+    ("cut-commit, torn", SIX, "w 1 10, w 1 11, x 3 t, w 1 12, r 1, p, r 1"),
+    ("cut-clean", SIX, ONE_MOVE + ", x 1 m, c, p, r 1"),
+    ("cut-clean, nothing", SIX, ONE_MOVE + ", x 1 n, c, p, r 1"),
+    ("cut-append-torn", SIX, "x 1 t, w 1 10, p, w 1 11, r 1"),
+    ("cut-opening", SIX, "w 1 10, w 1 11, x 2 t, w 1 12, x 1 t, p, p, r 1"),
+    ("cut-append", SIX, "w 1 10, x 1 t, w 1 11"),
+    ("a cut that doesn't come", SIX, "x 9 t, w 1 10, x 18446744073709551615 t, w 1 10"),
+    ("forget", SIX, "w 1 10, w 2 5, w 3 1, f 1, w 3 1"),
+    ("forget-absent", SIX, "w 1 10, f 1, f 1, f 2"),
+    ("forget-last", SIX, "w 1 10, w 1 11, f 1, r 1, w 2 2"),
+    ("torn slot", image_text(1, 6, [FIRST + " ? -"]), "w 1 11, r 1, w 1 12"),
+    ("forgetting", image_text(1, 7, [FIRST + " 0000000a00000001 0000000a00010001 -"]),
+     "r 1, w 2 1, w 3 1, w 4 1, w 5 1"),
+    ("great wear", image_text(1, 5, [FIRST + " -", f"{MOST_WEAR} - - - - ?"]), "w 1 1, w 1 2"),
+    ("two live sets", image_text(1, 6, 2 * [FIRST + " - -"]), "r 1"),
+    ("unformatted", image_text(1, 6), "r 1"),
+    ("foreign word", image_text(1, 6, [FIRST + " - 0000000a00000001"]), "r 1"),
+    ("no live set", image_text(1, 6, ["0 aaaaaaaa00000001 ? - - - -"]), "r 1"),
+    ("empty image", b"", "r 1"),
+    ("a line missing", SIX[:-len("0 - - - - - -\n")], "r 1"),
+    ("a line more", SIX + b"0 - - - - - -\n", "r 1"),
+    ("shape", b"ee 0 6\n", "r 1"),
+    ("upper case", SIX.replace(b"0 aaaaaaaa00000001", b"0 AAAAAAAA00000001"), "r 1"),
+    ("all ones", image_text(1, 6, [FIRST + " " + "f" * 16 + " -"]), "r 1"),
+] + [(f"bad line {line!r}", SIX, line) for line in BAD_LINES]
+
+
+def limits():
+    """Texts as long as they may be, and a byte longer; long texts with nothing in them."""
+    reads = b"r 1\n" * (SCRIPT_BYTES // 4)
+    return [
+        Case("empty-script", SIX, [b""]),
+        Case("no line end", SIX, [b"w 1 1"]),
+        Case("the longest script", SIX, [reads]),
+        Case("a script too long", SIX, [reads + b"\n"]),
+        Case("zeros for a script", SIX, [bytes(SCRIPT_BYTES)]),
+        Case("line feeds for a script", SIX, [b"\n" * SCRIPT_BYTES]),
+        Case("zeros for an image", bytes(IMAGE_BYTES), [b""]),
+        Case("an image too long", SIX + bytes(IMAGE_BYTES + 1 - len(SIX)), [b""]),
+        Case("a long first line", b"ee 1 " + b"6" * (IMAGE_BYTES - 6) + b"\n", [b""]),
+    ]
+
+
+def worked():
+    return [Case(name, image, [listed(line)]) for name, image, line in EXAMPLES] + limits()
+
+
+def random_size(dice):
+    kind = dice.random()
+    if kind < 0.001:
+        return 64, 512
+    if kind < 0.03:
+        return dice.choice([(1, 512), (64, 5), (3, 100), (1, 300), (20, 8), (2, 512)])
+    return dice.randrange(1, 5), dice.randrange(5, 14)
+
+
+def random_addresses(dice, slots):
+    """The addresses that a case is about: fewer than there are slots, as many, or some more."""
+    count = dice.choice([1, 2, max(1, slots // 2), max(1, slots - 1), slots, slots + 2])
+    if dice.random() < 0.7:
+        return list(range(1, count + 1))
+    return dice.sample(range(1, 65535), count) + dice.sample([1, 64, 65, 128, 256, 65533, 65534], 2)
+
+
+def random_value(dice):
+    return dice.choice([0, 1, 4294967295, dice.randrange(2 ** 32), dice.randrange(1000)])
+
+
+def random_wear(dice):
+    return dice.choice([0, 0, 1, 2, dice.randrange(2 ** 64), MOST_WEAR - 1, MOST_WEAR])
+
+
+def odd_word(dice):
+    """A word that stands in few places, or in none; seldom one that no image may have."""
+    value, address = random_value(dice), dice.randrange(65536)
+    return dice.choice(["-", "?", "-", "?", MARK, "0" * 16, "f" * 15 + dice.choice("0eeeef"),
+                        f"aaaaaaaa{dice.randrange(2 ** 32):08x}", f"{value:08x}00000000", f"{value:08x}0000ffff",
+                        f"{value:08x}0001{address:04x}", f"{value:08x}0002{address:04x}",
+                        f"{dice.randrange(MOST_WEAR):016x}"])
+
+
+def random_slots(dice, count, addresses):
+    words = []
+    for _ in range(count):
+        kind = dice.random()
+        words.append("?" if kind < 0.05 else
+                     f"{random_value(dice):08x}{int(kind < 0.2):04x}{dice.choice(addresses):04x}")
+    return words
+
+
+def written_set(dice, pages, words, generation, addresses):
+    """The pages of a set as lists of words, so many of its slots used; marks may be left to set."""
+    per_page = words - 4
+    slots = pages * per_page
+    fill = dice.choice([0, slots, dice.randrange(slots + 1), max(0, slots - dice.randrange(4))])
+    row = random_slots(dice, fill, addresses) + ["-"] * (slots - fill)
+    receive = f"aaaaaaaa{generation:08x}"
+    result = []
+    for page in range(pages):
+        header = [dice.choice(["-", "?", receive]), dice.choice(["-", "?", MARK]), dice.choice(["-", "?", MARK]), "-"]
+        if page == 0:
+            header[:2] = [receive, MARK]
+        elif page * per_page > fill or (page * per_page == fill and dice.random() < 0.7):
+            header = ["-"] * 4
+        result.append(header + row[page * per_page:][:per_page])
+    return result
+
+
+def other_set(dice, pages, words, generation, addresses):
+    """The pages of the set that isn't live: blank, left, being filled, or anything."""
+    kind = dice.random()
+    if kind < 0.3:
+        return [["-"] * words for _ in range(pages)]
+    if kind < 0.6:
+        result = written_set(dice, pages, words, max(1, generation - 1), addresses)
+        erasing = dice.choice(["-", "?", MARK])
+        result = [page[:3] + [erasing] + page[4:] for page in result]
+    elif kind < 0.8:
+        result = written_set(dice, pages, words, min(generation + 1, LAST_GENERATION), addresses)
+        result[0][1] = dice.choice("-?")
+    else:
+        result = [[odd_word(dice) for _ in range(words)] for _ in range(pages)]
+    for page, row in enumerate(result):
+        fate = dice.random()
+        if fate < 0.2:
+            result[page] = ["-"] * words
+        elif fate < 0.35:
+            result[page] = [dice.choice([word, "-", "?"]) for word in row]
+    return result
+
+
+def random_image(dice, pages, words, addresses):
+    kind = dice.random()
+    generation = dice.randrange(1, 9)
+    if kind < 0.15:
+        generation = LAST_GENERATION - dice.randrange(4)
+    elif kind < 0.2:
+        generation = dice.randrange(1, LAST_GENERATION + 1)
+    sets = [written_set(dice, pages, words, generation, addresses),
+            other_set(dice, pages, words, generation, addresses)]
+    if dice.random() < 0.5:
+        sets.reverse()
+    rows = sets[0] + sets[1]
+    if dice.random() < 0.08:
+        row = dice.choice(rows)
+        written = [at for at, word in enumerate(row) if word != "-"]
+        row[dice.choice(written or range(words))] = odd_word(dice)
+    return image_text(pages, words, [" ".join([str(random_wear(dice))] + row) for row in rows])
+
+
+def random_command(dice, kind, addresses):
+    address = dice.choice(addresses) if dice.random() < 0.97 else dice.randrange(1, 65535)
+    if kind == "w":
+        return f"w {address} {random_value(dice)}"
+    if kind in "fr":
+        return f"{kind} {address}"
+    if kind == "x":
+        step = dice.choice([1, 1, 2, 3, dice.randrange(1, 13), dice.randrange(1, 41), dice.choice([10, 2 ** 64 - 1])])
+        return f"x {step} {dice.choice('ndtm')}"
+    return kind
+
+
+def random_script(dice, addresses):
+    """Mostly changes; with cuts or without."""
+    weights = dice.choice([{"w": 60, "f": 10, "r": 20, "c": 10},
+                           {"w": 50, "f": 12, "r": 10, "c": 8, "x": 12, "p": 8},
+                           {"w": 40, "f": 10, "r": 6, "c": 14, "x": 15, "p": 15},
+                           {"w": 25, "f": 25, "r": 20, "c": 10, "x": 10, "p": 10}])
+    count = dice.choice([0, 1, 2, 5, 10, 10, 30, 30, 80, 200])
+    kinds = dice.choices(list(weights), list(weights.values()), k=count)
+    return script_text(*(random_command(dice, kind, addresses) for kind in kinds))
+
+
+def change_bytes(dice, text):
+    """The text with a few bytes changed, deleted or inserted."""
+    for _ in range(dice.choice([1, 1, 1, 2, 3])):
+        at = dice.randrange(len(text) + 1)
+        byte = bytes([dice.choice(b"0123456789abcdef -?\n\r\t\0AFgwrfcxp\xff")])
+        if dice.random() < 0.1:
+            byte = bytes([dice.randrange(256)])
+        text = text[:at] + dice.choice([byte + text[at + 1:], text[at + 1:], byte + text[at:]])
+    return text
+
+
+def change_number(dice, text):
+    """The text with a number replaced: one at a limit, or one that isn't spelled so."""
+    places = list(re.finditer(rb"(?<![0-9a-f])[0-9]+(?![0-9a-f])", text))
+    if not places:
+        return text
+    place = dice.choice(places)
+    number = dice.choice([0, 1, 4, 5, 6, 64, 65, 512, 513, 65534, 65535, 65536, 65537, 2 ** 32 - 1, 2 ** 32,
+                          2 ** 64 - 1, 2 ** 64, 10 ** 19, 10 ** 20, 10 ** 40])
+    spelled = dice.choice([str(number), str(number), "", "+1", "-1", "00", "1.0", "0x1", "0" + place[0].decode()])
+    return text[:place.start()] + spelled.encode() + text[place.end():]
+
+
+def change_lines(dice, text):
+    """The text with a line twice, left out, or in another's place."""
+    lines = text.splitlines(keepends=True)
+    if not lines:
+        return b"\n"
+    at, to = dice.randrange(len(lines)), dice.randrange(len(lines))
+    kind = dice.randrange(3)
+    if kind == 0:
+        lines.insert(to, lines[at])
+    elif kind == 1:
+        del lines[at]
+    else:
+        lines[at], lines[to] = lines[to], lines[at]
+    return b"".join(lines)
+
+
+def lengthen(dice, text):
+    """The text with one byte many times over, somewhere."""
+    at = dice.randrange(len(text) + 1)
+    byte = dice.choice([b"0", b"1", b"9", b" ", b"-", b"?", b" -", b"a", b"\n", b"\0"])
+    return text[:at] + byte * dice.choice([20, 30, 300, 70000, 200000]) + text[at:]
+
+
+def spell_elsewhere(dice, text):
+    """The text as another system would have it."""
+    return dice.choice([text.replace(b"\n", b"\r\n"), text.replace(b"\n", b"\r"), b"\xef\xbb\xbf" + text,
+                        text.replace(b" ", b"\t"), text.decode("latin-1").encode("utf-16"), text + b"\x1a"])
+
+
+def damaged(dice, text):
+    kind = dice.random()
+    if kind < 0.5:
+        return change_bytes(dice, text)
+    if kind < 0.65:
+        return change_number(dice, text)
+    if kind < 0.75:
+        return text[:dice.randrange(len(text) + 1)]
+    if kind < 0.85:
+        return change_lines(dice, text)
+    if kind < 0.92:
+        return spell_elsewhere(dice, text)
+    if kind < 0.98:
+        return lengthen(dice, text)
+    return dice.randbytes(dice.choice([1, 10, 100, 5000]))
+
+
+def random_case(seed, number):
+    """Case `number` of a seed, always the same one."""
+    dice = random.Random(f"{seed} {number}")
+    pages, words = random_size(dice)
+    addresses = random_addresses(dice, pages * (words - 4))
+    image = random_image(dice, pages, words, addresses)
+    scripts = [random_script(dice, addresses) for _ in range(dice.choice([1, 1, 1, 2, 2, 3]))]
+    kind = dice.random()
+    if kind < 0.12:
+        image = damaged(dice, image)
+    elif kind < 0.24:
+        scripts[-1] = damaged(dice, scripts[-1])
+    return Case(f"seed {seed} case {number}", image, scripts)

@@ -1,0 +1,382 @@
+"""What bench/test tries of the files that `ee` reads and writes: an image is written whole or not at
+all, links and modes stay, and inputs are read once, before anything is written."""
+import os
+import re
+import resource
+import shutil
+import signal
+import stat
+import subprocess
+
+from cases import MOVED, script_text
+
+SETTINGS = b"[volume]\naddress = 1\nmin = 0\nmax = 10\ndefault = 5\n"
+CERTIFICATE = b"slots 2 fill 2 live 2 writes 1\nto 1 from 2\ntransfers 1\n"
+SAVING = "image.ee-saving"
+INPUTS = {"image": MOVED, "script": script_text("w 2 6"), "settings": SETTINGS, "certificate": CERTIFICATE,
+          "bad": script_text("w 2 6", "w 2 6 "), "before": MOVED}
+# The commands that write an image, and those that don't. Each of the first changes the image.
+WRITERS = {
+    "run": ["run", "image", "script"],
+    "run --indexed": ["run", "--indexed", "image", "script"],
+    "format": ["format", "2", "8", "image"],
+    "set": ["set", "image", "settings", "volume", "10"],
+    "clean": ["clean", "image"],
+    "tidy": ["tidy", "image", "settings"],
+}
+READERS = {
+    "get": ["get", "image", "settings", "volume"],
+    "plan": ["plan", "image", "script"],
+    "check": ["check", "image", "script", "certificate"],
+    "wear": ["wear", "image", "before"],
+    "states": ["states", "image"],
+    "stale": ["stale", "image", "settings"],
+}
+REFUSED = {
+    "a bad script": ["run", "image", "bad"],
+    "a bad script, indexed": ["run", "--indexed", "image", "bad"],
+    "no script": ["run", "image", "none"],
+    "no image": ["run", "settings", "script"],
+    "a folder for a script": ["run", "image", "."],
+    "an unknown name": ["set", "image", "settings", "treble", "1"],
+    "out of range": ["set", "image", "settings", "volume", "11"],
+    "no settings": ["tidy", "image", "script"],
+}
+CANNOT_WRITE_IMAGE = (3, b"", b"ee: cannot write image\n")
+
+
+class Wrong(Exception):
+    """What a check found."""
+
+
+def expect(wanted, found, what):
+    if wanted != found:
+        raise Wrong(f"{what}: wanted {wanted!r}, found {found!r}")
+
+
+class Place:
+    """A folder with the inputs in it, in which a program is run."""
+
+    def __init__(self, program, folder):
+        shutil.rmtree(folder, ignore_errors=True)
+        os.makedirs(folder)
+        self.program = program
+        self.folder = folder
+        for name, text in INPUTS.items():
+            self.put(name, text)
+
+    def path(self, name):
+        return os.path.join(self.folder, name)
+
+    def put(self, name, text, mode=0o644):
+        with open(self.path(name), "wb") as file:
+            file.write(text)
+        os.chmod(self.path(name), mode)
+
+    def text(self, name="image"):
+        with open(self.path(name), "rb") as file:
+            return file.read()
+
+    def mode(self, name="image"):
+        return oct(stat.S_IMODE(os.stat(self.path(name)).st_mode))
+
+    def names(self):
+        return sorted(os.listdir(self.folder))
+
+    def run(self, words, stdout=subprocess.PIPE, prefix=(), **options):
+        """The status, what was printed and what was said on standard error."""
+        done = subprocess.run([*prefix, self.program, *words], cwd=self.folder, stdin=subprocess.DEVNULL,
+                              stdout=stdout, stderr=subprocess.PIPE, timeout=60, **options)
+        return done.returncode, done.stdout, done.stderr
+
+
+def other_user(program, folder):
+    """What runs a program as a user who may not write what is root's; None where there is no way."""
+    if os.getuid() != 0:
+        return {}
+    options = {"user": 65534, "group": 65534, "extra_groups": []}
+    try:
+        done = subprocess.run([program, "no", "command"], cwd=folder, stderr=subprocess.DEVNULL, **options)
+    except OSError:
+        return None
+    return options if done.returncode == 2 else None
+
+
+def written_by(place, writer):
+    """The image that a command writes where nothing hinders it."""
+    expect(0, place.run(WRITERS[writer])[0], "status")
+    if place.text() == MOVED:
+        raise Wrong("the image is as before")
+    expect(sorted(INPUTS), place.names(), "files")
+    text = place.text()
+    place.put("image", MOVED)
+    return text
+
+
+def limited(size, ignored):
+    """Lets a child write files of so many bytes. A signal tells it where it doesn't ignore that."""
+    def prepare():
+        signal.signal(signal.SIGXFSZ, signal.SIG_IGN if ignored else signal.SIG_DFL)
+        resource.setrlimit(resource.RLIMIT_CORE, (0, 0))
+        resource.setrlimit(resource.RLIMIT_FSIZE, (size, size))
+    return prepare
+
+
+def no_room(place, writer):
+    """Where the new image doesn't fit the old one stands, and the next run is as ever."""
+    new = written_by(place, writer)
+    for size in (0, 1, len(new) // 2, len(new) - 1):
+        for ignored in (False, True):
+            ended = place.run(WRITERS[writer], preexec_fn=limited(size, ignored))
+            what = f"after {size} bytes of {len(new)}"
+            expect(MOVED, place.text(), "the image " + what)
+            if ignored or ended[0] != -signal.SIGXFSZ:
+                expect(CANNOT_WRITE_IMAGE, ended, "the end " + what)
+                expect(sorted(INPUTS), place.names(), "files " + what)
+            expect(0, place.run(WRITERS[writer])[0], "status of the run behind it")
+            expect(new, place.text(), "the image of the run behind it")
+            expect(sorted(INPUTS), place.names(), "files of the run behind it")
+            place.put("image", MOVED)
+    expect(0, place.run(WRITERS[writer], preexec_fn=limited(len(new), False))[0], "status where it just fits")
+    expect(new, place.text(), "the image where it just fits")
+
+
+def links(place, writer):
+    """A link stays one, and the file that it leads to has the new text and its old mode."""
+    new = written_by(place, writer)
+    words = ["link" if word == "image" else word for word in WRITERS[writer]]
+    os.mkdir(place.path("there"))
+    place.put("there/image", MOVED)
+    os.symlink("there/image", place.path("two"))
+    for target, real in (("image", "image"), ("there/image", "there/image"), ("two", "there/image"),
+                         (place.path("there/image"), "there/image")):
+        place.put(real, MOVED, 0o640)
+        os.symlink(target, place.path("link"))
+        names = place.names()
+        expect(CANNOT_WRITE_IMAGE, place.run(words, preexec_fn=limited(1, True)), f"no room behind {target}")
+        expect(MOVED, place.text(real), f"the image behind {target}, without room")
+        expect(0, place.run(words)[0], f"status with a link to {target}")
+        expect(target, os.readlink(place.path("link")), "the link")
+        expect(new, place.text(real), f"the image behind a link to {target}")
+        expect(oct(0o640), place.mode(real), f"mode of the image behind a link to {target}")
+        expect(names, place.names(), "files")
+        expect(["image"], os.listdir(place.path("there")), "files there")
+        os.unlink(place.path("link"))
+
+
+def modes(place, writer):
+    """An image keeps its mode."""
+    new = written_by(place, writer)
+    for mode in (0o600, 0o644, 0o666, 0o755):
+        place.put("image", MOVED, mode)
+        expect(0, place.run(WRITERS[writer])[0], "status")
+        expect(new, place.text(), "the image")
+        expect(oct(mode), place.mode(), "mode")
+
+
+def leftover(place, writer):
+    """What a run that died left behind hinders no other."""
+    new = written_by(place, writer)
+    for text in (b"", b"ee 1", 3 * new):
+        place.put(SAVING, text, 0o600)
+        expect(0, place.run(WRITERS[writer])[0], "status")
+        expect(new, place.text(), "the image")
+        expect(oct(0o644), place.mode(), "mode")
+        expect(sorted(INPUTS), place.names(), "files")
+        place.put("image", MOVED)
+
+
+def full_output(place, words, new):
+    """Standard output is full: the image was written before."""
+    with open("/dev/full", "wb") as full:
+        ended = place.run(words, stdout=full)
+    expect((3, None, b"ee: cannot write output\n"), ended, "the end")
+    expect(new, place.text(), "the image")
+    expect(sorted(INPUTS), place.names(), "files")
+
+
+def full_output_writer(place, writer):
+    full_output(place, WRITERS[writer], written_by(place, writer))
+
+
+def full_output_reader(place, reader):
+    full_output(place, READERS[reader], MOVED)
+
+
+def in_place(place, writer, options):
+    """Where no file may be made beside it, or none may replace it, an image is written in its place."""
+    new = written_by(place, writer)
+    for mode in (0o555, 0o1777) if options else (0o555,):
+        place.put("image", MOVED, 0o666)
+        os.chmod(place.folder, mode)
+        before = os.stat(place.path("image")).st_ino
+        ended = place.run(WRITERS[writer], **options)
+        os.chmod(place.folder, 0o755)
+        expect((0, b""), (ended[0], ended[2]), "the end")
+        expect(new, place.text(), "the image")
+        expect(before, os.stat(place.path("image")).st_ino, "which file it is")
+        expect(sorted(INPUTS), place.names(), "files")
+
+
+def owner(place, writer):
+    """An image keeps its owner, whoever writes it."""
+    new = written_by(place, writer)
+    os.chown(place.path("image"), 65533, 65532)
+    expect(0, place.run(WRITERS[writer])[0], "status")
+    expect(new, place.text(), "the image")
+    found = os.stat(place.path("image"))
+    expect((65533, 65532), (found.st_uid, found.st_gid), "the owner")
+
+
+# Fills a small file system that is mounted on `there`, and tells what a command leaves of an image in it.
+FILLING = """mount -t tmpfs -o size=8k none there && cp image there || exit
+cat /dev/zero > there/fill 2> /dev/null; "$@"; echo "status $?"; cat there/image; ls there"""
+
+
+def full_system(place, writer):
+    """Where a file system is full the old image stands."""
+    os.mkdir(place.path("there"))
+    words = ["there/image" if word == "image" else word for word in WRITERS[writer]]
+    if writer == "format":
+        words[1:3] = ["64", "100"]
+    ended = place.run(words, prefix=["unshare", "-m", "sh", "-c", FILLING, "sh"])
+    expect((0, b"status 3\n" + MOVED + b"fill\nimage\n", b"ee: cannot write image\n"), ended, "the end")
+
+
+def full_device(place, _, options):
+    """A full device is no plain file: it stays what it is, and so does a link to it."""
+    os.symlink("/dev/full", place.path("link"))
+    names = place.names()
+    for image in ("/dev/full", "link"):
+        expect(CANNOT_WRITE_IMAGE, place.run(["format", "1", "6", image], **options), f"the end with {image}")
+        expect((3, b"", b"ee: image too long\n"), place.run(["run", image, "script"], **options),
+               f"the end of a run on {image}")
+    expect("/dev/full", os.readlink(place.path("link")), "the link")
+    expect(True, stat.S_ISCHR(os.stat("/dev/full").st_mode), "/dev/full is a device")
+    expect(names, place.names(), "files")
+
+
+def output_as_image(place, _):
+    """An image can go to standard output, where that is a pipe."""
+    expect(0, place.run(["format", "1", "6", "image"])[0], "status")
+    os.symlink("/proc/self/fd/1", place.path("link"))
+    names = place.names()
+    ended = place.run(["format", "1", "6", "link"])
+    expect((0, place.text() + b"formatted\n", b""), ended, "the end")
+    expect(names, place.names(), "files")
+
+
+def new_image(place, _):
+    """`format` makes a file that wasn't there, also where a link leads to none."""
+    expect(0, place.run(["format", "1", "6", "image"])[0], "status")
+    wanted = place.text()
+    os.symlink("second", place.path("link"))
+    for image, real in (("first", "first"), ("link", "second")):
+        expect((0, b"formatted\n", b""), place.run(["format", "1", "6", image], umask=0o027), f"the end with {image}")
+        expect(wanted, place.text(real), "the image")
+        expect(oct(0o640), place.mode(real), "mode")
+    expect("second", os.readlink(place.path("link")), "the link")
+    expect(sorted([*INPUTS, "first", "link", "second"]), place.names(), "files")
+
+
+def refused(place, cause):
+    """A refused command leaves the file as it was: its text, its time and its place."""
+    before = [os.stat(place.path(name)) for name in ("image", "script")]
+    ended = place.run(REFUSED[cause])
+    expect((True, b""), (ended[0] in (3, 4), ended[1]), "the end")
+    after = [os.stat(place.path(name)) for name in ("image", "script")]
+    for old, new in zip(before, after):
+        expect((old.st_ino, old.st_mtime_ns, old.st_mode), (new.st_ino, new.st_mtime_ns, new.st_mode), "the file")
+    expect(sorted(INPUTS), place.names(), "files")
+
+
+def calls_of(place, words):
+    """The system calls of a run that open, read, write beside standard output, or rename: each a
+    kind and a path."""
+    log = place.path("strace")
+    place.run(words, prefix=["strace", "-f", "-y", "-o", log, "-e",
+                             "trace=open,openat,creat,read,pread64,readv,rename,renameat,renameat2,truncate"])
+    with open(log) as file:
+        lines = file.read().splitlines()
+    os.unlink(log)
+    calls = []
+    for line in lines:
+        found = re.match(r"\d+ +(\w+)\((.*)\) += (-?\d+)", line)
+        if not found or int(found[3]) < 0:
+            continue
+        name, operands = found[1], found[2]
+        if name in ("open", "openat", "creat"):
+            writes = name == "creat" or re.search(r"O_WRONLY|O_RDWR|O_CREAT|O_TRUNC", operands)
+            kind = "write" if writes else "folder" if re.search("O_DIRECTORY|O_PATH", operands) else "open"
+            calls.append((kind, re.search(r'"(.*?)"', operands)[1]))
+        elif name in ("read", "pread64", "readv"):
+            calls.append(("read", re.search(r"<(.*?)>", operands)[1]))
+        else:
+            calls.append(("write", operands))
+    return calls
+
+
+def system_calls(place, name):
+    """Each input is opened once, and nothing is opened for writing before the last of them is read."""
+    words = {**WRITERS, **READERS, **REFUSED}[name]
+    calls = calls_of(place, words)
+    opened = [path for kind, path in calls if kind == "open"]
+    twice = sorted({path for path in opened if opened.count(path) > 1})
+    expect([], twice, "opened more than once")
+    inputs = [place.path(word) for word in words if word in INPUTS and name != "format"]
+    reads = [number for number, (kind, path) in enumerate(calls) if kind == "read" and path in inputs]
+    writes = [number for number, (kind, _) in enumerate(calls) if kind == "write"]
+    expect(bool(inputs), bool(reads), "inputs are read")
+    expect(name in WRITERS, bool(writes), "something is written")
+    if reads and writes and writes[0] < reads[-1]:
+        raise Wrong(f"{calls[writes[0]]} comes before the last read of an input")
+
+
+def can_mount(folder):
+    """Whether a file system can be mounted where no other program sees it."""
+    words = ["unshare", "-m", "mount", "-t", "tmpfs", "none", folder]
+    return shutil.which(words[0]) and subprocess.run(words, stderr=subprocess.DEVNULL).returncode == 0
+
+
+def usual_checks():
+    """The checks that can be made everywhere: a function, and the names that it is given."""
+    return [(no_room, WRITERS), (links, WRITERS), (modes, WRITERS), (leftover, WRITERS),
+            (full_output_writer, WRITERS), (full_output_reader, [name for name in READERS if name != "stale"]),
+            (output_as_image, ["format"]), (new_image, ["format"]), (refused, REFUSED)]
+
+
+def all_checks(program, folder):
+    """Each check: a function, the name that it is given, and what else."""
+    functions = usual_checks()
+    if os.getuid() == 0:
+        functions.append((owner, WRITERS))
+    if can_mount(folder):
+        functions.append((full_system, WRITERS))
+    else:
+        print("files: no full file system was tried, since none can be mounted")
+    if shutil.which("strace"):
+        functions.append((system_calls, [*WRITERS, *READERS, *REFUSED]))
+    else:
+        print("files: system calls were not looked at, for want of strace")
+    for function, names in functions:
+        yield from ((function, name) for name in names)
+    options = other_user(program, folder)
+    if options is None:
+        print("files: folders that may not be written were not tried, since another user can't run the program")
+    else:
+        yield from ((in_place, name, options) for name in WRITERS)
+        yield full_device, "format", options
+
+
+def checks(program, folder):
+    """Makes each check in a folder of its own, and gives its name and what was found, if anything."""
+    os.makedirs(folder, exist_ok=True)
+    for function, *given in all_checks(program, folder):
+        place = Place(program, os.path.join(folder, "place"))
+        name = f"{function.__name__}, {given[0]}"
+        try:
+            function(place, *given)
+        except (Wrong, OSError, subprocess.TimeoutExpired) as found:
+            yield name, str(found)
+        else:
+            yield name, None
