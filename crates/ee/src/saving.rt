@@ -49,6 +49,8 @@ fn replace<R: Files + AllocGlobal>(
     old: Option<&[u8]>,
     new: &[u8],
 ) -> io::Result<()> {
+    // Who may not write a file may not replace it either.
+    drop(OpenOptions::new().write(true).open(rt, path)?);
     // The file that links lead to is replaced, not the link.
     let Ok(target) = fs::canonicalize(rt, path) else {
         return write_back(rt, path, old, new);
@@ -112,13 +114,21 @@ fn write_back<R: Files + AllocGlobal>(
     }
 }
 
-/// Writes over a file, and after a failure writes its old text.
+/// Writes over a plain file, and after a failure writes its old text. It isn't cut to nothing before, so that
+/// the old text still has its room.
 fn write_or_restore<R: Files>(rt: &R, path: &str, old: &[u8], new: &[u8]) -> io::Result<()> {
-    let written = write_over(rt, path, new);
+    let written = rewrite(rt, path, new);
     if written.is_err() {
-        let _ = write_over(rt, path, old);
+        let _ = rewrite(rt, path, old);
     }
     written
+}
+
+/// Writes a text over that of a plain file, which has as many bytes then.
+fn rewrite<R: Files>(rt: &R, path: &str, text: &[u8]) -> io::Result<()> {
+    let mut file = OpenOptions::new().write(true).open(rt, path)?;
+    put(&mut file, text)?;
+    file.set_len(text.len() as u64)
 }
 
 /// Writes over a file, which is made where there is none.

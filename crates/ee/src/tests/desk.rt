@@ -16,9 +16,9 @@ pub struct Desk<'a, R> {
     /// Whether standard output refuses what is written.
     pub closed: bool,
     /// How many bytes the disk takes before it is full, once; behind that it takes all.
-    pub room: Option<&'a Cell<usize>>,
+    room: Option<&'a Cell<usize>>,
     /// Whether the files know no more than to be opened, renamed and removed.
-    pub bare: bool,
+    bare: bool,
     /// What was written to standard output.
     printed: RefCell<Vec<u8>>,
     /// What was written to standard error.
@@ -34,6 +34,19 @@ impl<'a, R: Files + AllocGlobal + Input> Desk<'a, R> {
             closed: false,
             room: None,
             bare: false,
+            printed: RefCell::new(Vec::new(rt.alloc())),
+            told: RefCell::new(Vec::new(rt.alloc())),
+        }
+    }
+
+    /// A desk whose disk is full, once, after so many bytes; and whose files, if it is bare, can't be made beside others.
+    pub fn cramped(rt: &'a R, room: &'a Cell<usize>, bare: bool) -> Desk<'a, R> {
+        Desk {
+            rt,
+            input: b"",
+            closed: false,
+            room: Some(room),
+            bare,
             printed: RefCell::new(Vec::new(rt.alloc())),
             told: RefCell::new(Vec::new(rt.alloc())),
         }

@@ -313,9 +313,7 @@ fn keeps_the_image<R: Files + AllocGlobal + Input + Abort>(
     bare: bool,
 ) -> Result<(), Fail> {
     let room = Cell::new(bytes);
-    let mut desk = Desk::new(rt);
-    desk.room = Some(&room);
-    desk.bare = bare;
+    let desk = Desk::cramped(rt, &room, bare);
     assert_eq!(rt; desk.run(&["clean", "full.image"])?, 3);
     let (_, told) = desk.written();
     assert_eq!(rt; told.as_slice(), b"ee: cannot write image\n".as_slice());
