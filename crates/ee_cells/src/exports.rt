@@ -1,0 +1,47 @@
+ghost use Rattle.std.specs.Prelude.{◌≡◌};
+ghost use Rattle.ee_codec.specs.Words.{IsAddress};
+ghost use Rattle.ee_flash.specs.Size.{size_of};
+ghost use Rattle.ee_cells.specs.Calls.{WritesCells};
+ghost use Rattle.ee_cells.specs.Exports.{Calls};
+ghost use Rattle.ee_cells.specs.Mirror.{mirror_of};
+
+use crate::answer::{Answer, CallResult};
+use crate::draft::Drafted;
+use crate::drafting::draft_write;
+use crate::listing::ListedStep;
+use crate::mirror::{settle, shape_of};
+use ee_codec::Address;
+use std::marker::Brand;
+
+/// Writes a value of an address, in a mirror of this many pages in each set and words in each page,
+/// and lists the steps that it takes.
+#[unsafe(no_mangle)]
+pub extern "C" fn ee_write(
+    pages: usize,
+    page_words: usize,
+    words: &mut [u64],
+    flags: &mut [u8],
+    wears: &mut [u64],
+    listed: &mut [ListedStep],
+    address: u16,
+    value: u32,
+) -> CallResult
+    ensures { Calls (size_of pages page_words) (λ old. WritesCells old address value)
+        (IsAddress address) result
+        (mirror_of words.old flags.old wears.old) (mirror_of words.new flags.new wears.new)
+        listed.new }
+{
+    let Some(shape) = shape_of(pages, page_words, words, flags, wears) else {
+        return Answer::WrongShape.told(0);
+    };
+    let Some(address) = Address::new(address) else {
+        return Answer::ImproperAddress.told(0);
+    };
+    let drafted = draft_write::<Brand>(shape, words, flags, wears, listed, address, value);
+    let Drafted {
+        listed: used,
+        count,
+        answer,
+    } = drafted;
+    settle(shape, words, flags, wears, used, count, answer)
+}

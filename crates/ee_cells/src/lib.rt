@@ -1,0 +1,11 @@
+//! The store for firmware: a static library with a C interface, without a heap, callbacks or global
+//! state.
+#![tactic(auto)]
+
+mod answer;
+mod draft;
+mod drafting;
+mod exports;
+mod listing;
+mod mirror;
+mod playing;
