@@ -82,17 +82,17 @@ cells_of-erased words flags start width as_many within =
           let cell : get_or (put_mid start width cells blank) i Erased ≡ get_or cells i Erased = grind (arith, places) in
           rw (word, flag, cell) (sym (decoded_at words flags i below (omega arith)))
       | inr from ↦ elim (cases_lt i (start + width)) [
-          | inl inside ↦
-              let word : get_or new_words i 0 ≡ all_ones = grind (arith, places) in
-              let flag : get_or new_flags i 0 ≡ 0 = grind (arith, places) in
-              let cell : get_or (put_mid start width cells blank) i Erased ≡ Erased = grind (arith, places) in
-              rw (word, flag, cell) refl
-          | inr behind ↦
-              let word : get_or new_words i 0 ≡ get_or words i 0 = grind (arith, places) in
-              let flag : get_or new_flags i 0 ≡ get_or flags i 0 = grind (arith, places) in
-              let cell : get_or (put_mid start width cells blank) i Erased ≡ get_or cells i Erased = grind (arith, places) in
-              rw (word, flag, cell) (sym (decoded_at words flags i below (omega arith)))
-        ]
+        | inl inside ↦
+            let word : get_or new_words i 0 ≡ all_ones = grind (arith, places) in
+            let flag : get_or new_flags i 0 ≡ 0 = grind (arith, places) in
+            let cell : get_or (put_mid start width cells blank) i Erased ≡ Erased = grind (arith, places) in
+            rw (word, flag, cell) refl
+        | inr behind ↦
+            let word : get_or new_words i 0 ≡ get_or words i 0 = grind (arith, places) in
+            let flag : get_or new_flags i 0 ≡ get_or flags i 0 = grind (arith, places) in
+            let cell : get_or (put_mid start width cells blank) i Erased ≡ get_or cells i Erased = grind (arith, places) in
+            rw (word, flag, cell) (sym (decoded_at words flags i below (omega arith)))
+      ]
     ])
 
 pub page_erased : (size : Size) (words flags ones zeros : List ℕ) (page start width : ℕ) → length words ≡ page_count size * size.words → length flags ≡ page_count size * size.words → page < page_count size → start ≡ page * size.words → width ≡ size.words → ones ≡ replicate width all_ones → zeros ≡ replicate width 0 → pages_of size (cells_of (put_mid start width words ones) (put_mid start width flags zeros)) ≡ set (pages_of size (cells_of words flags)) page (replicate size.words Erased)

@@ -36,6 +36,7 @@ impl Lent for Brand {
     ghost use Rattle.ee_flash.specs.Size.{size_of};
 
     ghost start = { blank_device (size_of 1 5) };
+
     ghost list = { 0 };
 }
 

@@ -116,9 +116,7 @@ pub(crate) fn draft_open<'w, 'l, K: Lent>(
             let (draft, fault) = failed;
             draft.ended(Answer::of_opening(fault))
         }
-        Ok(store) => {
-            store.into_flash().ended(Answer::Done)
-        }
+        Ok(store) => { store.into_flash().ended(Answer::Done) }
     }
 }
 
@@ -142,8 +140,6 @@ pub(crate) fn draft_format<'w, 'l, K: Lent>(
             let (draft, _cut) = failed;
             draft.ended(Answer::ListTooShort)
         }
-        Ok(store) => {
-            store.into_flash().ended(Answer::Done)
-        }
+        Ok(store) => { store.into_flash().ended(Answer::Done) }
     }
 }

@@ -33,13 +33,7 @@ pub(crate) fn play(
 }
 
 // Takes one step on a mirror.
-fn take_step(
-    shape: Shape,
-    words: &mut [u64],
-    flags: &mut [u8],
-    wears: &mut [u64],
-    step: ListedStep,
-)
+fn take_step(shape: Shape, words: &mut [u64], flags: &mut [u8], wears: &mut [u64], step: ListedStep)
     requires mirror { IsMirror shape words.old flags.old wears.old }
     requires may { CanTake (step_of step) (device_of shape words.old flags.old wears.old) }
     ensures mirror { IsMirror shape words.new flags.new wears.new }
@@ -54,14 +48,7 @@ fn take_step(
 }
 
 // Programs a word of a mirror.
-fn program(
-    shape: Shape,
-    words: &mut [u64],
-    flags: &mut [u8],
-    page: usize,
-    at: usize,
-    value: u64,
-)
+fn program(shape: Shape, words: &mut [u64], flags: &mut [u8], page: usize, at: usize, value: u64)
     requires words { length words.old ≡ page_count shape * shape.words }
     requires flags { length flags.old ≡ page_count shape * shape.words }
     requires page_in_range { page < page_count shape }
