@@ -3,3 +3,4 @@ pub mod PlayedSteps
 pub mod Mirrors
 pub mod DraftedCalls
 pub mod ExportedCalls
+pub mod LookedStates

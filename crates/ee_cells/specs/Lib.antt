@@ -6,3 +6,4 @@ pub mod DraftLaws
 pub mod Answers
 pub mod Calls
 pub mod Exports
+pub mod Looks

@@ -7,5 +7,6 @@ mod draft;
 mod drafting;
 mod exports;
 mod listing;
+mod looking;
 mod mirror;
 mod playing;
