@@ -1,14 +1,19 @@
 -- What the calls that take no step find, each over the device that its mirror means. They look at the words as they are,
 -- and ask for no mark.
-use Rattle.std.specs.Prelude.{◌≡◌, ℕ, ◌-◌, Some, None}
+use Rattle.std.specs.Prelude.{◌≡◌, ◌⊎◌, ℕ, ◌-◌, Some, None}
 use Rattle.ee_flash.specs.Device.{Device}
 use Rattle.ee_pages.specs.Layout.{IsScanFault}
 use Rattle.ee_pages.specs.Legal.{IsLegal}
 use Rattle.ee_pages.specs.Meaning.{IsNextLive, live_in}
 use Rattle.ee_store.specs.State.{State, capacity, state_of}
+use Rattle.ee_flash.specs.Size.{Size}
+use Rattle.ee_cells.specs.Answers.{foreign_at, status_of}
+use Rattle.ee_cells.specs.Mirror.{Fits, Mirror, device_in}
 use Rattle.ee_cells.specs.declared.answer.Answer.{Answer}
 use Rattle.ee_cells.specs.declared.answer.Answer.TheVariants.{Done, Moved, Nothing, Full, Spent, Absent, NoStore, ListTooShort, WrongShape, ImproperAddress}
 use Rattle.ee_cells.specs.declared.looking.Found.{Found}
+use Rattle.ee_cells.specs.declared.looking.FoundResult.{FoundResult}
+use Rattle.ee_cells.specs.declared.looking.CountsResult.{CountsResult}
 use Rattle.ee_cells.specs.declared.looking.Counts.{Counts}
 
 -- nothing is found
@@ -72,3 +77,46 @@ CountsFor device ImproperAddress counts = ⊥
 
 abbrev pub AreCounts : Device → Counts → Type 0
 AreCounts device counts = CountsFor device counts.answer counts
+
+-- ---- what the exports tell
+
+-- what the caller is told of a look
+abbrev pub found_result : Answer → ℕ → ℕ → FoundResult
+found_result answer address value = record {
+  status = status_of answer;
+  address = address;
+  value = value;
+  page = (foreign_at answer).0;
+  place = (foreign_at answer).1;
+}
+
+-- and of a count
+abbrev pub counts_result : Counts → CountsResult
+counts_result counts = record {
+  status = status_of counts.answer;
+  live = counts.live;
+  fill = counts.fill;
+  room = counts.room;
+  generation = counts.generation;
+  pending = counts.pending;
+  page = (foreign_at counts.answer).0;
+  place = (foreign_at counts.answer).1;
+}
+
+-- what an answer says: the mirror has another shape, or the arguments are not proper, or it is what the look finds
+abbrev pub Finds : Size → (Device → Answer → ℕ → ℕ → Type 0) → Type 0 → Answer → Mirror → ℕ → ℕ → Type 0
+Finds size finds proper answer mirror address value =
+    ((answer ≡ WrongShape) × ¬ Fits size mirror × IsZero address value)
+    ⊎ ((answer ≡ ImproperAddress) × Fits size mirror × ¬ proper × IsZero address value)
+    ⊎ (Fits size mirror × proper × finds (device_in size mirror) answer address value)
+
+-- a look tells one answer, which says what it says
+abbrev pub Looks : Size → (Device → Answer → ℕ → ℕ → Type 0) → Type 0 → FoundResult → Mirror → Type 0
+Looks size finds proper result mirror =
+    (answer : Answer) × (result ≡ found_result answer result.address result.value) × Finds size finds proper answer mirror result.address result.value
+
+-- and a count
+abbrev pub CountsIn : Size → CountsResult → Mirror → Type 0
+CountsIn size result mirror =
+    (counts : Counts) × (result ≡ counts_result counts)
+    × (((counts ≡ none_counted WrongShape) × ¬ Fits size mirror) ⊎ (Fits size mirror × AreCounts (device_in size mirror) counts))

@@ -47,10 +47,10 @@ pub struct CallResult {
 }
 
 impl Answer {
-    ghost use Rattle.ee_cells.specs.Answers.{answer_of_clean, answer_of_forget, answer_of_opening, answer_of_write, result_of, status_of};
+    ghost use Rattle.ee_cells.specs.Answers.{answer_of_clean, answer_of_forget, answer_of_opening, answer_of_write, foreign_at, result_of, status_of};
 
     /// The number of this answer.
-    fn status(self) -> usize
+    pub(crate) fn status(self) -> usize
         ensures { result ≡ status_of self }
     {
         match self {
@@ -70,15 +70,22 @@ impl Answer {
         }
     }
 
+    /// The page and the place of a foreign word, 0 where the answer names none.
+    pub(crate) fn foreign(self) -> (usize, usize)
+        ensures { result ≡ foreign_at self }
+    {
+        match self {
+            Answer::NoStore(ScanFault::Foreign { page, at }) => (page, at),
+            _ => (0, 0),
+        }
+    }
+
     /// What the caller is told of this answer, with so many steps listed.
     pub(crate) fn told(self, listed: usize) -> CallResult
         ensures { result ≡ result_of self listed }
     {
         let status = self.status();
-        let (page, place) = match self {
-            Answer::NoStore(ScanFault::Foreign { page, at }) => (page, at),
-            _ => (0, 0),
-        };
+        let (page, place) = self.foreign();
         CallResult {
             status,
             listed,

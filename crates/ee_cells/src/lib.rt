@@ -8,5 +8,6 @@ mod drafting;
 mod exports;
 mod listing;
 mod looking;
+mod looks;
 mod mirror;
 mod playing;

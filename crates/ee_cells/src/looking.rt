@@ -24,10 +24,24 @@ pub struct Found {
 }
 
 impl Found {
-    ghost use Rattle.ee_cells.specs.Looks.{none_found};
+    ghost use Rattle.ee_cells.specs.Looks.{found_result, none_found};
+
+    /// What the caller is told.
+    pub(crate) fn told(self) -> FoundResult
+        ensures { result ≡ found_result self.answer self.address self.value }
+    {
+        let (page, place) = self.answer.foreign();
+        FoundResult {
+            status: self.answer.status(),
+            address: u32::from(self.address),
+            value: self.value,
+            page,
+            place,
+        }
+    }
 
     /// Nothing, with this answer.
-    fn none(answer: Answer) -> Found
+    pub(crate) fn none(answer: Answer) -> Found
         ensures { result ≡ none_found answer }
     {
         Found {
@@ -36,6 +50,48 @@ impl Found {
             value: 0,
         }
     }
+}
+
+/// What a look tells its caller.
+///
+/// Source: ours.
+#[repr(C)]
+#[derive(Clone, Copy, Debug, PartialEq, Eq)]
+pub struct FoundResult {
+    /// One of the statuses of the header.
+    pub status: usize,
+    /// The address, 1 to 65534; 0 where none is found.
+    pub address: u32,
+    /// Its value; 0 where none is found.
+    pub value: u32,
+    /// The page of the foreign word, where the status is that there is one; else 0.
+    pub page: usize,
+    /// Its place in the page.
+    pub place: usize,
+}
+
+/// What a count tells its caller.
+///
+/// Source: ours.
+#[repr(C)]
+#[derive(Clone, Copy, Debug, PartialEq, Eq)]
+pub struct CountsResult {
+    /// One of the statuses of the header.
+    pub status: usize,
+    /// How many addresses have a value, 0 to the slots.
+    pub live: usize,
+    /// How many slots of the live set are used, torn ones too: 0 to the slots.
+    pub fill: usize,
+    /// How many of its slots are free.
+    pub room: usize,
+    /// Its generation, 1 to 4294967294.
+    pub generation: usize,
+    /// How many pages wait to be erased, 0 to 64.
+    pub pending: usize,
+    /// The page of the foreign word, where the status is that there is one; else 0.
+    pub page: usize,
+    /// Its place in the page.
+    pub place: usize,
 }
 
 /// How far a store is used, all 0 where there is none.
@@ -53,6 +109,41 @@ pub struct Counts {
     pub generation: u32,
     /// How many pages wait to be erased.
     pub pending: usize,
+}
+
+impl Counts {
+    ghost use Rattle.ee_cells.specs.Looks.{counts_result, none_counted};
+
+    /// What the caller is told.
+    pub(crate) fn told(self) -> CountsResult
+        ensures { result ≡ counts_result self }
+    {
+        let (page, place) = self.answer.foreign();
+        CountsResult {
+            status: self.answer.status(),
+            live: self.live,
+            fill: self.fill,
+            room: self.room,
+            generation: self.generation as usize,
+            pending: self.pending,
+            page,
+            place,
+        }
+    }
+
+    /// No counts, with this answer.
+    pub(crate) fn none(answer: Answer) -> Counts
+        ensures { result ≡ none_counted answer }
+    {
+        Counts {
+            answer,
+            live: 0,
+            fill: 0,
+            room: 0,
+            generation: 0,
+            pending: 0,
+        }
+    }
 }
 
 /// Looks an address up. It takes no step, and hands the list back.
@@ -156,16 +247,7 @@ fn find_counts<F: Flash>(flash: &F) -> Counts
 {
     let layout = match scan(flash) {
         Ok(layout) => layout,
-        Err(fault) => {
-            return Counts {
-                answer: Answer::NoStore(fault),
-                live: 0,
-                fill: 0,
-                room: 0,
-                generation: 0,
-                pending: 0,
-            };
-        }
+        Err(fault) => return Counts::none(Answer::NoStore(fault)),
     };
     Counts {
         answer: Answer::Done,
