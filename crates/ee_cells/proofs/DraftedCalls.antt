@@ -1,9 +1,9 @@
 -- What a call that was drafted leaves, by its answer.
-use Rattle.std.proofs.Common.{◌≡◌, ◌≢◌, ◌⊎◌, inl, inr, ℕ, ◌+◌, ◌≤◌, min, List, length, Bool, Result, Ok, Err, true, false, refl, subst, sym, ap, ◌∙◌, arith}
-use Rattle.ee_flash.specs.Device.{Device, IsOn}
+use Rattle.std.proofs.Common.{◌≡◌, ◌≢◌, inl, inr, ℕ, List, length, Bool, Result, Ok, Err, true, false, refl, subst, sym, ap, ◌∙◌, arith}
+use Rattle.ee_flash.specs.Device.{Device}
 use Rattle.ee_flash.specs.Laws.{all_completed}
 use Rattle.ee_flash.specs.Power.{IsCut}
-use Rattle.ee_flash.specs.Step.{Step, one_more}
+use Rattle.ee_flash.specs.Step.{one_more}
 use Rattle.ee_pages.specs.Layout.{IsScanFault}
 use Rattle.ee_store.specs.Calls.{Cleans, Forgets, Writes}
 use Rattle.ee_store.specs.Openings.{IsCutOpening, IsFormatted, OpenFails, Opens}
@@ -16,11 +16,11 @@ use Rattle.ee_store.specs.declared.variables.WriteFault.TheVariants as write
 use Rattle.ee_store.specs.declared.variables.ForgetFault.{ForgetFault}
 use Rattle.ee_store.specs.declared.variables.ForgetFault.TheVariants as forget
 use Rattle.ee_cells.specs.Answers.{answer_of_clean, answer_of_forget, answer_of_opening, answer_of_write}
-use Rattle.ee_cells.specs.Calls.{CleansCells, CutIn, Drafts, FillsList, ForgetsCells, FormatsCells, IsEnded, Lists, Opened, OpensCells, WritesCells}
+use Rattle.ee_cells.specs.Calls.{CleansCells, Drafts, FillsList, ForgetsCells, FormatsCells, IsEnded, Lists, OpensCells, WritesCells}
 use Rattle.ee_cells.specs.Draft.{IsFresh}
 use Rattle.ee_cells.specs.Listing.{AllTaken, steps_of}
 use Rattle.ee_cells.specs.declared.answer.Answer.{Answer}
-use Rattle.ee_cells.specs.declared.answer.Answer.TheVariants.{Done, Moved, Nothing, Full, Spent, Absent, NoStore, ListTooShort, WrongShape, ImproperAddress}
+use Rattle.ee_cells.specs.declared.answer.Answer.TheVariants.{Done, Moved, Nothing, Full, Spent, Absent, NoStore, ListTooShort}
 use Rattle.ee_cells.specs.declared.listing.ListedStep.{ListedStep}
 
 true_is_not_false : {b : Type 0} → true ≡ false → b

@@ -1,12 +1,12 @@
 -- From what a call was drafted to leave to what its export tells.
-use Rattle.std.proofs.Common.{◌≡◌, ◌≢◌, ℕ, List, length, Option, Some, None, refl, subst, sym, ap, ◌∙◌}
+use Rattle.std.proofs.Common.{◌≡◌, ◌≢◌, ℕ, List, refl, subst, sym, ap, ◌∙◌}
 use Rattle.ee_flash.specs.Device.{Device}
 use Rattle.ee_flash.specs.Laws.{all_completed}
 use Rattle.ee_flash.specs.Size.{Size}
 use Rattle.ee_cells.specs.Answers.{result_of}
-use Rattle.ee_cells.specs.Calls.{Drafts, FillsList, Lists}
-use Rattle.ee_cells.specs.Exports.{Calls, Ends, IsPlayed, IsRefused}
-use Rattle.ee_cells.specs.Listing.{AllTaken, steps_of}
+use Rattle.ee_cells.specs.Calls.{Drafts, Lists}
+use Rattle.ee_cells.specs.Exports.{Calls, Ends, IsPlayed}
+use Rattle.ee_cells.specs.Listing.{steps_of}
 use Rattle.ee_cells.specs.Mirror.{Fits, Mirror, device_in}
 use Rattle.ee_cells.specs.declared.answer.Answer.{Answer}
 use Rattle.ee_cells.specs.declared.answer.Answer.TheVariants.{Done, Moved, Nothing, Full, Spent, Absent, NoStore, ListTooShort, WrongShape, ImproperAddress}
@@ -46,16 +46,3 @@ module _ (size : Size) (leaves : Device → Answer → Device → Type 0) (prope
 
   pub settled : (answer : Answer) → Drafts (leaves start) answer start listed count → result ≡ result_of answer result.listed → (answer ≡ ListTooShort → (new ≡ old) × (result.listed ≡ 0)) → (answer ≢ ListTooShort → IsPlayed size old new listed result.listed) → (answer ≢ ListTooShort → result.listed ≡ count) → Calls size leaves proper result old new listed
   settled answer drafts told short played same = (answer, told, ends answer drafts short played same)
-
--- what `settle` asks for
-pub to_play : (leaves : Answer → Device → Type 0) (answer : Answer) (start : Device) (listed : List ListedStep) (count : ℕ) → Drafts leaves answer start listed count → answer ≢ ListTooShort → Lists start listed count (leaves answer)
-to_play leaves ListTooShort first listed count drafts long = absurd (long refl)
-to_play leaves Done first listed count drafts long = drafts
-to_play leaves Moved first listed count drafts long = drafts
-to_play leaves Nothing first listed count drafts long = drafts
-to_play leaves Full first listed count drafts long = drafts
-to_play leaves Spent first listed count drafts long = drafts
-to_play leaves Absent first listed count drafts long = drafts
-to_play leaves (NoStore fault) first listed count drafts long = drafts
-to_play leaves WrongShape first listed count drafts long = drafts
-to_play leaves ImproperAddress first listed count drafts long = drafts

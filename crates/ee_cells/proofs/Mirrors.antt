@@ -1,14 +1,13 @@
 -- Why the device that a mirror means is formed, and fresh.
-use Rattle.std.proofs.Common.{◌≡◌, ◌≢◌, ◌⊎◌, inl, inr, ℕ, ◌*◌, ◌<◌, ◌≤◌, ◌^◌, ◌==◌, Bool, true, false, List, length, get_or, refl, sym, ap, ◌∙◌, arith}
+use Rattle.std.proofs.Common.{◌≡◌, inl, inr, ℕ, ◌*◌, ◌<◌, ◌==◌, true, false, List, length, get_or, refl, sym, ◌∙◌, arith}
 use Rattle.std.specs.List.{All}
 use Rattle.std.proofs.lemmas.Bool.{cases_eq}
 use Rattle.std.proofs.lemmas.Bool.Decides.{nat_tests}
 use Rattle.std.proofs.lemmas.List.{get_or_default}
 use Rattle.std.proofs.lemmas.Option.{none-some}
-use Rattle.ee_flash.specs.Device.{IsBelowAllOnes, IsFormed, all_ones}
+use Rattle.ee_flash.specs.Device.{IsBelowAllOnes, all_ones}
 use Rattle.ee_flash.specs.Formed.{below_all_ones, length-pages_of, page_lengths}
 use Rattle.ee_flash.specs.Size.{Size, page_count}
-use Rattle.ee_flash.specs.declared.word.Word.{Word}
 use Rattle.ee_flash.specs.declared.word.Word.TheVariants.{Erased, Held, Torn}
 use Rattle.ee_cells.specs.Draft.{IsFresh}
 use Rattle.ee_cells.specs.Mirror.{IsMirror, cells_of, decoded, device_of}

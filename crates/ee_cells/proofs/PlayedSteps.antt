@@ -1,17 +1,17 @@
 -- What a step that is taken on a mirror does to the device that it means.
-use Rattle.std.proofs.Common.{◌≡◌, ◌≢◌, ◌⊎◌, inl, inr, ℕ, ◌+◌, ◌-◌, ◌*◌, ◌<◌, ◌≤◌, ◌==◌, min, Bool, true, false, List, [], ◌∷◌, ◌++◌, length, get_or, set, replicate, refl, subst, sym, ap, ◌∙◌, arith, drop, map, rules, take}
+use Rattle.std.proofs.Common.{◌≡◌, inl, inr, ℕ, ◌+◌, ◌*◌, ◌<◌, ◌≤◌, ◌==◌, false, List, [], ◌∷◌, ◌++◌, length, get_or, set, replicate, refl, subst, sym, ap, ◌∙◌, arith, drop, map, rules, take}
 use borrow.Rule.Slice.PartMut.{put_mid}
 use Rattle.std.specs.List.{zip}
 use Rattle.std.proofs.lemmas.Bool.{cases_eq, cases_lt}
 use Rattle.std.proofs.lemmas.Bool.Decides.{nat_tests}
-use Rattle.std.proofs.lemmas.List.{ext_get_or, get_or-set_other, get_or-set_same, get_or-replicate, length-map, length-replicate, length-set, places}
+use Rattle.std.proofs.lemmas.List.{ext_get_or, get_or-set_other, get_or-set_same, length-map, length-replicate, length-set, places}
 use Rattle.std.proofs.lemmas.Nat.{mul-add-lt, row_fits}
 use Rattle.std.proofs.lemmas.Slice.Zip.{length-zip}
 use Rattle.ee_flash.specs.Device.{Device, all_ones}
 use Rattle.ee_flash.specs.Laws.{CanTake, all_completed}
 use Rattle.ee_flash.specs.Pages.{pages_of}
 use Rattle.ee_flash.specs.Size.{Size, page_count}
-use Rattle.ee_flash.specs.Step.{Step, Program, Erase, completed}
+use Rattle.ee_flash.specs.Step.{Step, Program, completed}
 use Rattle.ee_flash.specs.declared.word.Word.{Word}
 use Rattle.ee_flash.specs.declared.word.Word.TheVariants.{Erased, Held}
 use Rattle.ee_flash.proofs.Pages.{pages_of-rewritten, pages_of-set}
@@ -19,7 +19,7 @@ use Rattle.ee_cells.specs.DraftLaws.{one_more_step}
 use Rattle.ee_cells.specs.Listing.{AllTaken, step_of, steps_of}
 use Rattle.ee_cells.specs.Mirror.{cells_of, decoded, device_of}
 use Rattle.ee_cells.specs.declared.listing.ListedStep.{ListedStep}
-use Rattle.ee_cells.proofs.DraftSteps.{decoded_at, front_taken, next_listed, next_taken, part_taken}
+use Rattle.ee_cells.proofs.DraftSteps.{decoded_at, next_listed, next_taken, part_taken}
 
 pub length-cells_of : (words flags : List ℕ) → length flags ≡ length words → length (cells_of words flags) ≡ length words
 unfolding cells_of

@@ -1,6 +1,6 @@
 -- What each call answers, and what it leaves of the device that its mirror means: one relation for each, by cases on the
 -- answer. A call opens the store first, which sets the marks that a cut left.
-use Rattle.std.specs.Prelude.{◌≡◌, ◌≤◌, ◌⊎◌, ℕ, Result, Ok, Err, true, false, List, length}
+use Rattle.std.specs.Prelude.{◌≡◌, ◌≤◌, ◌⊎◌, ℕ, Ok, Err, true, false, List, length}
 use Rattle.ee_flash.specs.Device.{Device}
 use Rattle.ee_flash.specs.Laws.{all_completed}
 use Rattle.ee_flash.specs.Power.{IsCut}

@@ -1,11 +1,8 @@
 -- A draft: a device as it was, and the steps that were listed since.
-use Rattle.std.specs.Prelude.{◌≡◌, ◌≤◌, ℕ, Bool, true, Option, None, List, length}
-use Rattle.std.specs.List.{All}
-use Rattle.ee_flash.specs.Device.{Device, IsFormed, IsOn, all_ones}
+use Rattle.std.specs.Prelude.{◌≡◌, ℕ, Bool, None, List}
+use Rattle.ee_flash.specs.Device.{Device, IsFormed, IsOn}
 use Rattle.ee_flash.specs.Laws.{all_completed}
 use Rattle.ee_flash.specs.Step.{Step}
-use Rattle.ee_flash.proofs.Outcomes.{step_keeps_formed}
-use Rattle.ee_cells.specs.Listing.{AllTaken}
 
 -- a device that was never cut, is on, and may be cut any number of times
 pub record IsFresh (device : Device) : Type 0 where

@@ -1,10 +1,10 @@
 -- Why a draft is formed, and what listing one more step does to it.
-use Rattle.std.specs.Prelude.{◌≡◌, ◌≤◌, ℕ, Bool, true, Option, None, List, [], ◌∷◌, ◌++◌, length}
+use Rattle.std.specs.Prelude.{◌≡◌, ◌≤◌, ℕ, Bool, List, [], ◌∷◌, ◌++◌, length}
 use Rattle.std.specs.List.{All}
-use Rattle.std.proofs.Common.{refl, subst, sym, ap, ◌∙◌, inl}
+use Rattle.std.proofs.Common.{refl, subst, ap, ◌∙◌, inl}
 use Rattle.std.proofs.lemmas.Option.{none-some}
 use Rattle.ee_flash.specs.Device.{Device, IsFormed, IsOn, all_ones}
-use Rattle.ee_flash.specs.Laws.{CanTake, IsStep, all_completed}
+use Rattle.ee_flash.specs.Laws.{CanTake, all_completed}
 use Rattle.ee_flash.specs.Size.{Size, page_count}
 use Rattle.ee_flash.specs.Step.{Step, Program, Erase, completed}
 use Rattle.ee_flash.proofs.Outcomes.{step_keeps_formed}

@@ -13,7 +13,13 @@ use crate::mirror::{settle, shape_of};
 use ee_codec::Address;
 use std::marker::Brand;
 
-/// Makes a store with nothing in it: each page that is not blank is erased.
+/// Makes a store with nothing in it, whatever the words are: erases each page that is not blank, and
+/// makes the first set the live one, with generation 1.
+///
+/// The shape is `pages` pages in each set, 1 to 64, of `page_words` words, 5 to 512. `Done`, or:
+/// `WrongShape`, `ListTooShort`; then nothing is written.
+///
+/// Source: ours.
 #[unsafe(no_mangle)]
 pub extern "C" fn ee_format(
     pages: usize,
@@ -39,7 +45,11 @@ pub extern "C" fn ee_format(
     settle(shape, words, flags, wears, used, count, answer)
 }
 
-/// Opens the store: sets the marks that a cut left to set.
+/// Opens the store: sets the marks that a cut left to set. The variables are as before.
+///
+/// `Done`; `NoStore`, and nothing changed; `WrongShape` or `ListTooShort`, and nothing is written.
+///
+/// Source: ours.
 #[unsafe(no_mangle)]
 pub extern "C" fn ee_open(
     pages: usize,
@@ -65,8 +75,12 @@ pub extern "C" fn ee_open(
     settle(shape, words, flags, wears, used, count, answer)
 }
 
-/// Writes a value of an address, in a mirror of this many pages in each set and words in each page,
-/// and lists the steps that it takes.
+/// Writes a value of an address, 1 to 65534. It opens the store first.
+///
+/// `Done` or `Moved`; `Full` or `Spent`, and the value is not written; `NoStore`, and nothing changed;
+/// `WrongShape`, `ImproperAddress` or `ListTooShort`, and nothing is written.
+///
+/// Source: ours.
 #[unsafe(no_mangle)]
 pub extern "C" fn ee_write(
     pages: usize,
@@ -98,7 +112,12 @@ pub extern "C" fn ee_write(
     settle(shape, words, flags, wears, used, count, answer)
 }
 
-/// Takes the value of an address away.
+/// Takes the value of an address, 1 to 65534, away. It opens the store first.
+///
+/// `Done` or `Moved`; `Absent` or `Spent`, and nothing is forgotten; `NoStore`, and nothing changed;
+/// `WrongShape`, `ImproperAddress` or `ListTooShort`, and nothing is written.
+///
+/// Source: ours.
 #[unsafe(no_mangle)]
 pub extern "C" fn ee_forget(
     pages: usize,
@@ -129,7 +148,12 @@ pub extern "C" fn ee_forget(
     settle(shape, words, flags, wears, used, count, answer)
 }
 
-/// Erases the lowest page that waits to be erased, if there is one.
+/// Erases the lowest page that waits to be erased, if there is one. It opens the store first.
+///
+/// `Done` or `Nothing`; `NoStore`, and nothing changed; `WrongShape` or `ListTooShort`, and nothing is
+/// written.
+///
+/// Source: a clean-up whose moment the application chooses, AN4894; the rest is ours.
 #[unsafe(no_mangle)]
 pub extern "C" fn ee_clean(
     pages: usize,

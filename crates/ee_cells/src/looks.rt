@@ -12,7 +12,11 @@ use crate::mirror::shape_of;
 use ee_codec::Address;
 use std::marker::Brand;
 
-/// The value of an address.
+/// The value of an address, 1 to 65534. It takes no step, and sets no mark.
+///
+/// `Done`, or `Nothing` if it has none; `NoStore`, `WrongShape`, `ImproperAddress`.
+///
+/// Source: ours.
 #[unsafe(no_mangle)]
 pub extern "C" fn ee_read(
     pages: usize,
@@ -37,7 +41,11 @@ pub extern "C" fn ee_read(
 }
 
 /// The next address above `after` that has a value, with the value: the first of all where `after`
-/// is 0.
+/// is 0. It takes no step, and sets no mark.
+///
+/// `Done`, or `Nothing` if there is none; `NoStore`, `WrongShape`; `ImproperAddress` of 65535 alone.
+///
+/// Source: ours.
 #[unsafe(no_mangle)]
 pub extern "C" fn ee_next(
     pages: usize,
@@ -76,7 +84,11 @@ fn begin_of(after: u16) -> Option<Option<Address>>
     }
 }
 
-/// How far the store is used.
+/// How far the store is used. It takes no step, and sets no mark.
+///
+/// `Done`; `NoStore` or `WrongShape`, and each count is 0.
+///
+/// Source: ours.
 #[unsafe(no_mangle)]
 pub extern "C" fn ee_counts(
     pages: usize,

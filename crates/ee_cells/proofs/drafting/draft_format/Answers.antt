@@ -1,8 +1,8 @@
-use Rattle.std.proofs.Common.{◌∙◌, subst, sym}
+use Rattle.std.proofs.Common.{subst, sym}
 use Rattle.ee_flash.specs.Device.{Device}
 use Rattle.ee_flash.specs.Power.{IsCut}
-use Rattle.ee_store.specs.Openings.{IsFormatted, OpenFails, Opens}
-use Rattle.ee_cells.specs.Calls.{Drafts, FormatsCells, OpensCells}
+use Rattle.ee_store.specs.Openings.{IsFormatted}
+use Rattle.ee_cells.specs.Calls.{Drafts, FormatsCells}
 use Rattle.ee_cells.specs.Draft.{drafted}
 use Rattle.ee_cells.specs.Listing.{steps_of}
 use Rattle.ee_cells.specs.declared.answer.Answer.{Answer}

@@ -1,4 +1,4 @@
-use Rattle.std.proofs.Common.{◌≡◌, ℕ, List, refl, rules, subst, sym}
+use Rattle.std.proofs.Common.{◌≡◌, ℕ, List, refl, rules, subst}
 use Rattle.ee_codec.specs.Words.{IsAddress}
 use Rattle.ee_flash.specs.Size.{Size, size_of}
 use Rattle.ee_cells.specs.Calls.{WritesCells}

@@ -1,5 +1,5 @@
 use borrow.Rule.Slice.PartMut.{put_mid}
-use Rattle.std.proofs.Common.{◌≡◌, ◌∙◌, ◌*◌, ◌+◌, ◌-◌, ℕ, List, length, replicate, set, get_or, ◌≤◌, sym, ap, arith}
+use Rattle.std.proofs.Common.{◌≡◌, ◌∙◌, ◌*◌, ◌+◌, ◌-◌, ℕ, List, length, replicate, set, get_or, ◌≤◌, ap, arith}
 use Rattle.std.proofs.lemmas.Nat.{row_fits}
 use Rattle.ee_flash.specs.Size.{page_count}
 use Rattle.ee_flash.specs.Device.{Device, all_ones}

@@ -1,7 +1,6 @@
-use Rattle.std.proofs.Common.{◌≡◌, ◌∙◌, ◌<◌, List, ℕ, length, sym, ap, arith}
+use Rattle.std.proofs.Common.{List, sym, ap, arith}
 use Rattle.ee_flash.specs.Laws.{all_completed}
 use Rattle.ee_flash.specs.Step.{Step}
-use Rattle.ee_cells.specs.Listing.{steps_of}
 use Rattle.ee_cells.specs.Mirror.{device_of}
 use Rattle.ee_cells.proofs.DraftSteps.{none_listed}
 use Rattle.ee_cells.proofs.PlayedSteps.{step_done, step_may}

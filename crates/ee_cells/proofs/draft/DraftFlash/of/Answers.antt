@@ -1,12 +1,10 @@
-use Rattle.std.proofs.Common.{◌≡◌, ◌∙◌, ◌≤◌, ◌<◌, ℕ, true, List, [], length, get_or, refl, subst, sym, ap, arith}
+use Rattle.std.proofs.Common.{◌∙◌, ◌≤◌, ℕ, true, List, [], length, refl, subst, sym, ap, arith}
 use Rattle.std.specs.List.{All}
 use Rattle.ee_flash.specs.Device.{Device, all_ones}
 use Rattle.ee_flash.specs.Laws.{all_completed}
-use Rattle.ee_flash.specs.Size.{page_count}
 use Rattle.ee_flash.specs.Step.{Step}
 use Rattle.ee_cells.specs.Draft.{IsFresh, drafted}
-use Rattle.ee_cells.specs.Listing.{AllTaken, steps_of}
-use Rattle.ee_cells.specs.Mirror.{device_of}
+use Rattle.ee_cells.specs.Listing.{AllTaken}
 use Rattle.ee_cells.proofs.DraftSteps.{none_listed}
 use Rattle.ee_cells.proofs.Mirrors.{fresh_device}
 use Rattle.ee_cells.proofs.draft.DraftFlash.of.Goals as goal

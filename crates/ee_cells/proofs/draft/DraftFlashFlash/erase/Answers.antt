@@ -1,9 +1,8 @@
-use Rattle.std.proofs.Common.{arith, ◌+◌, slice_set, ◌∙◌, ◌≡◌, ◌≤◌, ◌<◌, ℕ, List, length, subst, sym, ap}
-use Rattle.std.specs.List.{All, refill}
+use Rattle.std.proofs.Common.{arith, ◌+◌, slice_set, ◌∙◌, ◌≤◌, ◌<◌, ℕ, List, length, subst, sym, ap}
+use Rattle.std.specs.List.{All}
 use Rattle.std.proofs.lemmas.List.{length-set}
 use Rattle.std.proofs.lemmas.List.Elements.{All-set}
-use Rattle.ee_flash.specs.Device.{all_ones, wear_at}
-use Rattle.ee_flash.specs.Step.{one_more}
+use Rattle.ee_flash.specs.Device.{all_ones}
 use Rattle.ee_cells.specs.Listing.{steps_of}
 use Rattle.ee_cells.specs.Draft.{drafted}
 use Rattle.ee_cells.proofs.DraftSteps.{none_cut, erase_done, erase_taken, erase_wear, worn_items}
