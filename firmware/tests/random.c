@@ -38,6 +38,19 @@ static void look_through(const part *p, const model *m) {
     CHECK(counts.fill + counts.room == EE_SLOTS(p->pages, p->page_words));
 }
 
+/* A write with no opening before it: the marks that the cut left are set in the same call, and the list is long enough. */
+static void write_at_once(part flash, ee_step step, enum tear tear) {
+    take_torn(&flash, step, tear);
+    uint64_t slots = EE_SLOTS(flash.pages, flash.page_words), most = slots < ADDRESSES ? slots : ADDRESSES;
+    part mirror = flash;
+    list l = {.places = EE_LIST_LIVE(flash.pages, most)};
+    ee_done done = ee_write(MIRROR(&mirror), LIST(&l), 1, 7);
+    CHECK(done.status <= EE_MOVED || done.status == EE_FULL);
+    for (uint64_t i = 0; i < done.listed; i++) take(&flash, l.steps[i]);
+    CHECK(same(&flash, &mirror));
+    if (done.status != EE_FULL) CHECK(ee_read(MIRROR(&flash), 1).value == 7);
+}
+
 /* Cuts the list at each step with each tear; what is then opened reads as before the call or as after it. */
 static void cut_everywhere(const part *before, const ee_step *steps, uint64_t count, const model *old, const model *new) {
     part so_far = *before;
@@ -52,6 +65,7 @@ static void cut_everywhere(const part *before, const ee_step *steps, uint64_t co
             for (uint64_t i = 0; i < done.listed; i++) take(&flash, l.steps[i]);
             CHECK(same(&flash, &mirror));
             CHECK(reads(&flash, old) || reads(&flash, new));
+            write_at_once(so_far, steps[k], (enum tear)tear);
             cuts++;
         }
         take(&so_far, steps[k]);
