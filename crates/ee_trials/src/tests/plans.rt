@@ -2,7 +2,7 @@ use super::trial::with_each_refusal;
 use ee_codec::Address;
 use ee_flash::{MemFlash, Shape};
 use ee_plan::start_of;
-use ee_shell::{check_script, plan_script};
+use ee_shell::{check_script, plan_script, size_parts};
 use ee_store::{Variables, format};
 use ee_words::Fault;
 use std::test::Fail;
@@ -68,4 +68,20 @@ fn a_check_of_a_script(rt: HostRuntime) {
         }
     });
     assert!(rt; requests > 4);
+}
+
+#[test]
+fn a_part_that_is_sized(rt: HostRuntime) {
+    // Ten writes of two addresses in all.
+    let front = b"pages 1 slots 2 transfers 8 erases 4 worn\npages 2 slots 4 transfers 2 erases 1 enough\n";
+    let requests = with_each_refusal(&rt, rt.alloc(), &(true, true), |alloc| {
+        match size_parts(alloc, 6, b"w 1 1\nw 2 2\nr 1\n", 3, 5) {
+            Ok(sizes) => Some((sizes.text.as_slice().starts_with(front), sizes.some_enough)),
+            Err(fault) => {
+                assert_eq!(rt; fault, Fault::Memory);
+                None
+            }
+        }
+    });
+    assert!(rt; requests > 5);
 }
