@@ -50,8 +50,11 @@ pub(crate) struct DraftFlash<'w, 'l, K: Lent> {
     words: &'w [u64],
     flags: &'w [u8],
     listed: &'l mut [ListedStep],
+    // How many steps of the list are listed.
     count: usize,
+    // How often each page was erased, by a step that found no place in the list too.
     wear: ArrayVec<u64, GREATEST_PAGES>,
+    // How many steps found none.
     cuts: u64,
     on: bool,
     lent: PhantomData<K>,
@@ -67,7 +70,8 @@ pub(crate) struct DraftFlash<'w, 'l, K: Lent> {
     ghost wear_fits: { All (λ count. count ≤ all_ones) wear.items },
     ghost cuts_fit: { cuts ≤ all_ones },
     ghost full: { (cuts ≡ 0 → ⊥) → count ≡ length listed.now },
-    ghost whole: { cuts ≡ 0 → (wear.items ≡ (all_completed (steps_of count listed.now) K.start).wear) × (on ≡ true) },
+    ghost whole: { cuts ≡ 0
+        → (wear.items ≡ (all_completed (steps_of count listed.now) K.start).wear) × (on ≡ true) },
 }
 
 /// What a word's number and its flag mean.
@@ -99,7 +103,8 @@ impl<'w, 'l, K: Lent> Flash for DraftFlash<'w, 'l, K> {
     ghost use Rattle.ee_flash.specs.Device.{IsOn, wear_at, word_at};
     ghost use Rattle.std.proofs.Common.{sym, ap, ◌∙◌};
 
-    ghost device = { λ draft. drafted K.start (steps_of draft.count draft.listed.now) draft.wear.items draft.cuts draft.on };
+    ghost device = { λ draft. drafted K.start (steps_of draft.count draft.listed.now)
+        draft.wear.items draft.cuts draft.on };
 
     ghost formed = { λ draft. IsFormed-drafted K.start (steps_of draft.count draft.listed.now)
         draft.wear.items draft.cuts draft.on draft.fresh draft.taken
@@ -193,7 +198,8 @@ impl<'w, 'l, K: Lent> DraftFlash<'w, 'l, K> {
         requires mirror { IsMirror shape words.now flags.now wears.now }
         requires start { K.start ≡ device_of shape words.now flags.now wears.now }
         requires list { listed.ghost_name ≡ K.list }
-        ensures { drafted K.start (steps_of result.count result.listed.now) result.wear.items result.cuts result.on ≡ K.start }
+        ensures { drafted K.start (steps_of result.count result.listed.now)
+            result.wear.items result.cuts result.on ≡ K.start }
     {
         DraftFlash {
             shape,

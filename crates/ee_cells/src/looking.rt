@@ -166,7 +166,7 @@ pub(crate) fn look_up<'w, 'l, K: Lent>(
     (found, listed)
 }
 
-// The same of any device.
+// Looks an address up in any device.
 fn find<F: Flash>(flash: &F, address: Address) -> Found
     ensures { IsRead (F.device flash.now) address result.answer result.address result.value }
 {
@@ -204,7 +204,7 @@ pub(crate) fn look_on<'w, 'l, K: Lent>(
     (found, listed)
 }
 
-// The same of any device.
+// Looks for the next address in any device.
 fn find_next<F: Flash>(flash: &F, after: Option<Address>) -> Found
     ensures { IsNext (F.device flash.now) (above_of after) result.answer result.address result.value }
 {
@@ -241,7 +241,7 @@ pub(crate) fn count<'w, 'l, K: Lent>(
     (found, listed)
 }
 
-// The same of any device.
+// Counts what is used in any device.
 fn find_counts<F: Flash>(flash: &F) -> Counts
     ensures { AreCounts (F.device flash.now) result }
 {
