@@ -1,8 +1,9 @@
 use crate::saving::save;
 use ee_flash::Shape;
 use ee_shell::{
-    check_script, clean_image, format_image, get_setting, list_text, plan_script, replay, replay_indexed,
-    set_setting, size_parts, stale_text, states_text, tidy_image, try_script, wear_text,
+    check_script, clean_image, format_image, get_setting, list_text, plan_script, replay,
+    replay_indexed, set_setting, size_parts, stale_text, states_text, tidy_image, try_script,
+    wear_text,
 };
 use ee_words::{Fault, File, Job, fault_line, job, read_whole, status_of, write_whole};
 use std::rt::Files;
@@ -113,7 +114,12 @@ fn run_files<R: Files + Print + AllocGlobal>(
     } else {
         replay(rt.alloc(), before.as_slice(), lines.as_slice())?
     };
-    write_image(rt, image, Some(before.as_slice()), replayed.image.as_slice())?;
+    write_image(
+        rt,
+        image,
+        Some(before.as_slice()),
+        replayed.image.as_slice(),
+    )?;
     print(rt, replayed.report.as_slice())
 }
 

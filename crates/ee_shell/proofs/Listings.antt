@@ -24,7 +24,7 @@ line_made settings listed out numbered held named done first second third fourth
     let names = name_words settings listed.entry in
     let feed = line_feed ∷ [] in
     let text : joined (number ∷ (holds ++ names)) ≡ number ++ (words_behind holds ++ words_behind names) =
-        joined_behind number (holds ++ names) ∙ ap (λ (rest : List ℕ). number ++ rest) (flat_map-append (λ (word : List ℕ). space ∷ word) holds names) in
+    joined_behind number (holds ++ names) ∙ ap (λ (rest : List ℕ). number ++ rest) (flat_map-append (λ (word : List ℕ). space ∷ word) holds names) in
     fourth ∙ rw (third, second, first, text)
     (append_assoc ((out ++ number) ++ words_behind holds) (words_behind names) feed
     ∙ append_assoc (out ++ number) (words_behind holds) (words_behind names ++ feed)

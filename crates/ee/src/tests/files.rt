@@ -293,11 +293,15 @@ fn a_part_is_sized(rt: HostRuntime) -> Result<(), Fail> {
     let desk = Desk::new(&rt);
     assert_eq!(rt; desk.run(&["size", "6", "size.script", "4", "2"])?, 0);
     let (printed, told) = desk.written();
-    let lines = b"pages 1 slots 2 transfers 7 erases 4 enough\npages 2 slots 4 transfers 2 erases 1 enough\n";
+    let lines =
+        b"pages 1 slots 2 transfers 7 erases 4 enough\npages 2 slots 4 transfers 2 erases 1 enough\n";
     assert!(rt; printed.as_slice().starts_with(lines));
     assert_eq!(rt; told.as_slice(), b"".as_slice());
     let desk = Desk::new(&rt);
-    assert_eq!(rt; desk.run(&["size", "6", "size.script", "1", "4294967295"])?, 4);
+    assert_eq!(rt;
+        desk.run(&["size", "6", "size.script", "1", "4294967295"])?,
+        4
+    );
     let (printed, told) = desk.written();
     let line = b"pages 1 slots 2 transfers 21474836472 erases 10737418236 worn\n";
     assert!(rt; printed.as_slice().starts_with(line));

@@ -187,7 +187,10 @@ fn the_last_page_of_128(rt: HostRuntime) -> Result<(), Fail> {
     let fresh = many_pages(rt.alloc(), false)?;
     let text = wear_text(rt.alloc(), worn.as_slice(), Some(fresh.as_slice())).ok();
     let text = text.ok_or("no wear")?;
-    assert!(rt; text.as_slice().ends_with(b"page 127 wear 127\ntotal 8128 least 0 greatest 127\n"));
+    assert!(rt;
+        text.as_slice()
+            .ends_with(b"page 127 wear 127\ntotal 8128 least 0 greatest 127\n")
+    );
     let (most, _) = fresh.as_slice().split_at(fresh.len().saturating_sub(2));
     let mut broken = most.to_vec(rt.alloc())?;
     broken.extend_from_slice(b"g\n")?;
@@ -207,6 +210,9 @@ fn a_device_that_is_off_is_written(rt: HostRuntime) -> Result<(), Fail> {
     assert!(rt; !flash.is_on());
     let mut text = Vec::new(rt.alloc());
     write_image(&flash, &mut text)?;
-    assert_eq!(rt; text.as_slice(), b"ee 1 5\n1 ? ? ? ? ?\n0 - - - - -\n".as_slice());
+    assert_eq!(rt;
+        text.as_slice(),
+        b"ee 1 5\n1 ? ? ? ? ?\n0 - - - - -\n".as_slice()
+    );
     Ok(())
 }

@@ -73,7 +73,8 @@ fn a_check_of_a_script(rt: HostRuntime) {
 #[test]
 fn a_part_that_is_sized(rt: HostRuntime) {
     // Ten writes of two addresses in all.
-    let front = b"pages 1 slots 2 transfers 8 erases 4 worn\npages 2 slots 4 transfers 2 erases 1 enough\n";
+    let front =
+        b"pages 1 slots 2 transfers 8 erases 4 worn\npages 2 slots 4 transfers 2 erases 1 enough\n";
     let requests = with_each_refusal(&rt, rt.alloc(), &(true, true), |alloc| {
         match size_parts(alloc, 6, b"w 1 1\nw 2 2\nr 1\n", 3, 5) {
             Ok(sizes) => Some((sizes.text.as_slice().starts_with(front), sizes.some_enough)),

@@ -19,9 +19,9 @@ loop-number-preserved g c =
     let number = c.loop-number.number in
     let same : c.in-Some.address ≡ number = c.in-Some.ensures.number in
     let named : c.copied-name.result ≡ named_in settings number =
-        c.copied-name.ensures ∙ c.get.ensures.value ∙ ap (λ (names : ℕ → Option (ℕ × Numbers)). names c.in-Some.address) c.in_ok-named.ensures ∙ ap (named_in settings) same in
+    c.copied-name.ensures ∙ c.get.ensures.value ∙ ap (λ (names : ℕ → Option (ℕ × Numbers)). names c.in-Some.address) c.in_ok-named.ensures ∙ ap (named_in settings) same in
     let value : c.copied-value.result ≡ map number =
-        c.copied-value.ensures ∙ c.get-in-loop-number.ensures.value ∙ ap (λ (values : Map). values c.in-Some.address) c.in_ok-stored.ensures ∙ ap map same in
+    c.copied-value.ensures ∙ c.get-in-loop-number.ensures.value ∙ ap (λ (values : Map). values c.in-Some.address) c.in_ok-stored.ensures ∙ ap map same in
     record {
       from = omega arith;
       so_far = listed_further settings map number c.loop-number.listed.items c.push_listed.new.listed.items c.copied-name.result c.copied-value.result c.loop-number.invariant.from c.loop-number.invariant.so_far named value (search (rules, same));
