@@ -10,7 +10,11 @@ use std::test::Fail;
 
 const SCRIPT: &[u8] = b"w 1 10\nr 1\nr 2\n";
 
-const REPORT: &[u8] = b"ok\n10\nnone\n";
+/// The image that two moves leave, of 170 bytes.
+const IMAGE: &[u8] = b"ee 1 6
+1 aaaaaaaa00000003 aaaaaaaaaaaaaaaa - - 0000000d00000001 0000000500000002
+0 aaaaaaaa00000002 aaaaaaaaaaaaaaaa - aaaaaaaaaaaaaaaa 0000000c00000001 0000000500000002
+";
 
 /// Whether a reader of the script that gives so many bytes a call is read whole.
 fn is_read(
@@ -81,7 +85,7 @@ fn each_stopped_write_is_told(rt: HostRuntime) -> Result<(), Fail> {
         Stop::NoByte,
     ];
     for stop in stops {
-        for stops_at in 1..=12 {
+        for stops_at in 1..=171 {
             let taken = Vec::new(rt.alloc());
             let mut writer = FailingWriter {
                 taken,
@@ -89,13 +93,13 @@ fn each_stopped_write_is_told(rt: HostRuntime) -> Result<(), Fail> {
                 stop,
             };
             let count = stops_at as usize - 1;
-            let wanted = if count < 11 {
+            let wanted = if count < 170 {
                 Err(Stopped { written: count })
             } else {
                 Ok(())
             };
-            assert_eq!(rt; write_whole(&mut writer, REPORT), wanted);
-            assert_eq!(rt; writer.taken.as_slice(), &REPORT[..count]);
+            assert_eq!(rt; write_whole(&mut writer, IMAGE), wanted);
+            assert_eq!(rt; writer.taken.as_slice(), &IMAGE[..count]);
         }
     }
     Ok(())

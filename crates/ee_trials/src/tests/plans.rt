@@ -1,10 +1,12 @@
 use super::trial::with_each_refusal;
+use ee_check::{Change, Start};
 use ee_codec::Address;
 use ee_flash::{MemFlash, Shape};
-use ee_plan::start_of;
+use ee_plan::{Demand, Rounds, RoundsFault, start_of};
 use ee_shell::{check_script, plan_script, size_parts};
 use ee_store::{Variables, format};
 use ee_words::Fault;
+use std::collections::BTreeSet;
 use std::test::Fail;
 
 /// Just formatted.
@@ -39,6 +41,45 @@ fn a_start(rt: HostRuntime) -> Result<(), Fail> {
         }
     });
     assert!(rt; requests > 0);
+    Ok(())
+}
+
+#[test]
+fn the_live_addresses_of_a_start(rt: HostRuntime) -> Result<(), Fail> {
+    let first = Address::new(9).ok_or("no address")?;
+    let second = Address::new(2).ok_or("no address")?;
+    let mut live = BTreeSet::new(rt.alloc());
+    live.insert(first)?;
+    let start: Start = Start::new(2, 1, live).ok_or("no start")?;
+    let requests = with_each_refusal(&rt, rt.alloc(), &2, |alloc| {
+        let mut live = start.live_in(alloc).ok()?;
+        if Change::Write(second).make(&mut live).is_err() {
+            assert_eq!(rt; live.len(), 1);
+            return None;
+        }
+        Some(live.len())
+    });
+    assert!(rt; requests > 0);
+    Ok(())
+}
+
+#[test]
+fn rounds_of_a_trace(rt: HostRuntime) -> Result<(), Fail> {
+    let trace = [
+        Change::Write(Address::new(1).ok_or("no address")?),
+        Change::Write(Address::new(2).ok_or("no address")?),
+    ];
+    let requests = with_each_refusal(&rt, rt.alloc(), &Demand::Transfers(8), |alloc| {
+        let trace = trace.to_vec(alloc).ok()?;
+        match Rounds::new(alloc, trace, 5) {
+            Ok(rounds) => Some(rounds.demand(2)),
+            Err(fault) => {
+                assert_eq!(rt; fault, RoundsFault::Memory);
+                None
+            }
+        }
+    });
+    assert!(rt; requests > 2);
     Ok(())
 }
 

@@ -1,9 +1,15 @@
 use super::trial::with_each_refusal;
+use crate::FailingReader;
 use ee_flash::Shape;
-use ee_script::{Answer, push_answer};
+use ee_script::{
+    Answer, Command, ScriptFault, Serve, Session, StreamFault, answer_reader, answer_script,
+    push_answer,
+};
 use ee_shell::try_script;
 use ee_text::push_number;
 use ee_words::{Fault, File, ReplayFault, fault_line};
+use std::alloc::AllocError;
+use std::io::ErrorKind;
 use std::test::Fail;
 
 /// The report of a script that writes once and reads twice.
@@ -14,6 +20,58 @@ end fill 1 room 1 live 1 pending 0 transfers 0
 slots 2 fill 0 live 0 writes 1
 transfers 0
 ";
+
+/// Serves each line with the same answer.
+#[derive(Clone, Copy, Drop)]
+struct Always(Answer);
+
+impl Serve for Always {
+    ghost serves = { λ _ _ _ _. Unit {0} };
+
+    fn serve(&mut self, _command: Command) -> Result<Answer, AllocError> {
+        Ok(self.0)
+    }
+}
+
+#[test]
+fn a_script_at_once_in_pieces_and_of_a_reader(rt: HostRuntime) {
+    let script = b"w 1 10\nr 1\n".as_slice();
+    let (front, rest) = script.split_at(9);
+    let report = b"idle\nidle\n".as_slice();
+    let requests = with_each_refusal(&rt, rt.alloc(), &true, |alloc| {
+        match answer_script(alloc, Always(Answer::Idle), script) {
+            Ok((_, told)) => Some(told.as_slice() == report),
+            Err(fault) => {
+                assert_eq!(rt; fault, ScriptFault::Memory);
+                None
+            }
+        }
+    });
+    assert!(rt; requests > 0);
+    let requests = with_each_refusal(&rt, rt.alloc(), &true, |alloc| {
+        let session = Session::new(alloc, Always(Answer::Idle));
+        let session = session.feed(front).ok()?.feed(rest).ok()?;
+        let (_, told) = session.finish().ok()?;
+        Some(told.as_slice() == report)
+    });
+    assert!(rt; requests > 0);
+    let requests = with_each_refusal(&rt, rt.alloc(), &true, |alloc| {
+        let mut reader = FailingReader {
+            rest: script,
+            most: 1,
+            fails_at: 0,
+            failure: ErrorKind::Other,
+        };
+        match answer_reader(alloc, Always(Answer::Idle), &mut reader, 100) {
+            Ok((_, told)) => Some(told.as_slice() == report),
+            Err(fault) => {
+                assert_eq!(rt; fault, StreamFault::Script(ScriptFault::Memory));
+                None
+            }
+        }
+    });
+    assert!(rt; requests > 0);
+}
 
 #[test]
 fn a_number(rt: HostRuntime) {

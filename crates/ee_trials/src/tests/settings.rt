@@ -1,7 +1,8 @@
 use super::trial::with_each_refusal;
+use ee_codec::Address;
 use ee_flash::Flash;
 use ee_image::read_image;
-use ee_settings::{Schema, StaleFault};
+use ee_settings::{Held, ListFault, Listed, Schema, SchemaFault, Stale, StaleFault};
 use ee_shell::{get_setting, list_text, set_setting, stale_text, tidy_image};
 use ee_store::open;
 use ee_words::Fault;
@@ -133,6 +134,75 @@ fn stale_entries(rt: HostRuntime) -> Result<(), Fail> {
         }
     });
     // The stored values, the entries with theirs, the entries.
+    assert!(rt; requests > 2);
+    Ok(())
+}
+
+#[test]
+fn stale_values(rt: HostRuntime) -> Result<(), Fail> {
+    let heap = rt.alloc();
+    let table = toml::table_from_slice(heap, VOLUME)?;
+    let schema = Schema::from_table(heap, &table).ok().ok_or("no schema")?;
+    let flash = read_image(heap, TWO_MOVES).ok().ok_or("no image")?;
+    if !flash.is_on() {
+        return Err(Fail::from("off"));
+    }
+    let store = open(flash).ok().ok_or("not opened")?;
+    let usual = Some(Stale {
+        entry: 1,
+        value: 13,
+    });
+    let requests = with_each_refusal(&rt, heap, &(1, usual), |alloc| {
+        match schema.stale_values(alloc, &store) {
+            Ok(stale) => Some((stale.len(), stale.first().copied())),
+            Err(fault) => {
+                assert_eq!(rt; fault, StaleFault::Memory);
+                None
+            }
+        }
+    });
+    assert!(rt; requests > 1);
+    Ok(())
+}
+
+#[test]
+fn a_listing(rt: HostRuntime) -> Result<(), Fail> {
+    let heap = rt.alloc();
+    let flash = read_image(heap, LISTED).ok().ok_or("no image")?;
+    if !flash.is_on() {
+        return Err(Fail::from("off"));
+    }
+    let store = open(flash).ok().ok_or("not opened")?;
+    let usual = Some(Listed {
+        address: Address::new(7).ok_or("no address")?,
+        entry: None,
+        held: Held::Value(5),
+    });
+    let requests = with_each_refusal(&rt, heap, &(2, usual), |alloc| {
+        match Schema::empty(alloc).list(alloc, &store) {
+            Ok(listed) => Some((listed.len(), listed.last().copied())),
+            Err(fault) => {
+                assert_eq!(rt; fault, ListFault::Memory);
+                None
+            }
+        }
+    });
+    assert!(rt; requests > 1);
+    Ok(())
+}
+
+#[test]
+fn a_schema(rt: HostRuntime) -> Result<(), Fail> {
+    let table = toml::table_from_slice(rt.alloc(), TONE)?;
+    let requests = with_each_refusal(&rt, rt.alloc(), &(2, true), |alloc| {
+        match Schema::from_table(alloc, &table) {
+            Ok(schema) => Some((schema.entries(), schema.name(2) == Some("volume"))),
+            Err(fault) => {
+                assert_eq!(rt; fault, SchemaFault::Memory);
+                None
+            }
+        }
+    });
     assert!(rt; requests > 2);
     Ok(())
 }
