@@ -1,4 +1,4 @@
-use Rattle.std.proofs.Common.{arith, ◌≡◌, ◌∙◌, sym, ap}
+use Rattle.std.proofs.Common.{rules, ◌≡◌, ◌∙◌, sym, ap}
 use Rattle.std.specs.Prelude.{unwrap_or}
 use Rattle.std.proofs.lemmas.Iterator.{YieldsList-from_slice}
 use Rattle.std.proofs.lemmas.Iterator.Consumers.{YieldsList-from_copied, YieldsList-at, min_from_yields_List}
@@ -11,4 +11,4 @@ returns-clause-value g c =
     let yields = YieldsList-from_copied (YieldsList-at c.copied.ensures.source (YieldsList-from_slice c.args.self.now cc)) in
     let picked = min_from_yields_List _ _ c.min.ensures.ran yields in
     let is : c.unwrap_or.result ≡ least_of c.args.self.now = c.unwrap_or.ensures ∙ ap (λ least. unwrap_or least 0) (sym (option_map_id _) ∙ picked) in
-    omega (arith, is)
+    search (rules, is)
