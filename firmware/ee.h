@@ -62,12 +62,12 @@ enum {
     EE_FULL = 3,             /* the address has no value, and as many addresses have one as there are slots */
     EE_SPENT = 4,            /* every slot is used, and the generation is the greatest, 4294967294 */
     EE_ABSENT = 5,           /* the address has no value to be forgotten */
-    /* The words are no store. Nothing changed. */
+    /* The words are no store. Nothing changed, in the mirror either, and nothing is listed. */
     EE_UNFORMATTED = 6,      /* every word is erased */
     EE_NO_LIVE_SET = 7,      /* no set is committed */
     EE_TWO_LIVE = 8,         /* both sets are committed, with equal generations */
     EE_FOREIGN = 9,          /* a word of the live set may not stand there: the first one, at `page` and `place` */
-    /* Refusals of the call itself. Nothing changed, in the mirror either. */
+    /* Refusals of the call itself. Nothing changed, in the mirror either, and nothing is listed. */
     EE_LIST_TOO_SHORT = 10,  /* the call takes more steps than the list has places */
     EE_WRONG_SHAPE = 11,     /* the shape is out of range, or an array has not the length that it says */
     EE_IMPROPER_ADDRESS = 12 /* the address is 0 or 65535 */

@@ -56,7 +56,7 @@ module _ (start device : Device) (listed : List ListedStep) (count : ℕ) (fresh
   -- an opening that failed
   pub failed_opening : (leaves : Answer → Device → Type 0) (fault : OpenFault) → ((scan : _) → IsScanFault start scan → device ≡ start → leaves (NoStore scan) device) → (IsCutOpening start device → leaves ListTooShort device) → OpenFails start fault device → Drafts leaves (answer_of_opening fault) start listed count
   failed_opening leaves (opening.Scan scan) none cut failed =
-      lists (leaves (NoStore scan)) (ap (λ (d : Device). d.cuts) failed.1 ∙ fresh.never_cut) (none scan failed.0 failed.1)
+      subst (leaves (NoStore scan)) failed.1 (none scan failed.0 failed.1)
   failed_opening leaves opening.Cut none cut failed = fills (leaves ListTooShort) failed.cut.one_more_cut (cut failed)
 
   pub write_not_opened : (address value : ℕ) (fault : OpenFault) → OpenFails start fault device → Drafts (WritesCells start address value) (answer_of_opening fault) start listed count

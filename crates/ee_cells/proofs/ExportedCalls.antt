@@ -1,9 +1,9 @@
 -- From what a call was drafted to leave to what its export tells.
-use Rattle.std.proofs.Common.{◌≡◌, ◌≢◌, ℕ, List, refl, subst, sym, ap, ◌∙◌}
+use Rattle.std.proofs.Common.{◌≡◌, ℕ, List, false, true, refl, subst, sym, ap, ◌∙◌}
 use Rattle.ee_flash.specs.Device.{Device}
 use Rattle.ee_flash.specs.Laws.{all_completed}
 use Rattle.ee_flash.specs.Size.{Size}
-use Rattle.ee_cells.specs.Answers.{result_of}
+use Rattle.ee_cells.specs.Answers.{is_played, result_of}
 use Rattle.ee_cells.specs.Calls.{Drafts, Lists}
 use Rattle.ee_cells.specs.Exports.{Calls, Ends, IsPlayed}
 use Rattle.ee_cells.specs.Listing.{steps_of}
@@ -32,17 +32,18 @@ module _ (size : Size) (leaves : Device → Answer → Device → Type 0) (prope
   ordinary answer lists played same =
       subst (leaves start answer) (sym (played.played ∙ ap (λ (n : ℕ). all_completed (steps_of n listed) start) same)) lists.leads
 
-  ends : (answer : Answer) → Drafts (leaves start) answer start listed count → (answer ≡ ListTooShort → (new ≡ old) × (result.listed ≡ 0)) → (answer ≢ ListTooShort → IsPlayed size old new listed result.listed) → (answer ≢ ListTooShort → result.listed ≡ count) → Ends size leaves proper answer old new listed result.listed
-  ends ListTooShort drafts short played same = (fits, is_proper, record { same = (short refl).0; none_listed = (short refl).1 }, drafts)
-  ends Done drafts short played same = let long : Done ≢ ListTooShort = λ is. cc in (fits, is_proper, played long, ordinary Done drafts (played long) (same long))
-  ends Moved drafts short played same = let long : Moved ≢ ListTooShort = λ is. cc in (fits, is_proper, played long, ordinary Moved drafts (played long) (same long))
-  ends Nothing drafts short played same = let long : Nothing ≢ ListTooShort = λ is. cc in (fits, is_proper, played long, ordinary Nothing drafts (played long) (same long))
-  ends Full drafts short played same = let long : Full ≢ ListTooShort = λ is. cc in (fits, is_proper, played long, ordinary Full drafts (played long) (same long))
-  ends Spent drafts short played same = let long : Spent ≢ ListTooShort = λ is. cc in (fits, is_proper, played long, ordinary Spent drafts (played long) (same long))
-  ends Absent drafts short played same = let long : Absent ≢ ListTooShort = λ is. cc in (fits, is_proper, played long, ordinary Absent drafts (played long) (same long))
-  ends (NoStore fault) drafts short played same = let long : NoStore fault ≢ ListTooShort = λ is. cc in (fits, is_proper, played long, ordinary (NoStore fault) drafts (played long) (same long))
-  ends WrongShape drafts short played same = absurd (not_shape _ drafts.leads)
-  ends ImproperAddress drafts short played same = absurd (not_address _ drafts.leads)
+  ends : (answer : Answer) → Drafts (leaves start) answer start listed count → (is_played answer ≡ false → (new ≡ old) × (result.listed ≡ 0)) → (is_played answer ≡ true → IsPlayed size old new listed result.listed) → (is_played answer ≡ true → result.listed ≡ count) → Ends size leaves proper answer old new listed result.listed
+  ends ListTooShort drafts refused played same = (fits, is_proper, record { same = (refused refl).0; none_listed = (refused refl).1 }, drafts)
+  ends (NoStore fault) drafts refused played same =
+      (fits, is_proper, record { same = (refused refl).0; none_listed = (refused refl).1 }, subst (λ (mirror : Mirror). leaves start (NoStore fault) (device_in size mirror)) (sym (refused refl).0) drafts)
+  ends Done drafts refused played same = (fits, is_proper, played refl, ordinary Done drafts (played refl) (same refl))
+  ends Moved drafts refused played same = (fits, is_proper, played refl, ordinary Moved drafts (played refl) (same refl))
+  ends Nothing drafts refused played same = (fits, is_proper, played refl, ordinary Nothing drafts (played refl) (same refl))
+  ends Full drafts refused played same = (fits, is_proper, played refl, ordinary Full drafts (played refl) (same refl))
+  ends Spent drafts refused played same = (fits, is_proper, played refl, ordinary Spent drafts (played refl) (same refl))
+  ends Absent drafts refused played same = (fits, is_proper, played refl, ordinary Absent drafts (played refl) (same refl))
+  ends WrongShape drafts refused played same = absurd (not_shape _ drafts.leads)
+  ends ImproperAddress drafts refused played same = absurd (not_address _ drafts.leads)
 
-  pub settled : (answer : Answer) → Drafts (leaves start) answer start listed count → result ≡ result_of answer result.listed → (answer ≡ ListTooShort → (new ≡ old) × (result.listed ≡ 0)) → (answer ≢ ListTooShort → IsPlayed size old new listed result.listed) → (answer ≢ ListTooShort → result.listed ≡ count) → Calls size leaves proper result old new listed
-  settled answer drafts told short played same = (answer, told, ends answer drafts short played same)
+  pub settled : (answer : Answer) → Drafts (leaves start) answer start listed count → result ≡ result_of answer result.listed → (is_played answer ≡ false → (new ≡ old) × (result.listed ≡ 0)) → (is_played answer ≡ true → IsPlayed size old new listed result.listed) → (is_played answer ≡ true → result.listed ≡ count) → Calls size leaves proper result old new listed
+  settled answer drafts told refused played same = (answer, told, ends answer drafts refused played same)

@@ -45,6 +45,19 @@ foreign_at ListTooShort = (0, 0)
 foreign_at WrongShape = (0, 0)
 foreign_at ImproperAddress = (0, 0)
 
+-- Whether the steps that a call listed are played on the mirror: not where the words are no store, or the call is refused.
+abbrev pub is_played : Answer → Bool
+is_played Done = true
+is_played Moved = true
+is_played Nothing = true
+is_played Full = true
+is_played Spent = true
+is_played Absent = true
+is_played (NoStore fault) = false
+is_played ListTooShort = false
+is_played WrongShape = false
+is_played ImproperAddress = false
+
 -- what the caller is told of an answer, with so many steps listed
 abbrev pub result_of : Answer → ℕ → CallResult
 result_of answer listed = record {

@@ -103,7 +103,7 @@ pub record FillsList (start : Device) (listed : List ListedStep) (leaves : Devic
   pub image : cut.image ≡ (all_completed (steps_of (length listed) listed) start).image
   pub leads : leaves cut
 
--- what a call lists for what it leaves
+-- what a call lists for what it leaves; where the words are no store its list is not played, and says nothing
 abbrev pub Drafts : (Answer → Device → Type 0) → Answer → Device → List ListedStep → ℕ → Type 0
 Drafts leaves ListTooShort start listed count = FillsList start listed (leaves ListTooShort)
 Drafts leaves Done start listed count = Lists start listed count (leaves Done)
@@ -112,7 +112,7 @@ Drafts leaves Nothing start listed count = Lists start listed count (leaves Noth
 Drafts leaves Full start listed count = Lists start listed count (leaves Full)
 Drafts leaves Spent start listed count = Lists start listed count (leaves Spent)
 Drafts leaves Absent start listed count = Lists start listed count (leaves Absent)
-Drafts leaves (NoStore fault) start listed count = Lists start listed count (leaves (NoStore fault))
+Drafts leaves (NoStore fault) start listed count = leaves (NoStore fault) start
 Drafts leaves WrongShape start listed count = Lists start listed count (leaves WrongShape)
 Drafts leaves ImproperAddress start listed count = Lists start listed count (leaves ImproperAddress)
 

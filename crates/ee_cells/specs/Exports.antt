@@ -25,8 +25,9 @@ pub record IsPlayed (size : Size) (old new : Mirror) (listed : List ListedStep) 
   pub taken : AllTaken (steps_of count listed) (device_in size old)
   pub played : device_in size new ≡ all_completed (steps_of count listed) (device_in size old)
 
--- What an answer of a call says, which leaves something of a device, and asks that its arguments are proper. A list that is
--- too short is filled by steps of the call, and nothing is written; the call itself goes on behind them.
+-- What an answer of a call says, which leaves something of a device, and asks that its arguments are proper. Where the words
+-- are no store nothing is written or listed. A list that is too short is filled by steps of the call, and nothing is written;
+-- the call itself goes on behind them.
 abbrev pub Ends : Size → (Device → Answer → Device → Type 0) → Type 0 → Answer → Mirror → Mirror → List ListedStep → ℕ → Type 0
 Ends size leaves proper WrongShape old new listed count = ¬ Fits size old × IsRefused old new count
 Ends size leaves proper ImproperAddress old new listed count = Fits size old × ¬ proper × IsRefused old new count
@@ -46,7 +47,7 @@ Ends size leaves proper Spent old new listed count =
 Ends size leaves proper Absent old new listed count =
     Fits size old × proper × IsPlayed size old new listed count × leaves (device_in size old) Absent (device_in size new)
 Ends size leaves proper (NoStore fault) old new listed count =
-    Fits size old × proper × IsPlayed size old new listed count × leaves (device_in size old) (NoStore fault) (device_in size new)
+    Fits size old × proper × IsRefused old new count × leaves (device_in size old) (NoStore fault) (device_in size new)
 
 -- a call that takes steps: it tells one answer, which says what it says
 abbrev pub Calls : Size → (Device → Answer → Device → Type 0) → Type 0 → CallResult → Mirror → Mirror → List ListedStep → Type 0

@@ -38,7 +38,7 @@ pub enum Answer {
 pub struct CallResult {
     /// One of the statuses of the header.
     pub status: usize,
-    /// How many steps are listed.
+    /// How many steps are listed; 0 where the words are no store, or the call is refused.
     pub listed: usize,
     /// The page of the foreign word, where the status is that there is one; else 0.
     pub page: usize,
@@ -47,7 +47,7 @@ pub struct CallResult {
 }
 
 impl Answer {
-    ghost use Rattle.ee_cells.specs.Answers.{answer_of_clean, answer_of_forget, answer_of_opening, answer_of_write, foreign_at, result_of, status_of};
+    ghost use Rattle.ee_cells.specs.Answers.{answer_of_clean, answer_of_forget, answer_of_opening, answer_of_write, foreign_at, is_played, result_of, status_of};
 
     /// The number of this answer.
     pub(crate) fn status(self) -> usize
@@ -77,6 +77,19 @@ impl Answer {
         match self {
             Answer::NoStore(ScanFault::Foreign { page, at }) => (page, at),
             _ => (0, 0),
+        }
+    }
+
+    /// Whether the steps that a call listed are played on the mirror.
+    pub(crate) fn is_played(self) -> bool
+        ensures { result ≡ is_played self }
+    {
+        match self {
+            Answer::NoStore(_)
+            | Answer::ListTooShort
+            | Answer::WrongShape
+            | Answer::ImproperAddress => false,
+            _ => true,
         }
     }
 

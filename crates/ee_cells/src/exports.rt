@@ -17,7 +17,7 @@ use std::marker::Brand;
 /// makes the first set the live one, with generation 1.
 ///
 /// The shape is `pages` pages in each set, 1 to 64, of `page_words` words, 5 to 512. `Done`, or:
-/// `WrongShape`, `ListTooShort`; then nothing is written.
+/// `WrongShape`, `ListTooShort`; then nothing is written or listed.
 ///
 /// Source: ours.
 #[unsafe(no_mangle)]
@@ -47,7 +47,7 @@ pub extern "C" fn ee_format(
 
 /// Opens the store: sets the marks that a cut left to set. The variables are as before.
 ///
-/// `Done`; `NoStore`, and nothing changed; `WrongShape` or `ListTooShort`, and nothing is written.
+/// `Done`; `NoStore`, `WrongShape` or `ListTooShort`, and nothing is written or listed.
 ///
 /// Source: ours.
 #[unsafe(no_mangle)]
@@ -77,8 +77,8 @@ pub extern "C" fn ee_open(
 
 /// Writes a value of an address, 1 to 65534. It opens the store first.
 ///
-/// `Done` or `Moved`; `Full` or `Spent`, and the value is not written; `NoStore`, and nothing changed;
-/// `WrongShape`, `ImproperAddress` or `ListTooShort`, and nothing is written.
+/// `Done` or `Moved`; `Full` or `Spent`, and the value is not written; `NoStore`, `WrongShape`,
+/// `ImproperAddress` or `ListTooShort`, and nothing is written or listed.
 ///
 /// Source: ours.
 #[unsafe(no_mangle)]
@@ -114,8 +114,8 @@ pub extern "C" fn ee_write(
 
 /// Takes the value of an address, 1 to 65534, away. It opens the store first.
 ///
-/// `Done` or `Moved`; `Absent` or `Spent`, and nothing is forgotten; `NoStore`, and nothing changed;
-/// `WrongShape`, `ImproperAddress` or `ListTooShort`, and nothing is written.
+/// `Done` or `Moved`; `Absent` or `Spent`, and nothing is forgotten; `NoStore`, `WrongShape`,
+/// `ImproperAddress` or `ListTooShort`, and nothing is written or listed.
 ///
 /// Source: ours.
 #[unsafe(no_mangle)]
@@ -150,8 +150,7 @@ pub extern "C" fn ee_forget(
 
 /// Erases the lowest page that waits to be erased, if there is one. It opens the store first.
 ///
-/// `Done` or `Nothing`; `NoStore`, and nothing changed; `WrongShape` or `ListTooShort`, and nothing is
-/// written.
+/// `Done` or `Nothing`; `NoStore`, `WrongShape` or `ListTooShort`, and nothing is written or listed.
 ///
 /// Source: a clean-up whose moment the application chooses, AN4894; the rest is ours.
 #[unsafe(no_mangle)]

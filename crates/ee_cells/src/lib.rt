@@ -5,8 +5,8 @@
 //! its pages (`specs/Mirror.antt`). It makes a draft of the device that the mirror means: a device
 //! that reads as the mirror with the steps that were listed, and lists one more in place of taking
 //! it (`specs/Draft.antt`). A step that finds no place in the list is a power cut of the draft. When
-//! the call has ended the list is played on the mirror, unless it was too short: then nothing is
-//! written.
+//! the call has ended the list is played on the mirror, unless it was too short or the words are no
+//! store: then nothing is written, and the call says that nothing is listed.
 //!
 //! `specs/Calls.antt` and `specs/Looks.antt` say what each call leaves and finds, `specs/Answers.antt`
 //! which number stands for which answer, and `specs/Exports.antt` what a call tells its caller and

@@ -1,6 +1,4 @@
 ghost use Rattle.std.specs.Prelude.{◌≡◌};
-ghost use Rattle.ee_flash.specs.Size.{slot_count};
-ghost use Rattle.ee_pages.specs.Sets.{pending_of, set_of};
 ghost use Rattle.ee_cells.specs.Looks.{AreCounts, IsNext, IsRead};
 ghost use Rattle.ee_cells.specs.Mirror.{IsMirror, device_of};
 ghost use Rattle.ee_pages.specs.Meaning.{above_of};
@@ -10,7 +8,8 @@ use crate::draft::{DraftFlash, Drafted, Lent};
 use crate::listing::ListedStep;
 use ee_codec::Address;
 use ee_flash::{Flash, Shape};
-use ee_pages::{Side, first_page, is_blank, latest, live_count, next_live, scan};
+use ee_pages::{latest, live_count, next_live, scan};
+use ee_store::count_pending;
 
 /// What a look finds: an address with its value, 0 and 0 where there is none.
 #[derive(Clone, Copy, Debug, PartialEq, Eq)]
@@ -255,20 +254,6 @@ fn find_counts<F: Flash>(flash: &F) -> Counts
         fill: layout.fill,
         room: flash.shape().slots().saturating_sub(layout.fill),
         generation: layout.generation,
-        pending: count_waiting(flash, layout.side.other()),
+        pending: count_pending(flash, layout.side.other()),
     }
-}
-
-// How many pages of a set are not blank.
-fn count_waiting<F: Flash>(flash: &F, side: Side) -> usize
-    ensures { result ≡ pending_of (set_of side (F.device flash.now)) }
-{
-    let first = first_page(flash, side);
-    let mut count = 0;
-    'pages: for page in first..first + flash.shape().pages() {
-        if !is_blank(flash, page) {
-            count += 1;
-        }
-    }
-    count
 }

@@ -1,6 +1,6 @@
-ghost use Rattle.std.specs.Prelude.{◌≡◌, ◌≢◌, ◌≤◌, SomeIff, length};
+ghost use Rattle.std.specs.Prelude.{◌≡◌, ◌≤◌, SomeIff, false, length, true};
 ghost use Rattle.ee_flash.specs.Size.{size_of};
-ghost use Rattle.ee_cells.specs.Answers.{result_of};
+ghost use Rattle.ee_cells.specs.Answers.{is_played, result_of};
 ghost use Rattle.ee_cells.specs.Exports.{IsPlayed};
 ghost use Rattle.ee_cells.specs.Listing.{AllTaken, steps_of};
 ghost use Rattle.ee_cells.specs.Mirror.{IsMirror, device_of, mirror_of};
@@ -31,8 +31,8 @@ pub(crate) fn shape_of(
     Some(shape)
 }
 
-/// Plays what a call has listed on the mirror, and tells the answer. Where the list was too short
-/// nothing is written.
+/// Plays what a call has listed on the mirror, and tells the answer. Where the words are no store, or
+/// the list was too short, nothing is written or listed.
 pub(crate) fn settle(
     shape: Shape,
     words: &mut [u64],
@@ -43,19 +43,19 @@ pub(crate) fn settle(
     answer: Answer,
 ) -> CallResult
     requires mirror { IsMirror shape words.old flags.old wears.old }
-    requires within { answer ≢ Answer.ListTooShort → count ≤ length listed.now }
-    requires taken { answer ≢ Answer.ListTooShort
+    requires within { is_played answer ≡ true → count ≤ length listed.now }
+    requires taken { is_played answer ≡ true
         → AllTaken (steps_of count listed.now) (device_of shape words.old flags.old wears.old) }
     ensures told { result ≡ result_of answer result.listed }
-    ensures short { answer ≡ Answer.ListTooShort
+    ensures refused { is_played answer ≡ false
         → (mirror_of words.new flags.new wears.new ≡ mirror_of words.old flags.old wears.old)
         × (result.listed ≡ 0) }
-    ensures played { answer ≢ Answer.ListTooShort → IsPlayed shape
+    ensures played { is_played answer ≡ true → IsPlayed shape
         (mirror_of words.old flags.old wears.old) (mirror_of words.new flags.new wears.new)
         listed.now result.listed }
-    ensures count { answer ≢ Answer.ListTooShort → result.listed ≡ count }
+    ensures count { is_played answer ≡ true → result.listed ≡ count }
 {
-    if matches!(answer, Answer::ListTooShort) {
+    if !answer.is_played() {
         return answer.told(0);
     }
     play(shape, words, flags, wears, listed, count);

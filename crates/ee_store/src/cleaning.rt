@@ -96,8 +96,10 @@ fn first_pending<F: Flash>(flash: &F, side: Side) -> Option<usize>
     None
 }
 
-/// How many pages of a set are not blank.
-pub(crate) fn count_pending<F: Flash>(flash: &F, side: Side) -> usize
+/// How many pages of a set are not blank, 0 to 64. Those of the set that is not live wait to be erased.
+///
+/// Source: ours.
+pub fn count_pending<F: Flash>(flash: &F, side: Side) -> usize
     ensures { result ≡ pending_of (set_of side (F.device flash.now)) }
 {
     let first = first_page(flash, side);

@@ -8,10 +8,11 @@
 //! power cuts and openings among them.
 //!
 //! The layers above may use: the contract of `Variables`, which is one relation for each call over
-//! the device before and after; `open` and `format`; that a store's image is legal, always; and
-//! `drive`, by which a test bench, a simulator or a fuzzer drives a store through power cuts.
-//! `Store` takes no memory, `drive` takes some for its answers, and `IndexedStore` keeps an index of
-//! the live addresses (`specs/Index.antt`).
+//! the device before and after; `open` and `format`; that a store's image is legal, always;
+//! `count_pending`, of a device on which no store is open too; and `drive`, by which a test bench, a
+//! simulator or a fuzzer drives a store through power cuts. `Store` takes no memory,
+//! `drive` takes some for its answers, and `IndexedStore` keeps an index of the live addresses
+//! (`specs/Index.antt`).
 #![tactic(auto)]
 
 mod change;
@@ -33,6 +34,7 @@ mod store;
 mod variables;
 mod writing;
 
+pub use cleaning::count_pending;
 pub use driving::drive;
 pub use ee_pages::LiveBatch;
 pub use event::{Answer, Driven, Event};

@@ -23,6 +23,6 @@ returns c =
     let new = mirror_of c.settle.new.words c.settle.new.flags c.settle.new.wears in
     let is_shape : shape ≡ size = search rules in
     let fits : Fits size old = search rules in
-    let at_shape = settled shape FormatsCells (Unit {0}) old new drafted.result.listed.now drafted.result.count c.settle.result (rw is_shape fits) tt (λ device never. never) (λ device never. never) drafted.result.answer drafted.ensures.drafts c.settle.ensures.told c.settle.ensures.short c.settle.ensures.played c.settle.ensures.count in
+    let at_shape = settled shape FormatsCells (Unit {0}) old new drafted.result.listed.now drafted.result.count c.settle.result (rw is_shape fits) tt (λ device never. never) (λ device never. never) drafted.result.answer drafted.ensures.drafts c.settle.ensures.told c.settle.ensures.refused c.settle.ensures.played c.settle.ensures.count in
     let done = subst (λ (s : Size). Calls s FormatsCells (Unit {0}) c.settle.result old new drafted.result.listed.now) is_shape at_shape in
     subst (λ (list : List ListedStep). Calls size FormatsCells (Unit {0}) c.settle.result old new list) (search rules) done

@@ -35,7 +35,7 @@ returns c =
     let is_address : address ≡ c.args.address = search rules in
     let fits : Fits size old = search rules in
     let proper : IsAddress c.args.address = search rules in
-    let at_shape = settled shape (λ device. WritesCells device address c.args.value) (IsAddress address) old new drafted.result.listed.now drafted.result.count c.settle.result (rw is_shape fits) (rw is_address proper) (λ device never. never) (λ device never. never) drafted.result.answer drafted.ensures.drafts c.settle.ensures.told c.settle.ensures.short c.settle.ensures.played c.settle.ensures.count in
+    let at_shape = settled shape (λ device. WritesCells device address c.args.value) (IsAddress address) old new drafted.result.listed.now drafted.result.count c.settle.result (rw is_shape fits) (rw is_address proper) (λ device never. never) (λ device never. never) drafted.result.answer drafted.ensures.drafts c.settle.ensures.told c.settle.ensures.refused c.settle.ensures.played c.settle.ensures.count in
     let at_size = subst (λ (s : Size). Calls s (λ device. WritesCells device address c.args.value) (IsAddress address) c.settle.result old new drafted.result.listed.now) is_shape at_shape in
     let done = subst (λ (a : ℕ). Calls size (λ device. WritesCells device a c.args.value) (IsAddress a) c.settle.result old new drafted.result.listed.now) is_address at_size in
     subst (λ (list : List ListedStep). Calls size (λ device. WritesCells device c.args.address c.args.value) (IsAddress c.args.address) c.settle.result old new list) (search rules) done
