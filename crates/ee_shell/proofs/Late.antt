@@ -288,7 +288,7 @@ module _ (size : Size) where
 
 -- ---- the moves are the fewest
 
-length_map : (stretches : List Stretch) → length (map (λ stretch. stretch.to) stretches) ≡ length stretches
+pub length_map : (stretches : List Stretch) → length (map (λ stretch. stretch.to) stretches) ≡ length stretches
 length_map [] = refl
 length_map (stretch ∷ stretches) = omega (arith, length_map stretches)
 

@@ -23,3 +23,6 @@ pub mod Powering
 pub mod Calling
 pub mod Listings
 pub mod Sizes
+pub mod MadeRuns
+pub mod AskedRuns
+pub mod SizedRuns
