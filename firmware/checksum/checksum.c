@@ -5,11 +5,11 @@
 
 #include "../ee.h"
 
-enum { SHAPES = 5, CALLS = 400, MOST_PAGES = 8, MOST_WORDS = 128, MOST_PLACES = EE_LIST(4, 16), MOST_ADDRESSES = 30 };
+enum { SHAPES = 5, CALLS = 400, MOST_PAGES = 8, MOST_WORDS = 256, MOST_PLACES = EE_LIST(1, 128), MOST_ADDRESSES = 100 };
 
 static const struct {
     uint64_t pages, page_words;
-} shapes[SHAPES] = {{1, 5}, {1, 6}, {2, 7}, {4, 16}, {1, 64}};
+} shapes[SHAPES] = {{1, 5}, {1, 6}, {2, 7}, {4, 16}, {1, 128}};
 
 typedef struct {
     uint64_t words[MOST_WORDS], wears[MOST_PAGES];
