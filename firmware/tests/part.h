@@ -10,7 +10,7 @@
 #include "../ee.h"
 
 #define MOST_PAGES 8
-#define MOST_WORDS 128
+#define MOST_WORDS 256
 #define MOST_STEPS 256
 
 typedef struct {

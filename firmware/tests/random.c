@@ -2,18 +2,18 @@
  * flash is then opened and read. */
 #include "part.h"
 
-#define ADDRESSES 9
-#define CALLS 4000
+#define MOST_ADDRESSES 100
 
 typedef struct {
-    int has[ADDRESSES];
-    uint32_t value[ADDRESSES];
+    int has[MOST_ADDRESSES + 1];
+    uint32_t value[MOST_ADDRESSES + 1];
 } model;
 
-static unsigned long cuts, moves;
+static int addresses; /* those that are written: from 1 */
+static unsigned long calls, cuts, moves;
 
 static int reads(const part *p, const model *m) {
-    for (int a = 1; a < ADDRESSES; a++) {
+    for (int a = 1; a <= addresses; a++) {
         ee_found found = ee_read(MIRROR(p), (uint16_t)a);
         if (m->has[a] ? found.status != EE_OK || found.value != m->value[a] || found.address != (uint32_t)a
                       : found.status != EE_NOTHING || found.value != 0 || found.address != 0)
@@ -25,7 +25,7 @@ static int reads(const part *p, const model *m) {
 /* The variables, one after another, and the counts. */
 static void look_through(const part *p, const model *m) {
     uint64_t live = 0, after = 0;
-    for (int a = 1; a < ADDRESSES; a++) {
+    for (int a = 1; a <= addresses; a++) {
         if (!m->has[a]) continue;
         live++;
         ee_found found = ee_next(MIRROR(p), (uint16_t)after);
@@ -41,7 +41,7 @@ static void look_through(const part *p, const model *m) {
 /* A write with no opening before it: the marks that the cut left are set in the same call, and the list is long enough. */
 static void write_at_once(part flash, ee_step step, enum tear tear) {
     take_torn(&flash, step, tear);
-    uint64_t slots = EE_SLOTS(flash.pages, flash.page_words), most = slots < ADDRESSES ? slots : ADDRESSES;
+    uint64_t slots = EE_SLOTS(flash.pages, flash.page_words), most = slots < (uint64_t)addresses ? slots : (uint64_t)addresses;
     part mirror = flash;
     list l = {.places = EE_LIST_LIVE(flash.pages, most)};
     ee_done done = ee_write(MIRROR(&mirror), LIST(&l), 1, 7);
@@ -80,7 +80,8 @@ static ee_done call(part *mirror, list *l, int what, uint16_t address, uint32_t 
     }
 }
 
-static void run(uint64_t pages, uint64_t page_words) {
+static void run(uint64_t pages, uint64_t page_words, int variables, int times) {
+    addresses = variables;
     part flash = blank_part(pages, page_words), mirror = flash;
     list l = {.places = EE_LIST(pages, page_words)};
     CHECK(l.places <= MOST_STEPS);
@@ -89,10 +90,11 @@ static void run(uint64_t pages, uint64_t page_words) {
     for (uint64_t i = 0; i < done.listed; i++) take(&flash, l.steps[i]);
     CHECK(same(&flash, &mirror));
     model m = {{0}, {0}};
-    for (int n = 0; n < CALLS; n++) {
+    for (int n = 0; n < times; n++) {
+        calls++;
         int pick = rand() % 8, what = pick > 2 ? 2 : pick;
         if (what == 1 && rand() % 2) what = 2;
-        uint16_t address = (uint16_t)(1 + rand() % (ADDRESSES - 1));
+        uint16_t address = (uint16_t)(1 + rand() % addresses);
         uint32_t value = rand() % 5 == 0 ? UINT32_MAX : (uint32_t)rand();
         part before = mirror;
         done = call(&mirror, &l, what, address, value);
@@ -100,7 +102,7 @@ static void run(uint64_t pages, uint64_t page_words) {
         if (done.status <= EE_MOVED && what == 1) after.has[address] = 0, after.value[address] = 0;
         if (done.status <= EE_MOVED && what == 2) after.has[address] = 1, after.value[address] = value;
         uint64_t live = 0;
-        for (int a = 1; a < ADDRESSES; a++) live += (uint64_t)after.has[a];
+        for (int a = 1; a <= addresses; a++) live += (uint64_t)after.has[a];
         if (what == 1) CHECK(done.status == (m.has[address] ? done.status : EE_ABSENT) && done.status != EE_FULL);
         if (done.status == EE_FULL) CHECK(!m.has[address] && live == EE_SLOTS(pages, page_words));
         CHECK(done.status <= EE_ABSENT);
@@ -124,13 +126,14 @@ static void run(uint64_t pages, uint64_t page_words) {
 
 int main(void) {
     srand(20261123);
-    run(1, 5);
-    run(1, 6);
-    run(1, 12);
-    run(2, 5);
-    run(2, 7);
-    run(3, 6);
-    run(4, 16);
-    printf("random: %d calls, %lu moves, %lu cuts\n", 7 * CALLS, moves, cuts);
+    run(1, 5, 8, 4000);
+    run(1, 6, 8, 4000);
+    run(1, 12, 8, 4000);
+    run(2, 5, 8, 4000);
+    run(2, 7, 8, 4000);
+    run(3, 6, 8, 4000);
+    run(4, 16, 8, 4000);
+    run(1, 128, MOST_ADDRESSES, 400); /* more variables than a move reads at a time */
+    printf("random: %lu calls, %lu moves, %lu cuts\n", calls, moves, cuts);
     return 0;
 }
