@@ -101,11 +101,11 @@ class Browser:
         self.type(text)
 
     def push(self, button):
-        """Goes to a button, and presses it by the keyboard."""
+        """Goes to a button, and presses it."""
         at = self.evaluate(f"document.getElementById('{button}').focus(); document.activeElement.id")
         if at != button:
             raise OSError(f"the button {button} can't be pressed")
-        self.press("Enter")
+        self.press(" ")
 
     def close(self):
         self.process.terminate()
@@ -143,7 +143,7 @@ class Chromium(Browser):
 
     def press(self, key):
         text = {"Enter": "\r"}.get(key, key if len(key) == 1 else "")
-        codes = {"Enter": 13, "Delete": 46, "ArrowRight": 39, "ArrowDown": 40}
+        codes = {"Enter": 13, " ": 32, "Delete": 46, "ArrowRight": 39, "ArrowDown": 40}
         named = {"key": key, "code": key, "windowsVirtualKeyCode": codes.get(key, 0)}
         self.command("Input.dispatchKeyEvent", type="keyDown", **named, **({"text": text} if text else {}))
         self.command("Input.dispatchKeyEvent", type="keyUp", **named)
@@ -184,6 +184,18 @@ class Firefox(Browser):
 
     def press(self, key):
         self.strike([self.KEYS.get(key, key)])
+
+    def push(self, button):
+        """Presses a button by the pointer: the window of a headless Firefox has no focus, and keys press none there."""
+        place = self.evaluate(f"(() => {{ const it = document.getElementById('{button}'); it.scrollIntoView({{ block: 'center' }}); "
+                              "const box = it.getBoundingClientRect(); return it.disabled ? '' : "
+                              "`${Math.round(box.x + box.width / 2)} ${Math.round(box.y + box.height / 2)}`; })()")
+        if not place:
+            raise OSError(f"the button {button} can't be pressed")
+        x, y = map(int, place.split())
+        actions = [{"type": "pointerMove", "x": x, "y": y}, {"type": "pointerDown", "button": 0}, {"type": "pointerUp", "button": 0}]
+        self.command("input.performActions", context=self.context,
+                     actions=[{"type": "pointer", "id": "mouse", "parameters": {"pointerType": "mouse"}, "actions": actions}])
 
     def strike(self, keys):
         actions = [{"type": kind, "value": key} for key in keys for kind in ("keyDown", "keyUp")]

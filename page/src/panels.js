@@ -27,7 +27,8 @@ function standText(bench) {
   const line = call?.command.line;
   const step = call === null ? "" : `step ${call.taken + (bench.underWay ? 1 : 0)} of ${call.steps.length} of \u201c${line}\u201d`;
   if (!power) return `\u25a1 Power is off: cut in ${step}. This is the part as it lies; power on reads it and opens the store.`;
-  const fuse = armed === null ? "" : ` A cut is armed: the step after ${armed.after} more is left ${TEARS[armed.tear]}.`;
+  const wait = armed?.after === 0n ? "the next step" : `${armed?.after} steps pass, and the next`;
+  const fuse = armed === null ? "" : ` A cut is armed: ${wait} is left ${TEARS[armed.tear]}.`;
   if (bench.underWay) return `\u25b8 Power is on; ${step} comes next. The counts are those of a store found now.${fuse}`;
   if (fault !== null) return `\u25b2 No store here: ${fault}. Format makes one, and loses what these cells hold.`;
   return open ? `\u25a0 Power is on, and the store is open.${fuse}` : "\u25a0 Power is on; no store was opened yet.";
@@ -90,7 +91,7 @@ function drawHistory(bench) {
   const list = at("history");
   list.replaceChildren(...rows);
   const shown = rows[bench.at - from];
-  list.scrollTop = shown.offsetTop - list.offsetTop - list.clientHeight / 2;
+  list.scrollTop = shown.offsetTop - list.clientHeight / 2;
 }
 
 /** @param {Bench} bench @param {Counts} counts */

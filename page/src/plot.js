@@ -84,5 +84,5 @@ function sizingText(good, trace, size, runsADay, cells) {
   if (!good) return "Erases and runs are whole numbers from 1 to 4294967295.";
   if (trace === null) return "The script has a bad line, or one of power (x, p): mend it, or take those lines out.";
   if (trace.length === 0) return "The script changes nothing, so no page is erased.";
-  return `${cells.pages} pages of ${cells.pageWords} words a set: ${sizeText(size, runsADay)}.`;
+  return `${cells.pages} ${cells.pages === 1 ? "page" : "pages"} of ${cells.pageWords} words a set: ${sizeText(size, runsADay)}.`;
 }

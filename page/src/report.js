@@ -52,7 +52,7 @@ function scriptText(bench) {
 function whyFewest(trace, slots) {
   if (trace.cut) return "Power was cut on the way, so there is no certificate.";
   const moves = trace.last?.number ?? 0;
-  if (moves === 0) return "No change had to move, and fewer moves than none there are not.";
+  if (moves === 0) return "No change had to move: none is the fewest.";
   return (
     `In each stretch, what a store has used at the least behind the move before it (or at the start), and the changes ` +
     `from there up to its end, are more than ${slots} ${slots === 1 ? "slot" : "slots"}: so each store of this kind moves ` +

@@ -60,9 +60,10 @@ class SetsView {
 
   /** @param {Cells} cells a part of another shape than before */
   build(cells) {
+    const boxes = (/** @type {number} */ count) => '<i role="gridcell"></i>'.repeat(count);
     const page =
-      `<div class="page" role="row"><div class="name" role="rowheader"></div><div class="words">` +
-      `${'<i role="gridcell"></i>'.repeat(cells.pageWords)}</div></div>`;
+      `<div class="page" role="row"><div class="name" role="rowheader"></div><div class="heads" role="none">${boxes(4)}</div>` +
+      `<div class="slots" role="none">${boxes(cells.pageWords - 4)}</div></div>`;
     const set = (/** @type {number} */ number) =>
       `<div class="set" role="rowgroup"><h3><span>Set ${number}</span> <b></b></h3>${page.repeat(cells.pages)}</div>`;
     this.root.innerHTML = set(0) + set(1);
