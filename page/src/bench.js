@@ -54,6 +54,7 @@ function answerOf(kind, status) {
  *  @returns {string | null} why the words are no store, by the words of `ee` */
 function faultOf(done) {
   if (done.status < STATUS.UNFORMATTED) return null;
+  if (done.status > STATUS.FOREIGN) throw new Error(`the page made a call that the library refuses: status ${done.status}`);
   const foreign = `image foreign word ${done.page} ${done.place}`;
   return ["image unformatted", "image no live set", "image two live sets", foreign][done.status - STATUS.UNFORMATTED];
 }
@@ -121,7 +122,7 @@ class Bench {
     if (this.underWay) throw new Error("a call is under way");
     const { line, kind } = command;
     if (kind === "x") this.answer(line, "armed", { armed: { after: command.steps - 1n, tear: command.tear } });
-    else if (kind === "format") this.list(command, { power: true, open: false, fault: null, trace: null });
+    else if (kind === "format") this.list(command, { power: true, open: false, fault: null, armed: null, trace: null });
     else if (kind === "open" || (kind === "p" && !this.desk.open)) this.list(command, { power: true });
     else if (kind === "p") this.answer(line, "open");
     else if (!this.desk.open) this.answer(line, "off");

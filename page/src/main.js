@@ -169,6 +169,13 @@ function listenToButtons(page) {
   for (const [id, deed] of Object.entries(deeds)) at(id).addEventListener("click", () => page.act(deed));
 }
 
+/** @param {string} button @param {(event: KeyboardEvent) => boolean} counts whether this press of Enter is meant */
+function pressOnEnter(button, counts) {
+  return (/** @type {KeyboardEvent} */ event) => {
+    if (event.key === "Enter" && counts(event)) at(button).click();
+  };
+}
+
 /** @param {Page} page */
 function listenToFields(page) {
   at("entry").addEventListener("input", () => page.act(() => page.bench.go(Number(at("entry").value))));
@@ -176,6 +183,8 @@ function listenToFields(page) {
     const { value } = event.target;
     if (value !== undefined && event.target.tagName === "BUTTON") page.act(() => page.bench.go(Number(value)));
   });
+  for (const id of ["address", "value"]) at(id).addEventListener("keydown", pressOnEnter("write", () => true));
+  at("script").addEventListener("keydown", pressOnEnter("run", (event) => event.ctrlKey));
   at("script").addEventListener("input", () => ((page.nextLine = 0), page.drawScript()));
   for (const id of ["cycles", "runs"]) at(id).addEventListener("input", () => page.drawScript());
   at("image").addEventListener("toggle", () => page.drawImage());

@@ -29,7 +29,7 @@ function standText(bench) {
   if (!power) return `\u25a1 Power is off: cut in ${step}. This is the part as it lies; power on reads it and opens the store.`;
   const wait = armed?.after === 0n ? "the next step" : `${armed?.after} steps pass, and the next`;
   const fuse = armed === null ? "" : ` A cut is armed: ${wait} is left ${TEARS[armed.tear]}.`;
-  if (bench.underWay) return `\u25b8 Power is on; ${step} comes next. The counts are those of a store found now.${fuse}`;
+  if (bench.underWay) return `\u25b8 Power is on; ${step} comes next. The counts are what a store would find here.${fuse}`;
   if (fault !== null) return `\u25b2 No store here: ${fault}. Format makes one, and loses what these cells hold.`;
   return open ? `\u25a0 Power is on, and the store is open.${fuse}` : "\u25a0 Power is on; no store was opened yet.";
 }

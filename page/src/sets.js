@@ -96,6 +96,7 @@ class SetsView {
     this.root.querySelectorAll(".set").forEach((set, number) => {
       const isLive = number === reading.liveSet;
       set.classList.toggle("is-live", isLive);
+      set.setAttribute("aria-label", `Set ${number}${isLive ? ", live" : ""}`);
       /** @type {HTMLElement} */ (set.querySelector("h3 b")).textContent = isLive ? "live" : "";
     });
   }
