@@ -107,6 +107,10 @@ class Browser:
             raise OSError(f"the button {button} can't be pressed")
         self.press(" ")
 
+    def settle(self):
+        """Waits until what was changed is drawn."""
+        self.evaluate("new Promise((done) => requestAnimationFrame(() => requestAnimationFrame(() => done(''))))")
+
     def close(self):
         self.process.terminate()
         self.process.wait()
@@ -148,11 +152,14 @@ class Chromium(Browser):
         self.command("Input.dispatchKeyEvent", type="keyDown", **named, **({"text": text} if text else {}))
         self.command("Input.dispatchKeyEvent", type="keyUp", **named)
 
+    def resize(self, width, height):
+        self.command("Emulation.setDeviceMetricsOverride", width=width, height=height, deviceScaleFactor=1, mobile=False)
+        self.settle()
+
     def picture(self, path, width, height, theme):
         """Writes what stands on the screen."""
         self.command("Emulation.setEmulatedMedia", features=[{"name": "prefers-color-scheme", "value": theme}])
-        self.command("Emulation.setDeviceMetricsOverride", width=width, height=height, deviceScaleFactor=1, mobile=False)
-        self.evaluate("new Promise((done) => requestAnimationFrame(() => requestAnimationFrame(() => done(''))))")
+        self.resize(width, height)
         shot = self.command("Page.captureScreenshot", format="png")
         with open(path, "wb") as file:
             file.write(base64.b64decode(shot["data"]))
@@ -190,15 +197,20 @@ class Firefox(Browser):
 
     def push(self, button):
         """Presses a button by the pointer: the window of a headless Firefox has no focus, and keys press none there."""
-        place = self.evaluate(f"(() => {{ const it = document.getElementById('{button}'); it.scrollIntoView({{ block: 'center' }}); "
-                              "const box = it.getBoundingClientRect(); return it.disabled ? '' : "
+        place = self.evaluate(f"(() => {{ const it = document.getElementById('{button}'); "
+                              "it.scrollIntoView({ block: 'center' }); const box = it.getBoundingClientRect(); return it.disabled ? '' : "
                               "`${Math.round(box.x + box.width / 2)} ${Math.round(box.y + box.height / 2)}`; })()")
         if not place:
             raise OSError(f"the button {button} can't be pressed")
         x, y = map(int, place.split())
-        actions = [{"type": "pointerMove", "x": x, "y": y}, {"type": "pointerDown", "button": 0}, {"type": "pointerUp", "button": 0}]
+        actions = [{"type": "pointerMove", "x": x, "y": y}, {"type": "pointerDown", "button": 0},
+                   {"type": "pointerUp", "button": 0}]
         self.command("input.performActions", context=self.context,
                      actions=[{"type": "pointer", "id": "mouse", "parameters": {"pointerType": "mouse"}, "actions": actions}])
+
+    def resize(self, width, height):
+        self.command("browsingContext.setViewport", context=self.context, viewport={"width": width, "height": height})
+        self.settle()
 
     def strike(self, keys):
         actions = [{"type": kind, "value": key} for key in keys for kind in ("keyDown", "keyUp")]

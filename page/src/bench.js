@@ -10,7 +10,8 @@
  * @property {Tear | null} tear what the last of them left, if it was cut
  * @property {string} answer what is answered once all are taken
  */
-/** @typedef {{to: number, from: number, number: number, before: StretchLine | null}} StretchLine a move: change and fill behind the one before */
+/** @typedef {{to: number, from: number, number: number, before: StretchLine | null}} StretchLine a move, and those before it:
+ *  the number of its change, the fill behind the move before it, and its own number */
 /**
  * What a report needs, from the opening of a store on.
  * @typedef {object} Trace
@@ -32,7 +33,8 @@
  * @property {Call | null} call the last call
  * @property {Trace | null} trace
  */
-/** @typedef {{what: string, lines: string[][], delta: Delta | null, desk: Desk}} Entry `lines` are script lines with their answers */
+/** @typedef {{what: string, lines: string[][], delta: Delta | null, desk: Desk}} Entry
+ *  what was done, the script lines that it answered with their answers, and what it left */
 
 /** @type {Record<string, string>} */
 const CALLS = { w: "write", f: "forget", c: "clean", p: "open", open: "open", format: "format" };
@@ -142,11 +144,13 @@ class Bench {
     const operands = kind === "w" ? [address, value] : kind === "f" ? [address] : [];
     const done = this.library.change(CALLS[kind], this.cells, operands);
     const fault = faultOf(done);
-    if (fault !== null) return this.push(`${kind === "p" ? "power on" : kind}: ${fault}`, [], null, { ...changes, open: false, fault });
+    const what = kind === "p" ? "power on" : command.line;
+    if (fault !== null) return this.push(`${what}: ${fault}`, [], null, { ...changes, open: false, fault });
     this.checkPlayed(done);
+    const { length } = done.steps;
     const call = { command, steps: done.steps, taken: 0, tear: null, answer: answerOf(kind, done.status) };
-    if (done.steps.length === 0) this.end(call, null, changes);
-    else this.push(`${command.line}: ${done.steps.length} ${done.steps.length === 1 ? "step" : "steps"} listed`, [], null, { ...changes, call });
+    if (length === 0) this.end(call, null, changes);
+    else this.push(`${command.line}: ${length} ${length === 1 ? "step" : "steps"} listed`, [], null, { ...changes, call });
   }
 
   /** The mirror that the proved code left is what its steps make of the part: else the page is wrong, and says so.
@@ -201,7 +205,8 @@ class Bench {
   /** @returns {Trace} the trace of a store that is open for the first time, with the next entry */
   firstTrace() {
     const { fill, live } = this.library.counts(this.cells);
-    return { base: this.at + 1, start: { fill, live }, wears: this.cells.wears.slice(), changes: 0, fill, last: null, cut: false };
+    const wears = this.cells.wears.slice();
+    return { base: this.at + 1, start: { fill, live }, wears, changes: 0, fill, last: null, cut: false };
   }
 
   /** @param {Trace} trace @param {Call} call one that ended @returns {Trace} */

@@ -11,14 +11,16 @@
  * @property {BigUint64Array} wears how often each page was erased
  */
 /** @typedef {{page: number, place: number, value: bigint}} Step a word to be programmed; at place ERASE a page to be erased */
-/** @typedef {{status: number, page: number, place: number, steps: Step[], after: Cells}} Done what a call answers, lists and leaves */
+/** @typedef {{status: number, page: number, place: number, steps: Step[], after: Cells}} Done
+ *  what a call answers, lists and leaves in the mirror */
 /** @typedef {{status: number, live: number, fill: number, room: number, generation: number, pending: number}} Counts */
 /** @typedef {{address: number, value: number}} Variable */
-/** @typedef {{result: number, words: number, wears: number, list: number, flags: number, places: number}} Loan where a mirror lies */
+/** @typedef {{result: number, words: number, wears: number, list: number, flags: number, places: number}} Loan
+ *  where a mirror, a list and a result lie in the memory of the module */
 
 const ERASE = -1;
 const ALL_ONES = 2n ** 64n - 1n;
-const STATUS = { OK: 0, MOVED: 1, NOTHING: 2, FULL: 3, SPENT: 4, ABSENT: 5, UNFORMATTED: 6, NO_LIVE_SET: 7, TWO_LIVE: 8, FOREIGN: 9 };
+const STATUS = { OK: 0, UNFORMATTED: 6, FOREIGN: 9 }; // those of firmware/ee.h that are asked for by name
 const MEMORY_PAGE = 65536;
 
 /** @param {number} pages @param {number} pageWords @returns {Cells} a part as it comes, each word erased */
@@ -79,8 +81,8 @@ class Library {
    *  @returns {bigint[]} where the result goes, the shape, and the mirror's arrays with their lengths */
   mirror(cells, loan) {
     const count = cells.words.length;
-    const numbers = [loan.result, cells.pages, cells.pageWords, loan.words, count, loan.flags, count, loan.wears, cells.wears.length];
-    return numbers.map(BigInt);
+    const shape = [cells.pages, cells.pageWords];
+    return [loan.result, ...shape, loan.words, count, loan.flags, count, loan.wears, cells.wears.length].map(BigInt);
   }
 
   /** A call that takes steps: format, open, write, forget, clean. The cells stay as they are.

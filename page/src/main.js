@@ -1,6 +1,11 @@
 // @ts-check
 // Joins the parts: what each button, field and key does.
 
+const OTHER_COUNT = "\u25b2 The page counts other live slots than the proved code: do not trust its colours.";
+const NO_LONG_MEMORIES =
+  "\u25b2 This browser has no 64-bit memories for WebAssembly, which the proved store needs: " +
+  "take Chromium 133, Firefox 134 or later.";
+
 class Page {
   /** @param {Library} library */
   constructor(library) {
@@ -13,7 +18,8 @@ class Page {
 
   /** @param {number} pages @param {number} pageWords */
   fresh(pages, pageWords) {
-    const bench = new Bench(this.library, blankCells(pages, pageWords), `a new part: 2 \u00d7 ${pages} pages of ${pageWords} words`);
+    const what = `a new part: 2 \u00d7 ${pages} pages of ${pageWords} words`;
+    const bench = new Bench(this.library, blankCells(pages, pageWords), what);
     bench.begin(ownCommand("format"));
     return bench;
   }
@@ -34,7 +40,7 @@ class Page {
     const { bench } = this;
     const counts = this.library.counts(bench.cells);
     const reading = readingOf(bench.cells, counts);
-    if (reading.live !== counts.live) at("notice").textContent = "\u25b2 The page counts other live slots than the proved code: do not trust its colours.";
+    if (reading.live !== counts.live) at("notice").textContent = OTHER_COUNT;
     this.view.draw(bench, reading);
     drawStand(bench, counts);
     drawSteps(bench);
@@ -57,7 +63,8 @@ class Page {
     const cuts = commands.some((command) => command.kind === "x" || command.kind === "p");
     drawSizing("bad" in script || cuts ? null : changes, this.bench.cells);
     const left = commands.slice(this.nextLine);
-    const told = left.length === 0 ? "no line is left" : `line ${this.nextLine + 1} of ${commands.length} is next: ${left[0].line}`;
+    const next = `line ${this.nextLine + 1} of ${commands.length} is next`;
+    const told = left.length === 0 ? "no line is left" : `${next}: ${left[0].line}`;
     at("line-at").textContent = "bad" in script ? `line ${script.bad} is no command` : told;
   }
 
@@ -108,8 +115,9 @@ class Page {
 
   newPart() {
     const [pages, pageWords] = [at("pages"), at("page-words")].map((field) => Number(field.value));
-    const good = Number.isInteger(pages) && pages >= 1 && pages <= 64 && Number.isInteger(pageWords) && pageWords >= 5 && pageWords <= 512;
-    if (!good) throw new Error("A set has 1 to 64 pages, a page 5 to 512 words.");
+    const isIn = (/** @type {number} */ number, /** @type {number} */ least, /** @type {number} */ most) =>
+      Number.isInteger(number) && least <= number && number <= most;
+    if (!isIn(pages, 1, 64) || !isIn(pageWords, 5, 512)) throw new Error("A set has 1 to 64 pages, a page 5 to 512 words.");
     this.bench = this.fresh(pages, pageWords);
     this.nextLine = 0;
     this.goOn();
@@ -214,7 +222,7 @@ function listenToKeys() {
 
 async function start() {
   if (!hasLongMemories()) {
-    at("notice").textContent = "\u25b2 This browser has no 64-bit memories for WebAssembly, which the proved store needs: take Chromium 133, Firefox 134 or later.";
+    at("notice").textContent = NO_LONG_MEMORIES;
     document.body.classList.add("without");
     return;
   }

@@ -25,7 +25,8 @@ function drawTable(table, caption, heads, rows) {
 function standText(bench) {
   const { power, open, fault, armed, call } = bench.desk;
   const line = call?.command.line;
-  const step = call === null ? "" : `step ${call.taken + (bench.underWay ? 1 : 0)} of ${call.steps.length} of \u201c${line}\u201d`;
+  const number = (call?.taken ?? 0) + (bench.underWay ? 1 : 0);
+  const step = `step ${number} of ${call?.steps.length} of \u201c${line}\u201d`;
   if (!power) return `\u25a1 Power is off: cut in ${step}. This is the part as it lies; power on reads it and opens the store.`;
   const wait = armed?.after === 0n ? "the next step" : `${armed?.after} steps pass, and the next`;
   const fuse = armed === null ? "" : ` A cut is armed: ${wait} is left ${TEARS[armed.tear]}.`;
@@ -41,8 +42,11 @@ function drawStand(bench, counts) {
   const known = counts.status === STATUS.OK;
   const transfers = bench.desk.trace?.last?.number ?? 0;
   const pairs = Object.entries({ fill, room, live, pending, generation, transfers });
-  const shown = (/** @type {string} */ name, /** @type {number} */ number) => (known || name === "transfers" ? String(number) : "\u2013");
-  at("counts").replaceChildren(...pairs.map(([name, number]) => make("div", {}, make("dt", {}, name), make("dd", {}, shown(name, number)))));
+  const rows = pairs.map(([name, number]) => {
+    const shown = known || name === "transfers" ? String(number) : "\u2013";
+    return make("div", {}, make("dt", {}, name), make("dd", {}, shown));
+  });
+  at("counts").replaceChildren(...rows);
   const { lines, what } = bench.entry;
   const last = lines[lines.length - 1];
   at("answer").textContent = last === undefined ? what : `${last[0]}: ${last[1]}`;
@@ -81,7 +85,8 @@ function drawHistory(bench) {
   for (const id of ["first-entry", "back"]) at(id).disabled = bench.at === 0;
   for (const id of ["last-entry", "forth"]) at(id).disabled = bench.at === last;
   const behind = last - bench.at;
-  at("branch").textContent = behind === 0 ? `Entry ${bench.at}, the last.` : `Entry ${bench.at} of ${last}. What is done now replaces the ${behind} behind it.`;
+  const replaced = `of ${last}. What is done now replaces the ${behind} behind it.`;
+  at("branch").textContent = `Entry ${bench.at}${behind === 0 ? ", the last." : " " + replaced}`;
   const from = Math.max(0, Math.min(bench.at - MOST_ROWS / 2, last - MOST_ROWS));
   const rows = bench.entries.slice(from, from + MOST_ROWS + 1).map((entry, index) => {
     const button = make("button", { type: "button", value: String(from + index) }, entry.what);
@@ -114,8 +119,10 @@ function drawMoves(bench) {
   const slots = slotsOf(bench.cells);
   const stretches = trace === null || trace.cut ? [] : stretchesOf(trace);
   at("why").textContent = trace === null ? "No store was opened yet." : whyFewest(trace, slots);
-  const rows = stretches.slice(0, MOST_ROWS).map(({ number, to, from }) => [number, `to ${to} from ${from}`, `change ${to}`, `${from} of ${slots}`]);
-  const caption = stretches.length > MOST_ROWS ? `Stretches, the first ${MOST_ROWS} of ${stretches.length}` : "Stretches, one for each move";
+  const shown = stretches.slice(0, MOST_ROWS);
+  const rows = shown.map(({ number, to, from }) => [number, `to ${to} from ${from}`, `change ${to}`, `${from} of ${slots}`]);
+  const more = stretches.length > MOST_ROWS ? `, the first ${MOST_ROWS} of ${stretches.length}` : "";
+  const caption = `Stretches, one for each move${more}`;
   drawTable(at("moves"), caption, ["move", "stretch", "moved with", "used before"], rows);
   const wears = Array.from(bench.cells.wears, (wear, page) => [page, wear, trace === null ? "\u2013" : wear - trace.wears[page]]);
   drawTable(at("erases"), "Erases per page", ["page", "in all", "since the store was open"], wears);

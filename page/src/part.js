@@ -63,10 +63,15 @@ function copyOf(cells) {
   return { ...cells, words: cells.words.slice(), flags: cells.flags.slice(), wears: cells.wears.slice() };
 }
 
+/** @param {Cells} cells @returns {Uint32Array} each word as its low and its high half, which is quicker than words */
+function halvesOf(cells) {
+  return new Uint32Array(cells.words.buffer, cells.words.byteOffset, 2 * cells.words.length);
+}
+
 /** Whether two parts of one shape read alike, and were erased as often.
  *  @param {Cells} one @param {Cells} other */
 function readAlike(one, other) {
-  const [these, those] = [one, other].map((cells) => new Uint32Array(cells.words.buffer, cells.words.byteOffset, 2 * cells.words.length));
+  const [these, those] = [halvesOf(one), halvesOf(other)];
   for (let index = 0; index < one.flags.length; index++) {
     if ((one.flags[index] !== 0) !== (other.flags[index] !== 0)) return false;
     if (one.flags[index] !== 0) continue;

@@ -14,7 +14,9 @@ function plotScale(years) {
   const low = Math.floor(Math.log10(Math.min(...years)));
   const high = Math.max(low + 1, Math.ceil(Math.log10(Math.max(...years))));
   const reach = PLOT.height - PLOT.top - PLOT.bottom;
-  return Object.assign((/** @type {number} */ number) => PLOT.height - PLOT.bottom - (reach * (Math.log10(number) - low)) / (high - low), { low, high });
+  const foot = PLOT.height - PLOT.bottom;
+  const scale = (/** @type {number} */ number) => foot - (reach * (Math.log10(number) - low)) / (high - low);
+  return Object.assign(scale, { low, high });
 }
 
 /** @param {any} scale @returns {string} a line and a label for each decade, and the pages below */
@@ -23,7 +25,8 @@ function plotAxes(scale) {
   for (let decade = scale.low; decade <= scale.high; decade++) {
     const y = scale(10 ** decade);
     const label = decade < 0 ? (10 ** decade).toFixed(-decade) : (10 ** decade).toLocaleString("en");
-    parts.push(`<path class="grid" d="M${PLOT.left} ${y}H${PLOT.width - PLOT.right}"/><text x="${PLOT.left - 6}" y="${y + 4}" class="end">${label}</text>`);
+    parts.push(`<path class="grid" d="M${PLOT.left} ${y}H${PLOT.width - PLOT.right}"/>`);
+    parts.push(`<text x="${PLOT.left - 6}" y="${y + 4}" class="end">${label}</text>`);
   }
   for (const pages of [1, 8, 16, 24, 32, 40, 48, 56, 64]) {
     parts.push(`<text x="${plotX(pages)}" y="${PLOT.height - PLOT.bottom + 14}" class="middle">${pages}</text>`);
@@ -61,8 +64,8 @@ function plotText(sizes, runsADay, shown) {
   const scale = plotScale(years);
   const points = sizes.map((size) => plotPoint(size, runsADay, scale, size.pages === shown)).join("");
   return (
-    `<svg viewBox="0 0 ${PLOT.width} ${PLOT.height}" role="img" aria-label="Years until the first page is worn, for 1 to 64 pages of a set; the ` +
-    `table below has the numbers. A ring is this part, a cross a size that does not do.">${plotAxes(scale)}${points}</svg>`
+    `<svg viewBox="0 0 ${PLOT.width} ${PLOT.height}" role="img" aria-label="Years until the first page is worn, for 1 to 64 ` +
+    `pages of a set; the table below has the numbers. A ring is this part, a cross a size that does not do.">${plotAxes(scale)}${points}</svg>`
   );
 }
 
@@ -73,7 +76,8 @@ function drawSizing(trace, cells) {
   const good = [cycles, runsADay].every((number) => Number.isInteger(number) && number >= 1 && number <= 4294967295);
   const sizes = good && trace !== null ? sizesOf(trace, cells.pageWords, cycles) : [];
   at("plot").innerHTML = sizes.length === 0 ? "" : plotText(sizes, runsADay, cells.pages);
-  const rows = sizes.map((size) => [size.pages, size.slots, size.runs === Infinity ? "\u2013" : size.runs, sizeText(size, runsADay)]);
+  const runsOf = (/** @type {Size} */ size) => (size.runs === Infinity ? "\u2013" : size.runs);
+  const rows = sizes.map((size) => [size.pages, size.slots, runsOf(size), sizeText(size, runsADay)]);
   drawTable(at("sizes"), "By pages of a set", ["pages", "slots", "runs borne", "lasts"], rows);
   at("sizing").textContent = sizingText(good, trace, sizes[cells.pages - 1], runsADay, cells);
 }

@@ -54,8 +54,8 @@ function whyFewest(trace, slots) {
   const moves = trace.last?.number ?? 0;
   if (moves === 0) return "No change had to move: none is the fewest.";
   return (
-    `Where a stretch begins any store has so many slots used (\u201cfrom\u201d), and with the changes up to its end (\u201cto\u201d) ` +
-    `they are more than ${slots} ${slots === 1 ? "slot takes" : "slots take"}: so every store of this kind moves at least once in ` +
-    `each stretch, ${moves} ${moves === 1 ? "time" : "times"} in all, and this one moved no more often.`
+    `Where a stretch begins any store has so many slots used (\u201cfrom\u201d), and with the changes up to its end ` +
+    `(\u201cto\u201d) they are more than ${slots} ${slots === 1 ? "slot takes" : "slots take"}: so every store of ` +
+    `this kind moves at least once in each stretch, ${moves} ${moves === 1 ? "time" : "times"} in all, and this one moved no more often.`
   );
 }

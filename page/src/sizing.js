@@ -1,7 +1,8 @@
 // @ts-check
 // How long a part lasts, computed by the page: the count of moves that docs/SIZING.md explains, without the proofs.
 
-/** @typedef {{pages: number, slots: number, runs: number, misfit: number}} Size runs of the script that it bears; misfit 0 if it fits */
+/** @typedef {{pages: number, slots: number, runs: number, misfit: number}} Size
+ *  the runs of the script that it bears, and the first change that does not fit, 0 if all do */
 
 const MOST_PAGES = 64;
 const DAYS_A_YEAR = 365;

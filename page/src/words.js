@@ -2,7 +2,8 @@
 // What the words say, read off the cells: docs/FORMATS.md has their spelling, docs/MODEL.md their meaning.
 
 /** @typedef {"live" | "superseded" | "copied" | "forgetting" | "torn" | "free" | "foreign" | "header" | "unset"} Kind */
-/** @typedef {{kinds: Kind[], states: string[], liveSet: number, live: number}} Reading each word's kind, each page's state, the live set or -1 */
+/** @typedef {{kinds: Kind[], states: string[], liveSet: number, live: number}} Reading
+ *  each word's kind, each page's state, the live set or -1, and how many slots are live */
 
 /** @type {Record<Kind, [string, string]>} the glyph of a kind, and what it means */
 const KINDS = {
@@ -37,7 +38,7 @@ class Reader {
   /** @param {Cells} cells */
   constructor(cells) {
     this.cells = cells;
-    this.halves = new Uint32Array(cells.words.buffer, cells.words.byteOffset, 2 * cells.words.length);
+    this.halves = halvesOf(cells);
   }
 
   /** @param {number} index */
@@ -106,9 +107,7 @@ function readingOf(cells, counts) {
   const liveSet = liveSetOf(reader, counts);
   const last = liveSet < 0 ? new Map() : lastSlots(reader, liveSet);
   const states = Array.from(cells.wears, (_, page) => reader.state(page));
-  /** @type {Kind[]} */
-  const kinds = [];
-  for (let index = 0; index < cells.words.length; index++) kinds.push(kindOf(reader, index, liveSet, last, counts.generation, states));
+  const kinds = Array.from(cells.flags, (_, index) => kindOf(reader, index, liveSet, last, counts.generation, states));
   return { kinds, states, liveSet, live: kinds.filter((kind) => kind === "live").length };
 }
 
