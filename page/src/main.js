@@ -146,7 +146,7 @@ class Page {
     link.href = URL.createObjectURL(new Blob([imageText(this.bench.cells)], { type: "text/plain" }));
     link.download = "part.image";
     link.click();
-    URL.revokeObjectURL(link.href);
+    setTimeout(() => URL.revokeObjectURL(link.href), 10000);
   }
 }
 
@@ -201,6 +201,7 @@ function listenToFields(page) {
     const [file] = at("image-file").files;
     if (file === undefined) return;
     const text = await file.text();
+    at("image-file").value = "";
     page.act(() => page.load(text));
   });
   at("theme").addEventListener("change", () => (document.documentElement.dataset.theme = at("theme").value));
