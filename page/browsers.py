@@ -187,7 +187,7 @@ class Firefox(Browser):
         return said["result"].get("value")
 
     def type(self, text):
-        if len(text) > 300:  # a key takes some milliseconds: what is long comes at once, as by pasting
+        if len(text) > 60:  # a key takes some milliseconds: what is long comes at once, as by pasting
             self.evaluate(f"document.execCommand('insertText', false, {json.dumps(text)}); ''")
             return
         self.strike(list(text.replace("\n", self.KEYS["Enter"])) or [self.KEYS["Delete"]])

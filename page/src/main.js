@@ -195,6 +195,7 @@ function listenToFields(page) {
   at("script").addEventListener("keydown", pressOnEnter("run", (event) => event.ctrlKey));
   at("script").addEventListener("input", () => ((page.nextLine = 0), page.drawScript()));
   for (const id of ["cycles", "runs"]) at(id).addEventListener("input", () => page.drawScript());
+  window.addEventListener("resize", () => page.drawScript());
   at("image").addEventListener("toggle", () => page.drawImage());
   at("image-text").addEventListener("input", () => (page.imageTyped = true));
   at("image-file").addEventListener("change", async () => {

@@ -1,6 +1,7 @@
 // @ts-check
 // The plot of how long a part lasts, by the pages of a set.
 
+/** Its measures in pixels; it is as wide as there is room. */
 const PLOT = { width: 640, height: 220, left: 62, right: 12, top: 12, bottom: 34 };
 
 /** @param {number} pages */
@@ -52,7 +53,7 @@ function plotPoint(size, runsADay, scale, isShown) {
 
 /** @param {Size} size @param {number} runsADay */
 function sizeText(size, runsADay) {
-  if (size.misfit > 0) return `change ${size.misfit} makes more live than there are slots`;
+  if (size.misfit > 0) return `change ${size.misfit} does not fit`;
   return size.runs === 0 ? "worn in the first run" : yearsText(yearsOf(size, runsADay));
 }
 
@@ -64,7 +65,7 @@ function plotText(sizes, runsADay, shown) {
   const scale = plotScale(years);
   const points = sizes.map((size) => plotPoint(size, runsADay, scale, size.pages === shown)).join("");
   return (
-    `<svg viewBox="0 0 ${PLOT.width} ${PLOT.height}" role="img" aria-label="Years until the first page is worn, for 1 to 64 ` +
+    `<svg width="${PLOT.width}" height="${PLOT.height}" role="img" aria-label="Years until the first page is worn, for 1 to 64 ` +
     `pages of a set; the table below has the numbers. A ring is this part, a cross a size that does not do.">${plotAxes(scale)}${points}</svg>`
   );
 }
@@ -75,10 +76,11 @@ function drawSizing(trace, cells) {
   const [cycles, runsADay] = [at("cycles"), at("runs")].map((field) => Number(field.value));
   const good = [cycles, runsADay].every((number) => Number.isInteger(number) && number >= 1 && number <= 4294967295);
   const sizes = good && trace !== null ? sizesOf(trace, cells.pageWords, cycles) : [];
+  PLOT.width = Math.max(300, Math.min(760, at("plot").clientWidth));
   at("plot").innerHTML = sizes.length === 0 ? "" : plotText(sizes, runsADay, cells.pages);
   const runsOf = (/** @type {Size} */ size) => (size.runs === Infinity ? "\u2013" : size.runs);
   const rows = sizes.map((size) => [size.pages, size.slots, runsOf(size), sizeText(size, runsADay)]);
-  drawTable(at("sizes"), "By pages of a set", ["pages", "slots", "runs borne", "lasts"], rows);
+  drawTable(at("sizes"), "By pages of a set", ["pages", "slots", "runs", "lasts"], rows);
   at("sizing").textContent = sizingText(good, trace, sizes[cells.pages - 1], runsADay, cells);
 }
 

@@ -55,7 +55,7 @@ class SetsView {
     this.fill(cells, reading);
     this.name(cells, reading);
     this.mark(bench);
-    if (this.cursor >= 0) this.readout.textContent = this.describe(this.cursor);
+    if (this.cursor >= 0) this.tell(this.cursor);
   }
 
   /** @param {Cells} cells a part of another shape than before */
@@ -132,9 +132,14 @@ class SetsView {
     this.cursor = index;
     const box = this.boxes[index];
     box.id = "cursor";
-    box.setAttribute("aria-label", this.describe(index));
     this.root.setAttribute("aria-activedescendant", "cursor");
     box.scrollIntoView({ block: "nearest" });
+    this.tell(index);
+  }
+
+  /** @param {number} index the word at the cursor */
+  tell(index) {
+    this.boxes[index].setAttribute("aria-label", this.describe(index));
     this.readout.textContent = this.describe(index);
   }
 
