@@ -17,7 +17,7 @@ class WebSocket:
 
     def __init__(self, url):
         host, port, path = re.fullmatch(r"ws://([^:/]+):(\d+)(/.*)", url).groups()
-        self.link = socket.create_connection((host, int(port)), timeout=60)
+        self.link = socket.create_connection((host, int(port)), timeout=600)
         self.rest = b""
         key = base64.b64encode(os.urandom(16)).decode()
         lines = [f"GET {path} HTTP/1.1", f"Host: {host}:{port}", "Upgrade: websocket", "Connection: Upgrade",
@@ -196,13 +196,26 @@ class Firefox(Browser):
         self.strike([self.KEYS.get(key, key)])
 
     def push(self, button):
-        """Presses a button by the pointer: the window of a headless Firefox has no focus, and keys press none there."""
-        place = self.evaluate(f"(() => {{ const it = document.getElementById('{button}'); "
-                              "it.scrollIntoView({ block: 'center' }); const box = it.getBoundingClientRect(); return it.disabled ? '' : "
-                              "`${Math.round(box.x + box.width / 2)} ${Math.round(box.y + box.height / 2)}`; })()")
-        if not place:
-            raise OSError(f"the button {button} can't be pressed")
-        x, y = map(int, place.split())
+        """Presses a button by the pointer: the window of a headless Firefox has no focus, and keys press none there. The
+        button may still move when the pointer comes, while what was drawn settles: a press that missed is made again."""
+        it = f"document.getElementById('{button}')"
+        self.evaluate(f"window.wasPressed = ''; {it}.addEventListener('click', () => {{ window.wasPressed = 'yes'; }}, "
+                      "{ once: true, capture: true }); ''")
+        for _ in range(20):
+            self.evaluate(f"{it}.scrollIntoView({{ block: 'center' }}); ''")
+            self.settle()
+            self.click(*self.middle(it))
+            if self.evaluate("window.wasPressed") == "yes":
+                return
+        raise OSError(f"the button {button} can't be pressed")
+
+    def middle(self, it):
+        """The middle of what an expression gives, in the window."""
+        place = self.evaluate(f"(() => {{ const box = {it}.getBoundingClientRect(); "
+                              "return `${Math.round(box.x + box.width / 2)} ${Math.round(box.y + box.height / 2)}`; })()")
+        return map(int, place.split())
+
+    def click(self, x, y):
         actions = [{"type": "pointerMove", "x": x, "y": y}, {"type": "pointerDown", "button": 0},
                    {"type": "pointerUp", "button": 0}]
         self.command("input.performActions", context=self.context,
