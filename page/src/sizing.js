@@ -1,0 +1,82 @@
+// @ts-check
+// How long a part lasts, computed by the page: the count of moves that docs/SIZING.md explains, without the proofs.
+
+/** @typedef {{pages: number, slots: number, runs: number, misfit: number}} Size
+ *  the runs of the script that it bears, and the first change that does not fit, 0 if all do */
+
+const MOST_PAGES = 64;
+const DAYS_A_YEAR = 365;
+
+/** How many addresses have a value after each change of a run, and at its end which.
+ *  @param {Command[]} trace @param {Set<number>} live those at its start */
+function liveCounts(trace, live) {
+  const now = new Set(live);
+  const counts = trace.map((change) => {
+    if (change.kind === "w") now.add(change.address);
+    else now.delete(change.address);
+    return now.size;
+  });
+  return { counts, live: now };
+}
+
+/** A script's changes made over and over, from an empty store: the first run differs, all later ones are alike.
+ *  @param {Command[]} trace */
+function repeatedTrace(trace) {
+  const first = liveCounts(trace, new Set());
+  const later = liveCounts(trace, first.live);
+  const length = trace.length;
+  return {
+    length,
+    counts: first.counts.concat(later.counts),
+    /** @param {number} change the number of a change, from 1 */
+    liveAt: (change) => (change <= length ? first.counts[change - 1] : later.counts[(change - 1) % length]),
+  };
+}
+
+/** The number of the change that takes the move of this number; each move comes when all slots are used.
+ *  @param {ReturnType<typeof repeatedTrace>} rounds @param {number} slots
+ *  @param {number} wanted the number of a move, from 1 */
+function changeOfMove(rounds, slots, wanted) {
+  const seen = new Map();
+  let change = slots + 1;
+  for (let move = 1; move < wanted; move++) {
+    const place = (change - 1) % rounds.length;
+    const earlier = change > rounds.length ? seen.get(place) : undefined;
+    if (earlier !== undefined) {
+      const turns = Math.floor((wanted - move) / (move - earlier.move));
+      change += turns * (change - earlier.change);
+      move += turns * (move - earlier.move);
+      seen.clear();
+      if (move === wanted) break;
+    } else if (change > rounds.length) seen.set(place, { move, change });
+    change += slots - rounds.liveAt(change) + 1;
+  }
+  return change;
+}
+
+/** A page is erased once in two moves, so a part bears twice as many moves as its pages bear erases.
+ *  @param {Command[]} trace @param {number} pageWords @param {number} cycles
+ *  @returns {Size[]} for 1 to 64 pages of a set */
+function sizesOf(trace, pageWords, cycles) {
+  const rounds = repeatedTrace(trace);
+  return Array.from({ length: MOST_PAGES }, (_, index) => {
+    const slots = (index + 1) * (pageWords - 4);
+    const misfit = rounds.counts.findIndex((count) => count > slots) + 1;
+    const fits = misfit === 0 && trace.length > 0;
+    const runs = fits ? Math.floor((changeOfMove(rounds, slots, 2 * cycles + 1) - 1) / trace.length) : Infinity;
+    return { pages: index + 1, slots, runs: misfit === 0 ? runs : 0, misfit };
+  });
+}
+
+/** @param {Size} size @param {number} runsADay */
+function yearsOf(size, runsADay) {
+  return size.runs / runsADay / DAYS_A_YEAR;
+}
+
+/** @param {number} years */
+function yearsText(years) {
+  if (years === Infinity) return "without end";
+  if (years < 1) return `${Math.floor(years * DAYS_A_YEAR)} days`;
+  if (years < 100) return `${(Math.floor(years * 10) / 10).toFixed(1)} years`;
+  return `${Math.floor(years).toLocaleString("en")} years`;
+}
