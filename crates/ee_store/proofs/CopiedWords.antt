@@ -22,7 +22,7 @@ unfolding elements_to
 one_further map n = refl
 
 -- up to an address behind which none has a value for a while
-none_between : (map : Map) (from to : ℕ) → from ≤ to → ((address : ℕ) → from < address → address ≤ to → map address ≡ None) → elements_to map to ≡ elements_to map from
+pub none_between : (map : Map) (from to : ℕ) → from ≤ to → ((address : ℕ) → from < address → address ≤ to → map address ≡ None) → elements_to map to ≡ elements_to map from
 none_between map from zero h none = let e : zero ≡ from = omega arith in ap (elements_to map) e
 none_between map from (suc to) h none = elim (cases_lt from (suc to)) [
   | inr last ↦ let e : suc to ≡ from = omega arith in ap (elements_to map) e
@@ -34,7 +34,7 @@ none_between map from (suc to) h none = elim (cases_lt from (suc to)) [
 ]
 
 -- with the next address that has a value
-next_element : (map : Map) (above next value : ℕ) → IsNextLive map above (Some (next, value)) → elements_to map next ≡ elements_to map above ++ (Held (element next value) ∷ [])
+pub next_element : (map : Map) (above next value : ℕ) → IsNextLive map above (Some (next, value)) → elements_to map next ≡ elements_to map above ++ (Held (element next value) ∷ [])
 next_element map above zero value is = absurd (omega (arith, is.0))
 next_element map above (suc next) value is =
     one_further map next

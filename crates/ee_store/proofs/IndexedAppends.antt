@@ -13,11 +13,10 @@ use Rattle.ee_codec.specs.declared.slot.Slot.TheVariants.{Element}
 use Rattle.ee_codec.proofs.Spelling.{slot_of-element}
 use Rattle.ee_pages.specs.Legal.{IsLive}
 use Rattle.ee_pages.specs.Meaning.{Change, Forget, Map, Put, Spells, changed, meaning, says, slot_says}
-use Rattle.ee_pages.specs.Pending.{address_of}
 use Rattle.ee_pages.specs.Sets.{fill_of, page_of_slot, place_of_slot, set_of, slots_of}
 use Rattle.ee_pages.specs.declared.side.Side.{Side}
 use Rattle.ee_pages.proofs.Slots.{length-slots, page_in_range, place_in_range, slot_at, split_by}
-use Rattle.ee_store.specs.Index.{HasPut, IsIndex, noted, said_at, says_value, shown}
+use Rattle.ee_store.specs.Index.{IsIndex, readied, said_at, says_value, without_forgotten}
 use Rattle.ee_store.specs.Parts.{meant, number_of}
 use Rattle.ee_store.specs.Picture.{IsDrawn, Picture, marked_to, picture_of, with_change}
 use Rattle.ee_store.specs.declared.change.Change as declared
@@ -85,50 +84,56 @@ says_spelled (kinds.Put address value) word e spells =
     ap (λ (slot : Slot). slot_says slot address) slot ∙ grind (arith, common_steps)
 says_spelled (kinds.Forget address value) word e spells = tt
 
-module _ (slots after : List Word) (fill : ℕ) (index : Map) (hidden : Option ℕ) (was_free : get_or slots fill Erased ≡ Erased)
-    (others : (slot : ℕ) → slot ≢ fill → get_or after slot Erased ≡ get_or slots slot Erased) (indexes : IsIndex slots (shown hidden index)) where
+-- what an index has behind a change in the slot of this number
+abbrev pub left_by : Change → ℕ → Map → Map
+left_by (Put address value) number index = changed (Put address number) index
+left_by (Forget address) number index = changed (Forget address) index
+
+module _ (slots after : List Word) (fill : ℕ) (index : Map) (was_free : get_or slots fill Erased ≡ Erased)
+    (others : (slot : ℕ) → slot ≢ fill → get_or after slot Erased ≡ get_or slots slot Erased) (indexes : IsIndex slots index) where
   -- a slot that the index had says what it said
-  says_still : (address : ℕ) (slot : Option ℕ) → shown hidden index address ≡ slot → said_at after slot address ≡ said_at slots slot address
+  says_still : (address : ℕ) (slot : Option ℕ) → index address ≡ slot → said_at after slot address ≡ said_at slots slot address
   says_still address None e = refl
   says_still address (Some slot) e =
-      let here = stands slots (shown hidden index) indexes address slot e in
+      let here = stands slots index indexes address slot e in
       let silent : says (get_or slots fill Erased) address ≡ None = ap (λ (word : Word). says word address) was_free in
       let apart : slot ≢ fill = λ same. let said = ap (λ n. says (get_or slots n Erased) address) same in absurd (cc (here.says_so, said, silent)) in
       ap (λ (word : Word). Some (says word address)) (others slot apart)
 
-  shown_else : (address named : ℕ) → address ≢ named → (hidden ≡ None) ⊎ (hidden ≡ Some named) → shown hidden index address ≡ index address
-  shown_else address named apart (inl none) = rw none refl
-  shown_else address named apart (inr one) = rw one (grind (arith, common_steps, apart))
-
-  module _ (change : Change) (hides : (hidden ≡ None) ⊎ (hidden ≡ Some (address_of change))) (has : HasPut change index) (there : SaysChange (get_or after fill Erased) change)
-      (map : (address : ℕ) → meaning after address ≡ changed change (meaning slots) address) where
-    elsewhere : (address : ℕ) → address ≢ address_of change → noted change fill index address ≡ index address → changed change (meaning slots) address ≡ meaning slots address → said_at after (noted change fill index address) address ≡ says_value (meaning after address)
-    elsewhere address apart same kept =
-        let was = shown_else address (address_of change) apart hides in
-        ap (λ slot. said_at after slot address) (same ∙ sym was)
-        ∙ says_still address (shown hidden index address) refl
+  module _ (change : Change) (there : SaysChange (get_or after fill Erased) change) (map : (address : ℕ) → meaning after address ≡ changed change (meaning slots) address) where
+    elsewhere : (address : ℕ) → left_by change fill index address ≡ index address → changed change (meaning slots) address ≡ meaning slots address → said_at after (left_by change fill index address) address ≡ says_value (meaning after address)
+    elsewhere address same kept =
+        ap (λ slot. said_at after slot address) same
+        ∙ says_still address (index address) refl
         ∙ indexes address
         ∙ ap says_value (sym (map address ∙ kept))
 
-  pub appended_index : (change : Change) → (hidden ≡ None) ⊎ (hidden ≡ Some (address_of change)) → HasPut change index → SaysChange (get_or after fill Erased) change
-      → ((address : ℕ) → meaning after address ≡ changed change (meaning slots) address) → IsIndex after (noted change fill index)
-  appended_index (Put named value) hides has there map address = elim (cases_eq named address) [
+  pub appended_index : (change : Change) → SaysChange (get_or after fill Erased) change → ((address : ℕ) → meaning after address ≡ changed change (meaning slots) address) → IsIndex after (left_by change fill index)
+  appended_index (Put named value) there map address = elim (cases_eq named address) [
     | inl same ↦
-        let slot : noted (Put named value) fill index address ≡ Some fill = grind (arith, common_steps, has, same) in
+        let slot : left_by (Put named value) fill index address ≡ Some fill = grind (arith, common_steps, same) in
         let held : meaning after address ≡ Some value = map address ∙ grind (arith, common_steps, same) in
         rw (slot, held) (ap (λ said. Some said) (rw same at there))
     | inr apart ↦
-        elsewhere (Put named value) hides has there map address (λ e. apart (sym e)) (grind (arith, common_steps, apart)) (grind (arith, common_steps, apart))
+        elsewhere (Put named value) there map address (grind (arith, common_steps, apart)) (grind (arith, common_steps, apart))
   ]
-  appended_index (Forget named) hides has there map address = elim (cases_eq named address) [
+  appended_index (Forget named) there map address = elim (cases_eq named address) [
     | inl same ↦
-        let slot : noted (Forget named) fill index address ≡ None = grind (arith, common_steps, same) in
+        let slot : left_by (Forget named) fill index address ≡ None = grind (arith, common_steps, same) in
         let held : meaning after address ≡ None = map address ∙ grind (arith, common_steps, same) in
         rw (slot, held) refl
     | inr apart ↦
-        elsewhere (Forget named) hides has there map address (λ e. apart (sym e)) (grind (arith, common_steps, apart)) (grind (arith, common_steps, apart))
+        elsewhere (Forget named) there map address (grind (arith, common_steps, apart)) (grind (arith, common_steps, apart))
   ]
 
--- an index follows as it is noted
-pub index_as : (slots : List Word) (index after : Map) → ((address : ℕ) → after address ≡ index address) → IsIndex slots index → IsIndex slots after
-index_as slots index after same indexes address = ap (λ slot. said_at slots slot address) (same address) ∙ indexes address
+-- an index follows as it is made ready and an address that is forgotten leaves it
+pub follows_change : (slots : List Word) (change : Change) (fill : ℕ) (before ready after : Map) → ((address : ℕ) → ready address ≡ readied change fill before address) → ((address : ℕ) → after address ≡ without_forgotten change ready address)
+    → IsIndex slots (left_by change fill before) → IsIndex slots after
+follows_change slots (Put named value) fill before ready after first then indexes address = ap (λ slot. said_at slots slot address) (then address ∙ first address) ∙ indexes address
+follows_change slots (Forget named) fill before ready after first then indexes address = ap (λ slot. said_at slots slot address) (then address ∙ same) ∙ indexes address
+  where
+    same : changed (Forget named) ready address ≡ changed (Forget named) before address
+    same = elim (cases_eq named address) [
+      | inl here ↦ grind (arith, common_steps, here)
+      | inr apart ↦ let was = first address in grind (arith, common_steps, apart, was)
+    ]

@@ -1,6 +1,6 @@
 -- What a store with an index reads of it.
-use Rattle.std.proofs.Common.{◌==◌, ◌≡◌, inl, inr, ℕ, ◌<◌, true, false, Option, Some, None, is_some, List, [], ◌∷◌, length, get_or, refl, sym, subst, ap, ◌∙◌, arith, suc, zero}
-use Rattle.std.proofs.lemmas.Bool.{cases_Bool, cases_eq, eq-eqb, eqb-true}
+use Rattle.std.proofs.Common.{◌==◌, ◌≡◌, inl, inr, ℕ, ◌<◌, Bool, not, true, false, Option, Some, None, is_some, List, [], ◌∷◌, length, get_or, refl, sym, subst, ap, ◌∙◌, arith, suc, zero}
+use Rattle.std.proofs.lemmas.Bool.{cases_eq, eq-eqb, eqb-true}
 use Rattle.std.proofs.lemmas.Bool.Decides.{nat_tests}
 use Rattle.std.proofs.lemmas.Grind.{common_steps}
 use Rattle.std.proofs.lemmas.Map.Keys.{sorted_head, sorted_tail}
@@ -38,11 +38,11 @@ alike first second same (suc n) =
     let rest = alike first second same n in
     live_to-suc first n ∙ rw (rest, same (suc n)) (sym (live_to-suc second n))
 
-absent_above : (named : ℕ) (entries : List (ℕ × ℕ)) → AllByRecursion (λ key. nat_cmp named key ≡ Less) (keys_of entries) → slot_for entries named ≡ None
+pub absent_above : (named : ℕ) (entries : List (ℕ × ℕ)) → AllByRecursion (λ key. nat_cmp named key ≡ Less) (keys_of entries) → slot_for entries named ≡ None
 absent_above named [] above = refl
 absent_above named (first ∷ rest) above = rw above.0 (absent_above named rest above.1)
 
-as_put : (first : ℕ × ℕ) (rest : List (ℕ × ℕ)) (address : ℕ) → slot_for (first ∷ rest) address ≡ changed (Put first.0 first.1) (slot_for rest) address
+pub as_put : (first : ℕ × ℕ) (rest : List (ℕ × ℕ)) (address : ℕ) → slot_for (first ∷ rest) address ≡ changed (Put first.0 first.1) (slot_for rest) address
 as_put first rest address = elim (cases_eq first.0 address) [
   | inl same ↦ grind (arith, nat_tests, common_steps, same)
   | inr apart ↦ grind (arith, nat_tests, common_steps, apart)
@@ -76,13 +76,13 @@ says_proper (Held number) address said e = grind (arith, nat_tests, common_steps
 
 -- ---- what the index says is what the map says
 
-alike_held : (slots : List Word) (slot held : Option ℕ) (address : ℕ) → said_at slots slot address ≡ says_value held → is_some slot ≡ is_some held
+pub alike_held : (slots : List Word) (slot held : Option ℕ) (address : ℕ) → said_at slots slot address ≡ says_value held → is_some slot ≡ is_some held
 alike_held slots None None address e = refl
 alike_held slots None (Some value) address e = absurd (cc e)
 alike_held slots (Some slot) None address e = absurd (cc e)
 alike_held slots (Some slot) (Some value) address e = refl
 
-some_is : (slot : Option ℕ) → is_some slot ≡ true → (number : ℕ) × (slot ≡ Some number)
+pub some_is : (slot : Option ℕ) → is_some slot ≡ true → (number : ℕ) × (slot ≡ Some number)
 some_is None e = absurd (cc e)
 some_is (Some number) e = (number, refl)
 
@@ -122,13 +122,15 @@ module _ (device : Device) (layout : Layout) (entries : List (ℕ × ℕ)) (kept
       none_is None e = refl
       none_is (Some value) e = absurd (cc e)
 
-  -- the address has no value: whether there is room for it
-  pub full_by_count : (address count slots : ℕ) → is_some (slot_for entries address) ≡ false → count ≡ length entries → IsStrictlySortedBy nat_cmp (keys_of entries) → slots ≡ capacity device
-      → MatchBool (count == slots) (IsFull (capacity device) (state_of device) address) (¬ IsFull (capacity device) (state_of device) address)
-  full_by_count address count slots absent count_is sorted slots_is = elim (cases_Bool (count == slots)) [
-    | inl same ↦ rw same record { new_address = no_value address absent; all_live = sym (entries_live sorted) ∙ sym count_is ∙ eqb-true count slots same ∙ slots_is }
-    | inr apart ↦ rw apart (λ full. absurd (cc (apart, eq-eqb count slots (count_is ∙ entries_live sorted ∙ full.all_live ∙ sym slots_is))))
-  ]
+  -- the count of the entries says whether there is no slot for one more
+  module _ (address count slots : ℕ) (count_is : count ≡ length entries) (sorted : IsStrictlySortedBy nat_cmp (keys_of entries)) (slots_is : slots ≡ capacity device) where
+    pub full_unless_held : (held : Bool) → held ≡ is_some (slot_for entries address) → (count == slots) ≡ true
+        → MatchBool (not held) (IsFull (capacity device) (state_of device) address) (¬ IsFull (capacity device) (state_of device) address)
+    full_unless_held false absent same = record { new_address = no_value address (sym absent); all_live = sym (entries_live sorted) ∙ sym count_is ∙ eqb-true count slots same ∙ slots_is }
+    full_unless_held true present same = λ full. absurd (cc (present, same_live address, ap is_some full.new_address))
+
+    pub not_full : (count == slots) ≡ false → ¬ IsFull (capacity device) (state_of device) address
+    not_full apart full = absurd (cc (apart, eq-eqb count slots (count_is ∙ entries_live sorted ∙ full.all_live ∙ sym slots_is)))
 
 -- where the live set stays, the index does
 pub kept_on : (old new : Device) (layout : Layout) (entries : List (ℕ × ℕ)) → Keeps old new layout.side layout.generation → IsKept old layout entries → IsLayout new layout → IsKept new layout entries

@@ -1,5 +1,5 @@
 -- How an index of the live addresses is read, made and kept.
-use Rattle.std.proofs.Common.{if◌then◌else◌, ◌==◌, ◌&&◌, ◌≡◌, inl, inr, ℕ, ◌+◌, ◌<◌, ◌≤◌, true, Option, Some, None, is_some, List, [], ◌∷◌, length, take, drop, get_or, refl, sym, ap, ◌∙◌, arith, suc}
+use Rattle.std.proofs.Common.{◌≡◌, inl, inr, ℕ, ◌+◌, ◌<◌, ◌≤◌, true, Option, Some, None, is_some, List, [], ◌∷◌, length, take, drop, get_or, refl, sym, ap, ◌∙◌, arith, suc}
 use Rattle.std.proofs.Math.Seq.{take-suc}
 use Rattle.std.proofs.lemmas.Bool.{cases_eq, cases_lt}
 use Rattle.std.proofs.lemmas.Grind.{common_steps}
@@ -26,7 +26,7 @@ use Rattle.ee_pages.specs.declared.find.Layout.{Layout}
 use Rattle.ee_pages.proofs.LastSaid.{latest_in-append, silent_behind}
 use Rattle.ee_pages.proofs.Slots.{length-slots}
 use Rattle.ee_store.proofs.Making.{few_within}
-use Rattle.ee_store.specs.Index.{IsIndex, bound_above, entered, followed, said_at, says_value, slot_for}
+use Rattle.ee_store.specs.Index.{IsIndex, bound_above, entered, said_at, says_value, slot_for}
 
 -- ---- the next entry
 
@@ -123,70 +123,6 @@ indexes_all device layout index count found e kept address =
 pub indexes_none : (slots : List Word) (entries : List (ℕ × ℕ)) → entries ≡ [] → IndexesTo slots 0 (slot_for entries)
 indexes_none slots entries e address = rw e refl
 
--- ---- the slots of addresses that an index has already
-
--- it has the addresses that are live, and the slots of those that the first slots name
-pub record NumbersTo (slots : List Word) (count : ℕ) (index : Map) : Type 0 where
-  pub addresses : (address : ℕ) → is_some (index address) ≡ is_some (meaning slots address)
-  pub numbers : (address : ℕ) → is_some (meaning slots address) ≡ true → is_some (meaning (take count slots) address) ≡ true
-      → said_at slots (index address) address ≡ says_value (meaning (take count slots) address)
-
-same_addresses : (slot : Slot) (count : ℕ) (index : Map) (address : ℕ) → is_some (followed slot count index address) ≡ is_some (index address)
-same_addresses (Element named value) count index address = elim (cases_eq named address) [
-  | inl same ↦ one_held (index address) same
-  | inr apart ↦ grind (arith, common_steps)
-]
-  where
-    one_held : (held : Option ℕ) → named ≡ address → is_some (if (named == address) && is_some held then Some count else held) ≡ is_some held
-    one_held None e = grind (arith, common_steps)
-    one_held (Some slot) e = grind (arith, common_steps)
-same_addresses (Forgotten named value) count index address = refl
-same_addresses Free count index address = refl
-same_addresses Spoiled count index address = refl
-same_addresses Foreign count index address = refl
-
-module _ (slots : List Word) (count address : ℕ) (index : Map) (before : Option (Option ℕ)) (has : is_some (index address) ≡ true)
-    (kept : is_some (value_said before) ≡ true → said_at slots (index address) address ≡ says_value (value_said before)) where
-  one_followed : (slot : Slot) → says (get_or slots count Erased) address ≡ slot_says slot address → is_some (value_said (later before (slot_says slot address))) ≡ true
-      → said_at slots (followed slot count index address) address ≡ says_value (value_said (later before (slot_says slot address)))
-  one_followed (Element named value) e some = elim (cases_eq named address) [
-    | inl same ↦ grind (arith, common_steps, e, has, same)
-    | inr apart ↦ grind (arith, common_steps, e, kept, some, apart)
-  ]
-  one_followed (Forgotten named value) e some = elim (cases_eq named address) [
-    | inl same ↦ grind (arith, common_steps, some, same)
-    | inr apart ↦ grind (arith, common_steps, e, kept, some, apart)
-  ]
-  one_followed Free e some = kept some
-  one_followed Spoiled e some = kept some
-  one_followed Foreign e some = kept some
-
-pub follows : (slots : List Word) (count : ℕ) (index after : Map) → count < length slots → ((address : ℕ) → after address ≡ followed (slot_of (get_or slots count Erased)) count index address) → NumbersTo slots count index → NumbersTo slots (count + 1) after
-follows slots count index after h is kept = record {
-  addresses = λ address. ap is_some (is address) ∙ same_addresses (slot_of (get_or slots count Erased)) count index address ∙ kept.addresses address;
-  numbers = λ address live some.
-      let further = latest_further slots count address h in
-      ap (λ slot. said_at slots slot address) (is address)
-      ∙ one_followed slots count address index (latest_in (take count slots) address) (kept.addresses address ∙ live) (kept.numbers address live) (slot_of (get_or slots count Erased)) refl (ap (λ said. is_some (value_said said)) (sym further) ∙ some)
-      ∙ ap (λ said. says_value (value_said said)) (sym further);
-}
-
-all_numbered : (slots : List Word) (slot held : Option ℕ) (address : ℕ) → is_some slot ≡ is_some held → (is_some held ≡ true → said_at slots slot address ≡ says_value held) → said_at slots slot address ≡ says_value held
-all_numbered slots None None address same says = refl
-all_numbered slots None (Some value) address same says = says refl
-all_numbered slots (Some slot) None address same says = absurd (cc same)
-all_numbered slots (Some slot) (Some value) address same says = says refl
-
-pub numbers_all : (device : Device) (layout : Layout) (index : Map) (count : ℕ) → IsLayout device layout → count ≡ layout.fill
-    → NumbersTo (slots_of (set_of layout.side device)) count index → IsIndex (slots_of (set_of layout.side device)) index
-numbers_all device layout index count found e kept address =
-    let slots = slots_of (set_of layout.side device) in
-    let said : meaning (take count slots) address ≡ meaning slots address = ap (λ n. meaning (take n slots) address) e ∙ all_used_said device layout found address in
-    all_numbered slots (index address) (meaning slots address) address (kept.addresses address) (λ live. kept.numbers address live (ap is_some said ∙ live) ∙ ap says_value said)
-
-pub numbers_none : (slots : List Word) (index : Map) → ((address : ℕ) → is_some (index address) ≡ is_some (meaning slots address)) → NumbersTo slots 0 index
-numbers_none slots index same = record { addresses = same; numbers = λ address live some. absurd (cc some) }
-
 -- ---- what an index tells of the map
 
 -- a slot that an index has
@@ -205,13 +141,13 @@ listed_if_said slots address number value e = elim (cases_lt number (length slot
       absurd (cc (e, silent))
 ]
 
-stands_if : (slots : List Word) (address number : ℕ) (held : Option ℕ) → meaning slots address ≡ held → said_at slots (Some number) address ≡ says_value held → Stands slots address number
+pub stands_if : (slots : List Word) (address number : ℕ) (held : Option ℕ) → meaning slots address ≡ held → said_at slots (Some number) address ≡ says_value held → Stands slots address number
 stands_if slots address number None is e = absurd (cc e)
 stands_if slots address number (Some value) is e =
     let said : says (get_or slots number Erased) address ≡ Some (Some value) = cc e in
     record { value = value; held = is; says_so = said; listed = listed_if_said slots address number value said }
 
-nothing_if : (slots : List Word) (address : ℕ) (held : Option ℕ) → said_at slots None address ≡ says_value held → held ≡ None
+pub nothing_if : (slots : List Word) (address : ℕ) (held : Option ℕ) → said_at slots None address ≡ says_value held → held ≡ None
 nothing_if slots address None e = refl
 nothing_if slots address (Some value) e = absurd (cc e)
 

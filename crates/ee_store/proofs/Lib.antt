@@ -15,7 +15,8 @@ pub mod LowestPending
 pub mod Erasing
 pub mod KeptMarks
 pub mod Appending
-pub mod OpenedPages
+pub mod Numbering
+mod OpenedPages
 pub mod CopiedMaps
 pub mod Courses
 pub mod MovingFacts
@@ -35,6 +36,8 @@ pub mod KeptChanges
 pub mod WholeDrives
 pub mod StayingChanges
 pub mod Indexing
+pub mod IndexReaders
 pub mod IndexedAppends
+pub mod IndexedMoves
 pub mod IndexedBatches
 pub mod IndexedStores

@@ -1,7 +1,8 @@
 -- The index of a store that keeps one: the slots in which the live addresses stand.
-use Rattle.std.specs.Prelude.{◌≡◌, ℕ, ◌==◌, ◌&&◌, if◌then◌else◌, is_some, true, Option, Some, None, List, slice_index_or}
+use Rattle.std.specs.Prelude.{◌≡◌, ◌<◌, ◌⊎◌, ℕ, ◌+◌, ◌==◌, if◌then◌else◌, is_some, Bool, true, false, Option, Some, None, List, [], ◌∷◌, slice_index_or}
 use Rattle.std.specs.BTreeMap.{is_at}
-use Rattle.std.specs.Map.{lookup}
+use Rattle.std.specs.List.Sorted.{IsStrictlySortedBy}
+use Rattle.std.specs.Map.{keys_of, lookup}
 use Rattle.std.specs.Option.{option_map}
 use Rattle.std.specs.Ordering.{nat_cmp}
 use Rattle.std.specs.declared.ops.Bound.{Bound}
@@ -12,7 +13,7 @@ use Rattle.ee_flash.specs.declared.word.Word.TheVariants.{Erased}
 use Rattle.ee_codec.specs.declared.slot.Slot.{Slot}
 use Rattle.ee_codec.specs.declared.slot.Slot.TheVariants.{Free, Spoiled, Element, Forgotten, Foreign}
 use Rattle.ee_pages.specs.Layout.{IsLayout}
-use Rattle.ee_pages.specs.Meaning.{Change, Map, Put, Forget, changed, meaning, says}
+use Rattle.ee_pages.specs.Meaning.{Change, Map, Put, Forget, above_of, changed, meaning, says}
 use Rattle.ee_pages.specs.Sets.{set_of, slots_of}
 use Rattle.ee_pages.specs.declared.find.Layout.{Layout}
 
@@ -43,27 +44,49 @@ entered Free number index = index
 entered Spoiled number index = index
 entered Foreign number index = index
 
--- an address that the index has gets another slot
-abbrev pub repointed : ℕ → ℕ → Map → Map
-repointed named number index address = if (named == address) && is_some (index address) then Some number else index address
+-- what it has while a change is made in the slot of this number: an address that is put stands there already
+abbrev pub readied : Change → ℕ → Map → Map
+readied (Put address value) number index = changed (Put address number) index
+readied (Forget address) number index = index
 
--- so does the address of which the slot of this number says a value
-abbrev pub followed : Slot → ℕ → Map → Map
-followed (Element address value) number index = repointed address number index
-followed (Forgotten address value) number index = index
-followed Free number index = index
-followed Spoiled number index = index
-followed Foreign number index = index
+-- what it has behind the change: an address that is forgotten leaves it
+abbrev pub without_forgotten : Change → Map → Map
+without_forgotten (Put address value) index = index
+without_forgotten (Forget address) index = changed (Forget address) index
 
--- the word of a change stands in the slot of this number; an address that is put is in the index already
-abbrev pub noted : Change → ℕ → Map → Map
-noted (Put address value) number index = repointed address number index
-noted (Forget address) number index = changed (Forget address) index
+-- an index of these slots, but for a change that is about to be made in the slot of this number
+abbrev pub IsReadyFor : List Word → Change → ℕ → Map → Type 0
+IsReadyFor slots change number index =
+    (before : Map) × IsIndex slots before × ((address : ℕ) → index address ≡ readied change number before address)
 
--- it is
+-- an address that is put is in the index
 abbrev pub HasPut : Change → Map → Type 0
 HasPut (Put address value) index = is_some (index address) ≡ true
 HasPut (Forget address) index = Unit {0}
+
+-- ---- how a transfer numbers it
+
+-- the address that a change puts: a transfer puts it first
+abbrev pub put_of : Change → Option ℕ
+put_of (Put address value) = Some address
+put_of (Forget address) = None
+
+-- whether it is this one
+abbrev pub is_first : Option ℕ → ℕ → Bool
+is_first None address = false
+is_first (Some first) address = first == address
+
+-- how many slots it takes
+abbrev pub behind_first : Option ℕ → ℕ
+behind_first None = 0
+behind_first (Some first) = 1
+
+-- the address that is put first has the first slot, and the others have the slots from this one on
+abbrev pub numbered : Option ℕ → ℕ → List (ℕ × ℕ) → List (ℕ × ℕ)
+numbered first number [] = []
+numbered first number (entry ∷ more) =
+    if is_first first entry.0 then (entry.0, 0) ∷ numbered first number more
+    else (entry.0, number) ∷ numbered first (number + 1) more
 
 -- ---- how it is gone over
 
@@ -71,6 +94,20 @@ HasPut (Forget address) index = Unit {0}
 abbrev pub shown : Option ℕ → Map → Map
 shown None index = index
 shown (Some hidden) index = changed (Forget hidden) index
+
+-- what is left of the entries, behind this address, to go over
+pub record IsLeft (slots : List Word) (hidden after : Option ℕ) (entries : List (ℕ × ℕ)) : Type 0 where
+  pub ordered : IsStrictlySortedBy nat_cmp (keys_of entries)
+  pub behind : (address : ℕ) → is_some (slot_for entries address) ≡ true → above_of after < address
+  pub indexes : (address : ℕ) → above_of after < address
+      → said_at slots (shown hidden (slot_for entries) address) address ≡ says_value (meaning slots address)
+
+-- the next entry that is not hidden, and what is left behind it
+abbrev pub IsNextShown : Option ℕ → List (ℕ × ℕ) → Option (ℕ × ℕ) → List (ℕ × ℕ) → Type 0
+IsNextShown hidden entries None left = (address : ℕ) → shown hidden (slot_for entries) address ≡ None
+IsNextShown hidden entries (Some found) left =
+    ((is_first hidden found.0 ≡ false) × (entries ≡ found ∷ left))
+    ⊎ ((passed : ℕ × ℕ) × (is_first hidden passed.0 ≡ true) × (entries ≡ passed ∷ found ∷ left))
 
 -- where a reader of an index begins: behind this address, or at the first of all
 abbrev pub bound_above : Option ℕ → Bound ℕ

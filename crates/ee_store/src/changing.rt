@@ -1,4 +1,4 @@
-ghost use Rattle.std.specs.Prelude.{◌≡◌, ◌<◌, OnErr, OnOk};
+ghost use Rattle.std.specs.Prelude.{◌≡◌, ◌<◌, ◌+◌, OnErr, OnOk, length};
 ghost use Rattle.ee_codec.specs.Words.{IsAddress};
 ghost use Rattle.ee_flash.specs.Device.{IsOn};
 ghost use Rattle.ee_flash.specs.Size.{slot_count};
@@ -10,7 +10,7 @@ ghost use Rattle.ee_pages.specs.Sets.{other as other_of, set_of, slots_of};
 ghost use Rattle.ee_store.specs.Changes.{Appends, IsCutChange, Moves, Proceeds};
 ghost use Rattle.ee_store.specs.Finished.{IsMarked, IsStore};
 ghost use Rattle.ee_store.specs.Parts.{ForgetsHeld, HasMoved, map_in, meant, number_of};
-ghost use Rattle.ee_store.specs.Picture.{IsDrawn, picture_of, with_change};
+ghost use Rattle.ee_store.specs.Picture.{IsDrawn, filled, moved_words, picture_of, with_change};
 ghost use Rattle.ee_store.specs.State.{state_of};
 
 use crate::change::Change;
@@ -109,6 +109,12 @@ pub(crate) fn move_change<F: Flash, C: LiveCursor + Drop>(
         (meant change)) }
     ensures found { OnOk result (IsLayout (F.device flash.new) layout.new) }
     ensures other_set { OnOk result (layout.new.side ≡ other_of layout.old.side) }
+    ensures as_many { OnOk result (layout.new.fill ≡ length
+        (moved_words (meant change) (map_in layout.old.side (F.device flash.old)))) }
+    ensures new_pages { OnOk result
+        (IsDrawn (other_of layout.old.side) (F.device flash.new)
+        (filled (F.device flash.old).size (layout.old.generation + 1)
+        (moved_words (meant change) (map_in layout.old.side (F.device flash.old))))) }
     ensures cut { OnErr result
         (IsCutChange (F.device flash.old) (meant change) (F.device flash.new)) }
     ensures store { IsStore (F.device flash.new) }

@@ -1,11 +1,14 @@
-ghost use Rattle.std.specs.Prelude.{◌≡◌, ◌<◌, ℕ, IfOk, IfSome, OnOk, None, Some, is_some, slice_index_or};
+ghost use Rattle.std.specs.Prelude.{◌≡◌, ◌<◌, ◌+◌, ℕ, IfOk, IfSome, OnOk, [], ◌∷◌, None, Some, false, slice_index_or, true};
 ghost use Rattle.std.specs.List.{All};
 ghost use Rattle.ee_codec.specs.Words.{IsAddress};
 ghost use Rattle.ee_flash.specs.Size.{slot_count};
 ghost use Rattle.ee_pages.specs.Layout.{IsLayout};
-ghost use Rattle.ee_pages.specs.Meaning.{AreLiveThrough, IsNextLive, above_of, meaning, says};
+ghost use Rattle.ee_pages.specs.Meaning.{AreLiveThrough, IsNextLive, above_of, says};
 ghost use Rattle.ee_pages.specs.Sets.{set_of, slots_of};
-ghost use Rattle.ee_store.specs.Index.{IsIndex, bound_above, entered, followed, repointed, shown, slot_for};
+ghost use Rattle.ee_store.specs.Index.{IsIndex, IsNextShown, behind_first, bound_above, entered, is_first, numbered, slot_for};
+ghost use Rattle.std.specs.List.Sorted.{IsStrictlySortedBy};
+ghost use Rattle.std.specs.Map.{keys_of};
+ghost use Rattle.std.specs.Ordering.{nat_cmp};
 ghost use Rattle.ee_store.specs.Parts.{map_in};
 
 use crate::live_cursor::LiveCursor;
@@ -15,7 +18,8 @@ use ee_flash::{Flash, Word};
 use ee_pages::{Layout, LiveBatch, slot_word};
 use std::alloc::{AllocError, Allocator};
 use std::collections::BTreeMap;
-use std::ops::Bound;
+use std::collections::btree_map::Iter;
+use std::ops::{Bound, Range};
 
 /// The slot, counted from 0, in which each live address stands.
 pub(crate) type Index<A> = BTreeMap<Address, usize, A>;
@@ -62,38 +66,36 @@ fn enter<A: Allocator + Copy>(
     Ok(())
 }
 
-/// Gives each address of an index, which has those that are live, the slot in which it stands. It
-/// takes no memory.
-pub(crate) fn renumber<F: Flash, A: Allocator>(index: &mut Index<A>, flash: &F, layout: &Layout)
-    requires layout { IsLayout (F.device flash.now) layout.now }
-    requires addresses { (address : ℕ) → is_some (slot_for index.old.entries address)
-        ≡ is_some (meaning (slots_of (set_of layout.now.side (F.device flash.now))) address) }
-    ensures { let slots = slots_of (set_of layout.now.side (F.device flash.now)) in
-        IsIndex slots (slot_for index.new.entries) }
+/// Gives the addresses of an index, which has those that are live behind a transfer, the slots in
+/// which the transfer put them: `first`, if there is one, stands in the first slot, and behind it
+/// stand the others, by rising address. It takes no memory and doesn't look at the flash.
+pub(crate) fn renumber<A: Allocator>(index: &mut Index<A>, first: Option<Address>)
+    ensures numbered { index.new.entries
+        ≡ numbered first (behind_first first) index.old.entries }
+    ensures ordered { IsStrictlySortedBy nat_cmp (keys_of index.old.entries) }
 {
-    for number in 0..layout.fill {
-        follow(index, number, read_slot(slot_word(flash, layout, number)));
-    }
+    let behind = match first {
+        None => 0,
+        Some(_) => 1,
+    };
+    let mut numbers = behind..behind + index.len();
+    index.retain(|address, slot| {
+        *slot = next_number(&mut numbers, first, *address);
+        true
+    });
 }
 
-// Gives an address of which the slot of this number says a value that slot, if the index has it.
-fn follow<A: Allocator>(index: &mut Index<A>, number: usize, said: Slot)
-    ensures { (address : ℕ) → slot_for index.new.entries address
-        ≡ followed said number (slot_for index.old.entries) address }
+// The slot of the next address: `first` has the first slot, and each other takes the next number.
+fn next_number(numbers: &mut Range<usize>, first: Option<Address>, address: Address) -> usize
+    ensures first { is_first first address ≡ true → (result ≡ 0) × (numbers.new ≡ numbers.old) }
+    ensures other { is_first first address ≡ false → numbers.old.start < numbers.old.end
+        → (result ≡ numbers.old.start) × (numbers.new.start ≡ numbers.old.start + 1)
+        × (numbers.new.end ≡ numbers.old.end) }
 {
-    if let Slot::Element { address, .. } = said {
-        point(index, address, number);
+    if first == Some(address) {
+        return 0;
     }
-}
-
-/// Gives an address another slot, if the index has it. It takes no memory.
-pub(crate) fn point<A: Allocator>(index: &mut Index<A>, address: Address, number: usize)
-    ensures { (named : ℕ) → slot_for index.new.entries named
-        ≡ repointed address number (slot_for index.old.entries) named }
-{
-    if let Some(slot) = index.get_mut(&address) {
-        *slot = number;
-    }
+    numbers.next().unwrap_or(0)
 }
 
 /// The value that the slot of this number says, 0 if it says none.
@@ -108,24 +110,6 @@ pub(crate) fn value_in<F: Flash>(flash: &F, layout: &Layout, number: usize) -> u
         Slot::Element { value, .. } => value,
         _ => 0,
     }
-}
-
-/// The next address of an index above `after`, or the first of all if `after` is `None`, with its
-/// slot. A hidden address is passed over.
-pub(crate) fn next_entry<A: Allocator>(
-    index: &Index<A>,
-    hidden: Option<Address>,
-    after: Option<Address>,
-) -> Option<(Address, usize)>
-    ensures { IsNextLive (shown hidden (slot_for index.now.entries)) (above_of after) result }
-{
-    let Some((address, number)) = first_above(index, after) else {
-        return None;
-    };
-    if hidden == Some(address) {
-        return first_above(index, hidden);
-    }
-    Some((address, number))
 }
 
 // The first address of an index above `after`, or of all if `after` is `None`, with its slot.
@@ -153,22 +137,21 @@ fn start_above(after: Option<Address>) -> Bound<Address>
 }
 
 /// The next live address above `after`, or the first of all if `after` is `None`, with its value, by
-/// an index of the live set. A hidden address, which has no value yet, is passed over.
+/// an index of the live set.
 pub(crate) fn next_indexed<F: Flash, A: Allocator>(
     index: &Index<A>,
-    hidden: Option<Address>,
     flash: &F,
     layout: &Layout,
     after: Option<Address>,
 ) -> Option<(Address, u32)>
     requires layout { IsLayout (F.device flash.now) layout.now }
     requires index { let slots = slots_of (set_of layout.now.side (F.device flash.now)) in
-        IsIndex slots (shown hidden (slot_for index.now.entries)) }
+        IsIndex slots (slot_for index.now.entries) }
     ensures next { IsNextLive (map_in layout.now.side (F.device flash.now)) (above_of after)
         result }
     ensures proper { IfSome result (λ found. IsAddress found.0) }
 {
-    let Some((address, number)) = next_entry(index, hidden, after) else {
+    let Some((address, number)) = first_above(index, after) else {
         return None;
     };
     Some((address, value_in(flash, layout, number)))
@@ -192,7 +175,7 @@ pub(crate) fn batch_indexed<F: Flash, A: Allocator>(
     let mut found = ArrayVec::new();
     let mut behind = after;
     'batch: while !found.is_full() {
-        let Some((address, value)) = next_indexed(index, None, flash, layout, behind) else {
+        let Some((address, value)) = next_indexed(index, flash, layout, behind) else {
             return LiveBatch {
                 found,
                 through: None,
@@ -210,48 +193,70 @@ pub(crate) fn batch_indexed<F: Flash, A: Allocator>(
 /// Goes over the live addresses by an index. A hidden address, which has no value yet, is passed
 /// over.
 #[derive(Drop)]
-pub(crate) struct IndexCursor<'a, A: Allocator> {
-    index: &'a Index<A>,
+pub(crate) struct IndexCursor<'a> {
+    /// The entries that are left.
+    entries: Iter<'a, Address, usize>,
     hidden: Option<Address>,
     /// The address given last.
     after: Option<Address>,
 }
 
-impl<'a, A: Allocator> IndexCursor<'a, A> {
+impl<'a> IndexCursor<'a> {
     /// Before the first.
-    pub(crate) fn new(index: &'a Index<A>, hidden: Option<Address>) -> IndexCursor<'a, A>
-        ensures index { result.index.now.entries ≡ index.now.entries }
+    pub(crate) fn new<A: Allocator>(index: &'a Index<A>, hidden: Option<Address>) -> IndexCursor<'a>
+        ensures entries { result.entries ≡ index.now.entries }
+        ensures ordered { IsStrictlySortedBy nat_cmp (keys_of index.now.entries) }
         ensures hidden { result.hidden ≡ hidden }
         ensures first { result.after ≡ None }
     {
         IndexCursor {
-            index,
+            entries: index.iter(),
             hidden,
             after: None,
         }
     }
 }
 
-impl<'a, A: Allocator> LiveCursor for IndexCursor<'a, A> {
+impl<'a> LiveCursor for IndexCursor<'a> {
     ghost use Rattle.ee_pages.specs.Meaning.{above_of};
-    ghost use Rattle.ee_store.specs.Index.{IsIndex, shown, slot_for};
+    ghost use Rattle.ee_store.specs.Index.{IsLeft};
 
     ghost behind = { λ cursor. above_of cursor.after };
 
-    ghost goes_over = { λ cursor slots.
-        IsIndex slots (shown cursor.hidden (slot_for cursor.index.now.entries)) };
+    ghost goes_over = { λ cursor slots. IsLeft slots cursor.hidden cursor.after cursor.entries };
 
     fn next<F: Flash>(&mut self, flash: &F, layout: &Layout) -> Option<(Address, u32)> {
-        let Some((address, value)) = next_indexed(
-            self.index,
-            self.hidden,
-            flash,
-            layout,
-            self.after,
-        ) else {
+        let Some((address, number)) = next_shown(&mut self.entries, self.hidden) else {
             return None;
         };
         self.after = Some(address);
-        Some((address, value))
+        Some((address, value_in(flash, layout, number)))
+    }
+}
+
+// The next entry that is not hidden.
+fn next_shown(
+    entries: &mut Iter<'_, Address, usize>,
+    hidden: Option<Address>,
+) -> Option<(Address, usize)>
+    ensures { IsNextShown hidden entries.old result entries.new }
+{
+    let Some((address, number)) = entries.next() else {
+        return None;
+    };
+    if hidden == Some(*address) {
+        return next_left(entries);
+    }
+    Some((*address, *number))
+}
+
+// The next entry.
+fn next_left(entries: &mut Iter<'_, Address, usize>) -> Option<(Address, usize)>
+    ensures none { result ≡ None → entries.old ≡ [] }
+    ensures some { IfSome result (λ found. entries.old ≡ found ∷ entries.new) }
+{
+    match entries.next() {
+        None => None,
+        Some((address, number)) => Some((*address, *number)),
     }
 }

@@ -13,7 +13,7 @@ ghost use Rattle.ee_store.specs.State.{capacity, state_of};
 use crate::change::Change;
 use crate::cleaning::{clean, count_pending};
 use crate::index::{Index, batch_indexed, next_indexed, read_index, value_in};
-use crate::index_changing::{make_indexed, make_room};
+use crate::index_changing::{append_indexed, enter_slot, make_room, move_indexed};
 use crate::marking::finish;
 use crate::store::GREATEST_GENERATION;
 use crate::variables::{ForgetFault, Off, Variables, WriteFault, Written};
@@ -123,7 +123,7 @@ impl<F: Flash + Drop, A: Allocator> IndexedStore<F, A> {
         ensures { MatchBool result (IsFull (capacity self.now) (state_of self.now) address)
             (¬ IsFull (capacity self.now) (state_of self.now) address) }
     {
-        !self.index.contains_key(&address) && self.index.len() == self.flash.shape().slots()
+        self.index.len() == self.flash.shape().slots() && !self.index.contains_key(&address)
     }
 
     /// The value of an address, by the index.
@@ -168,19 +168,27 @@ impl<F: Flash + Drop, A: Allocator + Copy> Variables for IndexedStore<F, A> {
         if self.is_spent() {
             return Err(WriteFault::Spent);
         }
+        let Self {
+            flash,
+            layout,
+            index,
+        } = self;
+        let change = Change::Put { address, value };
         // The index grows before the first step, so want of memory leaves all as it was.
-        let hidden = match make_room(&mut self.index, address) {
-            Ok(hidden) => hidden,
-            Err(_) => return Err(WriteFault::Memory),
+        if layout.fill < flash.shape().slots() {
+            let Ok(()) = enter_slot(index, address, layout.fill) else {
+                return Err(WriteFault::Memory);
+            };
+            return match append_indexed(flash, layout, index, change) {
+                Ok(()) => Ok(Written::Appended),
+                Err(Cut) => Err(WriteFault::Cut),
+            };
+        }
+        let Ok(hidden) = make_room(index, address) else {
+            return Err(WriteFault::Memory);
         };
-        match make_indexed(
-            &mut self.flash,
-            &mut self.layout,
-            &mut self.index,
-            Change::Put { address, value },
-            hidden,
-        ) {
-            Ok(written) => Ok(written),
+        match move_indexed(flash, layout, index, change, hidden) {
+            Ok(()) => Ok(Written::Moved),
             Err(Cut) => Err(WriteFault::Cut),
         }
     }
@@ -195,14 +203,20 @@ impl<F: Flash + Drop, A: Allocator + Copy> Variables for IndexedStore<F, A> {
         if self.is_spent() {
             return Err(ForgetFault::Spent);
         }
-        match make_indexed(
-            &mut self.flash,
-            &mut self.layout,
-            &mut self.index,
-            Change::Forget { address, value },
-            None,
-        ) {
-            Ok(written) => Ok(written),
+        let Self {
+            flash,
+            layout,
+            index,
+        } = self;
+        let change = Change::Forget { address, value };
+        if layout.fill < flash.shape().slots() {
+            return match append_indexed(flash, layout, index, change) {
+                Ok(()) => Ok(Written::Appended),
+                Err(Cut) => Err(ForgetFault::Cut),
+            };
+        }
+        match move_indexed(flash, layout, index, change, None) {
+            Ok(()) => Ok(Written::Moved),
             Err(Cut) => Err(ForgetFault::Cut),
         }
     }
@@ -234,7 +248,7 @@ impl<F: Flash + Drop, A: Allocator + Copy> Variables for IndexedStore<F, A> {
     }
 
     fn next_live(&self, after: Option<Address>) -> Option<(Address, u32)> {
-        next_indexed(&self.index, None, &self.flash, &self.layout, after)
+        next_indexed(&self.index, &self.flash, &self.layout, after)
     }
 
     fn next_batch(&self, after: Option<Address>) -> LiveBatch {

@@ -43,6 +43,8 @@ pub(crate) fn transfer<F: Flash, C: LiveCursor + Drop>(
         (meant change)) }
     ensures layout { OnOk result (IsLayout (F.device flash.new) layout.new) }
     ensures other_set { OnOk result (layout.new.side ≡ other_of layout.old.side) }
+    ensures as_many { OnOk result (layout.new.fill ≡ length
+        (moved_words (meant change) (map_in layout.old.side (F.device flash.old)))) }
     ensures marked { OnOk result (IsMarked (F.device flash.new) (other_of layout.old.side)) }
     ensures new_pages { OnOk result
         (IsDrawn (other_of layout.old.side) (F.device flash.new)

@@ -1,28 +1,14 @@
-use Rattle.std.proofs.Common.{◌≡◌, ℕ, arith, ap, ◌∙◌, get_or}
-use Rattle.ee_flash.specs.declared.word.Word.TheVariants.{Erased}
-use Rattle.ee_codec.specs.Reading.{slot_of}
-use Rattle.ee_codec.specs.declared.slot.Slot.{Slot}
-use Rattle.ee_pages.specs.Sets.{set_of, slots_of}
-use Rattle.ee_store.specs.Index.{followed, slot_for}
-use Rattle.ee_store.proofs.Indexing.{follows, numbers_all, numbers_none, slot_listed, slot_within}
+use Rattle.std.proofs.Common.{rules, ◌≡◌, ◌+◌, arith}
+use Rattle.ee_store.specs.Index.{behind_first}
+use Rattle.ee_store.proofs.Numbering.{numbered_by}
 use Rattle.ee_store.proofs.index.renumber.Goals as goal
 
-pub slot_word-requires-clause-slot_in_range : goal.slot_word-requires-clause-slot_in_range
-slot_word-requires-clause-slot_in_range g c = slot_within (g.F.Flash.device c.args.flash.now) c.args.layout.now c.requires.layout c.loop-number.number c.loop-number-test.true
-
-pub loop-number-init : goal.loop-number-init
-loop-number-init g c = numbers_none _ (slot_for c.args.index.now.entries) c.requires.addresses
-
-pub loop-number-preserved : goal.loop-number-preserved
-loop-number-preserved g c =
-    let device = g.F.Flash.device c.args.flash.now in
-    let slots = slots_of (set_of c.args.layout.now.side device) in
-    let said : c.read_slot.result ≡ slot_of (get_or slots c.loop-number.number Erased) = c.read_slot.ensures.exact ∙ ap slot_of c.slot_word.ensures in
-    let following = λ (address : ℕ). c.follow.ensures address ∙ ap (λ (slot : Slot). followed slot c.loop-number.number (slot_for c.loop-number.index.entries) address) said in
-    search (follows slots c.loop-number.number (slot_for c.loop-number.index.entries) (slot_for c.follow.new.index.entries)
-    (slot_listed device c.args.layout.now c.requires.layout c.loop-number.number c.loop-number-test.true) following c.loop-number.invariant)
-
-pub returns : goal.returns
-returns g c =
-    let full : c.loop-number.number ≡ c.args.layout.now.fill = omega (arith, c.loop-number-test.false, c.loop-number.auto.number-end) in
-    numbers_all (g.F.Flash.device c.args.flash.now) c.args.layout.now (slot_for c.loop-number.index.entries) c.loop-number.number c.requires.layout full c.loop-number.invariant
+pub returns-clause-numbered : goal.returns-clause-numbered
+returns-clause-numbered g c =
+    let entries = c.args.index.now.entries in
+    let end = behind_first c.args.first + c.len.result in
+    numbered_by _ (λ f number. (f.0.now.start ≡ number) × (f.0.now.end ≡ end) × (f.1.now ≡ c.args.first)) c.args.first end record {
+      keeps = λ f number key slot kept left after at called. search (rules, called);
+      here = λ f number key slot kept left after at called same. search (rules, called, at, same);
+      other = λ f number key slot kept left after at called apart within. search (rules, called, at, apart, within);
+    } _ (behind_first c.args.first) entries _ (search rules) (omega (arith, c.len.ensures.len)) c.retain.ensures.filtered

@@ -1,10 +1,9 @@
-use Rattle.std.proofs.Common.{rules, ◌≡◌, ℕ, sym, subst}
-use Rattle.ee_pages.specs.Meaning.{Map}
+use Rattle.std.proofs.Common.{sym, subst}
 use Rattle.ee_pages.specs.Sets.{set_of, slots_of}
 use Rattle.ee_pages.specs.declared.side.Side.{Side}
-use Rattle.ee_store.specs.Index.{IsIndex, noted, slot_for}
+use Rattle.ee_store.specs.Index.{IsIndex, slot_for}
 use Rattle.ee_store.specs.Parts.{meant, number_of}
-use Rattle.ee_store.proofs.IndexedAppends.{appended_index, index_as, other_slots, says_spelled, slot_filled, slot_was_free}
+use Rattle.ee_store.proofs.IndexedAppends.{appended_index, follows_change, other_slots, says_spelled, slot_filled, slot_was_free}
 use Rattle.ee_store.proofs.index_changing.append_indexed.Goals as goal
 
 pub returns-clause-index : goal.returns-clause-index
@@ -14,13 +13,12 @@ returns-clause-index g c =
     let layout = c.args.layout.now in
     let done = c.in_ok-append_change.ensures in
     let live = c.requires.layout.live in
-    let slots = slots_of (set_of layout.side old) in
-    let before = slot_for c.args.index.now.entries in
+    let before = c.requires.ready.0 in
+    let after = slot_for c.leave.new.index.entries in
     let filled = slot_filled layout.side old new layout.generation layout.fill (number_of c.args.change) live done.takes.live.formed done.takes.same_size c.requires.layout.fill c.requires.free done.drawn in
-    let indexes = appended_index slots (slots_of (set_of layout.side new)) layout.fill before c.args.hidden
+    let indexes = appended_index (slots_of (set_of layout.side old)) (slots_of (set_of layout.side new)) layout.fill before
     (slot_was_free layout.side old new layout.generation layout.fill (number_of c.args.change) live done.takes.live.formed done.takes.same_size c.requires.layout.fill c.requires.free done.drawn)
     (other_slots layout.side old new layout.generation layout.fill (number_of c.args.change) live done.takes.live.formed done.takes.same_size c.requires.layout.fill c.requires.free done.drawn)
-    c.requires.index (meant c.args.change) c.requires.hidden c.requires.there (says_spelled c.args.change _ filled done.spells) done.takes.map_is in
-    let follows : (after : Map) → ((address : ℕ) → after address ≡ noted (meant c.args.change) layout.fill before address) → IsIndex (slots_of (set_of c.append_change.new.layout.side new)) after =
-    λ after is. subst (λ (side : Side). IsIndex (slots_of (set_of side new)) after) (sym done.same_set) (index_as _ (noted (meant c.args.change) layout.fill before) after is indexes) in
-    search (rules, follows)
+    c.requires.ready.1 (meant c.args.change) (says_spelled c.args.change _ filled done.spells) done.takes.map_is in
+    let left = follows_change _ (meant c.args.change) layout.fill before (slot_for c.args.index.now.entries) after c.requires.ready.2 c.leave.ensures.left indexes in
+    λ on. subst (λ (side : Side). IsIndex (slots_of (set_of side new)) after) (sym done.same_set) left
