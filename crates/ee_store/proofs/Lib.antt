@@ -24,6 +24,7 @@ pub mod OtherSteps
 pub mod Making
 pub mod Running
 pub mod Drawings
+pub mod Places
 pub mod FilledSets
 pub mod CopiedWords
 pub mod MovedSets

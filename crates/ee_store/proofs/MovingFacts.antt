@@ -2,7 +2,6 @@
 use Rattle.std.proofs.Common.{◌≡◌, ◌≤◌, ◌<◌, ◌-◌, ℕ, ◌+◌, true, List, [], get_or, refl, sym, subst, ap, ◌∙◌, arith}
 use Rattle.std.specs.List.{All}
 use Rattle.std.proofs.lemmas.List.{get_or-drop, get_or-take}
-use Rattle.std.proofs.lemmas.List.Sums.{prefix_len-le-length}
 use Rattle.std.proofs.lemmas.List.Elements.{All-from_get_or}
 use Rattle.std.proofs.Math.Path.{fun_ext}
 use Rattle.std.proofs.lemmas.Nat.{mul-le}
@@ -14,13 +13,12 @@ use Rattle.ee_pages.specs.Filling.{IsCommitted, IsFilling}
 use Rattle.ee_pages.specs.Laws.{Keeps}
 use Rattle.ee_pages.specs.Layout.{IsLayout}
 use Rattle.ee_pages.specs.Meaning.{Change, Map, changed, live_in, meaning}
-use Rattle.ee_pages.specs.Page.{is_blank, is_written}
-use Rattle.ee_pages.specs.Sets.{fill_of, first_page, front, other, page_of_slot, pending_of, set_of, slots_of}
+use Rattle.ee_pages.specs.Page.{is_blank}
+use Rattle.ee_pages.specs.Sets.{fill_of, first_page, other, page_of_slot, pending_of, set_of, slots_of}
 use Rattle.ee_pages.specs.declared.find.Layout.{Layout}
 use Rattle.ee_pages.specs.declared.side.Side.{Side}
 use Rattle.ee_pages.specs.declared.side.Side.TheVariants.{First, Second}
-use Rattle.ee_pages.proofs.Legal.{fill-front}
-use Rattle.ee_pages.proofs.Slots.{length-set_of, length-slots}
+use Rattle.ee_pages.proofs.Slots.{length-set_of}
 use Rattle.ee_pages.proofs.BlankPages.{full_set_has_no_blank_page}
 use Rattle.ee_store.specs.Parts.{HasMoved, Stays}
 use Rattle.ee_store.specs.State.{not_blank_in}
@@ -92,10 +90,3 @@ moved_stays old moved new side generation change has stays =
       fill_is = stays.keeps.same_fill ∙ has.fill_is;
       pending_is = pending ∙ has.pending_is;
     }
-
--- no more slots are written than the set has
-pub few_written : (device : Device) (side : Side) (generation count : ℕ) → IsFilling device side generation count → count ≤ 32512
-few_written device side generation count filling =
-    let reached : front (slots_of (set_of side device)) ≡ count = fill-front side device generation filling.formed filling.allowed ∙ filling.fill in
-    let most = prefix_len-le-length is_written (slots_of (set_of side device)) in
-    omega (arith, most, length-slots side device filling.formed, few_slots device filling.formed)

@@ -9,7 +9,7 @@ use Rattle.ee_pages.specs.Laws.{Keeps}
 use Rattle.ee_pages.specs.Legal.{IsLive, slots_before}
 use Rattle.ee_pages.specs.Meaning.{Change, Map, Put, Forget, changed, live_in, meaning}
 use Rattle.ee_pages.specs.Page.{is_marked, place_of_mark}
-use Rattle.ee_pages.specs.Sets.{fill_of, first_page, other, page_of_slot, pending_of, set_of, slots_of}
+use Rattle.ee_pages.specs.Sets.{fill_of, first_page, other, page_of_slot, pending_of, place_of_slot, set_of, slots_of}
 use Rattle.ee_pages.specs.declared.side.Side.{Side}
 use Rattle.ee_pages.specs.declared.state.Mark.{Mark}
 use Rattle.ee_pages.specs.declared.state.Mark.TheVariants.{Active, Receive, Valid}
@@ -17,6 +17,7 @@ use Rattle.ee_store.specs.Picture.{IsDrawn, Picture, mark_where, marked, picture
 use Rattle.ee_store.specs.State.{not_blank_in}
 use Rattle.ee_store.specs.declared.change.Change as declared
 use Rattle.ee_store.specs.declared.change.Change.TheVariants as kinds
+use Rattle.ee_store.specs.declared.copying.Place.{Place}
 
 -- what a change of the program means; the value that is forgotten means nothing
 abbrev pub meant : declared.Change → Change
@@ -85,6 +86,12 @@ pub record PutsWord (page at : ℕ) (word : Word) (old new : Device) : Type 0 wh
 -- a mark is set, and each other word is as before
 abbrev pub SetsMark : ℕ → Mark → Device → Device → Type 0
 SetsMark page mark old new = PutsWord page (place_of_mark mark) (marked mark (word_at old page (place_of_mark mark))) old new
+
+-- The page and the place in it are those of the slot with this number, in this set. Behind the last slot the page is none
+-- of the set's.
+pub record Stands (size : Size) (side : Side) (place : Place) : Type 0 where
+  pub page : place.page ≡ first_page size side + page_of_slot size place.slot
+  pub at : place.at ≡ place_of_slot size place.slot
 
 -- a set that a transfer fills: receive words on the pages up to this one, the words in its slots, and all else erased
 abbrev pub opened : Size → ℕ → ℕ → List Word → Picture

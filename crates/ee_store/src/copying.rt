@@ -12,7 +12,7 @@ ghost use Rattle.ee_pages.specs.Layout.{IsLayout};
 ghost use Rattle.ee_pages.specs.Meaning.{AreLiveThrough, Forget, IsNextLive, Put, Spells, changed, live_in};
 ghost use Rattle.ee_pages.specs.Sets.{other as other_of, page_of_slot, set_of, slots_of};
 ghost use Rattle.ee_store.specs.Course.{GoesOver};
-ghost use Rattle.ee_store.specs.Parts.{AddsWords, map_in, meant, number_of, opened, put_words, replaced};
+ghost use Rattle.ee_store.specs.Parts.{AddsWords, Stands, map_in, meant, number_of, opened, put_words, replaced};
 ghost use Rattle.ee_store.specs.Picture.{IsDrawn, elements_of, moved_words, picture_of};
 
 use crate::change::Change;
@@ -106,6 +106,18 @@ fn batch_behind<F: Flash>(flash: &F, layout: &Layout, after: Address) -> LiveBat
     }
 }
 
+/// Where the next word goes. A transfer goes on from place to place, so that no word takes a
+/// division.
+#[derive(Clone, Copy)]
+struct Place {
+    /// The number of the slot, counted from 0.
+    slot: usize,
+    /// Its page, counted from the device's first.
+    page: usize,
+    /// Its place in the page, behind the header.
+    at: usize,
+}
+
 /// Fills the other set, which was opened, with the map after a change: a value that is written
 /// comes first, and then each other live address, rising. Gives how many slots that takes.
 pub(crate) fn fill_set<F: Flash, C: LiveCursor + Drop>(
@@ -149,8 +161,8 @@ pub(crate) fn fill_set<F: Flash, C: LiveCursor + Drop>(
 }
 
 // Writes a value that is put into the first slot of the other set; a forgetting takes no slot.
-// Gives how many slots that took.
-fn put_first<F: Flash>(flash: &mut F, layout: &Layout, change: Change) -> Result<usize, Cut>
+// Gives the place of the next slot.
+fn put_first<F: Flash>(flash: &mut F, layout: &Layout, change: Change) -> Result<Place, Cut>
     requires layout { IsLayout (F.device flash.old) layout.now }
     requires generation { IsGeneration (layout.now.generation + 1) }
     requires filling { IsFilling (F.device flash.old) (other_of layout.now.side)
@@ -159,34 +171,38 @@ fn put_first<F: Flash>(flash: &mut F, layout: &Layout, change: Change) -> Result
         → map_in (other_of layout.now.side) (F.device flash.old) address ≡ None }
     ensures keeps { Keeps (F.device flash.old)
         (F.device flash.new) layout.now.side layout.now.generation }
-    ensures filling { IfOk result
-        (IsFilling (F.device flash.new) (other_of layout.now.side) (layout.now.generation + 1)) }
+    ensures filling { IfOk result (λ place.
+        IsFilling (F.device flash.new) (other_of layout.now.side)
+        (layout.now.generation + 1) place.slot) }
     ensures map { OnOk result ((address : ℕ)
         → map_in (other_of layout.now.side) (F.device flash.new) address
         ≡ changed (meant change) (λ address. None) address) }
-    ensures each_once { IfOk result (λ count. count
+    ensures each_once { IfOk result (λ place. place.slot
         ≡ live_in (map_in (other_of layout.now.side) (F.device flash.new))) }
     ensures adds { OnOk result
         (AddsWords (F.device flash.old) (F.device flash.new) layout.now.side
         (layout.now.generation + 1) 0 (put_words (meant change))) }
-    ensures as_many { IfOk result (λ count. count ≡ length (put_words (meant change))) }
+    ensures as_many { IfOk result (λ place. place.slot ≡ length (put_words (meant change))) }
+    ensures stands { IfOk result
+        (Stands (F.device flash.new).size (other_of layout.now.side)) }
     ensures wear { (F.device flash.new).wear ≡ (F.device flash.old).wear }
     ensures power { Ends result (F.device flash.old) (F.device flash.new) }
 {
+    let place = first_place(flash, layout);
     if let Change::Forget { .. } = change {
-        return Ok(0);
+        return Ok(place);
     }
-    stage(flash, layout, 0, change)?;
-    Ok(1)
+    let next = stage(flash, layout, place, change)?;
+    Ok(next)
 }
 
-// Copies each live address but this one to the other set, of which so many slots are written. Gives
-// how many are then.
+// Copies each live address but this one to the other set, from this place on. Gives how many of its
+// slots are written then.
 fn copy_others<F: Flash, C: LiveCursor + Drop>(
     flash: &mut F,
     layout: &Layout,
     except: Address,
-    count: usize,
+    place: Place,
     cursor: C,
 ) -> Result<usize, Cut>
     requires layout { IsLayout (F.device flash.old) layout.now }
@@ -194,10 +210,12 @@ fn copy_others<F: Flash, C: LiveCursor + Drop>(
     requires over { C.goes_over cursor (slots_of (set_of layout.now.side (F.device flash.old))) }
     requires generation { IsGeneration (layout.now.generation + 1) }
     requires filling { IsFilling (F.device flash.old) (other_of layout.now.side)
-        (layout.now.generation + 1) count }
+        (layout.now.generation + 1) place.slot }
+    requires stands { Stands (F.device flash.old).size (other_of layout.now.side) place }
     requires only { (address : ℕ) → address ≢ except
         → map_in (other_of layout.now.side) (F.device flash.old) address ≡ None }
-    requires each_once { count ≡ live_in (map_in (other_of layout.now.side) (F.device flash.old)) }
+    requires each_once { place.slot
+        ≡ live_in (map_in (other_of layout.now.side) (F.device flash.old)) }
     requires fits { live_in (replaced
         (map_in (other_of layout.now.side) (F.device flash.old)) except
         (map_in layout.now.side (F.device flash.old))) ≤ slot_count (F.device flash.old).size }
@@ -214,109 +232,122 @@ fn copy_others<F: Flash, C: LiveCursor + Drop>(
         (map_in layout.now.side (F.device flash.old)))) }
     ensures adds { OnOk result
         (AddsWords (F.device flash.old) (F.device flash.new) layout.now.side
-        (layout.now.generation + 1) count
+        (layout.now.generation + 1) place.slot
         (elements_of
         (changed (Forget except) (map_in layout.now.side (F.device flash.old))))) }
-    ensures as_many { IfOk result (λ all. all ≡ count + length
+    ensures as_many { IfOk result (λ all. all ≡ place.slot + length
         (elements_of
         (changed (Forget except) (map_in layout.now.side (F.device flash.old))))) }
     ensures wear { (F.device flash.new).wear ≡ (F.device flash.old).wear }
     ensures power { Ends result (F.device flash.old) (F.device flash.new) }
 {
-    let mut count = count;
+    let mut place = place;
     let mut cursor = cursor;
     'live: while let Some((address, value)) = cursor.next(flash, layout) {
-        count = copy_one(flash, layout, except, count, address, value)?;
+        place = copy_one(flash, layout, except, place, address, value)?;
     }
-    Ok(count)
+    Ok(place.slot)
 }
 
-// Copies a live address to the other set, of which so many slots are written, unless it is the one
-// that is not copied. Gives how many are then.
+// Copies a live address to this place of the other set, unless it is the one that is not copied.
+// Gives the place of the next free slot.
 fn copy_one<F: Flash>(
     flash: &mut F,
     layout: &Layout,
     except: Address,
-    count: usize,
+    place: Place,
     address: Address,
     value: u32,
-) -> Result<usize, Cut>
+) -> Result<Place, Cut>
     requires layout { IsLayout (F.device flash.old) layout.now }
     requires generation { IsGeneration (layout.now.generation + 1) }
     requires filling { IsFilling (F.device flash.old) (other_of layout.now.side)
-        (layout.now.generation + 1) count }
-    requires free { address ≢ except → count < slot_count (F.device flash.old).size }
+        (layout.now.generation + 1) place.slot }
+    requires stands { Stands (F.device flash.old).size (other_of layout.now.side) place }
+    requires free { address ≢ except → place.slot < slot_count (F.device flash.old).size }
     ensures keeps { Keeps (F.device flash.old)
         (F.device flash.new) layout.now.side layout.now.generation }
-    ensures filling { IfOk result
-        (IsFilling (F.device flash.new) (other_of layout.now.side) (layout.now.generation + 1)) }
+    ensures filling { IfOk result (λ next.
+        IsFilling (F.device flash.new) (other_of layout.now.side)
+        (layout.now.generation + 1) next.slot) }
+    ensures stands { IfOk result
+        (Stands (F.device flash.new).size (other_of layout.now.side)) }
     ensures passed { address ≡ except
-        → (result ≡ Ok count) × (F.device flash.new ≡ F.device flash.old) }
-    ensures one_more { address ≢ except → IfOk result (λ all. all ≡ count + 1) }
+        → (result ≡ Ok place) × (F.device flash.new ≡ F.device flash.old) }
+    ensures one_more { address ≢ except → IfOk result (λ next. next.slot ≡ place.slot + 1) }
     ensures map { address ≢ except → OnOk result ((named : ℕ)
         → map_in (other_of layout.now.side) (F.device flash.new) named
         ≡ changed (Put address value)
         (map_in (other_of layout.now.side) (F.device flash.old)) named) }
     ensures adds { address ≢ except → OnOk result
         (AddsWords (F.device flash.old) (F.device flash.new) layout.now.side
-        (layout.now.generation + 1) count (Held (element address value) ∷ [])) }
+        (layout.now.generation + 1) place.slot (Held (element address value) ∷ [])) }
     ensures wear { (F.device flash.new).wear ≡ (F.device flash.old).wear }
     ensures power { Ends result (F.device flash.old) (F.device flash.new) }
 {
     if address == except {
-        return Ok(count);
+        return Ok(place);
     }
-    stage(flash, layout, count, Change::Put { address, value })?;
-    Ok(count + 1)
+    let next = stage(flash, layout, place, Change::Put { address, value })?;
+    Ok(next)
 }
 
-// Writes a change into the first free slot of the other set, of which so many slots are written. A
-// further page gets its receive word first.
-fn stage<F: Flash>(flash: &mut F, layout: &Layout, count: usize, change: Change) -> Result<(), Cut>
+// Writes a change into this place of the other set, its first free slot. A further page gets its
+// receive word first. Gives the place of the next slot.
+fn stage<F: Flash>(
+    flash: &mut F,
+    layout: &Layout,
+    place: Place,
+    change: Change,
+) -> Result<Place, Cut>
     requires layout { IsLayout (F.device flash.old) layout.now }
     requires generation { IsGeneration (layout.now.generation + 1) }
     requires filling { IsFilling (F.device flash.old) (other_of layout.now.side)
-        (layout.now.generation + 1) count }
-    requires free { count < slot_count (F.device flash.old).size }
+        (layout.now.generation + 1) place.slot }
+    requires stands { Stands (F.device flash.old).size (other_of layout.now.side) place }
+    requires free { place.slot < slot_count (F.device flash.old).size }
     ensures keeps { Keeps (F.device flash.old)
         (F.device flash.new) layout.now.side layout.now.generation }
     ensures filling { OnOk result
         (IsFilling (F.device flash.new) (other_of layout.now.side) (layout.now.generation + 1)
-        (count + 1)) }
+        (place.slot + 1)) }
+    ensures next { IfOk result (λ next. next.slot ≡ place.slot + 1) }
+    ensures stands { IfOk result
+        (Stands (F.device flash.new).size (other_of layout.now.side)) }
     // The change stands in the slot of this number.
     ensures slot { OnOk result ((number : ℕ) × Spells number (meant change)
         × (slots_of (set_of (other_of layout.now.side) (F.device flash.new))
-        ≡ slice_set (slots_of (set_of (other_of layout.now.side) (F.device flash.old))) count
+        ≡ slice_set (slots_of (set_of (other_of layout.now.side) (F.device flash.old))) place.slot
         (Held number))) }
     ensures map { OnOk result ((address : ℕ)
         → map_in (other_of layout.now.side) (F.device flash.new) address
         ≡ changed (meant change) (map_in (other_of layout.now.side) (F.device flash.old)) address) }
     ensures adds { OnOk result
         (AddsWords (F.device flash.old) (F.device flash.new) layout.now.side
-        (layout.now.generation + 1) count (Held (number_of change) ∷ [])) }
+        (layout.now.generation + 1) place.slot (Held (number_of change) ∷ [])) }
     ensures wear { (F.device flash.new).wear ≡ (F.device flash.old).wear }
     ensures power { Ends result (F.device flash.old) (F.device flash.new) }
 {
-    let slots = flash.shape().words() - 4;
-    if count % slots == 0 {
-        receive(flash, layout, count)?;
+    if place.at == 4 {
+        receive(flash, layout, place)?;
     }
-    put_in(flash, layout, count, change)?;
-    Ok(())
+    put_in(flash, layout, place, change)?;
+    Ok(next_place(flash, layout, place))
 }
 
-// Gives the page of the first free slot of the other set the receive word, if it has none.
-fn receive<F: Flash>(flash: &mut F, layout: &Layout, count: usize) -> Result<(), Cut>
+// Gives the page of this place of the other set the receive word, if it has none.
+fn receive<F: Flash>(flash: &mut F, layout: &Layout, place: Place) -> Result<(), Cut>
     requires layout { IsLayout (F.device flash.old) layout.now }
     requires generation { IsGeneration (layout.now.generation + 1) }
     requires filling { IsFilling (F.device flash.old) (other_of layout.now.side)
-        (layout.now.generation + 1) count }
-    requires free { count < slot_count (F.device flash.old).size }
+        (layout.now.generation + 1) place.slot }
+    requires stands { Stands (F.device flash.old).size (other_of layout.now.side) place }
+    requires free { place.slot < slot_count (F.device flash.old).size }
     ensures keeps { Keeps (F.device flash.old)
         (F.device flash.new) layout.now.side layout.now.generation }
     ensures filling { OnOk result
         (IsFilling (F.device flash.new) (other_of layout.now.side)
-        (layout.now.generation + 1) count) }
+        (layout.now.generation + 1) place.slot) }
     ensures same_slots { OnOk result
         (slots_of (set_of (other_of layout.now.side) (F.device flash.new))
         ≡ slots_of (set_of (other_of layout.now.side) (F.device flash.old))) }
@@ -324,36 +355,35 @@ fn receive<F: Flash>(flash: &mut F, layout: &Layout, count: usize) -> Result<(),
         (IsDrawn layout.now.side (F.device flash.new)
         (picture_of layout.now.side (F.device flash.old))) }
     ensures opens { let side = other_of layout.now.side in OnOk result
-        ((words : List Word) → length words ≡ count
+        ((words : List Word) → length words ≡ place.slot
         → IsDrawn side (F.device flash.old)
         (opened (F.device flash.old).size (layout.now.generation + 1)
-        (page_of_slot (F.device flash.old).size (count - 1)) words)
+        (page_of_slot (F.device flash.old).size (place.slot - 1)) words)
         → IsDrawn side (F.device flash.new)
         (opened (F.device flash.old).size (layout.now.generation + 1)
-        (page_of_slot (F.device flash.old).size count) words)) }
+        (page_of_slot (F.device flash.old).size place.slot) words)) }
     ensures wear { (F.device flash.new).wear ≡ (F.device flash.old).wear }
     ensures power { Ends result (F.device flash.old) (F.device flash.new) }
 {
-    let slots = flash.shape().words() - 4;
-    let page = first_page(flash, layout.side.other()) + count / slots;
-    mark(flash, page, Mark::Receive(layout.generation + 1))?;
+    mark(flash, place.page, Mark::Receive(layout.generation + 1))?;
     Ok(())
 }
 
-// Programs a change into the first free slot of the other set.
-fn put_in<F: Flash>(flash: &mut F, layout: &Layout, count: usize, change: Change) -> Result<(), Cut>
+// Programs a change into this place of the other set, its first free slot.
+fn put_in<F: Flash>(flash: &mut F, layout: &Layout, place: Place, change: Change) -> Result<(), Cut>
     requires layout { IsLayout (F.device flash.old) layout.now }
     requires filling { IsFilling (F.device flash.old) (other_of layout.now.side)
-        (layout.now.generation + 1) count }
-    requires free { count < slot_count (F.device flash.old).size }
+        (layout.now.generation + 1) place.slot }
+    requires stands { Stands (F.device flash.old).size (other_of layout.now.side) place }
+    requires free { place.slot < slot_count (F.device flash.old).size }
     ensures keeps { Keeps (F.device flash.old)
         (F.device flash.new) layout.now.side layout.now.generation }
     ensures filling { OnOk result
         (IsFilling (F.device flash.new) (other_of layout.now.side) (layout.now.generation + 1)
-        (count + 1)) }
+        (place.slot + 1)) }
     ensures slot { OnOk result ((number : ℕ) × Spells number (meant change)
         × (slots_of (set_of (other_of layout.now.side) (F.device flash.new))
-        ≡ slice_set (slots_of (set_of (other_of layout.now.side) (F.device flash.old))) count
+        ≡ slice_set (slots_of (set_of (other_of layout.now.side) (F.device flash.old))) place.slot
         (Held number))) }
     ensures map { OnOk result ((address : ℕ)
         → map_in (other_of layout.now.side) (F.device flash.new) address
@@ -362,19 +392,53 @@ fn put_in<F: Flash>(flash: &mut F, layout: &Layout, count: usize, change: Change
         (IsDrawn layout.now.side (F.device flash.new)
         (picture_of layout.now.side (F.device flash.old))) }
     ensures puts { let side = other_of layout.now.side in OnOk result
-        ((words : List Word) → length words ≡ count
+        ((words : List Word) → length words ≡ place.slot
         → IsDrawn side (F.device flash.old)
         (opened (F.device flash.old).size (layout.now.generation + 1)
-        (page_of_slot (F.device flash.old).size count) words)
+        (page_of_slot (F.device flash.old).size place.slot) words)
         → IsDrawn side (F.device flash.new)
         (opened (F.device flash.old).size (layout.now.generation + 1)
-        (page_of_slot (F.device flash.old).size count)
+        (page_of_slot (F.device flash.old).size place.slot)
         (words ++ (Held (number_of change) ∷ [])))) }
     ensures wear { (F.device flash.new).wear ≡ (F.device flash.old).wear }
     ensures power { Ends result (F.device flash.old) (F.device flash.new) }
 {
-    let slots = flash.shape().words() - 4;
-    let page = first_page(flash, layout.side.other()) + count / slots;
-    flash.program(page, 4 + count % slots, change.word())?;
+    flash.program(place.page, place.at, change.word())?;
     Ok(())
+}
+
+// The place of the first slot of the other set.
+fn first_place<F: Flash>(flash: &F, layout: &Layout) -> Place
+    ensures first { result.slot ≡ 0 }
+    ensures stands { Stands (F.device flash.now).size (other_of layout.now.side) result }
+{
+    Place {
+        slot: 0,
+        page: first_page(flash, layout.side.other()),
+        at: 4,
+    }
+}
+
+// The place of the next slot of the other set: one further in the page, or the first one of the
+// next page. Behind the set's last slot it is in no page of the set.
+fn next_place<F: Flash>(flash: &F, layout: &Layout, place: Place) -> Place
+    requires free { place.slot < slot_count (F.device flash.now).size }
+    requires stands { Stands (F.device flash.now).size (other_of layout.now.side) place }
+    ensures next { result.slot ≡ place.slot + 1 }
+    ensures stands { Stands (F.device flash.now).size (other_of layout.now.side) result }
+{
+    let slot = place.slot + 1;
+    let at = place.at + 1;
+    if at == flash.shape().words() {
+        return Place {
+            slot,
+            page: place.page + 1,
+            at: 4,
+        };
+    }
+    Place {
+        slot,
+        page: place.page,
+        at,
+    }
 }

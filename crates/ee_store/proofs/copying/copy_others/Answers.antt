@@ -20,11 +20,12 @@ live-init g c =
     rw c.requires.first (record {
       keeps = keeps_same device c.args.layout.now c.requires.layout;
       filling = c.requires.filling;
+      stands = c.requires.stands;
       map = first;
       count = c.requires.each_once ∙ same_counts _ _ first;
       below = omega arith;
       over = c.requires.over;
-      adds = rw (no_words map c.args.except) (adds_none device c.args.layout.now.side (c.args.layout.now.generation + 1) c.args.count);
+      adds = rw (no_words map c.args.except) (adds_none device c.args.layout.now.side (c.args.layout.now.generation + 1) c.args.place.slot);
       as_many = rw (no_words map c.args.except) (omega arith);
       wear = refl;
       goes = goes_on-same device;
@@ -37,7 +38,7 @@ copy_one-requires-clause-free g c =
     let map = meaning (slots_of (set_of c.args.layout.now.side device)) in
     let next = rw c.live.invariant.keeps.same_slots at c.in-Some.ensures.next in
     λ apart.
-    let free : c.live.count < slot_count device.size = room start map c.args.except (g.C.LiveCursor.behind c.live.cursor) _ _ c.live.count (slot_count device.size) next apart c.in-Some.ensures.proper c.live.invariant.count c.requires.fits in
+    let free : c.live.place.slot < slot_count device.size = room start map c.args.except (g.C.LiveCursor.behind c.live.cursor) _ _ c.live.place.slot (slot_count device.size) next apart c.in-Some.ensures.proper c.live.invariant.count c.requires.fits in
     omega (arith, ap slot_count c.live.invariant.keeps.same_size)
 
 pub live-preserved : goal.live-preserved
@@ -46,24 +47,25 @@ live-preserved g c =
     let start = meaning (slots_of (set_of (other_of c.args.layout.now.side) device)) in
     let map = meaning (slots_of (set_of c.args.layout.now.side device)) in
     let next = rw c.live.invariant.keeps.same_slots at c.in-Some.ensures.next in
-    let after = taken_up start map c.args.except (g.C.LiveCursor.behind c.live.cursor) _ _ next c.in-Some.ensures.proper _ _ c.live.count c.in_ok-count.count c.live.invariant.map c.live.invariant.count
-    (λ same. (let e = (c.in_ok-count.ensures.passed same).0 in cc, λ address. ap (λ (at : Device). meaning (slots_of (set_of (other_of c.args.layout.now.side) at)) address) (c.in_ok-count.ensures.passed same).1))
-    (λ apart. (c.in_ok-count.ensures.one_more apart, c.in_ok-count.ensures.map apart)) in
-    let words = adds_next map c.args.except (g.C.LiveCursor.behind c.live.cursor) _ _ device (g.F.Flash.device c.live.flash) (g.F.Flash.device c.copy_one.new.flash) c.args.layout.now.side (c.args.layout.now.generation + 1) c.args.count c.live.count c.in_ok-count.count
-    c.live.invariant.keeps.same_size c.in_ok-count.ensures.keeps.same_size next c.live.invariant.adds c.live.invariant.as_many
-    (λ same. (let e = (c.in_ok-count.ensures.passed same).0 in cc, (c.in_ok-count.ensures.passed same).1))
-    (λ apart. (c.in_ok-count.ensures.one_more apart, c.in_ok-count.ensures.adds apart)) in
+    let after = taken_up start map c.args.except (g.C.LiveCursor.behind c.live.cursor) _ _ next c.in-Some.ensures.proper _ _ c.live.place.slot c.in_ok-place.place.slot c.live.invariant.map c.live.invariant.count
+    (λ same. (let e = (c.in_ok-place.ensures.passed same).0 in cc, λ address. ap (λ (at : Device). meaning (slots_of (set_of (other_of c.args.layout.now.side) at)) address) (c.in_ok-place.ensures.passed same).1))
+    (λ apart. (c.in_ok-place.ensures.one_more apart, c.in_ok-place.ensures.map apart)) in
+    let words = adds_next map c.args.except (g.C.LiveCursor.behind c.live.cursor) _ _ device (g.F.Flash.device c.live.flash) (g.F.Flash.device c.copy_one.new.flash) c.args.layout.now.side (c.args.layout.now.generation + 1) c.args.place.slot c.live.place.slot c.in_ok-place.place.slot
+    c.live.invariant.keeps.same_size c.in_ok-place.ensures.keeps.same_size next c.live.invariant.adds c.live.invariant.as_many
+    (λ same. (let e = (c.in_ok-place.ensures.passed same).0 in cc, (c.in_ok-place.ensures.passed same).1))
+    (λ apart. (c.in_ok-place.ensures.one_more apart, c.in_ok-place.ensures.adds apart)) in
     rw c.in-Some.ensures.moved (record {
-      keeps = keeps_both _ _ _ _ _ c.live.invariant.keeps c.in_ok-count.ensures.keeps;
-      filling = c.in_ok-count.ensures.filling;
+      keeps = keeps_both _ _ _ _ _ c.live.invariant.keeps c.in_ok-place.ensures.keeps;
+      filling = c.in_ok-place.ensures.filling;
+      stands = c.in_ok-place.ensures.stands;
       map = after.1;
       count = after.0;
       below = c.in-Some.ensures.proper.1;
       over = rw c.live.invariant.keeps.same_slots at c.in-Some.ensures.over;
       adds = words.0;
       as_many = words.1;
-      wear = c.in_ok-count.ensures.wear ∙ c.live.invariant.wear;
-      goes = (calls_compose _ _ _ c.live.invariant.goes).0 c.in_ok-count.ensures.power.ok;
+      wear = c.in_ok-place.ensures.wear ∙ c.live.invariant.wear;
+      goes = (calls_compose _ _ _ c.live.invariant.goes).0 c.in_ok-place.ensures.power.ok;
     })
 
 pub returns-clause-each_once : goal.returns-clause-each_once

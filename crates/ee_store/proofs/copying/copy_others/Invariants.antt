@@ -4,20 +4,21 @@ use Rattle.ee_pages.specs.Filling.{IsFilling}
 use Rattle.ee_pages.specs.Laws.{Keeps}
 use Rattle.ee_pages.specs.Meaning.{Forget, changed, live_in, meaning}
 use Rattle.ee_pages.specs.Sets.{other as other_of, set_of, slots_of}
-use Rattle.ee_store.specs.Parts.{AddsWords, map_to, replaced}
+use Rattle.ee_store.specs.Parts.{AddsWords, Stands, map_to, replaced}
 use Rattle.ee_store.specs.Picture.{elements_to}
 use Rattle.ee_store.proofs.copying.copy_others.Given as goal
 
 abbrev pub invariant-live : goal.invariant-live
 invariant-live g l = record {
   keeps : Keeps (g.F.Flash.device l.fn.flash) (g.F.Flash.device l.flash) l.layout.side l.layout.generation;
-  filling : IsFilling (g.F.Flash.device l.flash) (other_of l.layout.side) (l.layout.generation + 1) l.count;
+  filling : IsFilling (g.F.Flash.device l.flash) (other_of l.layout.side) (l.layout.generation + 1) l.place.slot;
+  stands : Stands (g.F.Flash.device l.flash).size (other_of l.layout.side) l.place;
   map : (address : ℕ) → meaning (slots_of (set_of (other_of l.layout.side) (g.F.Flash.device l.flash))) address ≡ replaced (meaning (slots_of (set_of (other_of l.layout.side) (g.F.Flash.device l.fn.flash)))) l.except (map_to (meaning (slots_of (set_of l.layout.side (g.F.Flash.device l.fn.flash)))) (g.C.LiveCursor.behind l.cursor)) address;
-  count : l.count ≡ live_in (replaced (meaning (slots_of (set_of (other_of l.layout.side) (g.F.Flash.device l.fn.flash)))) l.except (map_to (meaning (slots_of (set_of l.layout.side (g.F.Flash.device l.fn.flash)))) (g.C.LiveCursor.behind l.cursor)));
+  count : l.place.slot ≡ live_in (replaced (meaning (slots_of (set_of (other_of l.layout.side) (g.F.Flash.device l.fn.flash)))) l.except (map_to (meaning (slots_of (set_of l.layout.side (g.F.Flash.device l.fn.flash)))) (g.C.LiveCursor.behind l.cursor)));
   below : g.C.LiveCursor.behind l.cursor < 65535;
   over : g.C.LiveCursor.goes_over l.cursor (slots_of (set_of l.layout.side (g.F.Flash.device l.fn.flash)));
-  adds : AddsWords (g.F.Flash.device l.fn.flash) (g.F.Flash.device l.flash) l.layout.side (l.layout.generation + 1) l.fn.count (elements_to (changed (Forget l.except) (meaning (slots_of (set_of l.layout.side (g.F.Flash.device l.fn.flash))))) (g.C.LiveCursor.behind l.cursor));
-  as_many : l.count ≡ l.fn.count + length (elements_to (changed (Forget l.except) (meaning (slots_of (set_of l.layout.side (g.F.Flash.device l.fn.flash))))) (g.C.LiveCursor.behind l.cursor));
+  adds : AddsWords (g.F.Flash.device l.fn.flash) (g.F.Flash.device l.flash) l.layout.side (l.layout.generation + 1) l.fn.place.slot (elements_to (changed (Forget l.except) (meaning (slots_of (set_of l.layout.side (g.F.Flash.device l.fn.flash))))) (g.C.LiveCursor.behind l.cursor));
+  as_many : l.place.slot ≡ l.fn.place.slot + length (elements_to (changed (Forget l.except) (meaning (slots_of (set_of l.layout.side (g.F.Flash.device l.fn.flash))))) (g.C.LiveCursor.behind l.cursor));
   wear : (g.F.Flash.device l.flash).wear ≡ (g.F.Flash.device l.fn.flash).wear;
   goes : GoesOn (g.F.Flash.device l.fn.flash) (g.F.Flash.device l.flash);
 }

@@ -23,5 +23,5 @@ returns-clause-adds g c =
     let side = c.args.layout.now.side in
     let first = c.in_ok-first.ensures in
     let second = c.in_ok-count.ensures in
-    adds_all (meant c.args.change) old mid new side (c.args.layout.now.generation + 1) c.in_ok-first.first c.address-address.result (map_in side old) (map_in side mid)
+    adds_all (meant c.args.change) old mid new side (c.args.layout.now.generation + 1) c.in_ok-first.first.slot c.address-address.result (map_in side old) (map_in side mid)
     first.keeps.same_size second.keeps.same_size c.address-address.ensures.address (fun_ext first.keeps.same_map) first.as_many first.adds second.adds

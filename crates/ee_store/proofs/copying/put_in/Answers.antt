@@ -1,5 +1,5 @@
 use Rattle.std.proofs.Common.{inl, inr}
-use Rattle.std.proofs.Common.{◌+◌}
+use Rattle.std.proofs.Common.{◌+◌, arith}
 use Rattle.ee_pages.specs.Sets.{first_page, other as other_of, page_of_slot, place_of_slot}
 use Rattle.ee_pages.proofs.Slots.{page_in_range, place_in_range}
 use Rattle.ee_store.specs.Parts.{meant}
@@ -9,40 +9,46 @@ use Rattle.ee_store.proofs.SetPages.{page_in_device}
 use Rattle.ee_store.proofs.OtherSteps.{free_slot, put_cut, put_done}
 use Rattle.ee_store.proofs.copying.put_in.Goals as goal
 
+pub program-requires-clause-page_in_range : goal.program-requires-clause-page_in_range
+program-requires-clause-page_in_range g c =
+    let old = g.F.Flash.device c.args.flash.now in
+    let within = page_in_device old.size (other_of c.args.layout.now.side) (page_of_slot old.size c.args.place.slot) (page_in_range old c.args.place.slot c.requires.free) in
+    omega (arith, within, c.requires.stands.page)
+
 pub program-requires-clause-erased : goal.program-requires-clause-erased
 program-requires-clause-erased g c =
-    let free = free_slot (g.F.Flash.device c.args.flash.now) (other_of c.args.layout.now.side) _ c.args.count c.requires.filling c.requires.free in
-    cc (free, c.first_page.ensures, c.other.ensures, c.words-slots.ensures.value, c.shape.ensures)
+    let free = free_slot (g.F.Flash.device c.args.flash.now) (other_of c.args.layout.now.side) _ c.args.place.slot c.requires.filling c.requires.free in
+    cc (free, c.requires.stands.page, c.requires.stands.at)
 
 pub returns-in_err-program-clause-keeps : goal.returns-in_err-program-clause-keeps
 returns-in_err-program-clause-keeps g c =
-    put_cut (g.F.Flash.device c.args.flash.now) _ c.args.layout.now.side c.args.layout.now.generation c.args.count _ c.requires.layout.live c.requires.filling c.requires.free c.word.ensures.below_all_ones _ _
-    (cc (c.first_page.ensures, c.other.ensures, c.words-slots.ensures.value, c.shape.ensures)) (cc (c.words-slots.ensures.value, c.shape.ensures))
+    put_cut (g.F.Flash.device c.args.flash.now) _ c.args.layout.now.side c.args.layout.now.generation c.args.place.slot _ c.requires.layout.live c.requires.filling c.requires.free c.word.ensures.below_all_ones _ _
+    c.requires.stands.page c.requires.stands.at
     (inr c.in_err-program.ensures.cut)
 
 pub returns-clause-keeps : goal.returns-clause-keeps
 returns-clause-keeps g c =
-    put_cut (g.F.Flash.device c.args.flash.now) _ c.args.layout.now.side c.args.layout.now.generation c.args.count _ c.requires.layout.live c.requires.filling c.requires.free c.word.ensures.below_all_ones _ _
-    (cc (c.first_page.ensures, c.other.ensures, c.words-slots.ensures.value, c.shape.ensures)) (cc (c.words-slots.ensures.value, c.shape.ensures))
+    put_cut (g.F.Flash.device c.args.flash.now) _ c.args.layout.now.side c.args.layout.now.generation c.args.place.slot _ c.requires.layout.live c.requires.filling c.requires.free c.word.ensures.below_all_ones _ _
+    c.requires.stands.page c.requires.stands.at
     (inl (record { was_on = c.in_ok-program.ensures.on; done = c.in_ok-program.ensures.done }))
 
 pub returns-clause-filling : goal.returns-clause-filling
 returns-clause-filling g c =
-    (put_done (g.F.Flash.device c.args.flash.now) _ c.args.layout.now.side c.args.layout.now.generation c.args.count _ c.requires.layout.live c.requires.filling c.requires.free c.word.ensures.below_all_ones (meant c.args.change) _ _
-    (cc (c.first_page.ensures, c.other.ensures, c.words-slots.ensures.value, c.shape.ensures)) (cc (c.words-slots.ensures.value, c.shape.ensures))
+    (put_done (g.F.Flash.device c.args.flash.now) _ c.args.layout.now.side c.args.layout.now.generation c.args.place.slot _ c.requires.layout.live c.requires.filling c.requires.free c.word.ensures.below_all_ones (meant c.args.change) _ _
+    c.requires.stands.page c.requires.stands.at
     c.word.ensures.spells c.in_ok-program.ensures.on c.in_ok-program.ensures.done).0
 
 pub returns-clause-slot : goal.returns-clause-slot
 returns-clause-slot g c =
-    let all = put_done (g.F.Flash.device c.args.flash.now) _ c.args.layout.now.side c.args.layout.now.generation c.args.count _ c.requires.layout.live c.requires.filling c.requires.free c.word.ensures.below_all_ones (meant c.args.change) _ _
-    (cc (c.first_page.ensures, c.other.ensures, c.words-slots.ensures.value, c.shape.ensures)) (cc (c.words-slots.ensures.value, c.shape.ensures))
+    let all = put_done (g.F.Flash.device c.args.flash.now) _ c.args.layout.now.side c.args.layout.now.generation c.args.place.slot _ c.requires.layout.live c.requires.filling c.requires.free c.word.ensures.below_all_ones (meant c.args.change) _ _
+    c.requires.stands.page c.requires.stands.at
     c.word.ensures.spells c.in_ok-program.ensures.on c.in_ok-program.ensures.done in
     (_, c.word.ensures.spells, all.1)
 
 pub returns-clause-map : goal.returns-clause-map
 returns-clause-map g c =
-    (put_done (g.F.Flash.device c.args.flash.now) _ c.args.layout.now.side c.args.layout.now.generation c.args.count _ c.requires.layout.live c.requires.filling c.requires.free c.word.ensures.below_all_ones (meant c.args.change) _ _
-    (cc (c.first_page.ensures, c.other.ensures, c.words-slots.ensures.value, c.shape.ensures)) (cc (c.words-slots.ensures.value, c.shape.ensures))
+    (put_done (g.F.Flash.device c.args.flash.now) _ c.args.layout.now.side c.args.layout.now.generation c.args.place.slot _ c.requires.layout.live c.requires.filling c.requires.free c.word.ensures.below_all_ones (meant c.args.change) _ _
+    c.requires.stands.page c.requires.stands.at
     c.word.ensures.spells c.in_ok-program.ensures.on c.in_ok-program.ensures.done).2
 
 pub returns-clause-puts : goal.returns-clause-puts
@@ -51,11 +57,11 @@ returns-clause-puts g c words long drawn =
     let new = g.F.Flash.device c.program.new.self in
     let side = other_of c.args.layout.now.side in
     let formed = c.requires.layout.live.formed in
-    let puts = put_there _ _ _ old new (first_page old.size side + page_of_slot old.size c.args.count) (place_of_slot old.size c.args.count) _ formed
-    (page_in_device old.size side (page_of_slot old.size c.args.count) (page_in_range old c.args.count c.requires.free)) (place_in_range old c.args.count formed)
-    (cc (c.first_page.ensures, c.other.ensures, c.words-slots.ensures.value, c.shape.ensures)) (cc (c.words-slots.ensures.value, c.shape.ensures))
+    let puts = put_there _ _ _ old new (first_page old.size side + page_of_slot old.size c.args.place.slot) (place_of_slot old.size c.args.place.slot) _ formed
+    (page_in_device old.size side (page_of_slot old.size c.args.place.slot) (page_in_range old c.args.place.slot c.requires.free)) (place_in_range old c.args.place.slot formed)
+    c.requires.stands.page c.requires.stands.at
     c.word.ensures.number c.in_ok-program.ensures.done in
-    slot_holds side old new (c.args.layout.now.generation + 1) (page_of_slot old.size c.args.count) c.args.count words _ long (same_size_of _ _ _ old new c.in_ok-program.ensures.done) puts drawn
+    slot_holds side old new (c.args.layout.now.generation + 1) (page_of_slot old.size c.args.place.slot) c.args.place.slot words _ long (same_size_of _ _ _ old new c.in_ok-program.ensures.done) puts drawn
 
 pub returns-clause-live_pages : goal.returns-clause-live_pages
 returns-clause-live_pages g c =
@@ -63,9 +69,9 @@ returns-clause-live_pages g c =
     let new = g.F.Flash.device c.program.new.self in
     let side = other_of c.args.layout.now.side in
     let formed = c.requires.layout.live.formed in
-    let in_range = page_in_range old c.args.count c.requires.free in
-    let puts = put_there _ _ _ old new (first_page old.size side + page_of_slot old.size c.args.count) (place_of_slot old.size c.args.count) _ formed
-    (page_in_device old.size side (page_of_slot old.size c.args.count) in_range) (place_in_range old c.args.count formed)
-    (cc (c.first_page.ensures, c.other.ensures, c.words-slots.ensures.value, c.shape.ensures)) (cc (c.words-slots.ensures.value, c.shape.ensures))
+    let in_range = page_in_range old c.args.place.slot c.requires.free in
+    let puts = put_there _ _ _ old new (first_page old.size side + page_of_slot old.size c.args.place.slot) (place_of_slot old.size c.args.place.slot) _ formed
+    (page_in_device old.size side (page_of_slot old.size c.args.place.slot) in_range) (place_in_range old c.args.place.slot formed)
+    c.requires.stands.page c.requires.stands.at
     c.word.ensures.number c.in_ok-program.ensures.done in
-    put_apart c.args.layout.now.side old new _ _ _ (same_size_of _ _ _ old new c.in_ok-program.ensures.done) (page_of_its_set old.size side (page_of_slot old.size c.args.count) in_range) puts
+    put_apart c.args.layout.now.side old new _ _ _ (same_size_of _ _ _ old new c.in_ok-program.ensures.done) (page_of_its_set old.size side (page_of_slot old.size c.args.place.slot) in_range) puts

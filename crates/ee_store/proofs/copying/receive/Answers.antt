@@ -1,4 +1,4 @@
-use Rattle.std.proofs.Common.{◌≡◌, ◌+◌, refl}
+use Rattle.std.proofs.Common.{◌≡◌, ◌+◌, refl, arith}
 use Rattle.ee_pages.proofs.Slots.{page_in_range}
 use Rattle.ee_pages.specs.Sets.{first_page, other as other_of, page_of_slot}
 use Rattle.ee_pages.specs.declared.state.Mark.TheVariants.{Receive}
@@ -8,28 +8,34 @@ use Rattle.ee_store.proofs.SetPages.{page_in_device}
 use Rattle.ee_store.proofs.OtherSteps.{receive_cut, receive_done}
 use Rattle.ee_store.proofs.copying.receive.Goals as goal
 
+pub mark-requires-clause-page_in_range : goal.mark-requires-clause-page_in_range
+mark-requires-clause-page_in_range g c =
+    let old = g.F.Flash.device c.args.flash.now in
+    let within = page_in_device old.size (other_of c.args.layout.now.side) (page_of_slot old.size c.args.place.slot) (page_in_range old c.args.place.slot c.requires.free) in
+    omega (arith, within, c.requires.stands.page)
+
 pub returns-in_err-mark-clause-keeps : goal.returns-in_err-mark-clause-keeps
 returns-in_err-mark-clause-keeps g c =
-    receive_cut (g.F.Flash.device c.args.flash.now) _ c.args.layout.now.side c.args.layout.now.generation c.args.count c.requires.layout.live c.requires.filling c.requires.free c.requires.generation _ _ _ refl _
-    (cc (c.first_page.ensures, c.other.ensures, c.words-slots.ensures.value, c.shape.ensures))
+    receive_cut (g.F.Flash.device c.args.flash.now) _ c.args.layout.now.side c.args.layout.now.generation c.args.place.slot c.requires.layout.live c.requires.filling c.requires.free c.requires.generation _ _ _ refl _
+    c.requires.stands.page
     c.in_err-mark.ensures.present c.in_err-mark.ensures.cut
 
 pub returns-clause-keeps : goal.returns-clause-keeps
 returns-clause-keeps g c =
-    (receive_done (g.F.Flash.device c.args.flash.now) _ c.args.layout.now.side c.args.layout.now.generation c.args.count c.requires.layout.live c.requires.filling c.requires.free c.requires.generation _
-    (cc (c.first_page.ensures, c.other.ensures, c.words-slots.ensures.value, c.shape.ensures))
+    (receive_done (g.F.Flash.device c.args.flash.now) _ c.args.layout.now.side c.args.layout.now.generation c.args.place.slot c.requires.layout.live c.requires.filling c.requires.free c.requires.generation _
+    c.requires.stands.page
     (λ e. (c.in_ok-mark.ensures.present e).1) c.in_ok-mark.ensures.on c.in_ok-mark.ensures.done).0
 
 pub returns-clause-filling : goal.returns-clause-filling
 returns-clause-filling g c =
-    (receive_done (g.F.Flash.device c.args.flash.now) _ c.args.layout.now.side c.args.layout.now.generation c.args.count c.requires.layout.live c.requires.filling c.requires.free c.requires.generation _
-    (cc (c.first_page.ensures, c.other.ensures, c.words-slots.ensures.value, c.shape.ensures))
+    (receive_done (g.F.Flash.device c.args.flash.now) _ c.args.layout.now.side c.args.layout.now.generation c.args.place.slot c.requires.layout.live c.requires.filling c.requires.free c.requires.generation _
+    c.requires.stands.page
     (λ e. (c.in_ok-mark.ensures.present e).1) c.in_ok-mark.ensures.on c.in_ok-mark.ensures.done).1
 
 pub returns-clause-same_slots : goal.returns-clause-same_slots
 returns-clause-same_slots g c =
-    (receive_done (g.F.Flash.device c.args.flash.now) _ c.args.layout.now.side c.args.layout.now.generation c.args.count c.requires.layout.live c.requires.filling c.requires.free c.requires.generation _
-    (cc (c.first_page.ensures, c.other.ensures, c.words-slots.ensures.value, c.shape.ensures))
+    (receive_done (g.F.Flash.device c.args.flash.now) _ c.args.layout.now.side c.args.layout.now.generation c.args.place.slot c.requires.layout.live c.requires.filling c.requires.free c.requires.generation _
+    c.requires.stands.page
     (λ e. (c.in_ok-mark.ensures.present e).1) c.in_ok-mark.ensures.on c.in_ok-mark.ensures.done).2
 
 pub returns-clause-opens : goal.returns-clause-opens
@@ -38,13 +44,13 @@ returns-clause-opens g c words long drawn =
     let new = g.F.Flash.device c.mark.new.flash in
     let side = other_of c.args.layout.now.side in
     let formed = c.requires.layout.live.formed in
-    let in_range = page_in_range old c.args.count c.requires.free in
+    let in_range = page_in_range old c.args.place.slot c.requires.free in
     let sizes : new.size ≡ old.size = (returns-clause-keeps g c).same_size in
-    let sets = sets_mark_at _ (first_page old.size side + page_of_slot old.size c.args.count) (Receive (c.args.layout.now.generation + 1)) old new formed
-    (page_in_device old.size side (page_of_slot old.size c.args.count) in_range)
-    (cc (c.first_page.ensures, c.other.ensures, c.words-slots.ensures.value, c.shape.ensures))
+    let sets = sets_mark_at _ (first_page old.size side + page_of_slot old.size c.args.place.slot) (Receive (c.args.layout.now.generation + 1)) old new formed
+    (page_in_device old.size side (page_of_slot old.size c.args.place.slot) in_range)
+    c.requires.stands.page
     (λ set. (c.in_ok-mark.ensures.present set).1) c.in_ok-mark.ensures.done in
-    receive_opens side old new (c.args.layout.now.generation + 1) c.args.count words formed sizes in_range sets drawn
+    receive_opens side old new (c.args.layout.now.generation + 1) c.args.place.slot words formed sizes in_range sets drawn
 
 pub returns-clause-live_pages : goal.returns-clause-live_pages
 returns-clause-live_pages g c =
@@ -52,10 +58,10 @@ returns-clause-live_pages g c =
     let new = g.F.Flash.device c.mark.new.flash in
     let side = other_of c.args.layout.now.side in
     let formed = c.requires.layout.live.formed in
-    let in_range = page_in_range old c.args.count c.requires.free in
+    let in_range = page_in_range old c.args.place.slot c.requires.free in
     let sizes : new.size ≡ old.size = (returns-clause-keeps g c).same_size in
-    let sets = sets_mark_at _ (first_page old.size side + page_of_slot old.size c.args.count) (Receive (c.args.layout.now.generation + 1)) old new formed
-    (page_in_device old.size side (page_of_slot old.size c.args.count) in_range)
-    (cc (c.first_page.ensures, c.other.ensures, c.words-slots.ensures.value, c.shape.ensures))
+    let sets = sets_mark_at _ (first_page old.size side + page_of_slot old.size c.args.place.slot) (Receive (c.args.layout.now.generation + 1)) old new formed
+    (page_in_device old.size side (page_of_slot old.size c.args.place.slot) in_range)
+    c.requires.stands.page
     (λ set. (c.in_ok-mark.ensures.present set).1) c.in_ok-mark.ensures.done in
-    put_apart c.args.layout.now.side old new _ _ _ sizes (page_of_its_set old.size side (page_of_slot old.size c.args.count) in_range) sets
+    put_apart c.args.layout.now.side old new _ _ _ sizes (page_of_its_set old.size side (page_of_slot old.size c.args.place.slot) in_range) sets
