@@ -174,15 +174,17 @@ pub(crate) fn batch_indexed<F: Flash, A: Allocator>(
 {
     let mut found = ArrayVec::new();
     let mut behind = after;
+    // One search finds where the batch begins, and each further address stands behind the last.
+    let mut entries = index.range((start_above(after), Bound::Unbounded));
     'batch: while !found.is_full() {
-        let Some((address, value)) = next_indexed(index, flash, layout, behind) else {
+        let Some((address, number)) = entries.next() else {
             return LiveBatch {
                 found,
                 through: None,
             };
         };
-        found.push((address, value));
-        behind = Some(address);
+        found.push((*address, value_in(flash, layout, *number)));
+        behind = Some(*address);
     }
     LiveBatch {
         found,

@@ -1,6 +1,8 @@
-use Rattle.std.proofs.Common.{◌-◌, length}
+use Rattle.std.proofs.Common.{◌-◌, None, length}
 use Rattle.std.specs.List.{All}
 use Rattle.ee_codec.specs.Words.{IsAddress}
+use Rattle.ee_pages.specs.Sets.{set_of, slots_of}
+use Rattle.ee_store.specs.Index.{IsLeft}
 use Rattle.ee_store.specs.Parts.{map_in}
 use Rattle.ee_store.proofs.IndexedBatches.{ReachesTo}
 use Rattle.ee_store.proofs.index.batch_indexed.Given as goal
@@ -8,6 +10,7 @@ use Rattle.ee_store.proofs.index.batch_indexed.Given as goal
 abbrev pub invariant-batch : goal.invariant-batch
 invariant-batch g l = record {
   reaches : ReachesTo (map_in l.layout.side (g.F.Flash.device l.flash)) l.fn.after l.behind l.found.items;
+  left : IsLeft (slots_of (set_of l.layout.side (g.F.Flash.device l.flash))) None l.behind l.entries;
   proper : All (λ found. IsAddress found.0) l.found.items;
 }
 
