@@ -1,16 +1,17 @@
 -- The live addresses of a store, one after another.
-use Rattle.std.proofs.Common.{◌≡◌, ◌≢◌, inl, inr, ℕ, ◌-◌, ◌*◌, ◌<◌, ◌≤◌, Option, Some, None, List, [], ◌∷◌, ◌++◌, length, length-append, refl, sym, subst, ap, ◌∙◌, arith}
+use Rattle.std.proofs.Common.{◌≡◌, ◌≢◌, IfOk, Result, Ok, Err, inl, inr, ℕ, ◌-◌, ◌*◌, ◌<◌, ◌≤◌, Option, Some, None, List, [], ◌∷◌, ◌++◌, length, length-append, refl, sym, subst, ap, ◌∙◌, arith}
 use Rattle.std.proofs.Math.Nat.{mul-le-mul}
 use Rattle.std.proofs.lemmas.Bool.{cases_lt, cases_eq}
+use Rattle.std.proofs.lemmas.Cmp.{nat_cmp_total}
 use Rattle.std.proofs.lemmas.List.Elements.{All-head, All-nil, All-push, All-tail, All-weaker, Contains-append_left, Contains-push, recursion_from_All}
+use Rattle.std.proofs.lemmas.Map.Lookups.{btree_set_from_contains, exact_unsigned}
 use Rattle.std.specs.Cmp.{nat_cmp_is}
 use Rattle.std.specs.declared.cmp.Ordering.TheVariants.{Less}
 use Rattle.std.specs.List.{All, AllByRecursion, Contains}
 use Rattle.std.specs.List.Sorted.{IsStrictlySortedBy}
 use Rattle.std.specs.Ordering.{nat_cmp}
-use Rattle.std.specs.BTreeSet.{insert_key}
+use Rattle.std.specs.BTreeSet.{BTreeSet, IsFromIterResult}
 use Rattle.ee_codec.specs.Words.{IsAddress}
-use Rattle.ee_check.proofs.Walks.{insert_last}
 use Rattle.ee_pages.specs.Meaning.{AreLiveThrough, AreNextLive, IsNextLive, IsNoneLive, Map, last_of, live_in, live_to}
 use Rattle.ee_pages.proofs.Counts.{gap_to, last_below, live_to-end, live_to-next, live_to-zero}
 use Rattle.ee_pages.proofs.LiveCounts.{live_within_fill}
@@ -86,19 +87,13 @@ pushed map above address value live so_far proper next =
       count = let e = live_to-next map above address value next in let f = so_far.count in omega (arith, length-append live (address ∷ []));
     }
 
-pub one_more : (map : Map) (above address value : ℕ) (live : List ℕ) → AreLiveTo map above live → IsAddress address → IsNextLive map above (Some (address, value))
-    → AreLiveTo map address (insert_key nat_cmp live address)
-one_more map above address value live so_far proper next =
-    let after = pushed map above address value live so_far proper next in
-    subst (λ l. AreLiveTo map address l) (sym (insert_last live [] address after.ascending)) after
-
 -- the addresses of a batch, one after another
 batch_more : (map : Map) (found : List (ℕ × ℕ)) (above : ℕ) (live : List ℕ) → AreLiveTo map above live → All (λ (one : ℕ × ℕ). IsAddress one.0) found → AreNextLive map above found
     → AreLiveTo map (last_of above found) (with_addresses live found)
 batch_more map [] above live so_far proper next = so_far
 batch_more map (first ∷ more) above live so_far proper next =
-    let after = one_more map above first.0 first.1 live so_far (All-head (λ (one : ℕ × ℕ). IsAddress one.0) first more proper) next.0 in
-    batch_more map more first.0 (insert_key nat_cmp live first.0) after (All-tail (λ (one : ℕ × ℕ). IsAddress one.0) first more proper) next.1
+    let after = pushed map above first.0 first.1 live so_far (All-head (λ (one : ℕ × ℕ). IsAddress one.0) first more proper) next.0 in
+    batch_more map more first.0 (live ++ first.0 ∷ []) after (All-tail (λ (one : ℕ × ℕ). IsAddress one.0) first more proper) next.1
 
 -- no more of them up to a further address
 none_more : (map : Map) (above to : ℕ) (live : List ℕ) → AreLiveTo map above live → IsNoneLive map above (Some to) → AreLiveTo map to live
@@ -143,6 +138,16 @@ pub last_counted : (map : Map) (found : List (ℕ × ℕ)) (above : ℕ) (live :
     → length (with_addresses live found) ≡ live_in map
 last_counted map found above live below so_far proper batch =
     all_counted map (last_of above found) (with_addresses live found) (last_below found above below proper) (batch_more map found above live so_far proper batch.next) batch.rest
+
+-- a set that is built of ascending addresses has them in their order
+pub set_of_ascending : {E : Type 0} (set : Result (BTreeSet ℕ) E) (live : List ℕ) → IsStrictlySortedBy nat_cmp live → IfOk set (IsFromIterResult nat_cmp live) → IfOk set (λ set. set.keys ≡ live)
+set_of_ascending (Ok set) live ascending built = btree_set_from_contains nat_cmp_total set (record { keys = live }) built.1 ascending built.0 exact_unsigned
+set_of_ascending (Err refused) live ascending built = tt
+
+-- what is so of the addresses is so of the set that is built of them
+pub as_built : {E : Type 0} (Q : List ℕ → Type 0) (set : Result (BTreeSet ℕ) E) (live : List ℕ) → Q live → IfOk set (λ set. set.keys ≡ live) → IfOk set (λ set. Q set.keys)
+as_built Q (Ok set) live is same = subst Q (sym same) is
+as_built Q (Err refused) live is same = tt
 
 -- 0 is no address, and has no value in any image
 zero_in_state : (device : Device) (found : Option (Side × ℕ)) → (state_in device found).map 0 ≡ None

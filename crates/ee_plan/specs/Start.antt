@@ -1,6 +1,5 @@
 -- What a store gives a trace to start from.
-use Rattle.std.specs.Prelude.{◌≡◌, ◌≢◌, ℕ, List, [], ◌∷◌, None}
-use Rattle.std.specs.BTreeSet.{insert_key}
+use Rattle.std.specs.Prelude.{◌≡◌, ◌≢◌, ℕ, List, [], ◌∷◌, ◌++◌, None}
 use Rattle.std.specs.List.{All, Contains}
 use Rattle.std.specs.List.Sorted.{IsStrictlySortedBy}
 use Rattle.std.specs.Ordering.{nat_cmp}
@@ -16,10 +15,10 @@ pub record AreLive (map : Map) (live : List ℕ) : Type 0 where
   pub have_values : All (λ address. map address ≢ None) live
   pub all : (address : ℕ) → map address ≢ None → Contains live address
 
--- ascending addresses with these too, which come with values
+-- addresses, and behind them these, which come with values
 abbrev pub with_addresses : List ℕ → List (ℕ × ℕ) → List ℕ
 with_addresses live [] = live
-with_addresses live (found ∷ more) = with_addresses (insert_key nat_cmp live found.0) more
+with_addresses live (found ∷ more) = with_addresses (live ++ found.0 ∷ []) more
 
 -- In a set of so many slots, as many are used as in the store's state, and the addresses that have a value are live.
 pub record IsStartOf (slots : ℕ) (state : State) (start : Situation) : Type 0 where

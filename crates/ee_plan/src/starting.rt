@@ -1,5 +1,7 @@
 //! What a store gives a trace to start from.
 ghost use Rattle.std.specs.Prelude.{◌≡◌, length, IfOk, OnOk};
+ghost use Rattle.std.specs.List.Sorted.{IsStrictlySortedBy};
+ghost use Rattle.std.specs.Ordering.{nat_cmp};
 ghost use Rattle.ee_flash.specs.Device.{IsOn};
 ghost use Rattle.ee_flash.specs.Size.{slot_count};
 ghost use Rattle.ee_pages.specs.Meaning.{live_in};
@@ -48,27 +50,38 @@ fn live_addresses<A: Allocator + Copy, V: Variables>(
     ensures count { IfOk result (λ live.
         length live.keys ≡ live_in (state_of (V.device store.now)).map) }
 {
-    let mut live = BTreeSet::new(alloc);
+    let mut live = Vec::new(alloc);
     let mut after = None;
     'live: loop {
         let batch = store.next_batch(after);
-        insert_each(&mut live, batch.found.as_slice())?;
+        push_each(&mut live, batch.found.as_slice())?;
         let Some(through) = batch.through else {
-            return Ok(live);
+            return set_of(alloc, live);
         };
         after = Some(through);
     }
 }
 
-// Inserts these addresses, which come with values.
-fn insert_each<A: Allocator + Copy>(
-    live: &mut BTreeSet<Address, A>,
+// Puts these addresses, which come with values, behind the others.
+fn push_each<A: Allocator>(
+    live: &mut Vec<Address, A>,
     found: &[(Address, u32)],
 ) -> Result<(), AllocError>
-    ensures { OnOk result (live.new.keys ≡ with_addresses live.old.keys found.now) }
+    ensures { OnOk result (live.new.items ≡ with_addresses live.old.items found.now) }
 {
     for pair in found {
-        live.insert(pair.0)?;
+        live.push(pair.0)?;
     }
     Ok(())
+}
+
+// The set of these addresses. They rise, so it is built in one go.
+fn set_of<A: Allocator + Copy>(
+    alloc: A,
+    rising: Vec<Address, A>,
+) -> Result<BTreeSet<Address, A>, AllocError>
+    requires { IsStrictlySortedBy nat_cmp rising.items }
+    ensures { IfOk result (λ set. set.keys ≡ rising.items) }
+{
+    rising.into_iter().collect(alloc)
 }

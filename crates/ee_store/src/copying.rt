@@ -251,6 +251,7 @@ fn copy_others<F: Flash, C: LiveCursor + Drop>(
 
 // Copies a live address to this place of the other set, unless it is the one that is not copied.
 // Gives the place of the next free slot.
+#[inline(always)]
 fn copy_one<F: Flash>(
     flash: &mut F,
     layout: &Layout,
@@ -293,7 +294,9 @@ fn copy_one<F: Flash>(
 }
 
 // Writes a change into this place of the other set, its first free slot. A further page gets its
-// receive word first. Gives the place of the next slot.
+// receive word first. Gives the place of the next slot. It is put in its place: a transfer takes one
+// turn of it for each word.
+#[inline(always)]
 fn stage<F: Flash>(
     flash: &mut F,
     layout: &Layout,

@@ -8,7 +8,7 @@ use Rattle.ee_plan.proofs.starting.live_addresses.Given as goal
 abbrev pub invariant-live : goal.invariant-live
 invariant-live g l = record {
   below : above_of l.after < 65535;
-  so_far : AreLiveTo (state_of (g.V.Variables.device l.store)).map (above_of l.after) l.live.keys;
+  so_far : AreLiveTo (state_of (g.V.Variables.device l.store)).map (above_of l.after) l.live.items;
 }
 
 abbrev pub decreases-live : goal.decreases-live
