@@ -20,4 +20,4 @@ returns-clause-adds g c =
       })
       | else-place-eq4 w ↦ rw w.flash-is (open_already old side generation c.args.place.slot c.requires.layout.live.formed (λ e. w.if-place-eq4.false (omega (arith, c.requires.stands.at, e))))
     ] in
-    search (stages old mid new side generation c.args.place.slot (Held (number_of c.args.change)) first c.in_ok-put_in.ensures.keeps.same_size c.in_ok-put_in.ensures.live_pages c.in_ok-put_in.ensures.puts)
+    search (stages old mid new side generation c.args.place.slot (Held (number_of c.args.change)) first, c.in_ok-put_in.ensures.keeps.same_size, c.in_ok-put_in.ensures.live_pages, c.in_ok-put_in.ensures.puts)
