@@ -294,8 +294,8 @@ fn copy_one<F: Flash>(
 }
 
 // Writes a change into this place of the other set, its first free slot. A further page gets its
-// receive word first. Gives the place of the next slot. It is put in its place: a transfer takes one
-// turn of it for each word.
+// receive word first. Gives the place of the next slot. Inlined, since a transfer does it for each
+// word.
 #[inline(always)]
 fn stage<F: Flash>(
     flash: &mut F,

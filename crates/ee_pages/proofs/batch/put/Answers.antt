@@ -7,7 +7,7 @@ pub returns-then-get : goal.returns-then-get
 returns-then-get c =
     let within : c.args.place < length c.args.nearest.now.items = omega (arith, c.len.ensures.value, c.if-place-len.true) in
     let same : (get_or c.args.nearest.now.items c.args.place c.index-as_slice-place.result).0 ≡ c.args.new.0 = cc (c.as_slice.ensures.value, c.get.ensures.number, c.get-then-place-len.ensures.number, c.if-get.true) in
-    rw c.as_mut_slice-items.ensures.value (put_over c.args.nearest.now.items c.args.new c.args.place c.index-as_slice-place.result c.requires.place within same c.requires.few)
+    search (c.as_mut_slice-items.ensures.value, put_over c.args.nearest.now.items c.args.new c.args.place c.index-as_slice-place.result c.requires.place within same c.requires.few)
 
 pub returns : goal.returns
 returns c =
