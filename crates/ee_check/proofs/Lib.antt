@@ -8,3 +8,4 @@ pub mod Flaws
 pub mod Fields
 pub mod Lines
 pub mod Texts
+pub mod Premises

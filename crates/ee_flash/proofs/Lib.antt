@@ -3,3 +3,4 @@ pub mod Tears
 pub mod Outcomes
 pub mod Fuses
 pub mod Joined
+pub mod Premises
