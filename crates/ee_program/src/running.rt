@@ -1,4 +1,6 @@
-use crate::saving::save;
+ghost use Rattle.std.specs.Prelude.{◌≡◌};
+
+use super::saving::save;
 use ee_flash::Shape;
 use ee_shell::{
     check_script, clean_image, format_image, get_setting, list_text, plan_script, replay,
@@ -10,10 +12,10 @@ use std::rt::Files;
 use std::{fs, io};
 
 /// The status of a bad command line.
-const BAD_COMMAND_LINE: u8 = 2;
+pub const BAD_COMMAND_LINE: u8 = 2;
 
 /// The status of want of memory.
-const OUT_OF_MEMORY: u8 = 5;
+pub const OUT_OF_MEMORY: u8 = 5;
 
 /// Does what the words ask for, and gives the status that the program ends with: 0 done, 2 bad
 /// command line, 3 bad file, 4 refused, 5 want of memory.
@@ -332,13 +334,17 @@ fn tell<R: Eprint + AllocGlobal>(rt: &R, fault: &Fault) -> u8 {
 }
 
 /// Says that the words can't be read, and gives the status.
-pub fn bad_command_line<R: Eprint>(rt: &R) -> u8 {
+pub fn bad_command_line<R: Eprint>(rt: &R) -> u8
+    ensures { result ≡ BAD_COMMAND_LINE }
+{
     eprint_bytes(rt, b"ee: bad command line\n");
     BAD_COMMAND_LINE
 }
 
 /// Says that memory ran out, with no memory, and gives the status.
-pub fn out_of_memory<R: Eprint>(rt: &R) -> u8 {
+pub fn out_of_memory<R: Eprint>(rt: &R) -> u8
+    ensures { result ≡ OUT_OF_MEMORY }
+{
     eprint_bytes(rt, b"ee: out of memory\n");
     OUT_OF_MEMORY
 }
