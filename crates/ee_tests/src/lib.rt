@@ -1,11 +1,12 @@
-//! What the tests of the product need beside it, and the tests that cross its crates.
+//! The tests of the product, and what they need beside it.
 //!
 //! - `Refusing`: an allocator that refuses one request for memory.
 //! - `FailingReader`, `FailingWriter`: streams that give or take a few bytes a call and fail at one call.
 //! - `ListFlash`: a flash device whose steps are done or cut as a list says, each word of a cut step by itself.
 //!
-//! Nothing stands on this crate. So the product's crates hold no unsafe code and no help for tests; the one `unsafe impl`
-//! stands here, with its proof.
+//! A test says what no clause says; scripts and images with what they must give are data (`ee_cases`). Nothing stands on
+//! this crate. So the product's crates hold no unsafe code, no test and no help for tests; the one `unsafe impl` stands
+//! here, with its proof.
 #![tactic(auto)]
 
 mod fate;
