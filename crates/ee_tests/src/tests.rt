@@ -49,9 +49,24 @@ fn write(number: u16) -> Result<Change, Fail> {
     Ok(Change::Write(address(number)?))
 }
 
+/// What a call gave, if it gave something.
+fn given<T: Drop, E: Drop>(answer: Result<T, E>) -> Result<T, Fail> {
+    Ok(answer.ok().ok_or("an error")?)
+}
+
 /// The device of an image's text, which is on.
 fn device(alloc: Global, text: &[u8]) -> Result<MemFlash, Fail> {
-    Ok(read_image(alloc, text).ok().ok_or("no image")?)
+    given(read_image(alloc, text))
+}
+
+/// A text that is written with `, ` for its line ends.
+fn lines(alloc: Global, listed: &str) -> Result<Vec<u8>, Fail> {
+    let mut text = Vec::new(alloc);
+    for line in listed.split(", ") {
+        text.extend_from_slice(line.as_bytes())?;
+        text.push(b'\n')?;
+    }
+    Ok(text)
 }
 
 /// Whether the words stand somewhere in the text.

@@ -1,6 +1,6 @@
 //! How many words of the flash a read by the index takes, on a device that counts them.
 use crate::tests::images::ONE_MOVE;
-use crate::tests::{address, device, same};
+use crate::tests::{address, device, given, same};
 use ee_codec::Address;
 use ee_flash::{Cut, Flash, MemFlash, Shape, Word};
 use ee_store::{IndexedStore, Variables};
@@ -67,11 +67,9 @@ fn words_read(alloc: Global, address: Address, times: usize) -> Result<u64, Fail
     if !counting.is_on() {
         return Err("off".into());
     }
-    let store = IndexedStore::open(alloc, counting)
-        .ok()
-        .ok_or("not opened")?;
+    let store = given(IndexedStore::open(alloc, counting))?;
     for _ in 0..times {
-        store.read(address).ok().ok_or("not read")?;
+        given(store.read(address))?;
     }
     Ok(store.into_flash().reads.get())
 }

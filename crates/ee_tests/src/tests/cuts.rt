@@ -1,5 +1,5 @@
 //! Stores whose erases are cut in every mix of words, one cut after another: what no fuse makes.
-use crate::tests::{address, same, same_at, shape};
+use crate::tests::{address, given, same, same_at, shape};
 use crate::{Fate, Left, ListFlash};
 use ee_codec::Address;
 use ee_flash::Flash;
@@ -24,10 +24,7 @@ fn mix_of(number: usize) -> [Left; 5] {
 // The store of a device, with power turned on.
 fn opened<F: Flash + Drop>(mut flash: F) -> Result<Store<F>, Fail> {
     flash.power_on();
-    match open(flash) {
-        Ok(store) => Ok(store),
-        Err(_) => Err(Fail::from("not opened")),
-    }
+    given(open(flash))
 }
 
 // A device with so many pages a set and one slot a page. Address 1 was written with 1 in each slot and then with 2 in
@@ -40,12 +37,10 @@ fn moved_once<'a>(
 ) -> Result<ListFlash<'a>, Fail> {
     let mut flash = ListFlash::blank(alloc, shape(pages, 5)?, &[])?;
     flash.power_on();
-    let Ok(mut store) = format(flash) else {
-        return Err(Fail::from("not formatted"));
-    };
+    let mut store = given(format(flash))?;
     for value in [1, 2] {
         for _ in 0..pages {
-            store.write(one, value).ok().ok_or("not written")?;
+            given(store.write(one, value))?;
         }
     }
     same(rt, numbers_of(&store), Some((2, pages, pages)));

@@ -1,256 +1,178 @@
 //! The order of the steps, and how many a call takes: what a cut at a chosen step leaves. On a store with an index it is
 //! the same.
-use crate::tests::{device, has, same, same_at, shape};
-use ee_flash::{Flash, Fuse, MemFlash, Tear};
+use crate::tests::{device, given, has, lines, same, same_at, shape};
+use ee_flash::{Flash, Fuse, MemFlash, Shape, Tear};
 use ee_image::write_image;
 use ee_shell::{Replayed, format_image, replay, replay_indexed};
 use ee_store::format;
-use ee_text::push_number;
 use std::alloc::Global;
 use std::process::Abort;
 use std::test::Fail;
 
-/// What a script leaves of a formatted device, by either store.
-fn left_by(
-    rt: &impl Abort,
-    alloc: Global,
-    pages: usize,
-    words: usize,
-    script: &[u8],
-) -> Result<Replayed, Fail> {
-    let image = format_image(alloc, shape(pages, words)?)
-        .ok()
-        .ok_or("not formatted")?;
-    let left: Replayed = replay(alloc, image.as_slice(), script)
-        .ok()
-        .ok_or("not replayed")?;
-    let indexed: Replayed = replay_indexed(alloc, image.as_slice(), script)
-        .ok()
-        .ok_or("not replayed by an index")?;
-    same(rt, indexed.report.as_slice(), left.report.as_slice());
-    same(rt, indexed.image.as_slice(), left.image.as_slice());
-    Ok(left)
-}
-
-/// So many pages a set and words a page, a script, and the image that it leaves.
-type Left = (usize, usize, &'static [u8], &'static [u8]);
-
-const ORDERS: [Left; 7] = [
-    // A transfer writes the new value first, and copies the others by rising address: the receive word, the new value and
-    // the copy of address 1 are there; that of 3 is cut.
-    (
-        1,
-        8,
-        b"w 3 1\nw 9 2\nw 1 3\nw 3 4\nx 4 n\nw 9 5\n",
-        b"ee 1 8
+/// Scripts, with commas for line ends, and below them the image that each leaves of a formatted device.
+///
+/// - A transfer writes the new value first, and copies the others by rising address.
+/// - A clean step erases the lowest page first; so does a transfer that finds both pages of the other set written.
+/// - An append into a further page marks the page before it valid, and only then that one active.
+/// - With nothing to copy the further page stays blank.
+/// - After its commit a transfer marks the used pages before the last valid, then the last used one active, then the pages
+///   of the old set, by rising page. An opening after a cut at the commit does the same.
+const ORDERS: &str = "\
+w 3 1, w 9 2, w 1 3, w 3 4, x 4 n, w 9 5
+ee 1 8
 0 aaaaaaaa00000001 aaaaaaaaaaaaaaaa - - 0000000100000003 0000000200000009 0000000300000001 0000000400000003
 0 aaaaaaaa00000002 - - - 0000000500000009 0000000300000001 - -
-",
-    ),
-    (
-        1,
-        8,
-        b"w 3 1\nw 9 2\nw 1 3\nw 3 4\nx 4 n\nw 9 5\np\nw 9 5\n",
-        b"ee 1 8
+
+w 3 1, w 9 2, w 1 3, w 3 4, x 4 n, w 9 5, p, w 9 5
+ee 1 8
 0 aaaaaaaa00000001 aaaaaaaaaaaaaaaa - aaaaaaaaaaaaaaaa 0000000100000003 0000000200000009 0000000300000001 0000000400000003
 1 aaaaaaaa00000002 aaaaaaaaaaaaaaaa - - 0000000500000009 0000000300000001 0000000400000003 -
-",
-    ),
-    // A clean step erases the lowest page first.
-    (
-        2,
-        5,
-        b"w 1 1\nw 1 2\nw 1 3\nc\n",
-        b"ee 2 5
+
+w 1 1, w 1 2, w 1 3, c
+ee 2 5
 1 - - - - -
 0 - aaaaaaaaaaaaaaaa - aaaaaaaaaaaaaaaa 0000000200000001
 0 aaaaaaaa00000002 aaaaaaaaaaaaaaaa - - 0000000300000001
 0 - - - - -
-",
-    ),
-    // So does a transfer that finds both pages of the other set written.
-    (
-        2,
-        5,
-        b"w 1 1\nw 1 2\nw 1 3\nw 1 4\nx 2 n\nw 1 5\n",
-        b"ee 2 5
+
+w 1 1, w 1 2, w 1 3, w 1 4, x 2 n, w 1 5
+ee 2 5
 1 - - - - -
 1 - aaaaaaaaaaaaaaaa - aaaaaaaaaaaaaaaa 0000000200000001
 0 aaaaaaaa00000002 aaaaaaaaaaaaaaaa aaaaaaaaaaaaaaaa - 0000000300000001
 0 - aaaaaaaaaaaaaaaa - - 0000000400000001
-",
-    ),
-    // An append into a further page marks the page before it valid, and only then that one active.
-    (
-        2,
-        5,
-        b"w 1 1\nx 2 n\nw 1 2\n",
-        b"ee 2 5
+
+w 1 1, x 2 n, w 1 2
+ee 2 5
 0 aaaaaaaa00000001 aaaaaaaaaaaaaaaa aaaaaaaaaaaaaaaa - 0000000100000001
 0 - - - - -
 0 - - - - -
 0 - - - - -
-",
-    ),
-    (
-        2,
-        5,
-        b"w 1 1\nx 3 n\nw 1 2\n",
-        b"ee 2 5
+
+w 1 1, x 3 n, w 1 2
+ee 2 5
 0 aaaaaaaa00000001 aaaaaaaaaaaaaaaa aaaaaaaaaaaaaaaa - 0000000100000001
 0 - aaaaaaaaaaaaaaaa - - -
 0 - - - - -
 0 - - - - -
-",
-    ),
-    // With nothing to copy the further page stays blank.
-    (
-        2,
-        5,
-        b"w 1 1\nw 1 2\nf 1\n",
-        b"ee 2 5
+
+w 1 1, w 1 2, f 1
+ee 2 5
 0 aaaaaaaa00000001 aaaaaaaaaaaaaaaa aaaaaaaaaaaaaaaa aaaaaaaaaaaaaaaa 0000000100000001
 0 - aaaaaaaaaaaaaaaa - aaaaaaaaaaaaaaaa 0000000200000001
 0 aaaaaaaa00000002 aaaaaaaaaaaaaaaa - - -
 0 - - - - -
-",
-    ),
-];
+
+w 1 1, w 2 2, x 6 n, w 1 3
+w 1 1, w 2 2, x 5 d, w 1 3, x 1 n, p
+ee 2 5
+0 aaaaaaaa00000001 aaaaaaaaaaaaaaaa aaaaaaaaaaaaaaaa - 0000000100000001
+0 - aaaaaaaaaaaaaaaa - - 0000000200000002
+0 aaaaaaaa00000002 aaaaaaaaaaaaaaaa - - 0000000300000001
+0 aaaaaaaa00000002 - - - 0000000200000002
+
+w 1 1, w 2 2, x 7 n, w 1 3
+w 1 1, w 2 2, x 5 d, w 1 3, x 2 n, p
+ee 2 5
+0 aaaaaaaa00000001 aaaaaaaaaaaaaaaa aaaaaaaaaaaaaaaa - 0000000100000001
+0 - aaaaaaaaaaaaaaaa - - 0000000200000002
+0 aaaaaaaa00000002 aaaaaaaaaaaaaaaa aaaaaaaaaaaaaaaa - 0000000300000001
+0 aaaaaaaa00000002 - - - 0000000200000002
+
+w 1 1, w 2 2, x 8 n, w 1 3
+w 1 1, w 2 2, x 5 d, w 1 3, x 3 n, p
+ee 2 5
+0 aaaaaaaa00000001 aaaaaaaaaaaaaaaa aaaaaaaaaaaaaaaa - 0000000100000001
+0 - aaaaaaaaaaaaaaaa - - 0000000200000002
+0 aaaaaaaa00000002 aaaaaaaaaaaaaaaa aaaaaaaaaaaaaaaa - 0000000300000001
+0 aaaaaaaa00000002 aaaaaaaaaaaaaaaa - - 0000000200000002
+
+w 1 1, w 2 2, x 9 n, w 1 3
+w 1 1, w 2 2, x 5 d, w 1 3, x 4 n, p
+ee 2 5
+0 aaaaaaaa00000001 aaaaaaaaaaaaaaaa aaaaaaaaaaaaaaaa aaaaaaaaaaaaaaaa 0000000100000001
+0 - aaaaaaaaaaaaaaaa - - 0000000200000002
+0 aaaaaaaa00000002 aaaaaaaaaaaaaaaa aaaaaaaaaaaaaaaa - 0000000300000001
+0 aaaaaaaa00000002 aaaaaaaaaaaaaaaa - - 0000000200000002";
+
+/// How many steps a call takes: the pages of a set and the words of a page, what comes before the call, the call.
+///
+/// - An append takes one; into a further page three: the valid mark, the active mark, the element.
+/// - A transfer erases the page that waits, if there is one, and writes a receive word for each page, the elements, the
+///   active mark, for each further page a valid mark and an active one, and an erasing mark for each page of the old set.
+/// - An opening takes the steps that are left, and none for a mark that is torn.
+const STEPS: &str = "\
+1: 1 6: w 1 10, w 1 11, w 1 12: w 2 5
+6: 1 6: w 1 10, w 1 11, w 1 12, w 2 5: w 1 13
+0: 1 6: w 1 10, w 1 11, w 1 12, w 2 5, w 1 13: w 3 1
+1: 1 6: w 1 10, w 1 11, w 1 12: c
+5: 1 6: w 1 10, w 1 11, w 1 12, c, w 2 5: w 1 13
+3: 2 5: w 1 1: w 1 2
+5: 2 5: w 1 1, w 1 2: w 1 3
+4: 2 5: w 1 1, w 1 2: f 1
+9: 2 5: w 1 1, w 2 2: w 1 3
+4: 2 5: w 1 1, w 2 2, x 5 d, w 1 3: p
+3: 1 5: w 1 1: f 1
+0: 1 6: w 1 10, w 1 11, x 2 t, w 1 12, x 1 t, p: p";
+
+// What a script leaves of a formatted device, by either store.
+fn left_by(rt: &impl Abort, alloc: Global, shape: Shape, listed: &str) -> Result<Replayed, Fail> {
+    let script = lines(alloc, listed)?;
+    let image = given(format_image(alloc, shape))?;
+    let left = given(replay(alloc, image.as_slice(), script.as_slice()))?;
+    let indexed = given(replay_indexed(alloc, image.as_slice(), script.as_slice()))?;
+    same_at(
+        rt,
+        listed,
+        indexed.report.as_slice(),
+        left.report.as_slice(),
+    );
+    same_at(rt, listed, indexed.image.as_slice(), left.image.as_slice());
+    Ok(left)
+}
+
+// Each script of a block leaves its image.
+fn assert_block(rt: &impl Abort, alloc: Global, block: &str) -> Result<(), Fail> {
+    let (scripts, rest) = block.split_once("\nee ").ok_or("no image")?;
+    let image = format!(in alloc; "ee {rest}\n")?;
+    let shape = device(alloc, image.as_bytes())?.shape();
+    for script in scripts.split('\n') {
+        let left = left_by(rt, alloc, shape, script)?;
+        same_at(rt, script, left.image.as_slice(), image.as_bytes());
+    }
+    Ok(())
+}
 
 #[test]
 fn steps_come_in_this_order(rt: HostRuntime) -> Result<(), Fail> {
-    for (number, (pages, words, script, image)) in ORDERS.iter().enumerate() {
-        let left = left_by(&rt, rt.alloc(), *pages, *words, script)?;
-        same_at(&rt, number, left.image.as_slice(), *image);
+    for block in ORDERS.split("\n\n") {
+        assert_block(&rt, rt.alloc(), block)?;
     }
     Ok(())
 }
 
-/// The marks after the commit of a transfer over two pages: a script that is cut in it, one that is cut in the opening
-/// after a cut at its commit, and the pages 0, 2 and 3 that both leave.
-const MARKS: [(&[u8], &[u8], [&str; 3]); 4] = [
-    (
-        b"w 1 1\nw 2 2\nx 6 n\nw 1 3\n",
-        b"w 1 1\nw 2 2\nx 5 d\nw 1 3\nx 1 n\np\n",
-        [
-            "- 0000000100000001",
-            "- - 0000000300000001",
-            "- - - 0000000200000002",
-        ],
-    ),
-    // The used pages before the last are valid,
-    (
-        b"w 1 1\nw 2 2\nx 7 n\nw 1 3\n",
-        b"w 1 1\nw 2 2\nx 5 d\nw 1 3\nx 2 n\np\n",
-        [
-            "- 0000000100000001",
-            "aaaaaaaaaaaaaaaa - 0000000300000001",
-            "- - - 0000000200000002",
-        ],
-    ),
-    // then the last used one is active,
-    (
-        b"w 1 1\nw 2 2\nx 8 n\nw 1 3\n",
-        b"w 1 1\nw 2 2\nx 5 d\nw 1 3\nx 3 n\np\n",
-        [
-            "- 0000000100000001",
-            "aaaaaaaaaaaaaaaa - 0000000300000001",
-            "aaaaaaaaaaaaaaaa - - 0000000200000002",
-        ],
-    ),
-    // then the pages of the old set may be erased, by rising page.
-    (
-        b"w 1 1\nw 2 2\nx 9 n\nw 1 3\n",
-        b"w 1 1\nw 2 2\nx 5 d\nw 1 3\nx 4 n\np\n",
-        [
-            "aaaaaaaaaaaaaaaa 0000000100000001",
-            "aaaaaaaaaaaaaaaa - 0000000300000001",
-            "aaaaaaaaaaaaaaaa - - 0000000200000002",
-        ],
-    ),
-];
-
-#[test]
-fn marks_after_the_commit(rt: HostRuntime) -> Result<(), Fail> {
-    for (transfer, opening, [first, third, fourth]) in MARKS {
-        let image = format!(in rt.alloc();
-            "ee 2 5
-0 aaaaaaaa00000001 aaaaaaaaaaaaaaaa aaaaaaaaaaaaaaaa {first}
-0 - aaaaaaaaaaaaaaaa - - 0000000200000002
-0 aaaaaaaa00000002 aaaaaaaaaaaaaaaa {third}
-0 aaaaaaaa00000002 {fourth}
-"
-        )?;
-        for script in [transfer, opening] {
-            let left = left_by(&rt, rt.alloc(), 2, 5, script)?;
-            same(&rt, left.image.as_slice(), image.as_bytes());
-        }
+// The call is cut in each of its steps, and in no later one.
+fn assert_steps(rt: &impl Abort, alloc: Global, row: &str) -> Result<(), Fail> {
+    let (steps, rest) = row.split_once(": ").ok_or("no steps")?;
+    let (size, scripts) = rest.split_once(": ").ok_or("no size")?;
+    let (before, call) = scripts.split_once(": ").ok_or("no call")?;
+    let (pages, words) = size.split_once(" ").ok_or("no words")?;
+    let shape = shape(pages.parse::<usize>()?, words.parse::<usize>()?)?;
+    let steps = steps.parse::<u64>()?;
+    for step in 1..steps.saturating_add(2) {
+        let script = format!(in alloc; "{before}, x {step} n, {call}")?;
+        let left = left_by(rt, alloc, shape, script.as_str())?;
+        let is_cut = has(left.report.as_slice(), b"armed\ncut\nend ");
+        same_at(rt, (row, step), is_cut, step <= steps);
     }
     Ok(())
-}
-
-/// So many pages a set and words a page, what comes before a call, the call, and how many steps it takes.
-const STEPS: [(usize, usize, &[u8], &[u8], u64); 12] = [
-    (1, 6, b"w 1 10\nw 1 11\nw 1 12\n", b"w 2 5\n", 1),
-    // The erase, the receive word, two elements, the active mark, the erasing mark.
-    (1, 6, b"w 1 10\nw 1 11\nw 1 12\nw 2 5\n", b"w 1 13\n", 6),
-    (
-        1,
-        6,
-        b"w 1 10\nw 1 11\nw 1 12\nw 2 5\nw 1 13\n",
-        b"w 3 1\n",
-        0,
-    ),
-    (1, 6, b"w 1 10\nw 1 11\nw 1 12\n", b"c\n", 1),
-    // A transfer erases no blank page.
-    (1, 6, b"w 1 10\nw 1 11\nw 1 12\nc\nw 2 5\n", b"w 1 13\n", 5),
-    // The valid mark, the active mark, the element.
-    (2, 5, b"w 1 1\n", b"w 1 2\n", 3),
-    // The receive word, the element, the active mark, two erasing marks.
-    (2, 5, b"w 1 1\nw 1 2\n", b"w 1 3\n", 5),
-    (2, 5, b"w 1 1\nw 1 2\n", b"f 1\n", 4),
-    // A receive word and an element for each page, the active mark of the first, its valid mark, the active mark of the
-    // second, two erasing marks. An opening takes the steps that are left.
-    (2, 5, b"w 1 1\nw 2 2\n", b"w 1 3\n", 9),
-    (2, 5, b"w 1 1\nw 2 2\nx 5 d\nw 1 3\n", b"p\n", 4),
-    // A transfer of nothing.
-    (1, 5, b"w 1 1\n", b"f 1\n", 3),
-    // A torn mark is present.
-    (
-        1,
-        6,
-        b"w 1 10\nw 1 11\nx 2 t\nw 1 12\nx 1 t\np\n",
-        b"p\n",
-        0,
-    ),
-];
-
-// Whether the call is cut in this step.
-fn is_cut(
-    rt: &impl Abort,
-    alloc: Global,
-    row: &(usize, usize, &[u8], &[u8], u64),
-    step: u64,
-) -> Result<bool, Fail> {
-    let (pages, words, before, call, _) = *row;
-    let mut script = Vec::from_slice(alloc, before)?;
-    script.extend_from_slice(b"x ")?;
-    push_number(&mut script, step)?;
-    script.extend_from_slice(b" n\n")?;
-    script.extend_from_slice(call)?;
-    let left = left_by(rt, alloc, pages, words, script.as_slice())?;
-    Ok(has(left.report.as_slice(), b"armed\ncut\nend "))
 }
 
 /// An `x` line cuts in the step that it names, and a call has so many.
 #[test]
 fn calls_take_so_many_steps(rt: HostRuntime) -> Result<(), Fail> {
-    for (number, row) in STEPS.iter().enumerate() {
-        let steps = row.4;
-        for step in 1..steps.saturating_add(2) {
-            let cut = is_cut(&rt, rt.alloc(), row, step)?;
-            same_at(&rt, (number, step), cut, step <= steps);
-        }
+    for row in STEPS.split('\n') {
+        assert_steps(&rt, rt.alloc(), row)?;
     }
     Ok(())
 }
@@ -270,7 +192,7 @@ fn a_format_erases_the_lowest_page_first(rt: HostRuntime) -> Result<(), Fail> {
     if !flash.is_on() {
         return Err("off".into());
     }
-    let flash = format(flash).ok().ok_or("not formatted")?.into_flash();
+    let flash = given(format(flash))?.into_flash();
     // Two erases, the receive word, the active mark.
     same(&rt, flash.steps(), 4);
     let image =

@@ -4,7 +4,7 @@ ghost use Rattle.std.specs.Prelude.{◌<◌};
 use crate::tests::images::{FORMATTED, REPORT, SCRIPT, TWO_MOVES};
 use crate::tests::requests::LastValue;
 use crate::tests::trial::with_each_refusal;
-use crate::tests::{same, same_at};
+use crate::tests::{given, same, same_at};
 use crate::{FailingReader, FailingWriter, Stop};
 use ee_script::{StreamFault, answer_reader};
 use ee_shell::{replay, replay_reader};
@@ -134,7 +134,7 @@ fn long_texts_in_short_pieces(rt: HostRuntime) -> Result<(), Fail> {
     for most in [1usize, 7, 1009, 65_537] {
         if most > 0 {
             let mut reader = reader(text.as_slice(), most, 0, ErrorKind::Other);
-            let read = read_whole(rt.alloc(), &mut reader).ok().ok_or("not read")?;
+            let read = given(read_whole(rt.alloc(), &mut reader))?;
             same_at(&rt, most, read.as_slice() == text.as_slice(), true);
         }
     }
@@ -154,19 +154,15 @@ fn a_long_script_in_pieces(rt: HostRuntime) -> Result<(), Fail> {
     for _ in 0..10_000 {
         script.extend_from_slice(b"w 1 100\nr 1\n")?;
     }
-    let whole = replay(rt.alloc(), FORMATTED, script.as_slice())
-        .ok()
-        .ok_or("not replayed")?;
+    let whole = given(replay(rt.alloc(), FORMATTED, script.as_slice()))?;
     let mut reader = reader(script.as_slice(), 4099, 0, ErrorKind::Other);
-    let given = replay_reader(rt.alloc(), FORMATTED, &mut reader)
-        .ok()
-        .ok_or("not replayed in pieces")?;
+    let pieced = given(replay_reader(rt.alloc(), FORMATTED, &mut reader))?;
     same(
         &rt,
-        given.report.as_slice() == whole.report.as_slice(),
+        pieced.report.as_slice() == whole.report.as_slice(),
         true,
     );
-    same(&rt, given.image.as_slice() == whole.image.as_slice(), true);
+    same(&rt, pieced.image.as_slice() == whole.image.as_slice(), true);
     Ok(())
 }
 

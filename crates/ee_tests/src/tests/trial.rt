@@ -1,7 +1,6 @@
 use crate::Refusing;
 use std::alloc::Global;
 use std::process::Abort;
-use std::test::Fail;
 
 /// Runs `call` with its first request for memory refused, then with its second, and so on to a run in which none is.
 ///
@@ -40,20 +39,4 @@ fn an_answer_that_changes_is_caught(rt: HostRuntime) {
     with_each_refusal(&rt, rt.alloc(), 1, |alloc| {
         Some(Box::new(alloc, 0u8).is_ok())
     });
-}
-
-#[test]
-fn one_request_is_refused(rt: HostRuntime) -> Result<(), Fail> {
-    let alloc = Refusing::new(rt.alloc(), 2);
-    for (is_ok, has_refused) in [(true, false), (false, true), (true, true), (true, true)] {
-        let found = (Box::new(&alloc, 7u8).is_ok(), alloc.has_refused());
-        assert_eq!(rt; found, (is_ok, has_refused));
-    }
-    // A vector's growth is a request of its own.
-    with_each_refusal(&rt, rt.alloc(), 2, |alloc| {
-        let mut text = String::from_str(alloc, "ab").ok()?;
-        text.push_str("cdefghijklmnopqrstuvwxyz").ok()?;
-        Some(text.as_str() == "abcdefghijklmnopqrstuvwxyz")
-    });
-    Ok(())
 }

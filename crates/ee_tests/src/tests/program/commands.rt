@@ -1,94 +1,59 @@
 //! The table of commands, built with `clap`, which finds what `job` finds.
+use crate::tests::same_at;
 use clap::{Arg, ArgAction, ArgMatches, Command, value_parser};
 use ee_flash::Shape;
 use ee_words::{Job, job};
 use std::alloc::Global;
 use std::test::Fail;
 
-/// A word that must be there.
+/// The commands with words. Those in brackets may be left out.
+const ROWS: &str = "\
+try P W
+format P W IMAGE
+run IMAGE SCRIPT --indexed
+get IMAGE SETTINGS NAME
+set IMAGE SETTINGS NAME VALUE
+plan IMAGE SCRIPT
+check IMAGE SCRIPT CERTIFICATE
+wear IMAGE [BEFORE]
+states IMAGE
+clean IMAGE
+stale IMAGE SETTINGS
+tidy IMAGE SETTINGS
+list IMAGE [SETTINGS]
+size W SCRIPT CYCLES RUNS";
+
+/// A word of a row.
 fn word<'a>(alloc: Global, id: &'a str) -> Arg<'a> {
-    Arg::new(alloc, id).required(true).action(ArgAction::Set)
+    let word = Arg::new(alloc, id).action(ArgAction::Set);
+    let range = |least, greatest| value_parser!(u64).range(least..=greatest);
+    match id {
+        "--indexed" => word.long("indexed").action(ArgAction::SetTrue),
+        "[BEFORE]" | "[SETTINGS]" => word,
+        "P" => word.required(true).value_parser(range(1, 64)),
+        "W" => word.required(true).value_parser(range(5, 512)),
+        "VALUE" => word.required(true).value_parser(range(0, 4_294_967_295)),
+        "CYCLES" | "RUNS" => word.required(true).value_parser(range(1, 4_294_967_295)),
+        _ => word.required(true),
+    }
 }
 
-/// The numbers P and W.
-fn sized<'a>(alloc: Global, name: &'a str) -> Result<Command<'a>, Fail> {
-    Ok(
-        Command::new(alloc, name)
-            .arg(word(alloc, "P").value_parser(value_parser!(u64).range(1..=64)))?
-            .arg(word(alloc, "W").value_parser(value_parser!(u64).range(5..=512)))?,
-    )
+/// The command of a row.
+fn command<'a>(alloc: Global, row: &'a str) -> Result<Command<'a>, Fail> {
+    let (name, operands) = row.split_once(" ").ok_or("no words")?;
+    let mut command = Command::new(alloc, name);
+    for operand in operands.split(' ') {
+        command = command.arg(word(alloc, operand))?;
+    }
+    Ok(command)
 }
 
-/// A command on an image.
-fn on_image<'a>(alloc: Global, name: &'a str) -> Result<Command<'a>, Fail> {
-    Ok(Command::new(alloc, name).arg(word(alloc, "IMAGE"))?)
-}
-
-/// A command on an image, a file of settings and the name of a setting.
-fn on_setting<'a>(alloc: Global, name: &'a str) -> Result<Command<'a>, Fail> {
-    Ok(on_settings(alloc, name)?.arg(word(alloc, "NAME"))?)
-}
-
-/// A command on an image and a file of settings.
-fn on_settings<'a>(alloc: Global, name: &'a str) -> Result<Command<'a>, Fail> {
-    Ok(on_image(alloc, name)?.arg(word(alloc, "SETTINGS"))?)
-}
-
-/// Adds the commands on settings.
-fn with_settings<'a>(alloc: Global, table: Command<'a>) -> Result<Command<'a>, Fail> {
-    let value = word(alloc, "VALUE").value_parser(value_parser!(u64).range(0..=4_294_967_295));
-    Ok(
-        table
-            .subcommand(on_setting(alloc, "get")?)?
-            .subcommand(on_setting(alloc, "set")?.arg(value)?)?
-            .subcommand(on_settings(alloc, "stale")?)?
-            .subcommand(on_settings(alloc, "tidy")?)?,
-    )
-}
-
-/// Adds the commands on a script.
-fn with_script<'a>(alloc: Global, table: Command<'a>) -> Result<Command<'a>, Fail> {
-    let script = || word(alloc, "SCRIPT");
-    let indexed = Arg::new(alloc, "INDEXED")
-        .long("indexed")
-        .action(ArgAction::SetTrue);
-    Ok(
-        table
-            .subcommand(on_image(alloc, "run")?.arg(script())?.arg(indexed)?)?
-            .subcommand(on_image(alloc, "plan")?.arg(script())?)?
-            .subcommand(
-                on_image(alloc, "check")?
-                    .arg(script())?
-                    .arg(word(alloc, "CERTIFICATE"))?,
-            )?,
-    )
-}
-
-/// The command that tells how large a part must be.
-fn of_sizes<'a>(alloc: Global) -> Result<Command<'a>, Fail> {
-    let count = |id| word(alloc, id).value_parser(value_parser!(u64).range(1..=4_294_967_295));
-    Ok(
-        Command::new(alloc, "size")
-            .arg(word(alloc, "W").value_parser(value_parser!(u64).range(5..=512)))?
-            .arg(word(alloc, "SCRIPT"))?
-            .arg(count("CYCLES"))?
-            .arg(count("RUNS"))?,
-    )
-}
-
-/// The commands with words.
 fn table<'a>(alloc: Global) -> Result<Command<'a>, Fail> {
-    let before = Arg::new(alloc, "BEFORE").action(ArgAction::Set);
-    let names = Arg::new(alloc, "SETTINGS").action(ArgAction::Set);
-    let table = Command::new(alloc, "ee")
-        .subcommand(sized(alloc, "try")?)?
-        .subcommand(sized(alloc, "format")?.arg(word(alloc, "IMAGE"))?)?
-        .subcommand(on_image(alloc, "wear")?.arg(before)?)?
-        .subcommand(on_image(alloc, "states")?)?
-        .subcommand(on_image(alloc, "clean")?)?
-        .subcommand(on_image(alloc, "list")?.arg(names)?)?
-        .subcommand(of_sizes(alloc)?)?;
-    with_script(alloc, with_settings(alloc, table)?)
+    let mut table = Command::new(alloc, "ee");
+    for row in ROWS.split('\n') {
+        table = table.subcommand(command(alloc, row)?)?;
+    }
+    Ok(table)
 }
 
 /// The shape that was found.
@@ -147,11 +112,11 @@ fn job_on<'a>(name: &str, image: &'a str, found: &ArgMatches<'a>) -> Option<Job<
         }),
         "wear" => Some(Job::Wear {
             image,
-            before: found.get_str("BEFORE"),
+            before: found.get_str("[BEFORE]"),
         }),
         "list" => Some(Job::List {
             image,
-            settings: found.get_str("SETTINGS"),
+            settings: found.get_str("[SETTINGS]"),
         }),
         "states" => Some(Job::States { image }),
         "clean" => Some(Job::Clean { image }),
@@ -168,7 +133,7 @@ fn job_with_script<'a>(
 ) -> Option<Job<'a>> {
     match name {
         "run" => Some(Job::Run {
-            indexed: found.get_flag("INDEXED"),
+            indexed: found.get_flag("--indexed"),
             image,
             script,
         }),
@@ -182,34 +147,35 @@ fn job_with_script<'a>(
     }
 }
 
+/// Lines that both find.
+const LINES: &str = "\
+ee try 2 5
+ee format 64 512 a.image
+ee run a.image a.script
+ee run --indexed a.image a.script
+ee get a.image a.settings volume
+ee set a.image a.settings volume 4294967295
+ee plan a.image a.script
+ee check a.image a.script a.certificate
+ee wear a.image
+ee wear a.image b.image
+ee states a.image
+ee clean a.image
+ee stale a.image a.settings
+ee tidy a.image a.settings
+ee list a.image
+ee list a.image a.settings
+ee size 512 a.script 10000 4294967295";
+
 #[test]
 fn clap_finds_the_same_jobs(rt: HostRuntime) -> Result<(), Fail> {
-    let lines: [&[&str]; 17] = [
-        &["ee", "try", "2", "5"],
-        &["ee", "format", "64", "512", "a.image"],
-        &["ee", "run", "a.image", "a.script"],
-        &["ee", "run", "--indexed", "a.image", "a.script"],
-        &["ee", "get", "a.image", "a.settings", "volume"],
-        &["ee", "set", "a.image", "a.settings", "volume", "4294967295"],
-        &["ee", "plan", "a.image", "a.script"],
-        &["ee", "check", "a.image", "a.script", "a.certificate"],
-        &["ee", "wear", "a.image"],
-        &["ee", "wear", "a.image", "b.image"],
-        &["ee", "states", "a.image"],
-        &["ee", "clean", "a.image"],
-        &["ee", "stale", "a.image", "a.settings"],
-        &["ee", "tidy", "a.image", "a.settings"],
-        &["ee", "list", "a.image"],
-        &["ee", "list", "a.image", "a.settings"],
-        &["ee", "size", "512", "a.script", "10000", "4294967295"],
-    ];
-    for words in lines {
-        let matches = table(rt.alloc())?.try_get_matches_from(words)?;
+    for line in LINES.split('\n') {
+        let words: Vec<&str> = line.split_whitespace().collect(rt.alloc())?;
+        let matches = table(rt.alloc())?.try_get_matches_from(words.as_slice())?;
         let (name, found) = matches.subcommand().ok_or("no command")?;
-        let (_, operands) = words.split_first().ok_or("no words")?;
-        let wanted = job(operands);
-        assert!(rt; wanted.is_some());
-        assert_eq!(rt; job_of(name, found), wanted);
+        let (_, operands) = words.as_slice().split_first().ok_or("no words")?;
+        same_at(&rt, line, job_of(name, found), job(operands));
+        same_at(&rt, line, job(operands).is_some(), true);
     }
     Ok(())
 }

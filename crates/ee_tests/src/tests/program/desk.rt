@@ -29,24 +29,20 @@ pub struct Desk<'a, R> {
 impl<'a, R: Files + AllocGlobal + Input> Desk<'a, R> {
     /// A desk with nothing on its input.
     pub fn new(rt: &'a R) -> Desk<'a, R> {
-        Desk {
-            rt,
-            input: b"",
-            closed: false,
-            room: None,
-            bare: false,
-            printed: RefCell::new(Vec::new(rt.alloc())),
-            told: RefCell::new(Vec::new(rt.alloc())),
-        }
+        Desk::on(rt, None, false)
     }
 
     /// A desk whose disk is full, once, after so many bytes; and whose files, if it is bare, can't be made beside others.
     pub fn cramped(rt: &'a R, room: &'a Cell<usize>, bare: bool) -> Desk<'a, R> {
+        Desk::on(rt, Some(room), bare)
+    }
+
+    fn on(rt: &'a R, room: Option<&'a Cell<usize>>, bare: bool) -> Desk<'a, R> {
         Desk {
             rt,
             input: b"",
             closed: false,
-            room: Some(room),
+            room,
             bare,
             printed: RefCell::new(Vec::new(rt.alloc())),
             told: RefCell::new(Vec::new(rt.alloc())),

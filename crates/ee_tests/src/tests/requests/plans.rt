@@ -1,7 +1,7 @@
 //! Starts, plans, checks, rounds and ledgers.
 use crate::tests::images::CERTIFICATE;
 use crate::tests::trial::with_each_refusal;
-use crate::tests::{address, device, same, shape, write};
+use crate::tests::{address, device, given, same, shape, write};
 use ee_check::{Change, CheckFault, Start, check, read_certificate, write_certificate};
 use ee_flash::{Flash, MemFlash};
 use ee_plan::{Demand, PlanFault, Rounds, RoundsFault, plan, start_of};
@@ -55,11 +55,9 @@ fn a_trace_is_planned_and_checked(rt: HostRuntime) -> Result<(), Fail> {
 #[test]
 fn starts(rt: HostRuntime) -> Result<(), Fail> {
     let (two, nine) = (address(2)?, address(9)?);
-    let mut store = format(MemFlash::blank(rt.alloc(), shape(1, 8)?)?)
-        .ok()
-        .ok_or("no store")?;
+    let mut store = given(format(MemFlash::blank(rt.alloc(), shape(1, 8)?)?))?;
     for address in [nine, two, nine] {
-        store.write(address, 1).ok().ok_or("not written")?;
+        given(store.write(address, 1))?;
     }
     with_each_refusal(&rt, rt.alloc(), 1, |alloc| {
         if !store.is_on() {

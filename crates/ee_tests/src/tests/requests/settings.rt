@@ -1,7 +1,7 @@
 //! Schemas, and what they find on a store with an index.
 use crate::tests::images::TWO_MOVES;
 use crate::tests::trial::with_each_refusal;
-use crate::tests::{address, device, same};
+use crate::tests::{address, device, given, same};
 use ee_flash::{Flash, MemFlash};
 use ee_settings::{Held, ListFault, Listed, Reading, Schema, SchemaFault, Stale, StaleFault};
 use ee_store::{IndexedStore, Written};
@@ -28,7 +28,7 @@ fn store(alloc: Global) -> Result<IndexedStore<MemFlash>, Fail> {
     if !flash.is_on() {
         return Err(Fail::from("off"));
     }
-    Ok(IndexedStore::open(alloc, flash).ok().ok_or("not opened")?)
+    given(IndexedStore::open(alloc, flash))
 }
 
 #[test]
@@ -54,9 +54,7 @@ fn schemas(rt: HostRuntime) -> Result<(), Fail> {
 #[test]
 fn stale_values(rt: HostRuntime) -> Result<(), Fail> {
     let table = toml::table_from_slice(rt.alloc(), BOTH)?;
-    let schema: Schema = Schema::from_table(rt.alloc(), &table)
-        .ok()
-        .ok_or("no schema")?;
+    let schema: Schema = given(Schema::from_table(rt.alloc(), &table))?;
     let mut store = store(rt.alloc())?;
     // The stored values, the entries with theirs, the entries.
     with_each_refusal(&rt, rt.alloc(), 3, |alloc| {
