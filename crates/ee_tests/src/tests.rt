@@ -1,8 +1,8 @@
 //! What no clause says, each once, and what several modules make their values with.
 mod counted;
 mod cuts;
+mod formats;
 mod images;
-mod order;
 mod outside;
 mod program;
 mod requests;
@@ -57,19 +57,4 @@ fn given<T: Drop, E: Drop>(answer: Result<T, E>) -> Result<T, Fail> {
 /// The device of an image's text, which is on.
 fn device(alloc: Global, text: &[u8]) -> Result<MemFlash, Fail> {
     given(read_image(alloc, text))
-}
-
-/// A text that is written with `, ` for its line ends.
-fn lines(alloc: Global, listed: &str) -> Result<Vec<u8>, Fail> {
-    let mut text = Vec::new(alloc);
-    for line in listed.split(", ") {
-        text.extend_from_slice(line.as_bytes())?;
-        text.push(b'\n')?;
-    }
-    Ok(text)
-}
-
-/// Whether the words stand somewhere in the text.
-fn has(text: &[u8], words: &[u8]) -> bool {
-    text.windows(words.len().max(1)).any(|part| part == words)
 }

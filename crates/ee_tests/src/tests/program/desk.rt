@@ -1,4 +1,4 @@
-//! A runtime for tests: the host's files, an input of known bytes, and outputs that are kept.
+//! A runtime for tests: the host's files, an empty input, and outputs that are kept.
 use ee_program::run;
 use std::alloc::{AllocError, Allocator, Global};
 use std::cell::{Cell, RefCell};
@@ -12,8 +12,6 @@ use std::rt::Files;
 #[derive(Drop)]
 pub struct Desk<'a, R> {
     rt: &'a R,
-    /// What standard input gives.
-    pub input: &'static [u8],
     /// Whether standard output refuses what is written.
     pub closed: bool,
     /// How many bytes the disk takes before it is full, once; behind that it takes all.
@@ -27,7 +25,7 @@ pub struct Desk<'a, R> {
 }
 
 impl<'a, R: Files + AllocGlobal + Input> Desk<'a, R> {
-    /// A desk with nothing on its input.
+    /// A desk on the host's disk.
     pub fn new(rt: &'a R) -> Desk<'a, R> {
         Desk::on(rt, None, false)
     }
@@ -40,7 +38,6 @@ impl<'a, R: Files + AllocGlobal + Input> Desk<'a, R> {
     fn on(rt: &'a R, room: Option<&'a Cell<usize>>, bare: bool) -> Desk<'a, R> {
         Desk {
             rt,
-            input: b"",
             closed: false,
             room,
             bare,
@@ -119,11 +116,11 @@ impl<R: Input> Input for Desk<'_, R> {
     }
 
     fn lines<A: Allocator>(&self, alloc: A) -> Lines<&'static [u8], A> {
-        self.input.lines(alloc)
+        b"".as_slice().lines(alloc)
     }
 
     fn reader(&self) -> &'static [u8] {
-        self.input
+        b""
     }
 }
 
