@@ -1,3 +1,0 @@
-mod commands;
-mod desk;
-mod files;

@@ -1,0 +1,357 @@
+ghost use Rattle.std.specs.Prelude.{◌≡◌};
+
+use super::saving::save;
+use ee_flash::Shape;
+use ee_shell::{
+    check_script, clean_image, format_image, get_setting, list_text, plan_script, replay,
+    replay_indexed, set_setting, size_parts, stale_text, states_text, tidy_image, try_script,
+    wear_text,
+};
+use ee_words::{Fault, File, Job, fault_line, job, read_whole, status_of, write_whole};
+use std::rt::Files;
+use std::{fs, io};
+
+/// The status of a bad command line.
+pub const BAD_COMMAND_LINE: u8 = 2;
+
+/// The status of want of memory.
+pub const OUT_OF_MEMORY: u8 = 5;
+
+/// Does what the words ask for, and gives the status that the program ends with: 0 done, 2 bad
+/// command line, 3 bad file, 4 refused, 5 want of memory.
+///
+/// Files are read whole, in the order in which they are named, before anything is decided. An image
+/// is written only after all work succeeded, and its file is closed before anything is printed.
+pub fn run<R: Files + Input + Print + Eprint + AllocGlobal>(rt: &R, words: &[String]) -> u8 {
+    let mut texts: Vec<&str> = Vec::new(rt.alloc());
+    for word in words {
+        if texts.push(word.as_str()).is_err() {
+            return out_of_memory(rt);
+        }
+    }
+    match job(texts.as_slice()) {
+        None => bad_command_line(rt),
+        Some(job) => match work(rt, &job) {
+            Ok(()) => 0,
+            Err(fault) => tell(rt, &fault),
+        },
+    }
+}
+
+/// Does a job.
+fn work<R: Files + Input + Print + AllocGlobal>(rt: &R, job: &Job<'_>) -> Result<(), Fault> {
+    match *job {
+        Job::Try { shape } => try_input(rt, shape),
+        Job::Format { shape, image } => format_file(rt, shape, image),
+        Job::Run {
+            indexed,
+            image,
+            script,
+        } => run_files(rt, indexed, image, script),
+        Job::Get {
+            image,
+            settings,
+            name,
+        } => tell_setting(rt, image, settings, name),
+        Job::Set {
+            image,
+            settings,
+            name,
+            value,
+        } => set_file(rt, image, settings, name, value),
+        Job::Plan { image, script } => tell_plan(rt, image, script),
+        Job::Check {
+            image,
+            script,
+            certificate,
+        } => check_files(rt, image, script, certificate),
+        Job::Wear { image, before } => tell_wear(rt, image, before),
+        Job::States { image } => tell_states(rt, image),
+        Job::Clean { image } => clean_file(rt, image),
+        Job::Stale { image, settings } => tell_stale(rt, image, settings),
+        Job::Tidy { image, settings } => tidy_file(rt, image, settings),
+        Job::List { image, settings } => tell_values(rt, image, settings),
+        Job::Size {
+            words,
+            script,
+            cycles,
+            runs,
+        } => tell_sizes(rt, words, script, cycles, runs),
+    }
+}
+
+/// Tries the script of standard input, and prints its report.
+fn try_input<R: Input + Print + AllocGlobal>(rt: &R, shape: Shape) -> Result<(), Fault> {
+    let script = match read_whole(rt.alloc(), &mut rt.reader()) {
+        Ok(script) => script,
+        Err(fault) => return Err(Fault::reading(File::Script, fault)),
+    };
+    let replayed = try_script(rt.alloc(), shape, script.as_slice())?;
+    print(rt, replayed.report.as_slice())
+}
+
+/// Writes a new image.
+fn format_file<R: Files + Print + AllocGlobal>(
+    rt: &R,
+    shape: Shape,
+    image: &str,
+) -> Result<(), Fault> {
+    let formatted = format_image(rt.alloc(), shape)?;
+    write_image(rt, image, None, formatted.as_slice())?;
+    print(rt, b"formatted\n")
+}
+
+/// Answers a script on an image, writes the image that this leaves in its place, and prints the
+/// report. `indexed` says whether the store keeps an index in memory.
+fn run_files<R: Files + Print + AllocGlobal>(
+    rt: &R,
+    indexed: bool,
+    image: &str,
+    script: &str,
+) -> Result<(), Fault> {
+    let before = read_file(rt, File::Image, image)?;
+    let lines = read_file(rt, File::Script, script)?;
+    let replayed = if indexed {
+        replay_indexed(rt.alloc(), before.as_slice(), lines.as_slice())?
+    } else {
+        replay(rt.alloc(), before.as_slice(), lines.as_slice())?
+    };
+    write_image(
+        rt,
+        image,
+        Some(before.as_slice()),
+        replayed.image.as_slice(),
+    )?;
+    print(rt, replayed.report.as_slice())
+}
+
+/// Prints what a setting reads as in an image.
+fn tell_setting<R: Files + Print + AllocGlobal>(
+    rt: &R,
+    image: &str,
+    settings: &str,
+    name: &str,
+) -> Result<(), Fault> {
+    let image = read_file(rt, File::Image, image)?;
+    let settings = read_file(rt, File::Settings, settings)?;
+    let (alloc, heap) = (rt.alloc(), rt.alloc());
+    let text = get_setting(alloc, heap, image.as_slice(), settings.as_slice(), name)?;
+    print(rt, text.as_slice())
+}
+
+/// Gives a setting of an image a value, and writes the image in its place.
+fn set_file<R: Files + Print + AllocGlobal>(
+    rt: &R,
+    image: &str,
+    settings: &str,
+    name: &str,
+    value: u32,
+) -> Result<(), Fault> {
+    let before = read_file(rt, File::Image, image)?;
+    let table = read_file(rt, File::Settings, settings)?;
+    let (alloc, heap) = (rt.alloc(), rt.alloc());
+    let (written, text) = set_setting(
+        alloc,
+        heap,
+        before.as_slice(),
+        table.as_slice(),
+        name,
+        value,
+    )?;
+    write_image(rt, image, Some(before.as_slice()), written.as_slice())?;
+    print(rt, text.as_slice())
+}
+
+/// Prints the certificate of what a script changes on an image.
+fn tell_plan<R: Files + Print + AllocGlobal>(
+    rt: &R,
+    image: &str,
+    script: &str,
+) -> Result<(), Fault> {
+    let image = read_file(rt, File::Image, image)?;
+    let script = read_file(rt, File::Script, script)?;
+    let text = plan_script(rt.alloc(), image.as_slice(), script.as_slice())?;
+    print(rt, text.as_slice())
+}
+
+/// Checks a certificate of what a script changes on an image, and prints what it proves.
+fn check_files<R: Files + Print + AllocGlobal>(
+    rt: &R,
+    image: &str,
+    script: &str,
+    certificate: &str,
+) -> Result<(), Fault> {
+    let image = read_file(rt, File::Image, image)?;
+    let script = read_file(rt, File::Script, script)?;
+    let certificate = read_file(rt, File::Certificate, certificate)?;
+    let text = check_script(
+        rt.alloc(),
+        image.as_slice(),
+        script.as_slice(),
+        certificate.as_slice(),
+    )?;
+    print(rt, text.as_slice())
+}
+
+/// Prints how often the pages of an image were erased, since an image before it where one is named.
+fn tell_wear<R: Files + Print + AllocGlobal>(
+    rt: &R,
+    image: &str,
+    before: Option<&str>,
+) -> Result<(), Fault> {
+    let now = read_file(rt, File::Image, image)?;
+    let Some(before) = before else {
+        let text = wear_text(rt.alloc(), now.as_slice(), None)?;
+        return print(rt, text.as_slice());
+    };
+    let then = read_file(rt, File::Before, before)?;
+    let text = wear_text(rt.alloc(), now.as_slice(), Some(then.as_slice()))?;
+    print(rt, text.as_slice())
+}
+
+/// Prints the state of each page of an image.
+fn tell_states<R: Files + Print + AllocGlobal>(rt: &R, image: &str) -> Result<(), Fault> {
+    let before = read_file(rt, File::Image, image)?;
+    let text = states_text(rt.alloc(), before.as_slice())?;
+    print(rt, text.as_slice())
+}
+
+/// Erases the pages of an image that wait for it, writes the image in its place, and prints their
+/// number.
+fn clean_file<R: Files + Print + AllocGlobal>(rt: &R, image: &str) -> Result<(), Fault> {
+    let before = read_file(rt, File::Image, image)?;
+    let (cleaned, text) = clean_image(rt.alloc(), before.as_slice())?;
+    write_image(rt, image, Some(before.as_slice()), cleaned.as_slice())?;
+    print(rt, text.as_slice())
+}
+
+/// Prints the settings whose stored value in an image isn't in their range.
+fn tell_stale<R: Files + Print + AllocGlobal>(
+    rt: &R,
+    image: &str,
+    settings: &str,
+) -> Result<(), Fault> {
+    let image = read_file(rt, File::Image, image)?;
+    let settings = read_file(rt, File::Settings, settings)?;
+    let (alloc, heap) = (rt.alloc(), rt.alloc());
+    let text = stale_text(alloc, heap, image.as_slice(), settings.as_slice())?;
+    print(rt, text.as_slice())
+}
+
+/// Forgets the addresses of an image that no setting has, writes the image in its place, and prints
+/// their number.
+fn tidy_file<R: Files + Print + AllocGlobal>(
+    rt: &R,
+    image: &str,
+    settings: &str,
+) -> Result<(), Fault> {
+    let before = read_file(rt, File::Image, image)?;
+    let table = read_file(rt, File::Settings, settings)?;
+    let (alloc, heap) = (rt.alloc(), rt.alloc());
+    let (tidied, text) = tidy_image(alloc, heap, before.as_slice(), table.as_slice())?;
+    write_image(rt, image, Some(before.as_slice()), tidied.as_slice())?;
+    print(rt, text.as_slice())
+}
+
+/// Prints what each address of an image has, with the names of settings where their file is named.
+fn tell_values<R: Files + Print + AllocGlobal>(
+    rt: &R,
+    image: &str,
+    settings: Option<&str>,
+) -> Result<(), Fault> {
+    let image = read_file(rt, File::Image, image)?;
+    let (alloc, heap) = (rt.alloc(), rt.alloc());
+    let Some(settings) = settings else {
+        let text = list_text(alloc, heap, image.as_slice(), None)?;
+        return print(rt, text.as_slice());
+    };
+    let table = read_file(rt, File::Settings, settings)?;
+    let text = list_text(alloc, heap, image.as_slice(), Some(table.as_slice()))?;
+    print(rt, text.as_slice())
+}
+
+/// Prints for each number of pages whether it bears so many runs of a script. Where none does, that is
+/// told behind it.
+fn tell_sizes<R: Files + Print + AllocGlobal>(
+    rt: &R,
+    words: u16,
+    script: &str,
+    cycles: u32,
+    runs: u32,
+) -> Result<(), Fault> {
+    let script = read_file(rt, File::Script, script)?;
+    let sizes = size_parts(rt.alloc(), words, script.as_slice(), cycles, runs)?;
+    print(rt, sizes.text.as_slice())?;
+    if sizes.some_enough {
+        return Ok(());
+    }
+    Err(Fault::NoSizeEnough)
+}
+
+/// All bytes of a file.
+fn read_file<R: Files + AllocGlobal>(rt: &R, file: File, path: &str) -> Result<Vec<u8>, Fault> {
+    let mut reader = match fs::open(rt, path) {
+        Ok(reader) => reader,
+        Err(_) => return Err(Fault::CannotRead(file)),
+    };
+    match read_whole(rt.alloc(), &mut reader) {
+        Ok(bytes) => Ok(bytes),
+        Err(fault) => Err(Fault::reading(file, fault)),
+    }
+}
+
+/// Writes an image in the place of its file, of which `before` was read, if it was. Its file is
+/// closed afterwards.
+fn write_image<R: Files + AllocGlobal>(
+    rt: &R,
+    path: &str,
+    before: Option<&[u8]>,
+    image: &[u8],
+) -> Result<(), Fault> {
+    match save(rt, path, before, image) {
+        Ok(()) => Ok(()),
+        Err(_) => Err(Fault::CannotWriteImage),
+    }
+}
+
+/// Prints on standard output.
+fn print<R: Print>(rt: &R, text: &[u8]) -> Result<(), Fault> {
+    match write_whole(&mut io::writer(rt), text) {
+        Ok(()) => Ok(()),
+        Err(_) => Err(Fault::CannotWriteOutput),
+    }
+}
+
+/// Prints the line of a fault on standard error, and gives its status.
+fn tell<R: Eprint + AllocGlobal>(rt: &R, fault: &Fault) -> u8 {
+    match fault_line(rt.alloc(), fault) {
+        Ok(line) => {
+            eprint_bytes(rt, line.as_slice());
+            status_of(fault)
+        }
+        Err(_) => out_of_memory(rt),
+    }
+}
+
+/// Says that the words can't be read, and gives the status.
+pub fn bad_command_line<R: Eprint>(rt: &R) -> u8
+    ensures { result ≡ BAD_COMMAND_LINE }
+{
+    eprint_bytes(rt, b"ee: bad command line\n");
+    BAD_COMMAND_LINE
+}
+
+/// Says that memory ran out, with no memory, and gives the status.
+pub fn out_of_memory<R: Eprint>(rt: &R) -> u8
+    ensures { result ≡ OUT_OF_MEMORY }
+{
+    eprint_bytes(rt, b"ee: out of memory\n");
+    OUT_OF_MEMORY
+}
+
+/// Prints a line on standard error. Where that fails there is nobody left to tell.
+fn eprint_bytes<R: Eprint>(rt: &R, line: &[u8]) {
+    if let Ok(text) = str::from_utf8(line) {
+        let _ = rt.eprint(text);
+    }
+}

@@ -1,0 +1,10 @@
+use Rattle.std.proofs.Common.{sym, ◌∙◌}
+use Rattle.ee_tests.specs.Listed.{listed_of}
+use Rattle.ee_tests.proofs.Leaving.{after_whole_erase, whole_page}
+use Rattle.ee_tests.proofs.list.ListFlash.whole_erase.Goals as goal
+
+pub returns : goal.returns
+returns g c =
+    let flash = c.args.self.now in
+    let blank = whole_page flash.shape flash.cells.items c.args.page (sym flash.cells.ok.0 ∙ flash.cells_length) c.requires in
+    after_whole_erase c.args.page (listed_of flash) (listed_of c.erase_page.new.self) (listed_of c.wear_out.new.self) blank c.erase_page.ensures c.wear_out.ensures

@@ -1,0 +1,4 @@
+//! The program over files, and its table of commands.
+mod commands;
+mod desk;
+mod files;

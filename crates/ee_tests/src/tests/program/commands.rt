@@ -1,0 +1,181 @@
+//! The table of commands, built with `clap`, which finds what `job` finds.
+use crate::tests::same_at;
+use clap::{Arg, ArgAction, ArgMatches, Command, value_parser};
+use ee_flash::Shape;
+use ee_words::{Job, job};
+use std::alloc::Global;
+use std::test::Fail;
+
+/// The commands with words. Those in brackets may be left out.
+const ROWS: &str = "\
+try P W
+format P W IMAGE
+run IMAGE SCRIPT --indexed
+get IMAGE SETTINGS NAME
+set IMAGE SETTINGS NAME VALUE
+plan IMAGE SCRIPT
+check IMAGE SCRIPT CERTIFICATE
+wear IMAGE [BEFORE]
+states IMAGE
+clean IMAGE
+stale IMAGE SETTINGS
+tidy IMAGE SETTINGS
+list IMAGE [SETTINGS]
+size W SCRIPT CYCLES RUNS";
+
+/// A word of a row.
+fn word<'a>(alloc: Global, id: &'a str) -> Arg<'a> {
+    let word = Arg::new(alloc, id).action(ArgAction::Set);
+    let range = |least, greatest| value_parser!(u64).range(least..=greatest);
+    match id {
+        "--indexed" => word.long("indexed").action(ArgAction::SetTrue),
+        "[BEFORE]" | "[SETTINGS]" => word,
+        "P" => word.required(true).value_parser(range(1, 64)),
+        "W" => word.required(true).value_parser(range(5, 512)),
+        "VALUE" => word.required(true).value_parser(range(0, 4_294_967_295)),
+        "CYCLES" | "RUNS" => word.required(true).value_parser(range(1, 4_294_967_295)),
+        _ => word.required(true),
+    }
+}
+
+/// The command of a row.
+fn command<'a>(alloc: Global, row: &'a str) -> Result<Command<'a>, Fail> {
+    let (name, operands) = row.split_once(" ").ok_or("no words")?;
+    let mut command = Command::new(alloc, name);
+    for operand in operands.split(' ') {
+        command = command.arg(word(alloc, operand))?;
+    }
+    Ok(command)
+}
+
+fn table<'a>(alloc: Global) -> Result<Command<'a>, Fail> {
+    let mut table = Command::new(alloc, "ee");
+    for row in ROWS.split('\n') {
+        table = table.subcommand(command(alloc, row)?)?;
+    }
+    Ok(table)
+}
+
+/// The shape that was found.
+fn shape(found: &ArgMatches<'_>) -> Option<Shape> {
+    let pages = found.get_one::<u64>("P")?;
+    let words = found.get_one::<u64>("W")?;
+    Shape::new(usize::try_from(pages).ok()?, usize::try_from(words).ok()?)
+}
+
+/// The sizes that are asked for.
+fn sizes<'a>(found: &ArgMatches<'a>) -> Option<Job<'a>> {
+    Some(Job::Size {
+        words: u16::try_from(found.get_one::<u64>("W")?).ok()?,
+        script: found.get_str("SCRIPT")?,
+        cycles: u32::try_from(found.get_one::<u64>("CYCLES")?).ok()?,
+        runs: u32::try_from(found.get_one::<u64>("RUNS")?).ok()?,
+    })
+}
+
+/// The job that was found.
+fn job_of<'a>(name: &str, found: &ArgMatches<'a>) -> Option<Job<'a>> {
+    match name {
+        "try" => Some(Job::Try {
+            shape: shape(found)?,
+        }),
+        "size" => sizes(found),
+        _ => job_on(name, found.get_str("IMAGE")?, found),
+    }
+}
+
+/// The job on an image that was found.
+fn job_on<'a>(name: &str, image: &'a str, found: &ArgMatches<'a>) -> Option<Job<'a>> {
+    match name {
+        "format" => Some(Job::Format {
+            shape: shape(found)?,
+            image,
+        }),
+        "get" => Some(Job::Get {
+            image,
+            settings: found.get_str("SETTINGS")?,
+            name: found.get_str("NAME")?,
+        }),
+        "set" => Some(Job::Set {
+            image,
+            settings: found.get_str("SETTINGS")?,
+            name: found.get_str("NAME")?,
+            value: u32::try_from(found.get_one::<u64>("VALUE")?).ok()?,
+        }),
+        "stale" => Some(Job::Stale {
+            image,
+            settings: found.get_str("SETTINGS")?,
+        }),
+        "tidy" => Some(Job::Tidy {
+            image,
+            settings: found.get_str("SETTINGS")?,
+        }),
+        "wear" => Some(Job::Wear {
+            image,
+            before: found.get_str("[BEFORE]"),
+        }),
+        "list" => Some(Job::List {
+            image,
+            settings: found.get_str("[SETTINGS]"),
+        }),
+        "states" => Some(Job::States { image }),
+        "clean" => Some(Job::Clean { image }),
+        _ => job_with_script(name, image, found.get_str("SCRIPT")?, found),
+    }
+}
+
+/// The job on an image and a script that was found.
+fn job_with_script<'a>(
+    name: &str,
+    image: &'a str,
+    script: &'a str,
+    found: &ArgMatches<'a>,
+) -> Option<Job<'a>> {
+    match name {
+        "run" => Some(Job::Run {
+            indexed: found.get_flag("--indexed"),
+            image,
+            script,
+        }),
+        "plan" => Some(Job::Plan { image, script }),
+        "check" => Some(Job::Check {
+            image,
+            script,
+            certificate: found.get_str("CERTIFICATE")?,
+        }),
+        _ => None,
+    }
+}
+
+/// Lines that both find.
+const LINES: &str = "\
+ee try 2 5
+ee format 64 512 a.image
+ee run a.image a.script
+ee run --indexed a.image a.script
+ee get a.image a.settings volume
+ee set a.image a.settings volume 4294967295
+ee plan a.image a.script
+ee check a.image a.script a.certificate
+ee wear a.image
+ee wear a.image b.image
+ee states a.image
+ee clean a.image
+ee stale a.image a.settings
+ee tidy a.image a.settings
+ee list a.image
+ee list a.image a.settings
+ee size 512 a.script 10000 4294967295";
+
+#[test]
+fn clap_finds_the_same_jobs(rt: HostRuntime) -> Result<(), Fail> {
+    for line in LINES.split('\n') {
+        let words: Vec<&str> = line.split_whitespace().collect(rt.alloc())?;
+        let matches = table(rt.alloc())?.try_get_matches_from(words.as_slice())?;
+        let (name, found) = matches.subcommand().ok_or("no command")?;
+        let (_, operands) = words.as_slice().split_first().ok_or("no words")?;
+        same_at(&rt, line, job_of(name, found), job(operands));
+        same_at(&rt, line, job(operands).is_some(), true);
+    }
+    Ok(())
+}

@@ -1,0 +1,203 @@
+//! Inputs and outputs: in pieces, failing at each call, of any length, and without end.
+ghost use Rattle.std.specs.Prelude.{◌<◌};
+
+use crate::tests::images::{FORMATTED, REPORT, SCRIPT, TWO_MOVES};
+use crate::tests::requests::LastValue;
+use crate::tests::trial::with_each_refusal;
+use crate::tests::{given, same, same_at};
+use crate::{FailingReader, FailingWriter, Stop};
+use ee_script::{StreamFault, answer_reader};
+use ee_shell::{replay, replay_reader};
+use ee_words::{MOST_BYTES, MOST_READS, ReadFault, ReplayFault, Stopped, read_whole, write_whole};
+use std::alloc::{AllocError, Global};
+use std::io;
+use std::io::{ErrorKind, Read};
+use std::test::Fail;
+
+/// A reader that gives so many bytes a call, and fails at one call.
+fn reader<'a>(rest: &'a [u8], most: usize, fails_at: u64, failure: ErrorKind) -> FailingReader<'a>
+    requires { 0 < most }
+{
+    FailingReader {
+        rest,
+        most,
+        fails_at,
+        failure,
+    }
+}
+
+// Whether a reader of the script is read whole.
+fn is_read(memory: Global, fails_at: u64, failure: ErrorKind) -> Result<bool, ReadFault> {
+    let bytes = read_whole(memory, &mut reader(SCRIPT, 1, fails_at, failure))?;
+    Ok(bytes.as_slice() == SCRIPT)
+}
+
+// Whether a script that comes byte by byte has the report of the two moves.
+fn is_replayed(
+    memory: Global,
+    script: &[u8],
+    fails_at: u64,
+    failure: ErrorKind,
+) -> Result<bool, ReplayFault> {
+    let mut reader = reader(script, 1, fails_at, failure);
+    let replayed = replay_reader(memory, FORMATTED, &mut reader)?;
+    Ok(replayed.report.as_slice() == REPORT)
+}
+
+/// Each of its 34 bytes takes a call, and the end another one.
+#[test]
+fn each_failed_read_is_told(rt: HostRuntime) {
+    for at in 1..36 {
+        let broken = is_read(rt.alloc(), at, ErrorKind::BrokenPipe);
+        same_at(&rt, at, broken, Err(ReadFault::Read));
+        let again = is_read(rt.alloc(), at, ErrorKind::Interrupted);
+        same_at(&rt, at, again, Ok(true));
+        let broken = is_replayed(rt.alloc(), SCRIPT, at, ErrorKind::BrokenPipe);
+        same_at(&rt, at, broken, Err(ReplayFault::Read));
+        let again = is_replayed(rt.alloc(), SCRIPT, at, ErrorKind::Interrupted);
+        same_at(&rt, at, again, Ok(true));
+    }
+    // What is met first is told. No good line has more than 24 bytes, so the second is judged before its end.
+    let cut_in_two = is_replayed(rt.alloc(), b"w 1 10\nw 1", 11, ErrorKind::Other);
+    same(&rt, cut_in_two, Err(ReplayFault::Read));
+    let too_long = b"w 1 10\n9999999999999999999999999";
+    let bad = is_replayed(rt.alloc(), too_long, 33, ErrorKind::Other);
+    same(&rt, bad, Err(ReplayFault::Script(2)));
+}
+
+/// An end at the last read call is an end.
+#[test]
+fn the_most_read_calls(rt: HostRuntime) {
+    for (most, wanted) in [(2, Ok(true)), (1, Err(StreamFault::Read))] {
+        let mut script: &[u8] = b"w 1 10\nr 1\n";
+        let found = answer_reader(rt.alloc(), LastValue(0), &mut script, most).map(|(
+            _,
+            report,
+        )| report.as_slice() == b"moved\n10\n".as_slice());
+        same_at(&rt, most, found, wanted);
+    }
+}
+
+#[test]
+fn each_stopped_write_is_told(rt: HostRuntime) {
+    for stop in [
+        Stop::Error(ErrorKind::BrokenPipe),
+        Stop::Error(ErrorKind::Interrupted),
+        Stop::NoByte,
+    ] {
+        for written in 0..171usize {
+            let mut writer = FailingWriter {
+                taken: Vec::new(rt.alloc()),
+                stops_at: written as u64 + 1,
+                stop,
+            };
+            let stopped = if written < 170 {
+                Err(Stopped { written })
+            } else {
+                Ok(())
+            };
+            same_at(&rt, stop, write_whole(&mut writer, TWO_MOVES), stopped);
+            same_at(
+                &rt,
+                stop,
+                Some(writer.taken.as_slice()),
+                TWO_MOVES.get(..written),
+            );
+        }
+    }
+}
+
+#[test]
+fn memory_of_a_read_is_refused(rt: HostRuntime) {
+    with_each_refusal(&rt, rt.alloc(), 2, |alloc| {
+        match read_whole(alloc, &mut reader(SCRIPT, 7, 0, ErrorKind::Other)) {
+            Ok(bytes) => Some(bytes.as_slice() == SCRIPT),
+            Err(ReadFault::Memory) => None,
+            Err(_) => Some(false),
+        }
+    });
+}
+
+// So many bytes, of all values.
+fn bytes(memory: Global, count: usize) -> Result<Vec<u8>, AllocError> {
+    let mut bytes = Vec::new(memory);
+    for number in 0..count {
+        bytes.push((number % 251) as u8)?;
+    }
+    Ok(bytes)
+}
+
+/// Inputs and outputs of sizes that divide no buffer.
+#[test]
+fn long_texts_in_short_pieces(rt: HostRuntime) -> Result<(), Fail> {
+    let text = bytes(rt.alloc(), 100_003)?;
+    for most in [1usize, 7, 1009, 65_537] {
+        if most > 0 {
+            let mut reader = reader(text.as_slice(), most, 0, ErrorKind::Other);
+            let read = given(read_whole(rt.alloc(), &mut reader))?;
+            same_at(&rt, most, read.as_slice() == text.as_slice(), true);
+        }
+    }
+    let mut writer = FailingWriter {
+        taken: Vec::new(rt.alloc()),
+        stops_at: 0,
+        stop: Stop::NoByte,
+    };
+    same(&rt, write_whole(&mut writer, text.as_slice()), Ok(()));
+    same(&rt, writer.taken.as_slice() == text.as_slice(), true);
+    Ok(())
+}
+
+#[test]
+fn a_long_script_in_pieces(rt: HostRuntime) -> Result<(), Fail> {
+    let mut script = Vec::new(rt.alloc());
+    for _ in 0..10_000 {
+        script.extend_from_slice(b"w 1 100\nr 1\n")?;
+    }
+    let whole = given(replay(rt.alloc(), FORMATTED, script.as_slice()))?;
+    let mut reader = reader(script.as_slice(), 4099, 0, ErrorKind::Other);
+    let pieced = given(replay_reader(rt.alloc(), FORMATTED, &mut reader))?;
+    same(
+        &rt,
+        pieced.report.as_slice() == whole.report.as_slice(),
+        true,
+    );
+    same(&rt, pieced.image.as_slice() == whole.image.as_slice(), true);
+    Ok(())
+}
+
+#[test]
+fn the_longest_input_is_read(rt: HostRuntime) {
+    let mut longest = io::repeat(0).take(16_777_216);
+    let read = read_whole(rt.alloc(), &mut longest).map(|bytes| bytes.len());
+    same(&rt, read, Ok(MOST_BYTES));
+    let mut longer = io::repeat(0).take(16_777_217);
+    let read = read_whole(rt.alloc(), &mut longer).map(|bytes| bytes.len());
+    same(&rt, read, Err(ReadFault::TooLong));
+}
+
+/// A reader each of whose calls is interrupted.
+#[derive(Drop)]
+struct Interrupted {
+    calls: u64,
+}
+
+impl Read for Interrupted {
+    fn read(&mut self, _buf: &mut [u8]) -> io::Result<usize> {
+        self.calls = self.calls.saturating_add(1);
+        Err(io::Error::from(ErrorKind::Interrupted))
+    }
+}
+
+// Moments in a compiled test, minutes in an interpreter: `rt try --test` gives up on it unless it is given `--seconds`.
+#[test]
+fn a_reader_that_never_gives_is_left(rt: HostRuntime) {
+    let mut reader = Interrupted { calls: 0 };
+    let read = read_whole(rt.alloc(), &mut reader).map(|bytes| bytes.len());
+    same(&rt, read, Err(ReadFault::Read));
+    same(&rt, reader.calls, u64::from(MOST_READS));
+    let mut reader = Interrupted { calls: 0 };
+    let replayed = replay_reader(rt.alloc(), FORMATTED, &mut reader).map(|_| ());
+    same(&rt, replayed, Err(ReplayFault::Read));
+    same(&rt, reader.calls, u64::from(MOST_READS));
+}
