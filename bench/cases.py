@@ -1,7 +1,12 @@
 """The cases of bench/test: the worked examples, texts at the limits, and random cases."""
+import os
 import random
 import re
+import sys
 from collections import namedtuple
+
+sys.path.insert(0, os.path.join(os.path.dirname(os.path.dirname(os.path.abspath(__file__))), "docs"))
+import worked
 
 # Scripts that are answered one after another, each on the image that the one before it left.
 Case = namedtuple("Case", "name image scripts")
@@ -20,84 +25,17 @@ def image_text(pages, words, lines=()):
     return ("\n".join([f"ee {pages} {words}"] + lines) + "\n").encode()
 
 
-def fresh(pages, words, generation=1):
-    """A formatted image."""
-    first = f"0 aaaaaaaa{generation:08x} {MARK}" + " -" * (words - 2)
-    return image_text(pages, words, [first])
-
-
 def script_text(*lines):
     return "".join(line + "\n" for line in lines).encode()
 
 
-def listed(line):
-    """A script as docs/EXAMPLES.md writes it, with commas for line ends."""
-    return script_text(*line.split(", "))
-
-
-SIX = fresh(1, 6)
-FIVE = fresh(2, 5)
-ONE_MOVE = "w 1 10, w 1 11, w 1 12"
-MOVED = image_text(1, 6, [
-    f"1 aaaaaaaa00000003 {MARK} - - 0000000d00000001 0000000500000002",
-    f"0 aaaaaaaa00000002 {MARK} - {MARK} 0000000c00000001 0000000500000002",
-])
-SPENT = f"0 aaaaaaaafffffffe {MARK} - - 0000000a00000001 "
-FIRST = f"0 aaaaaaaa00000001 {MARK} - -"
-BAD_LINES = ["w 0 1", "w 65535 1", "w 1 4294967296", "w 01 1", "", "c ", "w 1 1\r", "r 1 1", "f 1 1", "w 1",
-             "f 0", "x 0 t", "x 1 q", "x 1", "x 18446744073709551616 t", "x 01 t", "p 1", "r\t1", "W 1 1"]
-
-EXAMPLES = [
-    ("first-run", SIX, "w 1 10, r 1, r 2"),
-    ("one-move", SIX, ONE_MOVE),
-    ("two-moves", SIX, ONE_MOVE + ", w 2 5, w 1 13"),
-    ("all-live", MOVED, "w 2 6"),
-    ("full", MOVED, "w 3 1"),
-    ("one-slot", fresh(1, 5), "w 1 1, w 1 2, w 1 3"),
-    ("two-pages", FIVE, "w 1 1, w 1 2, w 1 3"),
-    ("nine-steps", FIVE, "w 1 1, w 2 2, w 1 3"),
-    ("nine-steps, cut at the commit", FIVE, "w 1 1, w 2 2, x 5 d, w 1 3, p, r 1"),
-    ("a-transfer-over-three-pages", fresh(3, 6),
-     "w 1 10, w 2 11, w 3 12, w 4 13, w 5 14, w 6 15, x 12 t, w 3 16, p"),
-    ("spent", image_text(1, 6, [SPENT + "0000000b00000001"]), "w 1 9, w 2 9, f 1, f 2"),
-    ("spent, a slot free", image_text(1, 6, [SPENT + "-"]), "w 1 9, w 1 9"),
-    ("clean", SIX, ONE_MOVE + ", c, c"),
-    ("digits", SIX, "w 65534 4294967295, r 65534"),
-    ("cut-transfer", SIX, "w 1 10, w 1 11, x 2 t, w 1 12, r 1, p, r 1"),
-    ("brown-out", SIX, "w 1 10, w 1 11, x 2 t, w 1 12, r 1, p, r 1, w 1 12, r 1"),
-    ("cut-commit, done", SIX, "w 1 10, w 1 11, x 3 d, w 1 12, r 1, p, r 1"),
-    ("cut-commit, torn", SIX, "w 1 10, w 1 11, x 3 t, w 1 12, r 1, p, r 1"),
-    ("cut-clean", SIX, ONE_MOVE + ", x 1 m, c, p, r 1"),
-    ("cut-clean, nothing", SIX, ONE_MOVE + ", x 1 n, c, p, r 1"),
-    ("cut-append-torn", SIX, "x 1 t, w 1 10, p, w 1 11, r 1"),
-    ("cut-opening", SIX, "w 1 10, w 1 11, x 2 t, w 1 12, x 1 t, p, p, r 1"),
-    ("cut-append", SIX, "w 1 10, x 1 t, w 1 11"),
-    ("a cut that doesn't come", SIX, "x 9 t, w 1 10, x 18446744073709551615 t, w 1 10"),
-    ("forget", SIX, "w 1 10, w 2 5, w 3 1, f 1, w 3 1"),
-    ("forget-absent", SIX, "w 1 10, f 1, f 1, f 2"),
-    ("forget-last", SIX, "w 1 10, w 1 11, f 1, r 1, w 2 2"),
-    ("torn slot", image_text(1, 6, [FIRST + " ? -"]), "w 1 11, r 1, w 1 12"),
-    ("forgetting", image_text(1, 7, [FIRST + " 0000000a00000001 0000000a00010001 -"]),
-     "r 1, w 2 1, w 3 1, w 4 1, w 5 1"),
-    ("great wear", image_text(1, 5, [FIRST + " -", f"{MOST_WEAR} - - - - ?"]), "w 1 1, w 1 2"),
-    ("two live sets", image_text(1, 6, 2 * [FIRST + " - -"]), "r 1"),
-    ("unformatted", image_text(1, 6), "r 1"),
-    ("foreign word", image_text(1, 6, [FIRST + " - 0000000a00000001"]), "r 1"),
-    ("no live set", image_text(1, 6, ["0 aaaaaaaa00000001 ? - - - -"]), "r 1"),
-    ("empty image", b"", "r 1"),
-    ("a line missing", SIX[:-len("0 - - - - - -\n")], "r 1"),
-    ("a line more", SIX + b"0 - - - - - -\n", "r 1"),
-    ("shape", b"ee 0 6\n", "r 1"),
-    ("upper case", SIX.replace(b"0 aaaaaaaa00000001", b"0 AAAAAAAA00000001"), "r 1"),
-    ("all ones", image_text(1, 6, [FIRST + " " + "f" * 16 + " -"]), "r 1"),
-] + [(f"bad line {line!r}", SIX, line) for line in BAD_LINES]
+SIX = worked.formatted(1, 6)
 
 
 def limits():
     """Texts as long as they may be, and a byte longer; long texts with nothing in them."""
     reads = b"r 1\n" * (SCRIPT_BYTES // 4)
     return [
-        Case("empty-script", SIX, [b""]),
         Case("no line end", SIX, [b"w 1 1"]),
         Case("the longest script", SIX, [reads]),
         Case("a script too long", SIX, [reads + b"\n"]),
@@ -109,8 +47,9 @@ def limits():
     ]
 
 
-def worked():
-    return [Case(name, image, [listed(line)]) for name, image, line in EXAMPLES] + limits()
+def examples():
+    """The worked examples, and the limits."""
+    return [Case(run.name, worked.text_of(run.start), [run.script]) for run in worked.runs()] + limits()
 
 
 def random_size(dice):

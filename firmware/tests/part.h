@@ -25,7 +25,8 @@ typedef struct {
     uint64_t places;
 } list;
 
-enum tear { TEAR_NOTHING, TEAR_DONE, TEAR_TORN, TEAR_MIXED, TEARS };
+/* What a cut leaves; of TEAR_THIRDS a page has the words 0, 3, 6 .. as they were, 1, 4, 7 .. erased and 2, 5, 8 .. torn. */
+enum tear { TEAR_NOTHING, TEAR_DONE, TEAR_TORN, TEAR_MIXED, TEARS, TEAR_THIRDS };
 
 #define MIRROR(p)                                                                                                 \
     (p)->pages, (p)->page_words, (p)->words, EE_WORDS((p)->pages, (p)->page_words), (p)->flags,                   \
@@ -58,7 +59,7 @@ static inline void take(part *p, ee_step s) {
             p->words[first + at] = UINT64_MAX;
             p->flags[first + at] = 0;
         }
-        p->wears[s.page]++;
+        if (p->wears[s.page] < UINT64_MAX) p->wears[s.page]++;
         return;
     }
     CHECK(s.place < p->page_words);
@@ -78,9 +79,9 @@ static inline void take_torn(part *p, ee_step s, enum tear tear) {
         }
         return;
     }
-    p->wears[s.page]++;
+    if (p->wears[s.page] < UINT64_MAX) p->wears[s.page]++;
     for (uint64_t at = 0; at < p->page_words; at++) {
-        int left = tear == TEAR_NOTHING ? 0 : tear == TEAR_DONE ? 1 : tear == TEAR_TORN ? 2 : rand() % 3;
+        int left = tear == TEAR_NOTHING ? 0 : tear == TEAR_DONE ? 1 : tear == TEAR_TORN ? 2 : tear == TEAR_THIRDS ? (int)(at % 3) : rand() % 3;
         if (left == 1) {
             p->words[first + at] = UINT64_MAX;
             p->flags[first + at] = 0;
