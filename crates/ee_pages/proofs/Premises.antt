@@ -20,7 +20,7 @@ other_pages_need_another law page at value old formed on may =
     let in_range : page < length old.image = omega (arith, formed.image_length, may.0) in
     let long = formed.page_lengths page [] in_range in
     let held : word_at new page at ≡ Held value =
-        ap (λ (page : List Word). get_or page at Erased) (get_or-set_same old.image page (set words at (Held value)) [] in_range)
-        ∙ get_or-set_same words at (Held value) Erased (omega (arith, long, may.1)) in
+    ap (λ (page : List Word). get_or page at Erased) (get_or-set_same old.image page (set words at (Held value)) [] in_range)
+    ∙ get_or-set_same words at (Held value) Erased (omega (arith, long, may.1)) in
     let erased : word_at new page at ≡ Erased = ap (λ (page : List Word). get_or page at Erased) same ∙ may.2 in
     true≢false (ap is_written (sym held ∙ erased))
