@@ -20,4 +20,5 @@ pub mod FillingSteps
 pub mod BlankPages
 pub mod LiveCounts
 pub mod Nearest
+pub mod BatchLists
 pub mod Premises
