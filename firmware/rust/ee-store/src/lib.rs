@@ -1,0 +1,34 @@
+#![doc = include_str!("../README.md")]
+#![no_std]
+#![forbid(unsafe_code)]
+
+// These four are the proved sources with their contracts left out (`firmware/rust/erase`). Some of their parameters
+// are named by contracts alone, some items serve other programs, and loops are written as their proofs want them.
+#[allow(dead_code, unused_imports, unused_variables)]
+#[rustfmt::skip]
+mod ee_codec;
+#[allow(dead_code, unused_imports, unused_variables)]
+#[allow(clippy::manual_range_contains)]
+#[rustfmt::skip]
+mod ee_flash;
+#[allow(dead_code, unused_imports, unused_variables)]
+#[allow(clippy::question_mark)]
+#[rustfmt::skip]
+mod ee_pages;
+#[allow(dead_code, unused_imports, unused_variables)]
+#[allow(clippy::manual_find, clippy::question_mark)]
+#[rustfmt::skip]
+mod ee_store;
+
+mod arrayvec;
+mod driver;
+mod error;
+mod store;
+
+pub use driver::Driver;
+pub use ee_codec::Address;
+pub use ee_flash::{Shape, Word};
+pub use ee_pages::ScanFault;
+pub use ee_store::Written;
+pub use error::{CleanFault, Failed, ForgetFault, Off, OpenFault, WriteFault};
+pub use store::{format, open, Store};
