@@ -25,10 +25,10 @@ mod driver;
 mod error;
 mod store;
 
+pub use crate::ee_codec::Address;
+pub use crate::ee_flash::{Shape, Word};
+pub use crate::ee_pages::ScanFault;
+pub use crate::ee_store::Written;
 pub use driver::Driver;
-pub use ee_codec::Address;
-pub use ee_flash::{Shape, Word};
-pub use ee_pages::ScanFault;
-pub use ee_store::Written;
 pub use error::{CleanFault, Failed, ForgetFault, Off, OpenFault, WriteFault};
 pub use store::{format, open, Store};
