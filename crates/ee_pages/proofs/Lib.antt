@@ -20,3 +20,4 @@ pub mod FillingSteps
 pub mod BlankPages
 pub mod LiveCounts
 pub mod Nearest
+pub mod BatchLists

@@ -3,8 +3,8 @@ use Rattle.std.proofs.Common.{◌≡◌, inl, inr, ℕ, ◌+◌, ◌-◌, ◌*�
 use Rattle.std.proofs.Math.Nat.{min-le_left, mul-le-mul_right}
 use Rattle.std.proofs.Math.Seq.{take-append_seam}
 use Rattle.std.proofs.lemmas.List.{length-set, length-take, take_all, take_more}
-use Rattle.std.specs.List.{insert, refill}
-use Rattle.std.specs.Prelude.{◌==◌, IfNone, IfSome, nat_lt, slice_set}
+use Rattle.std.specs.List.{insert}
+use Rattle.std.specs.Prelude.{◌==◌, ◌≢◌, IfNone, IfSome, nat_lt}
 use Rattle.std.proofs.lemmas.Bool.{cases_lt, cases_eq, eq-eqb, ne_eqb, lt-ltb, le-ltb}
 use Rattle.ee_codec.specs.Reading.{slot_of}
 use Rattle.ee_codec.specs.declared.slot.Slot.{Slot}
@@ -242,19 +242,15 @@ module _ (words : List Word) where
         all = λ h. after.all (omega (arith, h));
       }
 
-first_below : (first : Named) (rest : List Named) (address place : ℕ) (default : Named) → IsRising first.0 rest → place ≤ length rest → (get_or (first ∷ rest) place default).0 < address → first.0 < address
+first_below : {X : Type 0} (first : ℕ × X) (rest : List (ℕ × X)) (address place : ℕ) (default : ℕ × X) → IsRising first.0 rest → place ≤ length rest → (get_or (first ∷ rest) place default).0 < address → first.0 < address
 first_below first rest address zero default rising within last = last
 first_below first (second ∷ rest) address (suc place) default rising within last =
     let more = first_below second rest address place default rising.1 (omega arith) last in
     omega (arith, rising.0)
 first_below first [] address (suc place) default rising within last = absurd (omega (arith, within))
 
-nothing : (n : ℕ) (new : Named) → insert (take n []) 0 new ≡ take (suc n) (new ∷ [])
-nothing zero new = refl
-nothing (suc n) new = refl
-
 -- the address in its place
-pub place_is : (list : List Named) (above address place : ℕ) (default : Named) → IsRising above list → place ≤ length list → (place < length list → address ≤ (get_or list place default).0) → (0 < place → (get_or list (place - 1) default).0 < address) → IsPlace address list place
+pub place_is : {X : Type 0} (list : List (ℕ × X)) (above address place : ℕ) (default : ℕ × X) → IsRising above list → place ≤ length list → (place < length list → address ≤ (get_or list place default).0) → (0 < place → (get_or list (place - 1) default).0 < address) → IsPlace address list place
 place_is [] above address place default rising within high low = omega (arith, within)
 place_is (first ∷ rest) above address zero default rising within high low = high (omega arith)
 place_is (first ∷ rest) above address (suc place) default rising within high low =
@@ -271,14 +267,14 @@ put_same (first ∷ rest) new zero default at within same = sym (here new first 
 put_same (first ∷ rest) new (suc place) default at within same = rw (behind new first rest at.0) (ap (λ (l : List Named). first ∷ l) (put_same rest new place default at.1 (omega arith) same))
 
 -- where nothing was noted of it
-pub put_new : (n : ℕ) (list : List Named) (new : Named) (place : ℕ) (default : Named) → IsPlace new.0 list place → place ≤ n → (place < length list → (get_or list place default).0 ≡ new.0 → ⊥) → insert (take n list) place new ≡ take (suc n) (noted new list)
-put_new n [] new place default at within other = rw at (nothing n new)
-put_new n (first ∷ rest) new zero default at within other =
-    let apart : new.0 ≡ first.0 → ⊥ = λ e. other (omega arith) (sym e) in
-    rw (before new first rest (omega (arith, at, apart))) refl
-put_new zero (first ∷ rest) new (suc place) default at within other = absurd (omega (arith, within))
-put_new (suc n) (first ∷ rest) new (suc place) default at within other =
-    rw (behind new first rest at.0) (ap (λ (l : List Named). first ∷ l) (put_new n rest new place default at.1 (omega arith) (λ h. other (omega arith))))
+pub put_new : (list : List Named) (new : Named) (place : ℕ) (default : Named) → IsPlace new.0 list place → place ≤ length list → (place < length list → (get_or list place default).0 ≢ new.0) → insert list place new ≡ noted new list
+put_new [] new zero default at within other = refl
+put_new [] new (suc place) default at within other = absurd (omega (arith, within))
+put_new (first ∷ rest) new zero default at within other =
+    let apart : new.0 ≢ first.0 = λ e. other (omega arith) (sym e) in
+    sym (before new first rest (omega (arith, at, apart)))
+put_new (first ∷ rest) new (suc place) default at within other =
+    rw (behind new first rest at.0) (ap (λ (l : List Named). first ∷ l) (put_new rest new place default at.1 (omega arith) (λ h. other (omega arith))))
 
 -- where all are below it
 pub put_behind : (list : List Named) (new : Named) → IsPlace new.0 list (length list) → take (length list) (noted new list) ≡ list
@@ -295,53 +291,6 @@ pub living-append : (list : List Named) (address : ℕ) (said : Option ℕ) → 
 living-append [] address said = refl
 living-append ((first, Some value) ∷ rest) address said = ap (λ (l : List (ℕ × ℕ)). (first, value) ∷ l) (living-append rest address said)
 living-append ((first, None) ∷ rest) address said = living-append rest address said
-
--- the same, as the two ways to put it leave a list of 64 at most
-pub put_over : (list : List Named) (new : Named) (place : ℕ) (default : Named) → IsPlace new.0 list place → place < length list → (get_or list place default).0 ≡ new.0 → length list ≤ 64 → refill (length list) list (slice_set list place new) ≡ take 64 (noted new list)
-put_over list new place default at within same few =
-    let over = put_same list new place default at within same in
-    let long : length (set list place new) ≡ length list = length-set list place new in
-    let short : length (noted new list) ≤ 64 = subst (λ (l : List Named). length l ≤ 64) over (omega (arith, long)) in
-    ap (λ n. take n (set list place new ++ drop (length (set list place new)) list)) (sym long)
-    ∙ take-append_seam (set list place new) (drop (length (set list place new)) list)
-    ∙ over
-    ∙ sym (take_all 64 (noted new list) short)
-
--- nothing is noted
-pub kept_none : (above : ℕ) (named : Option Named) (list : List Named) → length list ≤ 64 → named ≡ None → list ≡ take 64 (noted_above above named list)
-kept_none above named list few none = rw none (sym (take_all 64 list few))
-
-pub kept_below : (above : ℕ) (new : Named) (list : List Named) → length list ≤ 64 → new.0 ≤ above → list ≡ take 64 (noted_above above (Some new) list)
-kept_below above new list few low = rw (le-ltb above new.0 low) (sym (take_all 64 list few))
-
--- where there is no room behind the others
-pub kept_full : (above : ℕ) (new : Named) (list : List Named) (place : ℕ) → length list ≤ 64 → above < new.0 → IsPlace new.0 list place → place ≤ length list → 64 ≤ place → list ≡ take 64 (noted_above above (Some new) list)
-kept_full above new list place few high at within full =
-    let same : place ≡ length list = omega arith in
-    let all : length list ≡ 64 = omega arith in
-    rw (lt-ltb above new.0 high) (sym (ap (λ n. take n (noted new list)) (sym all) ∙ put_behind list new (subst (λ n. IsPlace new.0 list n) same at)))
-
-pub put_above : (above : ℕ) (new : Named) (list after : List Named) → above < new.0 → after ≡ take 64 (noted new list) → after ≡ take 64 (noted_above above (Some new) list)
-put_above above new list after high put = rw (lt-ltb above new.0 high) put
-
--- what is gathered rises, and is no more than 64
-pub rising_of : (above : ℕ) (words : List Word) (list : List Named) → list ≡ take 64 (gathered above words []) → IsRising above list
-rising_of above words list e = subst (λ (l : List Named). IsRising above l) (sym e) (rising-take 64 above (gathered above words []) (rising-gathered above words [] tt))
-
-pub few_of : (above : ℕ) (words : List Word) (list : List Named) → list ≡ take 64 (gathered above words []) → length list ≤ 64
-few_of above words list e = let long = length-take 64 (gathered above words []) in omega (arith, ap length e, min-le_left 64 (length (gathered above words [])))
-
--- one slot more
-pub one_slot : (above : ℕ) (slots : List Word) (slot : ℕ) (word : Word) (named : Option Named) (list after : List Named) → slot < length slots → word ≡ get_or slots slot Erased → named ≡ slot_names (slot_of word) → list ≡ take 64 (gathered above (take slot slots) []) → after ≡ take 64 (noted_above above named list) → after ≡ take 64 (gathered above (take (slot + 1) slots) [])
-one_slot above slots slot word named list after within is names before noted =
-    let start = gathered above (take slot slots) [] in
-    let said = slot_names (slot_of (get_or slots slot Erased)) in
-    noted
-    ∙ ap (λ (new : Option Named). take 64 (noted_above above new list)) (names ∙ ap (λ (w : Word). slot_names (slot_of w)) is)
-    ∙ ap (λ (l : List Named). take 64 (noted_above above said l)) before
-    ∙ few-noted_above 64 above said start
-    ∙ ap (take 64) (sym (gathered-append above (take slot slots) (get_or slots slot Erased ∷ []) []))
-    ∙ ap (λ (words : List Word). take 64 (gathered above words [])) (sym (take_more slots slot Erased within))
 
 -- a slot of a page of a set is one of the set's
 pub in_set : (page pages slots slot : ℕ) → page < pages → slot < slots → page * slots + slot < pages * slots
@@ -361,29 +310,77 @@ later-none : (said : Option (Option ℕ)) → later None said ≡ said
 later-none None = refl
 later-none (Some said) = refl
 
-through_is : (slots : List Word) (above : ℕ) (all : List Named) (through : Option ℕ) → IsRising above all → AreNext slots above above 64 all → IfNone through (length (take 64 all) < 64) → IfSome through (λ last. length (take 64 all) ≡ 64) → IfSome through (λ last. last ≡ last_named above (take 64 all)) → AreLiveThrough (meaning slots) above (living (take 64 all)) through
-through_is slots above all None rising next none full last = record { next = next.next; rest = next.all none; further = full }
-through_is slots above all (Some through) rising next none full last = record {
-  next = next.next;
-  rest = subst (λ n. IsNoneLive (meaning slots) (last_of above (living (take 64 all))) (Some n)) (sym last) next.rest;
-  further = let far = last_named-further 64 above all rising (omega (arith, full)) in omega (arith, last);
-}
+-- in a list of so many at most
+module _ (room : ℕ) where
+  pub put_over : (list : List Named) (new : Named) (place : ℕ) (default : Named) → IsPlace new.0 list place → place < length list → (get_or list place default).0 ≡ new.0 → length list ≤ room → set list place new ≡ take room (noted new list)
+  put_over list new place default at within same few =
+      let over = put_same list new place default at within same in
+      let long : length (set list place new) ≡ length list = length-set list place new in
+      let short : length (noted new list) ≤ room = subst (λ (l : List Named). length l ≤ room) over (omega (arith, long)) in
+      over ∙ sym (take_all room (noted new list) short)
 
--- so the living ones of the first 64 gathered are the next live addresses
-batch_is : (slots : List Word) (above : ℕ) (list : List Named) (through : Option ℕ) → list ≡ take 64 (gathered above slots []) → IfNone through (length list < 64) → IfSome through (λ last. length list ≡ 64) → IfSome through (λ last. last ≡ last_named above list) → AreLiveThrough (meaning slots) above (living list) through
-batch_is slots above list through e none full last =
-    let all = gathered above slots [] in
-    let rising = rising-gathered above slots [] tt in
-    let next = are_next slots above above 64 all (omega arith) (λ k more less. absurd (omega arith)) (λ k more. said_in-gathered above slots [] k more ∙ later-none (latest_in slots k)) rising in
-    rw e (through_is slots above all through rising next (rw e at none) (rw e at full) (rw e at last))
+  pub put_among : (list : List Named) (new : Named) (place : ℕ) (default : Named) → IsPlace new.0 list place → place ≤ length list → (place < length list → (get_or list place default).0 ≢ new.0) → take room (insert list place new) ≡ take room (noted new list)
+  put_among list new place default at within other = ap (take room) (put_new list new place default at within other)
 
--- behind the last page there is no slot
-pub all_gathered : (above : ℕ) (slots : List Word) (page pages size : ℕ) (list : List Named) → list ≡ take 64 (gathered above (take (page * size) slots) []) → page ≡ pages → length slots ≡ pages * size → list ≡ take 64 (gathered above slots [])
-all_gathered above slots page pages size list gathers end long =
-    let all : take (page * size) slots ≡ slots = ap (λ n. take (n * size) slots) end ∙ take_all (pages * size) slots (omega (arith, long)) in
-    gathers ∙ ap (λ (words : List Word). take 64 (gathered above words [])) all
+  -- nothing is noted
+  pub kept_none : (above : ℕ) (named : Option Named) (list : List Named) → length list ≤ room → named ≡ None → list ≡ take room (noted_above above named list)
+  kept_none above named list few none = rw none (sym (take_all room list few))
 
--- the same, as the parts of a batch are made
-pub batch_from : (slots : List Word) (above start : ℕ) (list items : List Named) (through : Option ℕ) → list ≡ items → items ≡ take 64 (gathered start slots []) → start ≡ above → IfNone through (length list < 64) → IfSome through (λ last. length list ≡ 64) → IfSome through (λ last. last ≡ last_named above list) → AreLiveThrough (meaning slots) above (living list) through
-batch_from slots above start list items through same gathers begins none full last =
-    batch_is slots above list through (same ∙ gathers ∙ ap (λ n. take 64 (gathered n slots [])) begins) none full last
+  pub kept_below : (above : ℕ) (new : Named) (list : List Named) → length list ≤ room → new.0 ≤ above → list ≡ take room (noted_above above (Some new) list)
+  kept_below above new list few low = rw (le-ltb above new.0 low) (sym (take_all room list few))
+
+  -- where there is no room behind the others
+  pub kept_full : (above : ℕ) (new : Named) (list : List Named) (place : ℕ) → length list ≤ room → above < new.0 → IsPlace new.0 list place → place ≤ length list → room ≤ place → list ≡ take room (noted_above above (Some new) list)
+  kept_full above new list place few high at within full =
+      let same : place ≡ length list = omega arith in
+      let all : length list ≡ room = omega arith in
+      rw (lt-ltb above new.0 high) (sym (ap (λ n. take n (noted new list)) (sym all) ∙ put_behind list new (subst (λ n. IsPlace new.0 list n) same at)))
+
+  pub put_above : (above : ℕ) (new : Named) (list after : List Named) → above < new.0 → after ≡ take room (noted new list) → after ≡ take room (noted_above above (Some new) list)
+  put_above above new list after high put = rw (lt-ltb above new.0 high) put
+
+  -- what is gathered rises, and is no more than there is room for
+  pub rising_of : (above : ℕ) (words : List Word) (list : List Named) → list ≡ take room (gathered above words []) → IsRising above list
+  rising_of above words list e = subst (λ (l : List Named). IsRising above l) (sym e) (rising-take room above (gathered above words []) (rising-gathered above words [] tt))
+
+  pub few_of : (above : ℕ) (words : List Word) (list : List Named) → list ≡ take room (gathered above words []) → length list ≤ room
+  few_of above words list e = let long = length-take room (gathered above words []) in omega (arith, ap length e, min-le_left room (length (gathered above words [])))
+
+  -- one slot more
+  pub one_slot : (above : ℕ) (slots : List Word) (slot : ℕ) (word : Word) (named : Option Named) (list after : List Named) → slot < length slots → word ≡ get_or slots slot Erased → named ≡ slot_names (slot_of word) → list ≡ take room (gathered above (take slot slots) []) → after ≡ take room (noted_above above named list) → after ≡ take room (gathered above (take (slot + 1) slots) [])
+  one_slot above slots slot word named list after within is names before noted =
+      let start = gathered above (take slot slots) [] in
+      let said = slot_names (slot_of (get_or slots slot Erased)) in
+      noted
+      ∙ ap (λ (new : Option Named). take room (noted_above above new list)) (names ∙ ap (λ (w : Word). slot_names (slot_of w)) is)
+      ∙ ap (λ (l : List Named). take room (noted_above above said l)) before
+      ∙ few-noted_above room above said start
+      ∙ ap (take room) (sym (gathered-append above (take slot slots) (get_or slots slot Erased ∷ []) []))
+      ∙ ap (λ (words : List Word). take room (gathered above words [])) (sym (take_more slots slot Erased within))
+
+  through_is : 0 < room → (slots : List Word) (above : ℕ) (all : List Named) (through : Option ℕ) → IsRising above all → AreNext slots above above room all → IfNone through (length (take room all) < room) → IfSome through (λ last. length (take room all) ≡ room) → IfSome through (λ last. last ≡ last_named above (take room all)) → AreLiveThrough (meaning slots) above (living (take room all)) through
+  through_is some slots above all None rising next none full last = record { next = next.next; rest = next.all none; further = full }
+  through_is some slots above all (Some through) rising next none full last = record {
+    next = next.next;
+    rest = subst (λ n. IsNoneLive (meaning slots) (last_of above (living (take room all))) (Some n)) (sym last) next.rest;
+    further = let far = last_named-further room above all rising (omega (arith, full, some)) in omega (arith, last);
+  }
+
+  -- so the living ones of the first that are gathered are the next live addresses
+  batch_is : 0 < room → (slots : List Word) (above : ℕ) (list : List Named) (through : Option ℕ) → list ≡ take room (gathered above slots []) → IfNone through (length list < room) → IfSome through (λ last. length list ≡ room) → IfSome through (λ last. last ≡ last_named above list) → AreLiveThrough (meaning slots) above (living list) through
+  batch_is some slots above list through e none full last =
+      let all = gathered above slots [] in
+      let rising = rising-gathered above slots [] tt in
+      let next = are_next slots above above room all (omega arith) (λ k more less. absurd (omega arith)) (λ k more. said_in-gathered above slots [] k more ∙ later-none (latest_in slots k)) rising in
+      rw e (through_is some slots above all through rising next (rw e at none) (rw e at full) (rw e at last))
+
+  -- behind the last page there is no slot
+  pub all_gathered : (above : ℕ) (slots : List Word) (page pages size : ℕ) (list : List Named) → list ≡ take room (gathered above (take (page * size) slots) []) → page ≡ pages → length slots ≡ pages * size → list ≡ take room (gathered above slots [])
+  all_gathered above slots page pages size list gathers end long =
+      let all : take (page * size) slots ≡ slots = ap (λ n. take (n * size) slots) end ∙ take_all (pages * size) slots (omega (arith, long)) in
+      gathers ∙ ap (λ (words : List Word). take room (gathered above words [])) all
+
+  -- the same, as the parts of a batch are made
+  pub batch_from : 0 < room → (slots : List Word) (above start : ℕ) (list items : List Named) (through : Option ℕ) → list ≡ items → items ≡ take room (gathered start slots []) → start ≡ above → IfNone through (length list < room) → IfSome through (λ last. length list ≡ room) → IfSome through (λ last. last ≡ last_named above list) → AreLiveThrough (meaning slots) above (living list) through
+  batch_from some slots above start list items through same gathers begins none full last =
+      batch_is some slots above list through (same ∙ gathers ∙ ap (λ n. take room (gathered n slots [])) begins) none full last

@@ -1,5 +1,5 @@
 -- The addresses of which slots say something, gathered slot by slot into a list by rising address.
-use Rattle.std.specs.Prelude.{◌≡◌, ◌<◌, ◌≤◌, ◌==◌, ℕ, nat_lt, if◌then◌else◌, Option, Some, None, List, [], ◌∷◌, zero, suc}
+use Rattle.std.specs.Prelude.{◌≡◌, ◌<◌, ◌≤◌, ◌==◌, ℕ, nat_lt, if◌then◌else◌, Bool, true, false, Option, Some, None, List, [], ◌∷◌, zero, suc}
 use Rattle.ee_flash.specs.declared.word.Word.{Word}
 use Rattle.ee_codec.specs.Reading.{slot_of}
 use Rattle.ee_codec.specs.declared.slot.Slot.{Slot}
@@ -18,12 +18,12 @@ slot_names Spoiled = None
 slot_names Foreign = None
 
 -- each address is above the one before it
-abbrev pub IsRising : ℕ → List Named → Type 0
+abbrev pub IsRising : {X : Type 0} → ℕ → List (ℕ × X) → Type 0
 IsRising above [] = Unit {0}
 IsRising above (first ∷ rest) = (above < first.0) × IsRising first.0 rest
 
 -- so many addresses of the list are below this one, and the next one isn't
-abbrev pub IsPlace : ℕ → List Named → ℕ → Type 0
+abbrev pub IsPlace : {X : Type 0} → ℕ → List (ℕ × X) → ℕ → Type 0
 IsPlace address [] place = place ≡ 0
 IsPlace address (first ∷ rest) zero = address ≤ first.0
 IsPlace address (first ∷ rest) (suc place) = (first.0 < address) × IsPlace address rest place
@@ -55,3 +55,15 @@ living ((address, None) ∷ rest) = living rest
 abbrev pub last_named : ℕ → List Named → ℕ
 last_named above [] = above
 last_named above (first ∷ rest) = last_named first.0 rest
+
+-- each address with its value, where the list beside says that it has one
+abbrev pub with_said : List (ℕ × ℕ) → List Bool → List Named
+with_said [] lives = []
+with_said (item ∷ items) [] = []
+with_said (item ∷ items) (true ∷ lives) = (item.0, Some item.1) ∷ with_said items lives
+with_said (item ∷ items) (false ∷ lives) = (item.0, None) ∷ with_said items lives
+
+-- a batch as it is filled: its addresses with what is said of them, and with their values, if they all have one
+pub record Batch : Type 0 where
+  pub named : List Named
+  pub items : List (ℕ × ℕ)

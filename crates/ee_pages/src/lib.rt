@@ -11,6 +11,7 @@
 #![tactic(auto)]
 
 mod batch;
+mod batch_items;
 mod find;
 pub mod laws;
 mod marking;
@@ -20,6 +21,7 @@ mod state;
 mod table;
 
 pub use batch::{LiveBatch, next_batch};
+pub use batch_items::{BATCH, Batch};
 pub use find::{Layout, ScanFault, scan};
 pub use marking::mark;
 pub use read::{latest, live_count, next_live, slot_word};

@@ -12,10 +12,9 @@ ghost use Rattle.std.specs.Ordering.{nat_cmp};
 ghost use Rattle.ee_store.specs.Parts.{map_in};
 
 use crate::live_cursor::LiveCursor;
-use arrayvec::ArrayVec;
 use ee_codec::{Address, Slot, read_slot};
 use ee_flash::{Flash, Word};
-use ee_pages::{Layout, LiveBatch, slot_word};
+use ee_pages::{Batch, Layout, LiveBatch, slot_word};
 use std::alloc::{AllocError, Allocator};
 use std::collections::BTreeMap;
 use std::collections::btree_map::Iter;
@@ -172,7 +171,7 @@ pub(crate) fn batch_indexed<F: Flash, A: Allocator>(
         result.found.items result.through }
     ensures proper { All (λ found. IsAddress found.0) result.found.items }
 {
-    let mut found = ArrayVec::new();
+    let mut found = Batch::new();
     let mut behind = after;
     // One search finds where the batch begins, and each further address stands behind the last.
     let mut entries = index.range((start_above(after), Bound::Unbounded));

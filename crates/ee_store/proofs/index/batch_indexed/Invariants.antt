@@ -1,6 +1,7 @@
 use Rattle.std.proofs.Common.{◌-◌, None, length}
 use Rattle.std.specs.List.{All}
 use Rattle.ee_codec.specs.Words.{IsAddress}
+use Rattle.ee_pages.specs.declared.batch_items.TheConstants.{BATCH}
 use Rattle.ee_pages.specs.Sets.{set_of, slots_of}
 use Rattle.ee_store.specs.Index.{IsLeft}
 use Rattle.ee_store.specs.Parts.{map_in}
@@ -15,4 +16,4 @@ invariant-batch g l = record {
 }
 
 abbrev pub decreases-batch : goal.decreases-batch
-decreases-batch g l = 64 - length l.found.items
+decreases-batch g l = BATCH - length l.found.items

@@ -1,9 +1,10 @@
 use Rattle.std.proofs.Common.{◌≡◌, ◌-◌, ◌*◌, [], take}
 use Rattle.ee_pages.specs.Nearest.{gathered}
 use Rattle.ee_pages.specs.Sets.{set_of, slots_of}
-use Rattle.ee_pages.proofs.batch.nearest_named.Given as goal
+use Rattle.ee_pages.specs.declared.batch_items.TheConstants.{BATCH}
+use Rattle.ee_pages.proofs.batch.gather.Given as goal
 
 abbrev pub invariant-loop-page : goal.invariant-loop-page
 invariant-loop-page g l =
     let device = g.F.Flash.device l.flash in
-    l.nearest.items ≡ take 64 (gathered l.above (take (l.page * (device.size.words - 4)) (slots_of (set_of l.side device))) [])
+    l.nearest.named ≡ take BATCH (gathered l.above (take (l.page * (device.size.words - 4)) (slots_of (set_of l.side device))) [])
