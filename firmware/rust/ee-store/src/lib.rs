@@ -5,22 +5,22 @@
 // These four are the proved sources with their contracts left out (`firmware/rust/erase`). Some of their parameters
 // are named by contracts alone, some items serve other programs, and loops are written as their proofs want them.
 #[allow(dead_code, unused_imports, unused_variables)]
+#[allow(clippy::complexity, clippy::style)]
 #[rustfmt::skip]
 mod ee_codec;
 #[allow(dead_code, unused_imports, unused_variables)]
-#[allow(clippy::manual_range_contains)]
+#[allow(clippy::complexity, clippy::style)]
 #[rustfmt::skip]
 mod ee_flash;
 #[allow(dead_code, unused_imports, unused_variables)]
-#[allow(clippy::question_mark)]
+#[allow(clippy::complexity, clippy::style)]
 #[rustfmt::skip]
 mod ee_pages;
 #[allow(dead_code, unused_imports, unused_variables)]
-#[allow(clippy::manual_find, clippy::question_mark)]
+#[allow(clippy::complexity, clippy::style)]
 #[rustfmt::skip]
 mod ee_store;
 
-mod arrayvec;
 mod driver;
 mod error;
 mod store;

@@ -11,6 +11,7 @@
 //! every outcome of a step keeps. Nothing here takes memory.
 
 mod batch;
+mod batch_items;
 mod find;
 mod marking;
 mod read;
@@ -19,6 +20,7 @@ mod state;
 mod table;
 
 pub use batch::{LiveBatch, next_batch};
+pub use batch_items::{BATCH, Batch};
 pub use find::{Layout, ScanFault, scan};
 pub use marking::mark;
 pub use read::{latest, live_count, next_live, slot_word};

@@ -45,7 +45,7 @@ pub fn next_live<F: Flash>(
     let mut behind = after;
     loop {
         let batch = next_batch(flash, layout, behind);
-        if let Some(found) = batch.found.first() {
+        if let Some(found) = batch.found.as_slice().first() {
             return Some(*found);
         }
         let Some(through) = batch.through else {
