@@ -25,7 +25,7 @@ impl Model for Address {
 
 impl Address {
     /// The address of this number, or `None` if it is 0 or 65535.
-    pub fn new(number: u16) -> Option<Address>
+    pub const fn new(number: u16) -> Option<Address>
         ensures proper { IsSome result ↔ IsAddress number }
         ensures number { IfSome result (λ address. address ≡ number) }
     {

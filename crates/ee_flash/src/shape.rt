@@ -27,7 +27,7 @@ impl Model for Shape {
 
 impl Shape {
     /// The shape of this many pages in each set and words in each page, `None` outside the limits.
-    pub fn new(pages: usize, words: usize) -> Option<Self>
+    pub const fn new(pages: usize, words: usize) -> Option<Self>
         ensures { SomeIff result (IsWithinLimits (size_of pages words)) (size_of pages words) }
     {
         if pages >= 1 && pages <= 64 && words >= 5 && words <= 512 {
