@@ -68,8 +68,13 @@ impl Driver for Part {
     }
 }
 
+const SHAPE: Shape = match Shape::new(1, 6) {
+    Some(shape) => shape,
+    None => panic!("1 to 64 pages, 5 to 512 words"),
+};
+
 fn shape() -> Shape {
-    Shape::new(1, 6).unwrap()
+    SHAPE
 }
 
 fn address(number: u16) -> Address {

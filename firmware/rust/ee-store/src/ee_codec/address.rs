@@ -7,7 +7,7 @@ pub struct Address {
 
 impl Address {
     /// The address of this number, or `None` if it is 0 or 65535.
-    pub fn new(number: u16) -> Option<Address> {
+    pub const fn new(number: u16) -> Option<Address> {
         if number == 0 || number == u16::MAX {
             return None;
         }

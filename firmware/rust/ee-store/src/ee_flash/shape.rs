@@ -11,7 +11,7 @@ pub struct Shape {
 
 impl Shape {
     /// The shape of this many pages in each set and words in each page, `None` outside the limits.
-    pub fn new(pages: usize, words: usize) -> Option<Self> {
+    pub const fn new(pages: usize, words: usize) -> Option<Self> {
         if pages >= 1 && pages <= 64 && words >= 5 && words <= 512 {
             Some(Shape { pages, words })
         } else {
