@@ -1,0 +1,105 @@
+/* ee: variables in flash, after ST's AN4894. The store for firmware: compiled from proved sources, see README.md.
+ *
+ * The flash is two sets of `pages` pages (1 to 64), each of `page_words` words of 64 bits (5 to 512). Pages are numbered
+ * from 0, those of the first set first, and the words of a page from 0. A set has pages * (page_words - 4) slots: as many
+ * variables can have a value. A variable has 32 bits, and an address of 1 to 65534.
+ *
+ * The library allocates nothing. It keeps what it knows in the `ee_store` that the caller lends, and reads and writes the
+ * flash by the three functions of an `ee_flash`.
+ *
+ * Every call answers a status. Pointers that are NULL are refused with EE_NULL; all others must be good. No call may be
+ * made from inside one of the three functions, nor from an interrupt or a thread that may break into a call on the same
+ * store.
+ */
+#ifndef EE_H
+#define EE_H
+
+#include <stdint.h>
+
+#ifdef __cplusplus
+extern "C" {
+#endif
+
+/* A flash. It stays where it is, and as it is, while a store is open on it; it may be a constant. */
+typedef struct ee_flash {
+    void *context; /* given to each of the three functions; the library does not look at it */
+    uint32_t pages;
+    uint32_t page_words;
+    /* Reads a word. 0, and the word in `value`: all ones is an erased word. Any other number where the word can't be read
+     * (an uncorrectable ECC error). A word reads the same until it is written. */
+    uint32_t (*word)(void *context, uint32_t page, uint32_t place, uint64_t *value);
+    /* Programs a word that is erased, with a value that is not all ones. 0 once it reads back; any other number where it
+     * failed. */
+    uint32_t (*program)(void *context, uint32_t page, uint32_t place, uint64_t value);
+    /* Erases a page. 0 once every word of it reads as erased; any other number where it failed. */
+    uint32_t (*erase)(void *context, uint32_t page);
+} ee_flash;
+
+/* A store, in memory that the caller lends. ee_start, ee_open or ee_format comes before every other call on it. */
+typedef struct ee_store {
+    uintptr_t words[8];
+} ee_store;
+
+enum {
+    EE_OK = 0,             /* done */
+    EE_NOTHING = 1,        /* there is nothing: no value, no next variable, no page to be erased */
+    /* Refusals of a change. Nothing was written. */
+    EE_FULL = 2,           /* the address has no value, and as many addresses have one as there are slots */
+    EE_SPENT = 3,          /* every slot is used, and the generation is the greatest, 4294967294 */
+    EE_ABSENT = 4,         /* the address has no value to be forgotten */
+    /* The flash holds no store. Nothing was written. */
+    EE_UNFORMATTED = 5,    /* every word is erased */
+    EE_NO_LIVE_SET = 6,    /* no set is live */
+    EE_TWO_LIVE = 7,       /* both sets are */
+    EE_FOREIGN = 8,        /* a word of the live set is not the store's */
+    /* A function of the flash failed, and the store is off: the change was made or was not, and all else is as before. */
+    EE_DRIVER = 9,
+    /* The store is off, or was never opened. Open it. */
+    EE_OFF = 10,
+    /* Refusals of the call itself. Nothing was written. */
+    EE_WRONG_SHAPE = 11,   /* `pages` or `page_words` is out of range */
+    EE_WRONG_ADDRESS = 12, /* the address is 0 or 65535 */
+    EE_NULL = 13           /* a pointer is NULL */
+};
+
+/* How a store stands. */
+typedef struct ee_numbers {
+    uint32_t slots;      /* of a set: as many changes as it takes */
+    uint32_t fill;       /* how many of them are used, torn ones too */
+    uint32_t live;       /* how many addresses have a value */
+    uint32_t pending;    /* how many pages wait to be erased */
+    uint32_t generation; /* of the live set: 1 to 4294967294, one more with each move */
+} ee_numbers;
+
+/* Opens the store that the flash holds: the call to make at each start. Where power was cut it sets the marks that were
+ * left to set, else it writes nothing. EE_OK; EE_UNFORMATTED, EE_NO_LIVE_SET, EE_TWO_LIVE, EE_FOREIGN, EE_DRIVER. */
+uint32_t ee_open(ee_store *store, const ee_flash *flash);
+
+/* Makes a store with nothing in it, whatever the flash held. Where it is cut the flash may hold no store: format again.
+ * EE_OK; EE_DRIVER. */
+uint32_t ee_format(ee_store *store, const ee_flash *flash);
+
+/* Gives an address a value. Where no slot is free all variables move to the other set. EE_OK; EE_FULL, EE_SPENT, EE_DRIVER. */
+uint32_t ee_write(ee_store *store, uint16_t address, uint32_t value);
+
+/* Takes the value of an address away. EE_OK; EE_ABSENT, EE_SPENT, EE_DRIVER. */
+uint32_t ee_forget(ee_store *store, uint16_t address);
+
+/* Erases one page that waits for it, so that a later move finds less to do. EE_OK, EE_NOTHING; EE_DRIVER. */
+uint32_t ee_clean(ee_store *store);
+
+/* The value of an address. EE_OK, EE_NOTHING; `value` is written with EE_OK alone. */
+uint32_t ee_read(const ee_store *store, uint16_t address, uint32_t *value);
+
+/* The next address above `*address` that has a value, with the value; the first of all where `*address` is 0. EE_OK,
+ * EE_NOTHING; both are written with EE_OK alone. */
+uint32_t ee_next(const ee_store *store, uint16_t *address, uint32_t *value);
+
+/* How the store stands. EE_OK. */
+uint32_t ee_counts(const ee_store *store, ee_numbers *numbers);
+
+#ifdef __cplusplus
+}
+#endif
+
+#endif

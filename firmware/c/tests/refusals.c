@@ -1,0 +1,115 @@
+/* What the library refuses, and what it answers where nothing is refused. */
+#include "part.h"
+
+static part p;
+static ee_store store;
+static uint32_t value;
+static uint16_t address;
+static ee_numbers numbers;
+
+static void nulls(void) {
+    ee_flash flash = flash_of(&p), lacking;
+    CHECK(ee_open(NULL, &flash) == EE_NULL);
+    CHECK(ee_open(&store, NULL) == EE_NULL);
+    CHECK(ee_format(NULL, NULL) == EE_NULL);
+    lacking = flash, lacking.word = NULL;
+    CHECK(ee_open(&store, &lacking) == EE_NULL);
+    lacking = flash, lacking.program = NULL;
+    CHECK(ee_format(&store, &lacking) == EE_NULL);
+    lacking = flash, lacking.erase = NULL;
+    CHECK(ee_format(&store, &lacking) == EE_NULL);
+    CHECK(ee_write(&store, 1, 1) == EE_OFF);
+    CHECK(ee_read(&store, 1, &value) == EE_OFF);
+    CHECK(ee_write(NULL, 1, 1) == EE_NULL);
+    CHECK(ee_forget(NULL, 1) == EE_NULL);
+    CHECK(ee_clean(NULL) == EE_NULL);
+    CHECK(ee_read(NULL, 1, &value) == EE_NULL);
+    CHECK(ee_next(NULL, &address, &value) == EE_NULL);
+    CHECK(ee_counts(NULL, &numbers) == EE_NULL);
+    CHECK(ee_format(&store, &flash) == EE_OK);
+    CHECK(ee_read(&store, 1, NULL) == EE_NULL);
+    CHECK(ee_next(&store, NULL, &value) == EE_NULL);
+    CHECK(ee_next(&store, &address, NULL) == EE_NULL);
+    CHECK(ee_counts(&store, NULL) == EE_NULL);
+}
+
+static void shapes(void) {
+    static const uint32_t wrong[][2] = {{0, 6}, {65, 6}, {1, 4}, {1, 513}, {UINT32_MAX, 6}, {1, UINT32_MAX}};
+    for (size_t i = 0; i < sizeof wrong / sizeof *wrong; i++) {
+        ee_flash flash = flash_of(&p);
+        flash.pages = wrong[i][0];
+        flash.page_words = wrong[i][1];
+        CHECK(ee_open(&store, &flash) == EE_WRONG_SHAPE);
+        CHECK(ee_format(&store, &flash) == EE_WRONG_SHAPE);
+        CHECK(ee_write(&store, 1, 1) == EE_OFF);
+    }
+}
+
+static void statuses(void) {
+    ee_flash flash = flash_of(&p);
+    CHECK(ee_format(&store, &flash) == EE_OK);
+    CHECK(ee_write(&store, 0, 1) == EE_WRONG_ADDRESS);
+    CHECK(ee_forget(&store, 65535) == EE_WRONG_ADDRESS);
+    CHECK(ee_read(&store, 0, &value) == EE_WRONG_ADDRESS);
+    CHECK(ee_forget(&store, 1) == EE_ABSENT);
+    value = 99;
+    CHECK(ee_read(&store, 1, &value) == EE_NOTHING && value == 99);
+    CHECK(ee_write(&store, 1, 10) == EE_OK && ee_write(&store, 65534, UINT32_MAX) == EE_OK);
+    CHECK(ee_write(&store, 3, 1) == EE_FULL);
+    CHECK(ee_write(&store, 1, 11) == EE_OK);
+    CHECK(ee_counts(&store, &numbers) == EE_OK);
+    CHECK(numbers.slots == 2 && numbers.fill == 2 && numbers.live == 2);
+    CHECK(numbers.pending == 1 && numbers.generation == 2);
+    CHECK(ee_clean(&store) == EE_OK && ee_clean(&store) == EE_NOTHING);
+    address = 0;
+    CHECK(ee_next(&store, &address, &value) == EE_OK && address == 1 && value == 11);
+    CHECK(ee_next(&store, &address, &value) == EE_OK && address == 65534 && value == UINT32_MAX);
+    CHECK(ee_next(&store, &address, &value) == EE_NOTHING && address == 65534);
+    address = 65535;
+    CHECK(ee_next(&store, &address, &value) == EE_WRONG_ADDRESS);
+    CHECK(ee_forget(&store, 1) == EE_OK && ee_read(&store, 1, &value) == EE_NOTHING);
+}
+
+static void no_store(void) {
+    ee_flash flash = flash_of(&p);
+    blank(&p, 1, 6);
+    CHECK(ee_open(&store, &flash) == EE_UNFORMATTED);
+    p.words[0][0] = 0xaaaaaaaa00000001;
+    CHECK(ee_open(&store, &flash) == EE_NO_LIVE_SET);
+    p.words[0][1] = 0xaaaaaaaaaaaaaaaa;
+    CHECK(ee_open(&store, &flash) == EE_OK);
+    p.words[0][4] = 0;
+    CHECK(ee_open(&store, &flash) == EE_FOREIGN);
+    CHECK(ee_read(&store, 1, &value) == EE_OFF);
+    p.words[1][0] = 0xaaaaaaaa00000001;
+    p.words[1][1] = 0xaaaaaaaaaaaaaaaa;
+    CHECK(ee_open(&store, &flash) == EE_TWO_LIVE);
+    blank(&p, 1, 6);
+    p.words[0][0] = 0xaaaaaaaafffffffe;
+    p.words[0][1] = 0xaaaaaaaaaaaaaaaa;
+    p.words[0][4] = p.words[0][5] = 0x0000000a00000001;
+    CHECK(ee_open(&store, &flash) == EE_OK);
+    CHECK(ee_write(&store, 1, 1) == EE_SPENT && ee_forget(&store, 1) == EE_SPENT);
+}
+
+static void failing(void) {
+    ee_flash flash = flash_of(&p);
+    blank(&p, 1, 6);
+    CHECK(ee_format(&store, &flash) == EE_OK);
+    p.steps = 0, p.cut_in = 1, p.tear = TEAR_TORN;
+    CHECK(ee_write(&store, 1, 10) == EE_DRIVER);
+    CHECK(ee_write(&store, 1, 10) == EE_OFF && ee_clean(&store) == EE_OFF && ee_forget(&store, 1) == EE_OFF);
+    CHECK(ee_counts(&store, &numbers) == EE_OFF && ee_next(&store, &address, &value) != EE_OK);
+    CHECK(ee_open(&store, &flash) == EE_OK && ee_read(&store, 1, &value) == EE_NOTHING);
+    CHECK(ee_counts(&store, &numbers) == EE_OK && numbers.fill == 1);
+}
+
+int main(void) {
+    blank(&p, 1, 6);
+    nulls();
+    shapes();
+    statuses();
+    no_store();
+    failing();
+    return 0;
+}

@@ -1,0 +1,179 @@
+//! Answers scripts on images, as `ee run` does, but without certificates.
+//!
+//! Each line of standard input names an image and a script. The image is replaced by what the script leaves, and the
+//! answers go into the file that has the script's name and `.answers` behind it, or the line of a fault.
+#![forbid(unsafe_code)]
+
+use ee_store::{
+    open, Address, CleanFault, ForgetFault, Off, OpenFault, ScanFault, Shape, Store, WriteFault,
+    Written,
+};
+use ee_store_differ::{image, PowerCut, Shared, TEARS};
+use std::fs;
+use std::io::{self, BufRead};
+
+fn main() -> io::Result<()> {
+    for line in io::stdin().lock().lines() {
+        let line = line?;
+        let (image, script) = line.split_once('\t').unwrap_or((&line, ""));
+        let (after, answers) = run(&fs::read_to_string(image)?, &fs::read_to_string(script)?);
+        if let Some(after) = after {
+            fs::write(image, after)?;
+        }
+        fs::write(format!("{script}.answers"), answers)?;
+    }
+    Ok(())
+}
+
+/// The image that a script leaves, if the image holds a store, and the answers or the fault.
+fn run(before: &str, script: &str) -> (Option<String>, String) {
+    let Some(part) = image::read(before) else {
+        return (None, "image text\n".to_string());
+    };
+    let shape = part.shape;
+    let part = Shared::new(part);
+    let store = match open(part.clone(), shape) {
+        Ok(store) => store,
+        Err(failed) => match failed.fault {
+            OpenFault::Scan(fault) => return (None, fault_line(fault)),
+            OpenFault::Driver(cut) => unreachable!("nothing is armed, and {cut:?}"),
+        },
+    };
+    let mut desk = Desk {
+        store: Some(store),
+        part,
+        shape,
+        moves: 0,
+    };
+    let mut answers = String::new();
+    for line in script.lines() {
+        let answer = desk.answer(line).unwrap_or_else(|| "bad line".to_string());
+        answers += &format!("{answer}\n");
+    }
+    answers += &desk.end();
+    let after = image::write(&desk.part.0.borrow());
+    (Some(after), answers)
+}
+
+fn fault_line(fault: ScanFault) -> String {
+    match fault {
+        ScanFault::Unformatted => "image unformatted\n".to_string(),
+        ScanFault::NoLiveSet => "image no live set\n".to_string(),
+        ScanFault::TwoLive => "image two live sets\n".to_string(),
+        ScanFault::Foreign { page, at } => format!("image foreign word {page} {at}\n"),
+    }
+}
+
+struct Desk {
+    /// `None` where it could not be opened again.
+    store: Option<Store<Shared>>,
+    part: Shared,
+    shape: Shape,
+    moves: u64,
+}
+
+impl Desk {
+    /// The answer to a line, `None` if it is no command.
+    fn answer(&mut self, line: &str) -> Option<String> {
+        let fields: Vec<&str> = line.split(' ').collect();
+        Some(match (&fields[..], &mut self.store) {
+            (["x", step, tear], _) => {
+                let (_, tear) = *TEARS
+                    .iter()
+                    .find(|(letter, _)| *tear == letter.to_string())?;
+                let after = step.parse::<u64>().ok()?.checked_sub(1)?;
+                self.part.0.borrow_mut().fuse = Some((after, tear));
+                "armed".to_string()
+            }
+            (["p"], _) => self.power_on(),
+            (_, None) => "off".to_string(),
+            (["w", address, value], Some(store)) => {
+                let answer = store.write(named(address)?, value.parse().ok()?);
+                self.stored(answer.map_err(write_fault))
+            }
+            (["f", address], Some(store)) => {
+                let answer = store.forget(named(address)?);
+                self.stored(answer.map_err(forget_fault))
+            }
+            (["r", address], Some(store)) => match store.read(named(address)?) {
+                Ok(Some(value)) => value.to_string(),
+                Ok(None) => "none".to_string(),
+                Err(_) => "off".to_string(),
+            },
+            (["c"], Some(store)) => match store.clean_step() {
+                Ok(true) => "clean".to_string(),
+                Ok(false) => "idle".to_string(),
+                Err(CleanFault::Off) => "off".to_string(),
+                Err(CleanFault::Driver(_)) => "cut".to_string(),
+            },
+            _ => return None,
+        })
+    }
+
+    fn stored(&mut self, answer: Result<Written, &str>) -> String {
+        match answer {
+            Ok(Written::Appended) => "ok".to_string(),
+            Ok(Written::Moved) => {
+                self.moves += 1;
+                "moved".to_string()
+            }
+            Err(fault) => fault.to_string(),
+        }
+    }
+
+    fn power_on(&mut self) -> String {
+        match open(self.part.clone(), self.shape) {
+            Ok(store) => {
+                self.store = Some(store);
+                "open".to_string()
+            }
+            Err(failed) => {
+                self.store = None;
+                match failed.fault {
+                    OpenFault::Driver(_) => "cut".to_string(),
+                    OpenFault::Scan(fault) => fault_line(fault).trim_end().to_string(),
+                }
+            }
+        }
+    }
+
+    /// The line behind the answers.
+    fn end(&self) -> String {
+        match self.store.as_ref().map(counts) {
+            Some(Ok((fill, room, live, pending))) => format!(
+                "end fill {fill} room {room} live {live} pending {pending} transfers {}\n",
+                self.moves
+            ),
+            _ => format!("end off transfers {}\n", self.moves),
+        }
+    }
+}
+
+fn named(field: &str) -> Option<Address> {
+    Address::new(field.parse().ok()?)
+}
+
+fn write_fault(fault: WriteFault<PowerCut>) -> &'static str {
+    match fault {
+        WriteFault::Off => "off",
+        WriteFault::Full => "full",
+        WriteFault::Spent => "spent",
+        WriteFault::Driver(PowerCut) => "cut",
+    }
+}
+
+fn forget_fault(fault: ForgetFault<PowerCut>) -> &'static str {
+    match fault {
+        ForgetFault::Off => "off",
+        ForgetFault::Absent => "absent",
+        ForgetFault::Spent => "spent",
+        ForgetFault::Driver(PowerCut) => "cut",
+    }
+}
+
+/// The slots used and free, the live addresses, and the pages that wait to be erased.
+fn counts(store: &Store<Shared>) -> Result<(usize, usize, usize, usize), Off> {
+    let fill = store.fill()?;
+    let room = store.slots()? - fill;
+    Ok((fill, room, store.live_count()?, store.pending()?))
+}

@@ -1,0 +1,287 @@
+//! Random calls against a map, each with power cut at every step and in every way.
+//!
+//!     calls COUNT SEED
+//!
+//! plays so many calls of stores of random sizes. A call is played first with a cut at its first step, at its second,
+//! and so on, in each of the four ways, up to a step that it does not take; each time the store is opened again, with
+//! a cut in the opening too now and then, and must hold the map before the call or after it. Then it is played uncut.
+//! All these count as calls. The first difference ends the program with a panic; without one it ends with a line
+//! `N passed, 0 failed`.
+#![forbid(unsafe_code)]
+
+use ee_store::{
+    format, open, Address, CleanFault, ForgetFault, OpenFault, Shape, Store, WriteFault, Written,
+};
+use ee_store_differ::{Part, PowerCut, Shared, Tear, TEARS};
+use std::collections::BTreeMap;
+use std::{env, process};
+
+type Map = BTreeMap<u16, u32>;
+
+/// Numbers that look random.
+struct Dice(u64);
+
+impl Dice {
+    fn next(&mut self) -> u64 {
+        self.0 ^= self.0 << 13;
+        self.0 ^= self.0 >> 7;
+        self.0 ^= self.0 << 17;
+        self.0
+    }
+
+    fn below(&mut self, end: u64) -> u64 {
+        (self.next() >> 16) % end
+    }
+}
+
+#[derive(Clone, Copy, Debug)]
+enum Call {
+    Write(u16, u32),
+    Forget(u16),
+    Clean,
+}
+
+/// How a call ended.
+#[derive(Clone, Copy, Debug, PartialEq, Eq)]
+enum End {
+    Done(Option<Written>),
+    Refused,
+    Cut,
+}
+
+/// One store and what it holds.
+struct Course {
+    shape: Shape,
+    part: Part,
+    map: Map,
+    addresses: Vec<u16>,
+    calls: u64,
+    cuts: u64,
+}
+
+fn main() {
+    let words: Vec<u64> = env::args()
+        .skip(1)
+        .filter_map(|word| word.parse().ok())
+        .collect();
+    let [count, seed] = words[..] else {
+        eprintln!("calls COUNT SEED");
+        process::exit(2);
+    };
+    let mut dice = Dice(seed.wrapping_mul(0x9e37_79b9_7f4a_7c15) | 1);
+    let (mut calls, mut cuts, mut stores) = (0, 0, 0);
+    while calls < count {
+        let mut course = Course::new(&mut dice);
+        for _ in 0..40 + dice.below(60) {
+            course.play(&mut dice);
+        }
+        calls += course.calls;
+        cuts += course.cuts;
+        stores += 1;
+    }
+    println!("{calls} calls of {stores} stores, {cuts} of them cut");
+    println!("{calls} passed, 0 failed");
+}
+
+impl Course {
+    fn new(dice: &mut Dice) -> Course {
+        let longest = if dice.below(10) == 0 { 36 } else { 6 };
+        let words = 5 + dice.below(longest) as usize;
+        let shape = Shape::new(1 + dice.below(3) as usize, words).unwrap();
+        let slots = shape.slots() as u64;
+        let many = 1 + dice.below(slots + 2);
+        let step = if dice.below(2) == 0 {
+            1
+        } else {
+            1 + dice.below(500) as u16
+        };
+        let store = format(Shared::new(Part::blank(shape)), shape).expect("nothing is armed");
+        let part = store.into_driver().0.borrow().clone();
+        Course {
+            shape,
+            part,
+            map: Map::new(),
+            addresses: (0..many as u16).map(|number| 1 + number * step).collect(),
+            calls: 0,
+            cuts: 0,
+        }
+    }
+
+    fn opened(&self, part: &Part) -> (Store<Shared>, Shared) {
+        let shared = Shared::new(part.clone());
+        let store = open(shared.clone(), self.shape).unwrap_or_else(|failed| {
+            panic!("{:?} opens as {:?}", self.part, failed.fault);
+        });
+        (store, shared)
+    }
+
+    /// Plays one call with a cut at each step, and then without.
+    fn play(&mut self, dice: &mut Dice) {
+        let call = self.draw(dice);
+        let after = self.after(call);
+        let mut left = self.part.clone();
+        for step in 0.. {
+            let mut ends_uncut = false;
+            for (_, tear) in TEARS {
+                let (part, end) = self.cut(call, step, tear);
+                self.calls += 1;
+                if end != End::Cut {
+                    ends_uncut = true;
+                    break;
+                }
+                self.cuts += 1;
+                let part = self.open_again(part, dice);
+                let (store, _) = self.opened(&part);
+                let holds = held(&store, &self.addresses);
+                assert!(
+                    holds == self.map || holds == after,
+                    "{call:?} cut at {step} {tear:?}"
+                );
+                if dice.below(40) == 0 {
+                    left = part;
+                }
+            }
+            if ends_uncut {
+                break;
+            }
+        }
+        // Goes on from the whole call, or now and then from one that was cut.
+        if dice.below(4) == 0 && left != self.part {
+            let (store, _) = self.opened(&left);
+            self.map = held(&store, &self.addresses);
+            self.part = left;
+            return;
+        }
+        self.finish(call, after);
+    }
+
+    /// A call that is cut in its first steps of an opening, once in a while.
+    fn open_again(&mut self, part: Part, dice: &mut Dice) -> Part {
+        let mut part = part;
+        if dice.below(3) == 0 {
+            let (_, tear) = TEARS[dice.below(4) as usize];
+            part.fuse = Some((dice.below(3), tear));
+            let shared = Shared::new(part);
+            self.calls += 1;
+            match open(shared.clone(), self.shape) {
+                Ok(_) => {}
+                Err(failed) => {
+                    assert_eq!(failed.fault, OpenFault::Driver(PowerCut));
+                    self.cuts += 1;
+                }
+            }
+            part = shared.0.borrow().clone();
+        }
+        part.fuse = None;
+        part
+    }
+
+    fn draw(&self, dice: &mut Dice) -> Call {
+        let address = self.addresses[dice.below(self.addresses.len() as u64) as usize];
+        match dice.below(10) {
+            0..=5 => Call::Write(address, dice.next() as u32),
+            6..=7 => Call::Forget(address),
+            _ => Call::Clean,
+        }
+    }
+
+    fn after(&self, call: Call) -> Map {
+        let mut map = self.map.clone();
+        match call {
+            Call::Write(address, value) => {
+                if map.contains_key(&address) || map.len() < self.shape.slots() {
+                    map.insert(address, value);
+                }
+            }
+            Call::Forget(address) => {
+                map.remove(&address);
+            }
+            Call::Clean => {}
+        }
+        map
+    }
+
+    /// The part after a call that is cut in this step, if it takes so many.
+    fn cut(&self, call: Call, step: u64, tear: Tear) -> (Part, End) {
+        let (mut store, shared) = self.opened(&self.part);
+        shared.0.borrow_mut().fuse = Some((step, tear));
+        let end = made(&mut store, call);
+        let part = shared.0.borrow().clone();
+        (part, end)
+    }
+
+    /// Makes a call without cuts.
+    fn finish(&mut self, call: Call, after: Map) {
+        let (mut store, shared) = self.opened(&self.part);
+        let fill = store.fill().unwrap();
+        let pending = store.pending().unwrap();
+        let end = made(&mut store, call);
+        self.calls += 1;
+        let refused = match call {
+            Call::Write(address, _) => !after.contains_key(&address),
+            Call::Forget(address) => !self.map.contains_key(&address),
+            Call::Clean => pending == 0,
+        };
+        let moved = fill == self.shape.slots();
+        let expected = match (call, refused, moved) {
+            (_, true, _) => End::Refused,
+            (Call::Clean, false, _) => End::Done(None),
+            (_, false, true) => End::Done(Some(Written::Moved)),
+            (_, false, false) => End::Done(Some(Written::Appended)),
+        };
+        assert_eq!(end, expected, "{call:?} on {:?}", self.part);
+        self.part = shared.0.borrow().clone();
+        self.map = after;
+        assert_eq!(held(&store, &self.addresses), self.map, "after {call:?}");
+        assert_eq!(store.live_count(), Ok(self.map.len()));
+        assert_eq!(listed(&store), self.map);
+    }
+}
+
+/// Makes a call.
+fn made(store: &mut Store<Shared>, call: Call) -> End {
+    match call {
+        Call::Write(address, value) => match store.write(named(address), value) {
+            Ok(written) => End::Done(Some(written)),
+            Err(WriteFault::Driver(PowerCut)) => End::Cut,
+            Err(WriteFault::Full) => End::Refused,
+            Err(fault) => panic!("{call:?} is {fault:?}"),
+        },
+        Call::Forget(address) => match store.forget(named(address)) {
+            Ok(written) => End::Done(Some(written)),
+            Err(ForgetFault::Driver(PowerCut)) => End::Cut,
+            Err(ForgetFault::Absent) => End::Refused,
+            Err(fault) => panic!("{call:?} is {fault:?}"),
+        },
+        Call::Clean => match store.clean_step() {
+            Ok(true) => End::Done(None),
+            Ok(false) => End::Refused,
+            Err(CleanFault::Driver(PowerCut)) => End::Cut,
+            Err(fault) => panic!("{call:?} is {fault:?}"),
+        },
+    }
+}
+
+fn named(address: u16) -> Address {
+    Address::new(address).unwrap()
+}
+
+/// What the store reads at these addresses.
+fn held(store: &Store<Shared>, addresses: &[u16]) -> Map {
+    let read = |address: &u16| {
+        let value = store.read(named(*address)).unwrap()?;
+        Some((*address, value))
+    };
+    addresses.iter().filter_map(read).collect()
+}
+
+/// What the store lists.
+fn listed(store: &Store<Shared>) -> Map {
+    let mut map = Map::new();
+    let mut after = None;
+    while let Some((address, value)) = store.next_live(after).unwrap() {
+        assert!(map.insert(address.get(), value).is_none());
+        after = Some(address);
+    }
+    map
+}

@@ -1,0 +1,93 @@
+// Made by firmware/rust/erase from crates/ee_pages/src/batch.rt. Change that file.
+use crate::ee_pages::batch_items::{BATCH, Batch};
+use crate::ee_pages::find::Layout;
+use crate::ee_pages::side::{Side, page_slot};
+use crate::ee_codec::{Address, Slot, read_slot};
+use crate::ee_flash::{Flash, Word};
+
+/// The live addresses of a stretch of addresses, with their values: as many as are found in one look
+/// through the slots.
+///
+/// Source: ours.
+pub struct LiveBatch {
+    /// By rising address.
+    pub found: Batch,
+    /// Behind them no address up to this one is live, or none at all.
+    pub through: Option<Address>,
+}
+
+/// The next live addresses above `after`, or the first of all if `after` is `None`, with their
+/// values: up to `BATCH`, from one look through the slots. There may be none, and more behind
+/// `through`, where addresses were forgotten. The layout is the image's.
+///
+/// Source: ours.
+pub fn next_batch<F: Flash>(flash: &F, layout: &Layout, after: Option<Address>) -> LiveBatch {
+    let mut batch = LiveBatch {
+        found: Batch::new(),
+        through: None,
+    };
+    gather(flash, layout.side, number_of(after), &mut batch.found);
+    batch.through = batch.found.last_if_full();
+    batch.found.keep_living();
+    batch
+}
+
+// The number above which a batch begins.
+fn number_of(after: Option<Address>) -> u16 {
+    match after {
+        None => 0,
+        Some(address) => address.get(),
+    }
+}
+
+// Puts in the next addresses above this one of which a slot says something, each with what the last
+// one says.
+fn gather<F: Flash>(flash: &F, side: Side, above: u16, nearest: &mut Batch) {
+    for page in 0..flash.shape().pages() {
+        gather_page(flash, side, page, above, nearest);
+    }
+}
+
+// Notes what the slots of a page say, behind those of the pages before.
+fn gather_page<F: Flash>(flash: &F, side: Side, page: usize, above: u16, nearest: &mut Batch) {
+    for slot in 0..flash.shape().words() - 4 {
+        note(above, named(page_slot(flash, side, page, slot)), nearest);
+    }
+}
+
+// The address of which a word says something, with what it says.
+fn named(word: Word) -> Option<(Address, Option<u32>)> {
+    match read_slot(word) {
+        Slot::Element { address, value } => Some((address, Some(value))),
+        Slot::Forgotten { address, .. } => Some((address, None)),
+        _ => None,
+    }
+}
+
+// Notes what a slot says, if it is of an address above this one.
+fn note(above: u16, named: Option<(Address, Option<u32>)>, nearest: &mut Batch) {
+    if let Some((address, said)) = named {
+        note_said(above, address, said, nearest);
+    }
+}
+
+// Notes what is said of an address, if it is above this one.
+fn note_said(above: u16, address: Address, said: Option<u32>, nearest: &mut Batch) {
+    if address.get() <= above {
+        return;
+    }
+    let place = nearest.place_of(address);
+    if place < BATCH {
+        put(nearest, place, address, said);
+    }
+}
+
+// Puts an address in its place, over what was noted of it; where there is no room the last one
+// falls out.
+fn put(nearest: &mut Batch, place: usize, address: Address, said: Option<u32>) {
+    if nearest.has(place, address) {
+        nearest.set(place, address, said);
+    } else {
+        nearest.insert(place, address, said);
+    }
+}

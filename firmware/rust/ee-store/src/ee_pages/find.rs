@@ -1,0 +1,140 @@
+// Made by firmware/rust/erase from crates/ee_pages/src/find.rt. Change that file.
+use crate::ee_pages::side::{Side, committed, first_page, set_slot, set_word};
+use crate::ee_pages::state::{is_blank, is_written};
+use crate::ee_pages::table::is_allowed;
+use crate::ee_flash::Flash;
+
+/// Where the live set of a legal image is and how far it is used.
+///
+/// Source: ours.
+#[derive(Clone, Copy, Debug, PartialEq, Eq)]
+pub struct Layout {
+    /// The live set.
+    pub side: Side,
+    /// Its generation, 1 to 4294967294.
+    pub generation: u32,
+    /// How many of its slots are written, torn ones too: 0 to the capacity.
+    pub fill: usize,
+    /// Its last used page, by its number in the device; its first page if no slot is used.
+    pub current: usize,
+}
+
+/// Why an image is not legal.
+///
+/// Source: ours.
+#[derive(Clone, Copy, Debug, PartialEq, Eq)]
+pub enum ScanFault {
+    /// Every word of the device is erased.
+    Unformatted,
+    /// No set is committed.
+    NoLiveSet,
+    /// Both sets are committed, with equal generations.
+    TwoLive,
+    /// The first word of the live set, by page and then place, that may not stand there. The page
+    /// is its number in the device.
+    Foreign { page: usize, at: usize },
+}
+
+/// Finds the live set of a legal image. It reads each word of the live set at most three times.
+///
+/// Source: one of two sets takes the writes, AN4894; the rest is ours.
+///
+/// # Errors
+///
+/// The first `ScanFault` that applies, exactly where the image is not legal.
+pub fn scan<F: Flash>(flash: &F) -> Result<Layout, ScanFault> {
+    if is_unformatted(flash) {
+        return Err(ScanFault::Unformatted);
+    }
+    let (side, generation) = live_set(flash)?;
+    let written = count_front(flash, side);
+    let start = first_page(flash, side);
+    match first_foreign(flash, side, generation, written) {
+        Some((page, at)) => Err(ScanFault::Foreign {
+            page: start + page,
+            at,
+        }),
+        None => Ok(Layout {
+            side,
+            generation,
+            fill: written,
+            current: start + written.saturating_sub(1) / (flash.shape().words() - 4),
+        }),
+    }
+}
+
+// Whether every word of the device is erased.
+fn is_unformatted<F: Flash>(flash: &F) -> bool {
+    for page in 0..2 * flash.shape().pages() {
+        if !is_blank(flash, page) {
+            return false;
+        }
+    }
+    true
+}
+
+// The live set and its generation.
+fn live_set<F: Flash>(flash: &F) -> Result<(Side, u32), ScanFault> {
+    match (
+        committed(flash, Side::First),
+        committed(flash, Side::Second),
+    ) {
+        (None, None) => Err(ScanFault::NoLiveSet),
+        (Some(first), None) => Ok((Side::First, first)),
+        (None, Some(second)) => Ok((Side::Second, second)),
+        (Some(first), Some(second)) => {
+            if first == second {
+                Err(ScanFault::TwoLive)
+            } else if second < first {
+                Ok((Side::First, first))
+            } else {
+                Ok((Side::Second, second))
+            }
+        }
+    }
+}
+
+// How many slots of a set stand before the first erased one.
+fn count_front<F: Flash>(flash: &F, side: Side) -> usize {
+    let slots = flash.shape().slots();
+    for slot in 0..slots {
+        if !is_written(set_slot(flash, side, slot)) {
+            return slot;
+        }
+    }
+    slots
+}
+
+// The first word of a live set, by page and then place, that may not stand there. The page is
+// counted from the set's first.
+fn first_foreign<F: Flash>(
+    flash: &F,
+    side: Side,
+    generation: u32,
+    written: usize,
+) -> Option<(usize, usize)> {
+    for page in 0..flash.shape().pages() {
+        if let Some(at) = foreign_in_page(flash, side, generation, written, page) {
+            return Some((page, at));
+        }
+    }
+    None
+}
+
+// The first word of a page of a live set that may not stand there.
+fn foreign_in_page<F: Flash>(
+    flash: &F,
+    side: Side,
+    generation: u32,
+    written: usize,
+    page: usize,
+) -> Option<usize> {
+    let shape = flash.shape();
+    for at in 0..shape.words() {
+        let word = set_word(flash, side, page, at);
+        if !is_allowed(shape, generation, written, page, at, word) {
+            return Some(at);
+        }
+    }
+    None
+}

@@ -1,0 +1,110 @@
+// Made by firmware/rust/erase from crates/ee_pages/src/read.rt. Change that file.
+use crate::ee_pages::batch::next_batch;
+use crate::ee_pages::find::Layout;
+use crate::ee_pages::side::{Side, first_page, page_slot, set_slot};
+use crate::ee_codec::{Address, Slot, ends_in, read_slot};
+use crate::ee_flash::{Flash, Word};
+
+/// The word in a slot of the live set, by the slot's number, counted from 0 and below the capacity.
+/// The layout is the image's.
+///
+/// Source: ours.
+pub fn slot_word<F: Flash>(flash: &F, layout: &Layout, slot: usize) -> Word {
+    set_slot(flash, layout.side, slot)
+}
+
+/// The value of an address, `None` if it has none. It reads each slot once at most, from the newest
+/// down to the first that says something of the address. The layout is the image's.
+///
+/// Source: the last element written for an address is its value, AN4894; a forgetting is ours.
+pub fn latest<F: Flash>(flash: &F, layout: &Layout, address: Address) -> Option<u32> {
+    // Page by page, since finding a slot by its number takes a division.
+    let slots = flash.shape().words() - 4;
+    let last = layout.current - first_page(flash, layout.side);
+    let mut left = layout.fill;
+    for page in (0..last + 1).rev() {
+        let before = page * slots;
+        if let Some(said) = said_in_page(flash, layout.side, page, left - before, address) {
+            return said;
+        }
+        left = before;
+    }
+    None
+}
+
+/// The next live address above `after`, or of all if `after` is `None`, with its value. `None` if
+/// there is none. It looks through the slots once, and once more for each batch of addresses that
+/// were all forgotten. The layout is the image's.
+///
+/// Source: ours.
+pub fn next_live<F: Flash>(
+    flash: &F,
+    layout: &Layout,
+    after: Option<Address>,
+) -> Option<(Address, u32)> {
+    let mut behind = after;
+    loop {
+        let batch = next_batch(flash, layout, behind);
+        if let Some(found) = batch.found.as_slice().first() {
+            return Some(*found);
+        }
+        let Some(through) = batch.through else {
+            return None;
+        };
+        behind = Some(through);
+    }
+}
+
+/// How many addresses have a value, 0 to the capacity. It looks through the slots once for each batch
+/// of live addresses. The layout is the image's.
+///
+/// Source: ours.
+pub fn live_count<F: Flash>(flash: &F, layout: &Layout) -> usize {
+    let mut count = 0;
+    let mut after = None;
+    loop {
+        let batch = next_batch(flash, layout, after);
+        count += batch.found.len();
+        let Some(through) = batch.through else {
+            return count;
+        };
+        after = Some(through);
+    }
+}
+
+// What the first `used` slots of a page of a set say of an address: the newest that says something
+// counts.
+fn said_in_page<F: Flash>(
+    flash: &F,
+    side: Side,
+    page: usize,
+    used: usize,
+    address: Address,
+) -> Option<Option<u32>> {
+    for slot in (0..used).rev() {
+        if let Some(said) = says(page_slot(flash, side, page, slot), address) {
+            return Some(said);
+        }
+    }
+    None
+}
+
+// What a word says of an address: nothing, or that it has a value or none from here on.
+fn says(word: Word, address: Address) -> Option<Option<u32>> {
+    // Asked first, since most words are of another address.
+    if !ends_in(word, address) {
+        return None;
+    }
+    said(word)
+}
+
+// What a word says of the address that it ends in. It stays out of the loop that asks for an
+// address, which runs over most words and is short without it.
+#[inline(never)]
+fn said(word: Word) -> Option<Option<u32>> {
+    match read_slot(word) {
+        Slot::Element { value, .. } => Some(Some(value)),
+        Slot::Forgotten { .. } => Some(None),
+        _ => None,
+    }
+}

@@ -1,0 +1,29 @@
+// Made by firmware/rust/erase from crates/ee_store/src/change.rt. Change that file.
+use crate::ee_codec::{Address, element_word, forget_word};
+
+/// A change of the map.
+#[derive(Clone, Copy, Debug, PartialEq, Eq)]
+pub(crate) enum Change {
+    /// The address has the value from here on.
+    Put { address: Address, value: u32 },
+    /// The address has no value from here on. The value is the one forgotten.
+    Forget { address: Address, value: u32 },
+}
+
+impl Change {
+    /// Its address.
+    pub(crate) fn address(&self) -> Address {
+        let change = *self;
+        match change {
+            Change::Put { address, .. } | Change::Forget { address, .. } => address,
+        }
+    }
+
+    /// The number of the word that spells it, below `u64::MAX`.
+    pub(crate) fn word(self) -> u64 {
+        match self {
+            Change::Put { address, value } => element_word(address, value),
+            Change::Forget { address, value } => forget_word(address, value),
+        }
+    }
+}

@@ -1,0 +1,50 @@
+// Made by firmware/rust/erase from crates/ee_store/src/changing.rt. Change that file.
+use crate::ee_store::change::Change;
+use crate::ee_store::copying::Cursor;
+use crate::ee_store::live_cursor::LiveCursor;
+use crate::ee_store::moving::transfer;
+use crate::ee_store::variables::Written;
+use crate::ee_store::writing::append;
+use crate::ee_flash::{Cut, Flash};
+use crate::ee_pages::Layout;
+
+/// Makes a change to which no refusal applies: in a free slot if there is one, else with a transfer.
+/// The layout follows.
+#[inline(always)]
+pub(crate) fn make_change<F: Flash>(
+    flash: &mut F,
+    layout: &mut Layout,
+    change: Change,
+) -> Result<Written, Cut> {
+    if layout.fill < flash.shape().slots() {
+        append_change(flash, layout, change)?;
+        Ok(Written::Appended)
+    } else {
+        let cursor = Cursor::new(flash, layout);
+        move_change(flash, layout, change, cursor)?;
+        Ok(Written::Moved)
+    }
+}
+
+/// Makes a change to which no refusal applies in the first free slot. The layout follows.
+#[inline(always)]
+pub(crate) fn append_change<F: Flash>(
+    flash: &mut F,
+    layout: &mut Layout,
+    change: Change,
+) -> Result<(), Cut> {
+    append(flash, layout, change)?;
+    Ok(())
+}
+
+/// Makes a change to which no refusal applies with a transfer, where no slot is free. The cursor,
+/// which is before the first, goes over the live addresses. The layout follows.
+pub(crate) fn move_change<F: Flash, C: LiveCursor>(
+    flash: &mut F,
+    layout: &mut Layout,
+    change: Change,
+    cursor: C,
+) -> Result<(), Cut> {
+    transfer(flash, layout, change, cursor)?;
+    Ok(())
+}

@@ -1,0 +1,69 @@
+// Made by firmware/rust/erase from crates/ee_store/src/moving.rt. Change that file.
+use crate::ee_store::change::Change;
+use crate::ee_store::cleaning::erase_other;
+use crate::ee_store::copying::fill_set;
+use crate::ee_store::live_cursor::LiveCursor;
+use crate::ee_store::marking::finish;
+use crate::ee_flash::{Cut, Flash};
+use crate::ee_pages::{Layout, Mark, first_page, is_blank as page_is_blank, mark};
+
+/// Moves the map, with a change, from a live set of which every slot is used to the other set, and
+/// makes that one live. The cursor, which is before the first, goes over the live addresses. The
+/// layout follows.
+pub(crate) fn transfer<F: Flash, C: LiveCursor>(
+    flash: &mut F,
+    layout: &mut Layout,
+    change: Change,
+    cursor: C,
+) -> Result<(), Cut> {
+    let count = move_map(flash, layout, change, cursor)?;
+    let slots = flash.shape().words() - 4;
+    *layout = Layout {
+        side: layout.side.other(),
+        generation: layout.generation + 1,
+        fill: count,
+        current: first_page(flash, layout.side.other()) + count.saturating_sub(1) / slots,
+    };
+    finish(flash, layout)?;
+    Ok(())
+}
+
+// Moves the map, with a change, to the other set, and makes that one live. Gives how many slots it
+// takes there.
+fn move_map<F: Flash, C: LiveCursor>(
+    flash: &mut F,
+    layout: &Layout,
+    change: Change,
+    cursor: C,
+) -> Result<usize, Cut> {
+    clear(flash, layout)?;
+    open_set(flash, layout)?;
+    let count = fill_set(flash, layout, change, cursor)?;
+    commit(flash, layout)?;
+    Ok(count)
+}
+
+// Erases each page of the other set that is not blank, by rising page.
+fn clear<F: Flash>(flash: &mut F, layout: &Layout) -> Result<(), Cut> {
+    let first = first_page(flash, layout.side.other());
+    for page in first..first + flash.shape().pages() {
+        if !page_is_blank(flash, page) {
+            erase_other(flash, layout.side, layout.generation, page)?;
+        }
+    }
+    Ok(())
+}
+
+// Gives the first page of the other set, which is blank, the receive word of the next generation.
+fn open_set<F: Flash>(flash: &mut F, layout: &Layout) -> Result<(), Cut> {
+    let first = first_page(flash, layout.side.other());
+    mark(flash, first, Mark::Receive(layout.generation + 1))?;
+    Ok(())
+}
+
+// Makes the other set, which is filled, the live one.
+fn commit<F: Flash>(flash: &mut F, layout: &Layout) -> Result<(), Cut> {
+    let first = first_page(flash, layout.side.other());
+    mark(flash, first, Mark::Active)?;
+    Ok(())
+}

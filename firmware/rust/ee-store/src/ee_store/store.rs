@@ -1,0 +1,143 @@
+// Made by firmware/rust/erase from crates/ee_store/src/store.rt. Change that file.
+use crate::ee_store::change::Change;
+use crate::ee_store::changing::make_change;
+use crate::ee_store::cleaning::{clean, count_pending};
+use crate::ee_store::variables::{ForgetFault, Off, Variables, WriteFault, Written};
+use crate::ee_codec::Address;
+use crate::ee_flash::{Cut, Flash};
+use crate::ee_pages::{Layout, LiveBatch, latest, live_count, next_batch, next_live};
+
+/// The greatest generation of a set.
+pub(crate) const GREATEST_GENERATION: u32 = 4_294_967_294;
+
+/// Variables in a flash device. It keeps in memory where the live set is and how far it is used, and
+/// reads all else from the flash.
+///
+/// Source: two sets, of which one takes the writes, AN4894; the rest is ours.
+pub struct Store<F: Flash> {
+    flash: F,
+    layout: Layout,
+}
+
+impl<F: Flash> Store<F> {
+    /// A store of this device, of which this is the layout.
+    pub(crate) fn of(flash: F, layout: Layout) -> Store<F> {
+        Store { flash, layout }
+    }
+
+    /// The device, as it is.
+    pub fn into_flash(self) -> F {
+        self.flash
+    }
+
+    /// Whether a write or forgetting must be refused since no generation is left for the transfer
+    /// that it needs.
+    fn is_spent(&self) -> bool {
+        self.layout.fill == self.flash.shape().slots()
+            && self.layout.generation == GREATEST_GENERATION
+    }
+
+    /// Whether the address has no value and there is no slot for one more. Live addresses are counted
+    /// only where every slot is used.
+    fn is_full_for(&self, address: Address) -> bool {
+        let slots = self.flash.shape().slots();
+        if self.layout.fill < slots {
+            return false;
+        }
+        match latest(&self.flash, &self.layout, address) {
+            Some(_) => false,
+            None => live_count(&self.flash, &self.layout) == slots,
+        }
+    }
+}
+
+impl<F: Flash> Variables for Store<F> {
+    fn slots(&self) -> usize {
+        self.flash.shape().slots()
+    }
+
+    fn is_on(&self) -> bool {
+        self.flash.is_on()
+    }
+
+    fn read(&self, address: Address) -> Result<Option<u32>, Off> {
+        if !self.flash.is_on() {
+            return Err(Off);
+        }
+        Ok(latest(&self.flash, &self.layout, address))
+    }
+
+    fn write(&mut self, address: Address, value: u32) -> Result<Written, WriteFault> {
+        if !self.flash.is_on() {
+            return Err(WriteFault::Off);
+        }
+        if self.is_full_for(address) {
+            return Err(WriteFault::Full);
+        }
+        if self.is_spent() {
+            return Err(WriteFault::Spent);
+        }
+        match make_change(
+            &mut self.flash,
+            &mut self.layout,
+            Change::Put { address, value },
+        ) {
+            Ok(written) => Ok(written),
+            Err(Cut) => Err(WriteFault::Cut),
+        }
+    }
+
+    fn forget(&mut self, address: Address) -> Result<Written, ForgetFault> {
+        if !self.flash.is_on() {
+            return Err(ForgetFault::Off);
+        }
+        let Some(value) = latest(&self.flash, &self.layout, address) else {
+            return Err(ForgetFault::Absent);
+        };
+        if self.is_spent() {
+            return Err(ForgetFault::Spent);
+        }
+        match make_change(
+            &mut self.flash,
+            &mut self.layout,
+            Change::Forget { address, value },
+        ) {
+            Ok(written) => Ok(written),
+            Err(Cut) => Err(ForgetFault::Cut),
+        }
+    }
+
+    fn clean_step(&mut self) -> Result<bool, WriteFault> {
+        if !self.flash.is_on() {
+            return Err(WriteFault::Off);
+        }
+        match clean(&mut self.flash, &self.layout) {
+            Ok(erased) => Ok(erased),
+            Err(Cut) => Err(WriteFault::Cut),
+        }
+    }
+
+    fn pending(&self) -> usize {
+        count_pending(&self.flash, self.layout.side.other())
+    }
+
+    fn fill(&self) -> usize {
+        self.layout.fill
+    }
+
+    fn generation(&self) -> u32 {
+        self.layout.generation
+    }
+
+    fn live_count(&self) -> usize {
+        live_count(&self.flash, &self.layout)
+    }
+
+    fn next_live(&self, after: Option<Address>) -> Option<(Address, u32)> {
+        next_live(&self.flash, &self.layout, after)
+    }
+
+    fn next_batch(&self, after: Option<Address>) -> LiveBatch {
+        next_batch(&self.flash, &self.layout, after)
+    }
+}

@@ -1,0 +1,158 @@
+use crate::driver::Driver;
+use crate::ee_pages::ScanFault;
+use core::fmt;
+
+/// The store is off, since its driver failed. Take the driver with `into_driver`, and open it anew.
+#[derive(Clone, Copy, Debug, PartialEq, Eq)]
+pub struct Off;
+
+/// Why a store can't be opened, the first cause that applies.
+#[derive(Clone, Copy, Debug, PartialEq, Eq)]
+pub enum OpenFault<E> {
+    /// The flash holds no store. Nothing was written.
+    Scan(ScanFault),
+    /// The driver failed in setting a mark. The variables are as before.
+    Driver(E),
+}
+
+/// A store could not be opened or formatted: its driver, and why.
+pub struct Failed<D: Driver> {
+    /// The driver, given back.
+    pub driver: D,
+    /// Why.
+    pub fault: OpenFault<D::Error>,
+}
+
+/// Why nothing was written, the first cause that applies. All but `Driver` leave the flash as it was.
+#[derive(Clone, Copy, Debug, PartialEq, Eq)]
+pub enum WriteFault<E> {
+    /// The store is off.
+    Off,
+    /// The address has no value, and as many addresses have one as there are slots.
+    Full,
+    /// Every slot is used, and the generation is the greatest, 4294967294.
+    Spent,
+    /// The driver failed in this call. The address has its old value or the new one, and no other changed.
+    Driver(E),
+}
+
+/// Why nothing was forgotten, the first cause that applies. All but `Driver` leave the flash as it was.
+#[derive(Clone, Copy, Debug, PartialEq, Eq)]
+pub enum ForgetFault<E> {
+    /// The store is off.
+    Off,
+    /// The address has no value.
+    Absent,
+    /// Every slot is used, and the generation is the greatest, 4294967294.
+    Spent,
+    /// The driver failed in this call. The address has its value still or has none, and no other changed.
+    Driver(E),
+}
+
+/// Why no page was erased.
+#[derive(Clone, Copy, Debug, PartialEq, Eq)]
+pub enum CleanFault<E> {
+    /// The store is off.
+    Off,
+    /// The driver failed in this call. The variables are as before.
+    Driver(E),
+}
+
+const OFF: &str = "the store is off, since its driver failed";
+const SPENT: &str = "every slot is used, and no generation is left";
+const DRIVER: &str = "the driver failed: ";
+
+impl<D: Driver> fmt::Debug for Failed<D>
+where
+    D::Error: fmt::Debug,
+{
+    fn fmt(&self, f: &mut fmt::Formatter<'_>) -> fmt::Result {
+        f.debug_struct("Failed")
+            .field("fault", &self.fault)
+            .finish_non_exhaustive()
+    }
+}
+
+impl fmt::Display for Off {
+    fn fmt(&self, f: &mut fmt::Formatter<'_>) -> fmt::Result {
+        f.write_str(OFF)
+    }
+}
+
+impl fmt::Display for ScanFault {
+    fn fmt(&self, f: &mut fmt::Formatter<'_>) -> fmt::Result {
+        match self {
+            ScanFault::Unformatted => f.write_str("the flash is not formatted"),
+            ScanFault::NoLiveSet => f.write_str("no set of the flash is live"),
+            ScanFault::TwoLive => f.write_str("both sets of the flash are live"),
+            ScanFault::Foreign { page, at } => {
+                write!(f, "word {at} of page {page} is not the store's")
+            }
+        }
+    }
+}
+
+impl<E: fmt::Display> fmt::Display for OpenFault<E> {
+    fn fmt(&self, f: &mut fmt::Formatter<'_>) -> fmt::Result {
+        match self {
+            OpenFault::Scan(fault) => fault.fmt(f),
+            OpenFault::Driver(error) => write!(f, "{DRIVER}{error}"),
+        }
+    }
+}
+
+impl<D: Driver> fmt::Display for Failed<D>
+where
+    D::Error: fmt::Display,
+{
+    fn fmt(&self, f: &mut fmt::Formatter<'_>) -> fmt::Result {
+        self.fault.fmt(f)
+    }
+}
+
+impl<E: fmt::Display> fmt::Display for WriteFault<E> {
+    fn fmt(&self, f: &mut fmt::Formatter<'_>) -> fmt::Result {
+        match self {
+            WriteFault::Off => f.write_str(OFF),
+            WriteFault::Full => f.write_str("as many addresses have a value as there are slots"),
+            WriteFault::Spent => f.write_str(SPENT),
+            WriteFault::Driver(error) => write!(f, "{DRIVER}{error}"),
+        }
+    }
+}
+
+impl<E: fmt::Display> fmt::Display for ForgetFault<E> {
+    fn fmt(&self, f: &mut fmt::Formatter<'_>) -> fmt::Result {
+        match self {
+            ForgetFault::Off => f.write_str(OFF),
+            ForgetFault::Absent => f.write_str("the address has no value"),
+            ForgetFault::Spent => f.write_str(SPENT),
+            ForgetFault::Driver(error) => write!(f, "{DRIVER}{error}"),
+        }
+    }
+}
+
+impl<E: fmt::Display> fmt::Display for CleanFault<E> {
+    fn fmt(&self, f: &mut fmt::Formatter<'_>) -> fmt::Result {
+        match self {
+            CleanFault::Off => f.write_str(OFF),
+            CleanFault::Driver(error) => write!(f, "{DRIVER}{error}"),
+        }
+    }
+}
+
+#[cfg(feature = "error")]
+#[allow(clippy::incompatible_msrv)] // The feature says that it takes Rust 1.81.
+mod errors {
+    use super::{CleanFault, Driver, Failed, ForgetFault, Off, OpenFault, ScanFault, WriteFault};
+    use core::error::Error;
+    use core::fmt::{Debug, Display};
+
+    impl Error for Off {}
+    impl Error for ScanFault {}
+    impl<E: Debug + Display> Error for OpenFault<E> {}
+    impl<E: Debug + Display> Error for WriteFault<E> {}
+    impl<E: Debug + Display> Error for ForgetFault<E> {}
+    impl<E: Debug + Display> Error for CleanFault<E> {}
+    impl<D: Driver> Error for Failed<D> where D::Error: Debug + Display {}
+}

@@ -1,0 +1,34 @@
+#![doc = include_str!("../README.md")]
+#![no_std]
+#![forbid(unsafe_code)]
+
+// These four are the proved sources with their contracts left out (`firmware/rust/erase`). Some of their parameters
+// are named by contracts alone, some items serve other programs, and loops are written as their proofs want them.
+#[allow(dead_code, unused_imports, unused_variables)]
+#[allow(clippy::complexity, clippy::style)]
+#[rustfmt::skip]
+mod ee_codec;
+#[allow(dead_code, unused_imports, unused_variables)]
+#[allow(clippy::complexity, clippy::style)]
+#[rustfmt::skip]
+mod ee_flash;
+#[allow(dead_code, unused_imports, unused_variables)]
+#[allow(clippy::complexity, clippy::style)]
+#[rustfmt::skip]
+mod ee_pages;
+#[allow(dead_code, unused_imports, unused_variables)]
+#[allow(clippy::complexity, clippy::style)]
+#[rustfmt::skip]
+mod ee_store;
+
+mod driver;
+mod error;
+mod store;
+
+pub use crate::ee_codec::Address;
+pub use crate::ee_flash::{Shape, Word};
+pub use crate::ee_pages::ScanFault;
+pub use crate::ee_store::Written;
+pub use driver::Driver;
+pub use error::{CleanFault, Failed, ForgetFault, Off, OpenFault, WriteFault};
+pub use store::{format, open, Store};

@@ -1,0 +1,235 @@
+//! The store by its methods, over a part in memory that can be told to fail in a step.
+
+use ee_store::{
+    format, open, Address, CleanFault, Driver, ForgetFault, Off, OpenFault, ScanFault, Shape,
+    Store, Word, WriteFault, Written,
+};
+use std::fmt;
+
+/// What the part says when it fails, with the step that failed.
+#[derive(Clone, Copy, Debug, PartialEq, Eq)]
+struct Broken {
+    step: u32,
+}
+
+impl fmt::Display for Broken {
+    fn fmt(&self, f: &mut fmt::Formatter<'_>) -> fmt::Result {
+        write!(f, "step {}", self.step)
+    }
+}
+
+/// Two sets of one page of six words.
+struct Part {
+    words: [[Word; 6]; 2],
+    steps: u32,
+    /// The step that fails, and leaves its word or its page torn.
+    fails_in: Option<u32>,
+}
+
+impl Part {
+    fn new() -> Part {
+        Part {
+            words: [[Word::Erased; 6]; 2],
+            steps: 0,
+            fails_in: None,
+        }
+    }
+
+    fn fails(&mut self) -> Result<(), Broken> {
+        self.steps += 1;
+        match self.fails_in {
+            Some(step) if step == self.steps => Err(Broken { step }),
+            _ => Ok(()),
+        }
+    }
+}
+
+impl Driver for Part {
+    type Error = Broken;
+
+    fn word(&self, page: usize, at: usize) -> Word {
+        self.words[page][at]
+    }
+
+    fn program(&mut self, page: usize, at: usize, value: u64) -> Result<(), Broken> {
+        assert_eq!(self.words[page][at], Word::Erased);
+        assert_ne!(value, u64::MAX);
+        self.words[page][at] = Word::Torn;
+        self.fails()?;
+        self.words[page][at] = Word::Held(value);
+        Ok(())
+    }
+
+    fn erase(&mut self, page: usize) -> Result<(), Broken> {
+        self.words[page] = [Word::Torn; 6];
+        self.fails()?;
+        self.words[page] = [Word::Erased; 6];
+        Ok(())
+    }
+}
+
+const SHAPE: Shape = match Shape::new(1, 6) {
+    Some(shape) => shape,
+    None => panic!("1 to 64 pages, 5 to 512 words"),
+};
+
+fn shape() -> Shape {
+    SHAPE
+}
+
+fn address(number: u16) -> Address {
+    Address::new(number).unwrap()
+}
+
+/// The store with 1=11, no slot free and nothing pending.
+fn full() -> Store<Part> {
+    let mut store = format(Part::new(), shape()).unwrap();
+    assert_eq!(store.write(address(1), 10), Ok(Written::Appended));
+    assert_eq!(store.write(address(1), 11), Ok(Written::Appended));
+    store
+}
+
+/// The store, which fails in the step of this number from here on.
+fn failing(store: Store<Part>, step: u32) -> Store<Part> {
+    let mut part = store.into_driver();
+    part.steps = 0;
+    part.fails_in = Some(step);
+    open(part, shape()).unwrap()
+}
+
+#[test]
+fn values_are_kept() {
+    let mut store = full();
+    assert_eq!(store.read(address(1)), Ok(Some(11)));
+    assert_eq!(store.read(address(2)), Ok(None));
+    assert_eq!(store.write(address(2), 5), Ok(Written::Moved));
+    assert_eq!(store.pending(), Ok(1));
+    assert_eq!(store.clean_step(), Ok(true));
+    assert_eq!(store.clean_step(), Ok(false));
+    assert_eq!(store.live_count(), Ok(2));
+    assert_eq!((store.slots(), store.fill()), (Ok(2), Ok(2)));
+    assert_eq!(store.generation(), Ok(2));
+    assert_eq!(store.next_live(None), Ok(Some((address(1), 11))));
+    assert_eq!(store.next_live(Some(address(1))), Ok(Some((address(2), 5))));
+    assert_eq!(store.next_live(Some(address(2))), Ok(None));
+}
+
+#[test]
+fn refusals() {
+    let mut store = full();
+    assert_eq!(store.forget(address(2)), Err(ForgetFault::Absent));
+    assert_eq!(store.write(address(2), 5), Ok(Written::Moved));
+    assert_eq!(store.write(address(3), 6), Err(WriteFault::Full));
+    assert_eq!(store.forget(address(1)), Ok(Written::Moved));
+    assert_eq!(store.read(address(1)), Ok(None));
+}
+
+#[test]
+fn a_forgotten_address_is_there_again() {
+    let mut store = format(Part::new(), shape()).unwrap();
+    assert_eq!(store.write(address(7), 1), Ok(Written::Appended));
+    assert_eq!(store.forget(address(7)), Ok(Written::Appended));
+    assert_eq!(store.read(address(7)), Ok(None));
+    assert_eq!(store.write(address(7), 2), Ok(Written::Moved));
+    assert_eq!(store.read(address(7)), Ok(Some(2)));
+}
+
+#[test]
+fn the_error_of_the_driver_comes_back() {
+    for step in 1..=4 {
+        let mut store = failing(full(), step);
+        let error = Broken { step };
+        assert_eq!(store.write(address(2), 5), Err(WriteFault::Driver(error)));
+        assert_eq!(store.write(address(2), 5), Err(WriteFault::Off));
+        assert_eq!(store.forget(address(1)), Err(ForgetFault::Off));
+        assert_eq!(store.clean_step(), Err(CleanFault::Off));
+        assert_eq!(store.read(address(1)), Err(Off));
+        assert_eq!((store.fill(), store.pending()), (Err(Off), Err(Off)));
+        let store = open(store.into_driver(), shape()).unwrap();
+        assert_eq!(store.read(address(1)), Ok(Some(11)));
+        // The fourth step commits the move, and a torn mark does not.
+        assert_eq!(store.read(address(2)), Ok(None));
+    }
+}
+
+#[test]
+fn a_move_that_failed_behind_its_commit_is_made() {
+    let mut store = failing(full(), 5);
+    let error = Broken { step: 5 };
+    assert_eq!(store.write(address(2), 5), Err(WriteFault::Driver(error)));
+    let store = open(store.into_driver(), shape()).unwrap();
+    assert_eq!(store.read(address(2)), Ok(Some(5)));
+}
+
+#[test]
+fn errors_of_the_other_calls() {
+    let error = Broken { step: 1 };
+    let mut store = failing(full(), 1);
+    assert_eq!(store.forget(address(1)), Err(ForgetFault::Driver(error)));
+    let mut store = open(store.into_driver(), shape()).unwrap();
+    assert_eq!(store.write(address(2), 5), Ok(Written::Moved));
+    let mut store = failing(store, 1);
+    assert_eq!(store.clean_step(), Err(CleanFault::Driver(error)));
+
+    let mut part = Part::new();
+    part.fails_in = Some(2);
+    let failed = format(part, shape()).err().unwrap();
+    assert_eq!(failed.fault, OpenFault::Driver(Broken { step: 2 }));
+    let failed = open(failed.driver, shape()).err().unwrap();
+    assert_eq!(failed.fault, OpenFault::Scan(ScanFault::NoLiveSet));
+    assert!(format(failed.driver, shape()).is_ok());
+}
+
+#[test]
+fn a_flash_without_a_store() {
+    let failed = open(Part::new(), shape()).err().unwrap();
+    assert_eq!(failed.fault, OpenFault::Scan(ScanFault::Unformatted));
+    assert_eq!(failed.to_string(), "the flash is not formatted");
+
+    let mut part = full().into_driver();
+    part.words[0][4] = Word::Held(0);
+    let failed = open(part, shape()).err().unwrap();
+    assert_eq!(
+        failed.fault,
+        OpenFault::Scan(ScanFault::Foreign { page: 0, at: 4 })
+    );
+    assert_eq!(failed.to_string(), "word 4 of page 0 is not the store's");
+}
+
+#[test]
+fn words_of_all_ones_are_erased() {
+    assert_eq!(Word::from(u64::MAX), Word::Erased);
+    assert_eq!(Word::from(1), Word::Held(1));
+    let mut part = Part::new();
+    part.words = [[Word::Held(u64::MAX); 6]; 2];
+    let failed = open(part, shape()).err().unwrap();
+    assert_eq!(failed.fault, OpenFault::Scan(ScanFault::Unformatted));
+}
+
+#[test]
+fn a_driver_can_be_lent() {
+    let mut part = Part::new();
+    {
+        let mut store = format(&mut part, shape()).unwrap();
+        assert_eq!(store.write(address(1), 10), Ok(Written::Appended));
+    }
+    assert_eq!(open(part, shape()).unwrap().read(address(1)), Ok(Some(10)));
+}
+
+#[test]
+fn errors_are_told_in_words() {
+    let error = Broken { step: 3 };
+    assert_eq!(
+        WriteFault::Driver(error).to_string(),
+        "the driver failed: step 3"
+    );
+    assert_eq!(
+        ForgetFault::<Broken>::Absent.to_string(),
+        "the address has no value"
+    );
+    assert_eq!(
+        CleanFault::Driver(error).to_string(),
+        "the driver failed: step 3"
+    );
+    assert_eq!(Off.to_string(), "the store is off, since its driver failed");
+}
