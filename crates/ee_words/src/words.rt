@@ -1,5 +1,5 @@
 //! The words behind the program's name, read.
-ghost use Rattle.std.specs.Prelude.{◌≡◌, ◌∷◌, ◌<◌, ◌^◌, ℕ, Some, IfSome, codes, decimal};
+ghost use Rattle.std.specs.Prelude.{◌≡◌, [], ◌∷◌, ◌<◌, ◌^◌, ℕ, Some, IfSome, codes, decimal};
 ghost use Rattle.std.specs.Prelude.{option_map};
 ghost use Rattle.ee_flash.specs.Size.{IsWithinLimits, Size};
 ghost use Rattle.ee_words.specs.Job.{ArePageWords, IsCount, IsRow, Row, AreWordsOf, row_of, texts_of};
@@ -50,6 +50,19 @@ fn command_job<'a>(command: &str, operands: &[&'a str]) -> Option<Job<'a>>
         "tidy" => tidy_job(operands),
         "list" => list_job(operands),
         "size" => size_job(operands),
+        "--help" | "-h" | "help" => alone(operands, Job::Help),
+        "--version" => alone(operands, Job::Version),
+        _ => None,
+    }
+}
+
+/// The job of a word that stands alone.
+fn alone<'a>(operands: &[&'a str], job: Job<'a>) -> Option<Job<'a>>
+    ensures found { IfSome result (λ found. (found ≡ job) × (texts_of operands.now ≡ [])) }
+    ensures only { texts_of operands.now ≡ [] → result ≡ Some job }
+{
+    match *operands {
+        [] => Some(job),
         _ => None,
     }
 }
