@@ -46,8 +46,8 @@ fn assert_batch<R: Abort>(
 #[test]
 fn batches_over_forgotten_addresses(rt: HostRuntime) -> Result<(), Fail> {
     let store = half_forgotten(&rt)?;
-    assert_batch(&rt, &store, None, 0, None, Some(64))?;
-    assert_batch(&rt, &store, Some(address(64)?), 62, Some(67), Some(128))?;
+    assert_batch(&rt, &store, None, 0, None, Some(16))?;
+    assert_batch(&rt, &store, Some(address(64)?), 14, Some(67), Some(80))?;
     assert_batch(&rt, &store, Some(address(128)?), 2, Some(129), None)?;
     if !store.is_on() {
         return Err("off".into());
@@ -56,7 +56,7 @@ fn batches_over_forgotten_addresses(rt: HostRuntime) -> Result<(), Fail> {
     Ok(())
 }
 
-/// The 64 live addresses stand behind an empty batch, and the transfer takes all of them along.
+/// The 64 live addresses stand behind empty batches, and the transfer takes all of them along.
 #[test]
 fn a_transfer_over_batches(rt: HostRuntime) -> Result<(), Fail> {
     let mut store = half_forgotten(&rt)?;
