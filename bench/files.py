@@ -8,13 +8,16 @@ import signal
 import stat
 import subprocess
 
-from cases import MOVED, script_text
+from cases import worked
 
-SETTINGS = b"[volume]\naddress = 1\nmin = 0\nmax = 10\ndefault = 5\n"
-CERTIFICATE = b"slots 2 fill 2 live 2 writes 1\nto 1 from 2\ntransfers 1\n"
 SAVING = "image.ee-saving"
-INPUTS = {"image": MOVED, "script": script_text("w 2 6"), "settings": SETTINGS, "certificate": CERTIFICATE,
-          "bad": script_text("w 2 6", "w 2 6 "), "before": MOVED}
+# The worked example all-live, which begins with the image that two moves leave, and its tight certificate.
+ALL_LIVE = worked.example("all-live")
+MOVED = ALL_LIVE.files["image"]
+CERTIFICATE = next(step.printed for step in ALL_LIVE.steps if step.words == "cat certificate").encode()
+SETTINGS = worked.example("second-schema").files["settings"]
+INPUTS = {"image": MOVED, "script": ALL_LIVE.files["script"], "settings": SETTINGS, "certificate": CERTIFICATE,
+          "bad": b"w 2 6\nw 2 6 \n", "before": MOVED}
 # The commands that write an image, and those that don't. Each of the first changes the image.
 WRITERS = {
     "run": ["run", "image", "script"],

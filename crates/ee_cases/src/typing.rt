@@ -12,9 +12,9 @@ pub fn typed<R: Files + AllocGlobal>(rt: &R, transcript: &str) -> io::Result<Str
     let mut found = String::new(rt.alloc());
     for line in transcript.lines() {
         if let Some(command) = line.strip_prefix("$ ") {
+            let printed = printed_by(rt, command)?;
             found.push_str(line)?;
             found.push_str("\n")?;
-            let printed = printed_by(rt, command)?;
             found.push_str(printed.as_str())?;
         }
     }
@@ -23,21 +23,22 @@ pub fn typed<R: Files + AllocGlobal>(rt: &R, transcript: &str) -> io::Result<Str
 
 /// What a command prints.
 fn printed_by<R: Files + AllocGlobal>(rt: &R, command: &str) -> io::Result<String> {
-    let words: Vec<&str> = command.split(" ").collect(rt.alloc())?;
-    match words.as_slice() {
-        ["cat", path] => fs::read_to_string(rt, *path),
-        ["ee", "run", image, script] => printed_by_both(rt, image, script),
-        ["ee", words @ .., "<", path] => {
-            let input = fs::read(rt, *path)?;
-            told_of(rt, words, input.as_slice())
-        }
-        ["ee", words @ .., ">", path] => {
-            let printed = told_of(rt, words, b"")?;
-            fs::write(rt, *path, printed.as_str())?;
-            Ok(String::new(rt.alloc()))
-        }
-        ["ee", words @ ..] => told_of(rt, words, b""),
-        _ => Ok(String::from_str(rt.alloc(), "no such command\n")?),
+    if let Some(path) = command.strip_prefix("cat ") {
+        return fs::read_to_string(rt, path);
+    }
+    if let Some((typed, path)) = command.split_once(" < ") {
+        let input = fs::read(rt, path)?;
+        return told_of(rt, typed, input.as_slice());
+    }
+    if let Some((typed, path)) = command.split_once(" > ") {
+        let printed = told_of(rt, typed, b"")?;
+        fs::write(rt, path, printed.as_str())?;
+        return Ok(String::new(rt.alloc()));
+    }
+    let files = command.strip_prefix("ee run ").unwrap_or("");
+    match files.split_once(" ") {
+        Some((image, script)) => printed_by_both(rt, command, image, script),
+        None => told_of(rt, command, b""),
     }
 }
 
@@ -45,14 +46,16 @@ fn printed_by<R: Files + AllocGlobal>(rt: &R, command: &str) -> io::Result<Strin
 /// no image to copy, what it prints.
 fn printed_by_both<R: Files + AllocGlobal>(
     rt: &R,
+    command: &str,
     image: &str,
     script: &str,
 ) -> io::Result<String> {
     if fs::copy(rt, image, COPY).is_err() {
-        return told_of(rt, &["run", image, script], b"");
+        return told_of(rt, command, b"");
     }
-    let by_index = told_of(rt, &["run", "--indexed", COPY, script], b"")?;
-    let printed = told_of(rt, &["run", image, script], b"")?;
+    let indexed = format!(in rt.alloc(); "ee run --indexed {COPY} {script}")?;
+    let by_index = told_of(rt, indexed.as_str(), b"")?;
+    let printed = told_of(rt, command, b"")?;
     let is_same = by_index.as_bytes() == printed.as_bytes()
         && fs::read(rt, COPY)?.as_slice() == fs::read(rt, image)?.as_slice();
     if is_same {
@@ -61,14 +64,14 @@ fn printed_by_both<R: Files + AllocGlobal>(
     Ok(String::from_str(rt.alloc(), "by index it goes otherwise\n")?)
 }
 
-/// What the program prints on its words, and its status in brackets, if that isn't 0.
-fn told_of<R: Files + AllocGlobal>(rt: &R, words: &[&str], input: &[u8]) -> io::Result<String> {
-    let mut owned: Vec<String> = Vec::new(rt.alloc());
-    for word in words {
-        owned.push(String::from_str(rt.alloc(), word)?)?;
+/// What the program prints on the words behind its name, and its status in brackets, if that isn't 0.
+fn told_of<R: Files + AllocGlobal>(rt: &R, command: &str, input: &[u8]) -> io::Result<String> {
+    let mut words: Vec<String> = Vec::new(rt.alloc());
+    for word in command.split(" ").skip(1) {
+        words.push(String::from_str(rt.alloc(), word)?)?;
     }
     let desk = Desk::new(rt, input);
-    let status = run(&desk, owned.as_slice());
+    let status = run(&desk, words.as_slice());
     let (mut printed, told) = desk.written();
     printed.push_str(told.as_str())?;
     if status != 0 {
