@@ -1,8 +1,8 @@
 -- The lines of what an image holds.
-use Rattle.std.proofs.Common.{◌≡◌, ◌∙◌, ℕ, Option, None, Some, List, [], ◌∷◌, ◌++◌, sym, ap, append_assoc, append-nil, decimal}
+use Rattle.std.proofs.Common.{◌≡◌, ◌∙◌, ℕ, Option, List, [], ◌∷◌, ◌++◌, sym, ap, append_assoc, append-nil, decimal}
 use Rattle.std.proofs.lemmas.Grind.{flat_map-append}
 use Rattle.ee_text.specs.Field.{joined, space}
-use Rattle.ee_text.specs.Line.{line_feed, line_of}
+use Rattle.ee_text.specs.Line.{line_feed}
 use Rattle.ee_store.specs.State.{State, state_of}
 use Rattle.ee_flash.specs.Device.{Device}
 use Rattle.ee_settings.specs.Listing.{listed_in}

@@ -2,7 +2,6 @@
 use Rattle.std.proofs.Common.{◌≡◌, ℕ, List, subst}
 use Rattle.ee_flash.specs.Device.{Device}
 use Rattle.ee_flash.specs.Size.{Size}
-use Rattle.ee_store.proofs.Wears.{no_wear}
 use Rattle.ee_store.specs.Finished.{IsStore}
 use Rattle.ee_commands.specs.Images.{IsFormattedText}
 use Rattle.ee_image_store.specs.Opening.{IsNewStore, Spells}

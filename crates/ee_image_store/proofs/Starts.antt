@@ -16,7 +16,6 @@ use Rattle.ee_check.specs.Live.{changed}
 use Rattle.ee_check.specs.Schedule.{Append, Carry, IsProper, Situation, after_move}
 use Rattle.ee_check.proofs.Sizes.{remove_key-le}
 use Rattle.ee_plan.specs.Start.{AreLive, IsStartOf}
-use Rattle.ee_script.specs.declared.command.Command.TheVariants.{Write, Forget}
 use Rattle.ee_plan.proofs.LiveLists.{live_after_put, live_count_is}
 
 -- what leaves the map and the slots as they are leaves the start

@@ -14,7 +14,6 @@ use Rattle.ee_store.proofs.Wears.{no_wear, wears_rise}
 use Rattle.ee_store.specs.Openings.{IsFormatted, Opens}
 use Rattle.ee_store.specs.State.{not_blank_pages}
 use Rattle.ee_image.specs.Text.{at_rest, image_text}
-use Rattle.ee_words.specs.declared.fault.Fault.TheVariants.{Memory}
 use Rattle.ee_words.specs.declared.replay_fault.ReplayFault.{ReplayFault}
 use Rattle.ee_words.specs.declared.replay_fault.ReplayFault.TheVariants as replay
 use Rattle.ee_image_store.specs.Opening.{IsNewStore, IsOpenFault, IsOpened, IsStillFault, Spells, StaysOn}

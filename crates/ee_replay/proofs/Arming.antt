@@ -1,5 +1,5 @@
 -- Each cut in a run at a desk was armed.
-use Rattle.std.proofs.Common.{◌≡◌, ◌∙◌, Bool, List, [], ◌∷◌, ap, false, not, refl, subst, sym, true}
+use Rattle.std.proofs.Common.{◌≡◌, ◌∙◌, Bool, List, [], ◌∷◌, ap, false, not, refl, subst, true}
 use Rattle.std.specs.Prelude.{◌&&◌, ◌||◌}
 use Rattle.ee_flash.specs.Size.{Size}
 use Rattle.ee_script.specs.Run.{Run}

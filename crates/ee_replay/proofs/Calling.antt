@@ -1,16 +1,11 @@
 -- A call at a desk, and the answer to it.
-use Rattle.std.proofs.Common.{◌≡◌, ◌∙◌, ℕ, Bool, Option, Result, Some, None, Ok, Err, ap, false, refl, subst, sym, true}
+use Rattle.std.proofs.Common.{◌≡◌, ◌∙◌, ℕ, Bool, Some, None, Ok, Err, ap, false, true}
 use Rattle.ee_flash.specs.Device.{Device, IsOff, IsOn}
-use Rattle.ee_pages.specs.Meaning.{Put}
-use Rattle.ee_pages.specs.Meaning as meaning
-use Rattle.ee_store.specs.Events.{Point, closed}
-use Rattle.ee_store.specs.Runs.{Call, Cleaned as DidClean, DidRead, Forgot, Wrote}
-use Rattle.ee_store.specs.declared.variables.ForgetFault.{ForgetFault}
+use Rattle.ee_store.specs.Events.{Point}
+use Rattle.ee_store.specs.Runs.{Cleaned as DidClean, DidRead, Forgot, Wrote}
 use Rattle.ee_store.specs.declared.variables.ForgetFault.TheVariants as forgetting
 use Rattle.ee_store.specs.declared.variables.Off.{Off as IsOffFault}
-use Rattle.ee_store.specs.declared.variables.WriteFault.{WriteFault}
 use Rattle.ee_store.specs.declared.variables.WriteFault.TheVariants as fault
-use Rattle.ee_store.specs.declared.variables.Written.{Written}
 use Rattle.ee_store.specs.declared.variables.Written.TheVariants as written
 use Rattle.ee_script.specs.declared.command.Command.TheVariants.{Write, Read, Forget, Clean}
 use Rattle.ee_script.specs.declared.answer.Answer.TheVariants.{Appended, Moved, Full, Spent, Cleaned, Idle, Value, NoValue, Absent, Cut, Off}

@@ -1,7 +1,6 @@
 -- What a line does at a desk is a step of the report machine.
 use Rattle.std.proofs.Common.{◌≡◌, ◌∙◌, ◌⊎◌, ◌+◌, arith, ℕ, Bool, Option, Some, None, Ok, Err, List, [], ◌∷◌, ap, false, inl, inr, option_map, refl, subst, sym, true}
 use Rattle.std.proofs.lemmas.List.Elements.{All-cons, All-nil}
-use Rattle.std.specs.Prelude.{IsSomeAnd}
 use Rattle.ee_flash.specs.Device.{Device}
 use Rattle.ee_flash.specs.Power.{GoesOn, IsCut}
 use Rattle.ee_flash.specs.Size.{Size}
@@ -21,9 +20,8 @@ use Rattle.ee_script.specs.declared.command.Command.TheVariants.{Write, Read, Fo
 use Rattle.ee_script.specs.declared.answer.Answer.{Answer}
 use Rattle.ee_script.specs.declared.answer.Answer.TheVariants.{Appended, Moved, Full, Spent, Cleaned, Idle, Value, NoValue, Absent, Cut, Off, Opened}
 use Rattle.ee_script.specs.Run.{Run}
-use Rattle.ee_image_store.specs.Machine.{CallStep, CutsChange, Desk, DeskStep, PowerStep, Step, is_cut_answer}
-use Rattle.ee_replay.specs.Serving.{Asks, Attends, Powers, Serves, call_of, desk_of, is_armed, serving_on}
-use Rattle.ee_image_store.specs.Steps.{Steps}
+use Rattle.ee_image_store.specs.Machine.{CallStep, CutsChange, DeskStep, is_cut_answer}
+use Rattle.ee_replay.specs.Serving.{Asks, Attends, Powers, Serves, desk_of, is_armed, serving_on}
 use Rattle.ee_replay.proofs.Powering.{state_armed, state_powered}
 use Rattle.ee_replay.proofs.Runs.{machine_step}
 

@@ -44,11 +44,11 @@ use Rattle.std.specs.Prelude.{Err}
 use Rattle.ee_replay.specs.Desk.{Calls, SaysTheSame}
 use Rattle.ee_image_store.specs.Machine.{is_cut_answer, was_cut}
 use Rattle.ee_replay.specs.Serving.{Attends, IsCounted, IsTraced, Noted, Notes, Records, Serves, claim_noted, no_notes, noted, serving_on}
-use Rattle.ee_image_store.specs.Trace.{accepted, moved_at, moves, trace_of}
+use Rattle.ee_image_store.specs.Trace.{accepted, moved_at, trace_of}
 use Rattle.ee_image_store.proofs.Starts.{appends, forgetting_fits, moves_on, start_stays, write_fits}
 use Rattle.ee_replay.proofs.Powering.{state_armed}
 use Rattle.ee_replay.proofs.Runs.{neither}
-use Rattle.ee_replay.proofs.UncutRuns.{at_open, run_open, served_open}
+use Rattle.ee_replay.proofs.UncutRuns.{at_open, served_open}
 
 -- ---- a store that stays open
 

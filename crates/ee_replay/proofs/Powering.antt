@@ -1,5 +1,5 @@
 -- What a device's image says stays as power comes on and a cut is armed.
-use Rattle.std.proofs.Common.{◌≡◌, ◌∙◌, ◌≤◌, ℕ, arith, Bool, Option, Some, None, ap, refl, subst, sym, true}
+use Rattle.std.proofs.Common.{◌≡◌, ◌∙◌, ◌≤◌, ℕ, arith, Option, Some, None, ap, refl, subst, sym, true}
 use Rattle.ee_flash.specs.Device.{Device, IsFormed, IsOn, all_ones}
 use Rattle.ee_pages.proofs.ScanFaults.{legal_is_good}
 use Rattle.ee_pages.specs.Layout.{IsScanFault}
@@ -10,7 +10,7 @@ use Rattle.ee_pages.specs.declared.side.Side.{Side}
 use Rattle.ee_pages.specs.declared.side.Side.TheVariants.{First, Second}
 use Rattle.ee_store.specs.Events.{powered}
 use Rattle.ee_store.specs.Finished.{IsFinished, IsMarked, IsStore}
-use Rattle.ee_store.specs.State.{State, state_in, state_of, state_with}
+use Rattle.ee_store.specs.State.{state_in, state_of, state_with}
 use Rattle.ee_store.specs.Events.{Point}
 use Rattle.ee_store.specs.Openings.{IndexedOpenFails, IsCutOpening, Opens}
 use Rattle.ee_store.specs.declared.indexed.IndexedFault.{IndexedFault}

@@ -2,7 +2,6 @@
 use Rattle.std.proofs.Common.{◌≡◌, ℕ, List, ap, subst, arith}
 use Rattle.ee_flash.specs.Device.{Device, blank_device}
 use Rattle.ee_flash.specs.Size.{Size}
-use Rattle.ee_store.proofs.Wears.{no_wear}
 use Rattle.ee_store.specs.Events.{Point}
 use Rattle.ee_store.specs.State.{State, formatted, state_of}
 use Rattle.ee_image_store.specs.Erases.{ErasesRise, erases_of_all}

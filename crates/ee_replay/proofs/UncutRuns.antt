@@ -1,5 +1,5 @@
 -- Where no line is cut, a desk is a store that stays open.
-use Rattle.std.proofs.Common.{◌≡◌, Bool, List, [], ◌∷◌, ap, false, refl, subst, sym, true}
+use Rattle.std.proofs.Common.{◌≡◌, List, [], ◌∷◌, ap, false, refl, subst, true}
 use Rattle.ee_flash.specs.Device.{Device}
 use Rattle.ee_store.specs.Events.{Point}
 use Rattle.ee_script.specs.Run.{Run}

@@ -1,5 +1,5 @@
 -- Where a desk is: its device, and whether a store is open on it.
-use Rattle.std.specs.Prelude.{◌≡◌, ℕ, Bool, true, false, IsTrue, Option, Some, None, Ok, Err, is_some}
+use Rattle.std.specs.Prelude.{◌≡◌, ℕ, Bool, true, false, IsTrue, Some, Err, is_some}
 use Rattle.ee_flash.specs.Device.{Device, IsOn, blank_device}
 use Rattle.ee_flash.specs.Memory.{device_of}
 use Rattle.ee_flash.specs.declared.memory.MemFlash.{MemFlash}
