@@ -209,6 +209,16 @@ fn torn_slots_are_counted() {
 }
 
 #[test]
+fn a_store_that_is_off() {
+    let mut store = Store::off(full().into_driver());
+    assert_eq!(store.read(address(1)), Err(Off));
+    assert_eq!(store.write(address(1), 1), Err(WriteFault::Off));
+    assert_eq!(store.slots(), Err(Off));
+    let store = open(store.into_driver(), shape()).unwrap();
+    assert_eq!(store.read(address(1)), Ok(Some(11)));
+}
+
+#[test]
 fn words_of_all_ones_are_erased() {
     assert_eq!(Word::from(u64::MAX), Word::Erased);
     assert_eq!(Word::from(1), Word::Held(1));
