@@ -43,3 +43,4 @@ pub mod IndexedMoves
 pub mod IndexedBatches
 pub mod IndexedStores
 pub mod Premises
+pub mod Startable
