@@ -1,5 +1,4 @@
 //! The table of commands, built with `clap`, which finds what `job` finds.
-use crate::tests::same_at;
 use clap::{Arg, ArgAction, ArgMatches, Command, value_parser};
 use ee_flash::Shape;
 use ee_words::{Job, job};
@@ -147,35 +146,34 @@ fn job_with_script<'a>(
     }
 }
 
-/// Lines that both find.
-const LINES: &str = "\
-ee try 2 5
-ee format 64 512 a.image
-ee run a.image a.script
-ee run --indexed a.image a.script
-ee get a.image a.settings volume
-ee set a.image a.settings volume 4294967295
-ee plan a.image a.script
-ee check a.image a.script a.certificate
-ee wear a.image
-ee wear a.image b.image
-ee states a.image
-ee clean a.image
-ee stale a.image a.settings
-ee tidy a.image a.settings
-ee list a.image
-ee list a.image a.settings
-ee size 512 a.script 10000 4294967295";
-
 #[test]
 fn clap_finds_the_same_jobs(rt: HostRuntime) -> Result<(), Fail> {
-    for line in LINES.split('\n') {
-        let words: Vec<&str> = line.split_whitespace().collect(rt.alloc())?;
-        let matches = table(rt.alloc())?.try_get_matches_from(words.as_slice())?;
+    let lines: [&[&str]; 17] = [
+        &["ee", "try", "2", "5"],
+        &["ee", "format", "64", "512", "a.image"],
+        &["ee", "run", "a.image", "a.script"],
+        &["ee", "run", "--indexed", "a.image", "a.script"],
+        &["ee", "get", "a.image", "a.settings", "volume"],
+        &["ee", "set", "a.image", "a.settings", "volume", "4294967295"],
+        &["ee", "plan", "a.image", "a.script"],
+        &["ee", "check", "a.image", "a.script", "a.certificate"],
+        &["ee", "wear", "a.image"],
+        &["ee", "wear", "a.image", "b.image"],
+        &["ee", "states", "a.image"],
+        &["ee", "clean", "a.image"],
+        &["ee", "stale", "a.image", "a.settings"],
+        &["ee", "tidy", "a.image", "a.settings"],
+        &["ee", "list", "a.image"],
+        &["ee", "list", "a.image", "a.settings"],
+        &["ee", "size", "512", "a.script", "10000", "4294967295"],
+    ];
+    for words in lines {
+        let matches = table(rt.alloc())?.try_get_matches_from(words)?;
         let (name, found) = matches.subcommand().ok_or("no command")?;
-        let (_, operands) = words.as_slice().split_first().ok_or("no words")?;
-        same_at(&rt, line, job_of(name, found), job(operands));
-        same_at(&rt, line, job(operands).is_some(), true);
+        let (_, operands) = words.split_first().ok_or("no words")?;
+        let wanted = job(operands);
+        assert!(rt; wanted.is_some());
+        assert_eq!(rt; job_of(name, found), wanted);
     }
     Ok(())
 }
