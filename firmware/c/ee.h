@@ -68,6 +68,7 @@ typedef struct ee_numbers {
     uint32_t fill;       /* how many of them are used, torn ones too */
     uint32_t live;       /* how many addresses have a value */
     uint32_t pending;    /* how many pages wait to be erased */
+    uint32_t torn;       /* how many of the slots are torn: power was cut while they were programmed */
     uint32_t generation; /* of the live set: 1 to 4294967294, one more with each move */
 } ee_numbers;
 

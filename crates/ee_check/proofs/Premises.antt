@@ -1,9 +1,8 @@
 -- What laws of this crate need: without the named premise they would be false, and here is where.
-use Rattle.std.proofs.Common.{◌≡◌, ℕ, List, [], ◌∷◌, arith}
+use Rattle.std.proofs.Common.{List, [], ◌∷◌, arith}
 use Rattle.ee_check.specs.declared.change.Change.{Change}
 use Rattle.ee_check.specs.declared.change.Change.TheVariants.{Write}
 use Rattle.ee_check.specs.Certificate.{Claim, IsTight}
-use Rattle.ee_check.specs.Live.{KeepsWithin}
 use Rattle.ee_check.specs.Schedule.{Situation, IsProper}
 use Rattle.ee_check.proofs.Bounds.{schedules_keep_within_lem, tight_is_met_lem}
 

@@ -4,7 +4,7 @@ use Rattle.std.specs.List.{list_any}
 use Rattle.ee_flash.specs.Device.{Device, word_at}
 use Rattle.ee_flash.specs.Step.{Step, Program}
 use Rattle.ee_flash.specs.declared.word.Word.{Word}
-use Rattle.ee_flash.specs.declared.word.Word.TheVariants.{Erased}
+use Rattle.ee_flash.specs.declared.word.Word.TheVariants.{Erased, Torn}
 use Rattle.ee_codec.specs.Words.{mark_number, receive}
 use Rattle.ee_pages.specs.declared.state.Mark.{Mark}
 use Rattle.ee_pages.specs.declared.state.Mark.TheVariants as marks
@@ -15,6 +15,11 @@ use Rattle.ee_pages.specs.declared.state.State.TheVariants as states
 abbrev pub is_written : Word → Bool
 is_written Erased = false
 is_written word = true
+
+-- a program of the word, or an erase of its page, was cut
+abbrev pub is_torn : Word → Bool
+is_torn Torn = true
+is_torn word = false
 
 -- the word at a place of a page, erased past the end
 abbrev pub word_in : List Word → ℕ → Word

@@ -7,7 +7,7 @@ use Rattle.ee_flash.specs.declared.word.Word.{Word}
 use Rattle.ee_codec.specs.Reading.{mark_of, receive_of}
 use Rattle.ee_codec.specs.declared.header.MarkRead.{MarkRead}
 use Rattle.ee_codec.specs.declared.header.MarkRead.TheVariants.{Absent, Present, Broken, Foreign}
-use Rattle.ee_pages.specs.Page.{is_blank, is_written, word_in}
+use Rattle.ee_pages.specs.Page.{is_blank, is_torn, is_written, word_in}
 use Rattle.ee_pages.specs.declared.side.Side.{Side}
 use Rattle.ee_pages.specs.declared.side.Side.TheVariants.{First, Second}
 
@@ -60,6 +60,10 @@ slots_of pages = flat_map (drop 4) pages
 -- how many slots were written, whole or torn
 abbrev pub fill_of : List Word → ℕ
 fill_of slots = length (filter is_written slots)
+
+-- how many of them are torn
+abbrev pub torn_of : List Word → ℕ
+torn_of slots = length (filter is_torn slots)
 
 -- how many slots stand before the first erased one
 abbrev pub front : List Word → ℕ

@@ -4,11 +4,12 @@ ghost use Rattle.ee_codec.specs.Words.{IsAddress};
 ghost use Rattle.ee_flash.specs.Size.{slot_count};
 ghost use Rattle.ee_pages.specs.Layout.{IsLayout};
 ghost use Rattle.ee_pages.specs.Meaning.{IsNextLive, above_of, latest_in, live_in, meaning, says as word_says};
-ghost use Rattle.ee_pages.specs.Sets.{set_of, slots_of};
+ghost use Rattle.ee_pages.specs.Sets.{set_of, slots_of, torn_of};
 
 use crate::batch::next_batch;
 use crate::find::Layout;
 use crate::side::{Side, first_page, page_slot, set_slot};
+use crate::state::is_torn;
 use ee_codec::{Address, Slot, ends_in, read_slot};
 use ee_flash::{Flash, Word};
 
@@ -95,6 +96,24 @@ pub fn live_count<F: Flash>(flash: &F, layout: &Layout) -> usize
         };
         after = Some(through);
     }
+}
+
+/// How many slots of the live set are torn, 0 to its fill. It reads each slot once. The layout is the
+/// image's.
+///
+/// Source: ours.
+pub fn torn_slots<F: Flash>(flash: &F, layout: &Layout) -> usize
+    requires { IsLayout (F.device flash.now) layout.now }
+    ensures { let slots = slots_of (set_of layout.now.side (F.device flash.now)) in
+        result ≡ torn_of slots }
+{
+    let mut torn = 0;
+    for number in 0..flash.shape().slots() {
+        if is_torn(set_slot(flash, layout.side, number)) {
+            torn += 1;
+        }
+    }
+    torn
 }
 
 // What the first `used` slots of a page of a set say of an address: the newest that says something

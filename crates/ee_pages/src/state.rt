@@ -1,7 +1,7 @@
 ghost use Rattle.std.specs.Prelude.{◌≡◌, ◌<◌, ℕ};
 ghost use Rattle.ee_flash.specs.Device.{page_at};
 ghost use Rattle.ee_flash.specs.Size.{page_count};
-ghost use Rattle.ee_pages.specs.Page.{is_blank as blank, is_written as written, state_of_words};
+ghost use Rattle.ee_pages.specs.Page.{is_blank as blank, is_torn as torn, is_written as written, state_of_words};
 
 use ee_flash::{Flash, Word};
 
@@ -78,4 +78,11 @@ pub(crate) fn is_written(word: Word) -> bool
     ensures { result ≡ written word }
 {
     !matches!(word, Word::Erased)
+}
+
+// Whether a program of the word, or an erase of its page, was cut.
+pub(crate) fn is_torn(word: Word) -> bool
+    ensures { result ≡ torn word }
+{
+    matches!(word, Word::Torn)
 }

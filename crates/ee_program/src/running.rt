@@ -7,7 +7,9 @@ use ee_shell::{
     replay_indexed, set_setting, size_parts, stale_text, states_text, tidy_image, try_script,
     wear_text,
 };
-use ee_words::{Fault, File, Job, fault_line, job, read_whole, status_of, write_whole};
+use ee_words::{
+    Fault, File, HELP, Job, VERSION, fault_line, job, read_whole, status_of, write_whole,
+};
 use std::rt::Files;
 use std::{fs, io};
 
@@ -77,6 +79,8 @@ fn work<R: Files + Input + Print + AllocGlobal>(rt: &R, job: &Job<'_>) -> Result
             cycles,
             runs,
         } => tell_sizes(rt, words, script, cycles, runs),
+        Job::Help => print(rt, HELP.as_bytes()),
+        Job::Version => print(rt, VERSION.as_bytes()),
     }
 }
 

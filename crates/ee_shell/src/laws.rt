@@ -1,21 +1,5 @@
 //! What holds of every script at a desk, and of every part for which sizes were told. Each function
 //! does nothing: its contract is the law.
-ghost use Rattle.ee_shell.specs.Laws.{EachCutWasArmed, EachSizeLastsAsTold, EachSizeMovesAsTold};
 
-/// No line is answered `cut` before the first that arms a cut, and from one such line to the next at
-/// most one is.
-pub fn cuts_are_armed()
-    ensures { EachCutWasArmed }
-{}
-
-/// Where `size_parts` told sizes for a script that is made so many times, and calls of a store that was
-/// just formatted ask for its changes so many times, without a cut, no page is erased more often than
-/// the line of the store's size says, whatever the calls are answered.
-pub fn each_size_lasts_as_told()
-    ensures { EachSizeLastsAsTold }
-{}
-
-/// Where the calls make those changes, and no others, they move the map just as often as that line says.
-pub fn each_size_moves_as_told()
-    ensures { EachSizeMovesAsTold }
-{}
+pub use ee_commands::laws::{each_size_lasts_as_told, each_size_moves_as_told};
+pub use ee_replay::laws::cuts_are_armed;

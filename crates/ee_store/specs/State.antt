@@ -7,7 +7,7 @@ use Rattle.ee_flash.specs.Step.{one_more}
 use Rattle.ee_flash.specs.declared.word.Word.{Word}
 use Rattle.ee_pages.specs.Meaning.{Change, Map, changed, live_in, meaning}
 use Rattle.ee_pages.specs.Page.{is_blank}
-use Rattle.ee_pages.specs.Sets.{fill_of, first_page, live_of, other, pending_of, set_of, slots_of}
+use Rattle.ee_pages.specs.Sets.{fill_of, first_page, live_of, other, pending_of, set_of, slots_of, torn_of}
 use Rattle.ee_pages.specs.declared.side.Side.{Side}
 
 -- the value of each address that has one, how many slots are used, the generation of the live set, and how many pages of
@@ -38,6 +38,14 @@ state_in device (Some live) = state_with device live.0 live.1
 -- the state that a device's image says
 abbrev pub state_of : Device → State
 state_of device = state_in device (live_of device)
+
+abbrev pub torn_slots_in : Device → Option (Side × ℕ) → ℕ
+torn_slots_in device None = 0
+torn_slots_in device (Some live) = torn_of (slots_of (set_of live.0 device))
+
+-- how many slots of the live set are torn
+abbrev pub torn_slots_of : Device → ℕ
+torn_slots_of device = torn_slots_in device (live_of device)
 
 -- the slots of a set
 abbrev pub capacity : Device → ℕ

@@ -8,7 +8,7 @@ ghost use Rattle.ee_pages.specs.Meaning.{IsNextLive, above_of, live_in};
 ghost use Rattle.ee_store.specs.Calls.{Cleans, Forgets, Reads, Writes};
 ghost use Rattle.ee_store.specs.Changes.{IsFull, IsSpent};
 ghost use Rattle.ee_store.specs.Finished.{IsStore};
-ghost use Rattle.ee_store.specs.State.{capacity, state_of};
+ghost use Rattle.ee_store.specs.State.{capacity, state_of, torn_slots_of};
 
 use crate::change::Change;
 use crate::changing::make_change;
@@ -16,7 +16,7 @@ use crate::cleaning::{clean, count_pending};
 use crate::variables::{ForgetFault, Off, Variables, WriteFault, Written};
 use ee_codec::Address;
 use ee_flash::{Cut, Flash};
-use ee_pages::{Layout, LiveBatch, latest, live_count, next_batch, next_live};
+use ee_pages::{Layout, LiveBatch, latest, live_count, next_batch, next_live, torn_slots};
 use std::marker::Model;
 
 /// The greatest generation of a set.
@@ -61,6 +61,17 @@ impl<F: Flash + Drop> Store<F> {
         ensures store { IsStore self }
     {
         self.flash
+    }
+
+    /// How many slots of the live set are torn, 0 to its fill: words in whose step power was cut. It
+    /// reads each slot once.
+    ///
+    /// Source: ours.
+    pub fn torn_slots(&self) -> usize
+        requires { IsOn self.now }
+        ensures { result ≡ torn_slots_of self.now }
+    {
+        torn_slots(&self.flash, &self.layout)
     }
 
     /// Whether a write or forgetting must be refused since no generation is left for the transfer

@@ -22,6 +22,8 @@ pub data Row : Type 0 where
   Tidy : List ℕ → List ℕ → Row
   Listing : List ℕ → Option (List ℕ) → Row
   Sizing : ℕ → List ℕ → ℕ → ℕ → Row
+  Help : Row
+  Version : Row
 
 -- the row of a job: its words as texts
 abbrev pub row_of : Job → Row
@@ -39,6 +41,8 @@ row_of (job.Stale image settings) = Stale image.now settings.now
 row_of (job.Tidy image settings) = Tidy image.now settings.now
 row_of (job.List image settings) = Listing image.now (option_map (λ path. path.now) settings)
 row_of (job.Size words script cycles runs) = Sizing words script.now cycles runs
+row_of job.Help = Help
+row_of job.Version = Version
 
 -- the texts of the words
 abbrev pub texts_of : List (Bor (List ℕ)) → List (List ℕ)
@@ -69,6 +73,8 @@ IsRow (Stale image settings) = Unit {0}
 IsRow (Tidy image settings) = Unit {0}
 IsRow (Listing image settings) = Unit {0}
 IsRow (Sizing words script cycles runs) = ArePageWords words × IsCount cycles × IsCount runs
+IsRow Help = Unit {0}
+IsRow Version = Unit {0}
 
 -- the words say this row; no words say `try 1 6`
 abbrev pub AreWordsOf : List (List ℕ) → Row → Type 0
@@ -93,3 +99,6 @@ AreWordsOf words (Listing image None) = words ≡ codes "list" ∷ image ∷ []
 AreWordsOf words (Listing image (Some settings)) = words ≡ codes "list" ∷ image ∷ settings ∷ []
 AreWordsOf words (Sizing page_words script cycles runs) =
     words ≡ codes "size" ∷ decimal page_words ∷ script ∷ decimal cycles ∷ decimal runs ∷ []
+AreWordsOf words Help =
+    (words ≡ codes "--help" ∷ []) ⊎ (words ≡ codes "-h" ∷ []) ⊎ (words ≡ codes "help" ∷ [])
+AreWordsOf words Version = words ≡ codes "--version" ∷ []

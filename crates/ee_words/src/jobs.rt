@@ -83,4 +83,8 @@ pub enum Job<'a> {
         cycles: u32,
         runs: u32,
     },
+    /// `--help`, `-h` or `help`, alone: tells the commands.
+    Help,
+    /// `--version`, alone: tells the version of the program.
+    Version,
 }

@@ -13,12 +13,14 @@
 
 mod fault;
 mod files;
+mod help;
 mod jobs;
 mod replay_fault;
 mod words;
 
 pub use fault::{Fault, File, fault_line, status_of};
 pub use files::{MOST_BYTES, MOST_READS, ReadFault, Stopped, read_whole, write_whole};
+pub use help::{HELP, VERSION};
 pub use jobs::Job;
 pub use replay_fault::ReplayFault;
 pub use words::job;

@@ -1,8 +1,8 @@
 //! The words behind the program's name, read.
-ghost use Rattle.std.specs.Prelude.{◌≡◌, ◌∷◌, ◌<◌, ◌^◌, ℕ, Some, IfSome, codes, decimal};
+ghost use Rattle.std.specs.Prelude.{◌≡◌, [], ◌∷◌, ◌<◌, ◌^◌, ℕ, Some, IfSome, codes, decimal};
 ghost use Rattle.std.specs.Prelude.{option_map};
 ghost use Rattle.ee_flash.specs.Size.{IsWithinLimits, Size};
-ghost use Rattle.ee_words.specs.Job.{ArePageWords, IsCount, IsRow, Row, AreWordsOf, row_of, texts_of};
+ghost use Rattle.ee_words.specs.Job.{ArePageWords, Help, IsCount, IsRow, Row, AreWordsOf, row_of, texts_of};
 
 use super::jobs::Job;
 use ee_flash::Shape;
@@ -50,6 +50,8 @@ fn command_job<'a>(command: &str, operands: &[&'a str]) -> Option<Job<'a>>
         "tidy" => tidy_job(operands),
         "list" => list_job(operands),
         "size" => size_job(operands),
+        "--help" | "-h" | "help" => help_job(operands),
+        "--version" => version_job(operands),
         _ => None,
     }
 }
@@ -281,6 +283,30 @@ fn size_job<'a>(operands: &[&'a str]) -> Option<Job<'a>>
             cycles: count_of(cycles)?,
             runs: count_of(runs)?,
         }),
+        _ => None,
+    }
+}
+
+/// The job of a word for help with these operands.
+fn help_job<'a>(operands: &[&'a str]) -> Option<Job<'a>>
+    ensures found { IfSome result (λ job. (row_of job ≡ Help) × (texts_of operands.now ≡ [])) }
+    ensures only { texts_of operands.now ≡ [] → option_map row_of result ≡ Some Help }
+{
+    match *operands {
+        [] => Some(Job::Help),
+        _ => None,
+    }
+}
+
+/// The job of `--version` with these operands.
+fn version_job<'a>(operands: &[&'a str]) -> Option<Job<'a>>
+    ensures found { IfSome result (λ job. IsRow (row_of job)
+        × AreWordsOf (codes "--version" ∷ texts_of operands.now) (row_of job)) }
+    ensures only { (row : Row) → IsRow row → AreWordsOf (codes "--version" ∷ texts_of operands.now) row
+        → option_map row_of result ≡ Some row }
+{
+    match *operands {
+        [] => Some(Job::Version),
         _ => None,
     }
 }

@@ -109,6 +109,7 @@ static void add_counts(void) {
     add(numbers.fill);
     add(numbers.live);
     add(numbers.pending);
+    add(numbers.torn);
     add(numbers.generation);
 }
 

@@ -48,6 +48,7 @@ pub struct Numbers {
     fill: u32,
     live: u32,
     pending: u32,
+    torn: u32,
     generation: u32,
 }
 
@@ -276,6 +277,7 @@ pub unsafe extern "C" fn ee_counts(store: *const Memory, numbers: *mut Numbers) 
             fill: counted(store.fill())?,
             live: counted(store.live_count())?,
             pending: counted(store.pending())?,
+            torn: counted(store.torn_slots())?,
             generation: store.generation().map_err(|_| EE_OFF)?,
         };
         Ok(EE_OK)

@@ -101,7 +101,7 @@ static void failing(void) {
     CHECK(ee_write(&store, 1, 10) == EE_OFF && ee_clean(&store) == EE_OFF && ee_forget(&store, 1) == EE_OFF);
     CHECK(ee_counts(&store, &numbers) == EE_OFF && ee_next(&store, &address, &value) != EE_OK);
     CHECK(ee_open(&store, &flash) == EE_OK && ee_read(&store, 1, &value) == EE_NOTHING);
-    CHECK(ee_counts(&store, &numbers) == EE_OK && numbers.fill == 1);
+    CHECK(ee_counts(&store, &numbers) == EE_OK && numbers.fill == 1 && numbers.torn == 1);
 }
 
 int main(void) {

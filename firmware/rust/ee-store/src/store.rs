@@ -202,6 +202,15 @@ impl<D: Driver> Store<D> {
         Ok(self.running()?.fill())
     }
 
+    /// How many slots are torn: power failed while they were programmed, and they hold nothing until the next move.
+    ///
+    /// # Errors
+    ///
+    /// The store is off.
+    pub fn torn_slots(&self) -> Result<usize, Off> {
+        Ok(self.running()?.torn_slots())
+    }
+
     /// The generation of the live set, 1 to 4294967294: one more with each transfer.
     ///
     /// # Errors

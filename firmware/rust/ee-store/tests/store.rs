@@ -197,6 +197,18 @@ fn a_flash_without_a_store() {
 }
 
 #[test]
+fn torn_slots_are_counted() {
+    let mut store = failing(format(Part::new(), shape()).unwrap(), 1);
+    assert!(store.write(address(1), 10).is_err());
+    assert_eq!(store.torn_slots(), Err(Off));
+    let mut store = open(store.into_driver(), shape()).unwrap();
+    assert_eq!((store.torn_slots(), store.fill()), (Ok(1), Ok(1)));
+    assert_eq!(store.write(address(1), 11), Ok(Written::Appended));
+    assert_eq!(store.write(address(1), 12), Ok(Written::Moved));
+    assert_eq!(store.torn_slots(), Ok(0));
+}
+
+#[test]
 fn words_of_all_ones_are_erased() {
     assert_eq!(Word::from(u64::MAX), Word::Erased);
     assert_eq!(Word::from(1), Word::Held(1));

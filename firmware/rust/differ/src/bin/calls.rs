@@ -5,7 +5,7 @@
 //! plays so many calls of stores of random sizes. A call is played first with a cut at its first step, at its second,
 //! and so on, in each of the four ways, up to a step that it does not take; each time the store is opened again, with
 //! a cut in the opening too now and then, and must hold the map before the call or after it. Then it is played uncut.
-//! All these count as calls. The first difference ends the program with a panic; without one it ends with a line
+//! At last the part is formatted, cut in each step and then again. All these count as calls. The first difference ends the program with a panic; without one it ends with a line
 //! `N passed, 0 failed`.
 #![forbid(unsafe_code)]
 
@@ -75,6 +75,7 @@ fn main() {
         for _ in 0..40 + dice.below(60) {
             course.play(&mut dice);
         }
+        course.format(&mut dice);
         calls += course.calls;
         cuts += course.cuts;
         stores += 1;
@@ -174,6 +175,30 @@ impl Course {
         }
         part.fuse = None;
         part
+    }
+
+    /// Formats the part, cut in each step in each way, and then again up to the end: nothing is left on it.
+    fn format(&mut self, dice: &mut Dice) {
+        for step in 0.. {
+            let (_, tear) = TEARS[dice.below(4) as usize];
+            let mut part = self.part.clone();
+            part.fuse = Some((step, tear));
+            let shared = Shared::new(part);
+            self.calls += 1;
+            let is_cut = format(shared.clone(), self.shape).is_err();
+            self.cuts += u64::from(is_cut);
+            shared.0.borrow_mut().fuse = None;
+            let store = format(shared.clone(), self.shape).expect("nothing is armed");
+            self.calls += 1;
+            assert_eq!(listed(&store), Map::new());
+            let left = shared.0.borrow().pages.clone();
+            let fresh = Shared::new(Part::blank(self.shape));
+            assert!(format(fresh.clone(), self.shape).is_ok());
+            assert_eq!(left, fresh.0.borrow().pages, "formatted is as new");
+            if !is_cut {
+                return;
+            }
+        }
     }
 
     fn draw(&self, dice: &mut Dice) -> Call {

@@ -23,6 +23,6 @@ pub use batch::{LiveBatch, next_batch};
 pub use batch_items::{BATCH, Batch};
 pub use find::{Layout, ScanFault, scan};
 pub use marking::mark;
-pub use read::{latest, live_count, next_live, slot_word};
+pub use read::{latest, live_count, next_live, slot_word, torn_slots};
 pub use side::{Side, first_page};
 pub use state::{Mark, State, is_blank, state_of};

@@ -2,6 +2,7 @@
 use crate::ee_pages::batch::next_batch;
 use crate::ee_pages::find::Layout;
 use crate::ee_pages::side::{Side, first_page, page_slot, set_slot};
+use crate::ee_pages::state::is_torn;
 use crate::ee_codec::{Address, Slot, ends_in, read_slot};
 use crate::ee_flash::{Flash, Word};
 
@@ -70,6 +71,20 @@ pub fn live_count<F: Flash>(flash: &F, layout: &Layout) -> usize {
         };
         after = Some(through);
     }
+}
+
+/// How many slots of the live set are torn, 0 to its fill. It reads each slot once. The layout is the
+/// image's.
+///
+/// Source: ours.
+pub fn torn_slots<F: Flash>(flash: &F, layout: &Layout) -> usize {
+    let mut torn = 0;
+    for number in 0..flash.shape().slots() {
+        if is_torn(set_slot(flash, layout.side, number)) {
+            torn += 1;
+        }
+    }
+    torn
 }
 
 // What the first `used` slots of a page of a set say of an address: the newest that says something

@@ -67,3 +67,8 @@ pub fn is_blank<F: Flash>(flash: &F, page: usize) -> bool {
 pub(crate) fn is_written(word: Word) -> bool {
     !matches!(word, Word::Erased)
 }
+
+// Whether a program of the word, or an erase of its page, was cut.
+pub(crate) fn is_torn(word: Word) -> bool {
+    matches!(word, Word::Torn)
+}

@@ -5,7 +5,7 @@ use crate::ee_store::cleaning::{clean, count_pending};
 use crate::ee_store::variables::{ForgetFault, Off, Variables, WriteFault, Written};
 use crate::ee_codec::Address;
 use crate::ee_flash::{Cut, Flash};
-use crate::ee_pages::{Layout, LiveBatch, latest, live_count, next_batch, next_live};
+use crate::ee_pages::{Layout, LiveBatch, latest, live_count, next_batch, next_live, torn_slots};
 
 /// The greatest generation of a set.
 pub(crate) const GREATEST_GENERATION: u32 = 4_294_967_294;
@@ -28,6 +28,14 @@ impl<F: Flash> Store<F> {
     /// The device, as it is.
     pub fn into_flash(self) -> F {
         self.flash
+    }
+
+    /// How many slots of the live set are torn, 0 to its fill: words in whose step power was cut. It
+    /// reads each slot once.
+    ///
+    /// Source: ours.
+    pub fn torn_slots(&self) -> usize {
+        torn_slots(&self.flash, &self.layout)
     }
 
     /// Whether a write or forgetting must be refused since no generation is left for the transfer

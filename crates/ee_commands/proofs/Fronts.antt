@@ -1,0 +1,34 @@
+-- One clean step after another erases a front of the pages that wait, and at last all of them.
+use Rattle.std.proofs.Common.{◌≡◌, ◌∙◌, ℕ, ◌++◌, sym, List, [], ◌∷◌, length, ap, refl, subst, arith}
+use Rattle.std.proofs.lemmas.List.{append-nil, append_assoc}
+use Rattle.ee_flash.specs.Device.{Device}
+use Rattle.ee_store.specs.Calls.{ErasesLowest}
+use Rattle.ee_store.specs.State.{Wears, pending_pages, state_of}
+use Rattle.ee_store.proofs.PendingPages.{length-pending_pages}
+use Rattle.ee_store.proofs.Wears.{wears_both, wears_none}
+
+-- a front of the pages that waited was erased, and the others wait
+pub record ErasesFront (old new : Device) : Type 0 where
+  pub front : List ℕ
+  pub waited : pending_pages old ≡ front ++ pending_pages new
+  pub wears : Wears front old new
+
+pub front_none : (device : Device) → ErasesFront device device
+front_none device = record { front = []; waited = refl; wears = wears_none device device refl }
+
+pub front_more : (old mid new : Device) → ErasesFront old mid → ErasesLowest mid new → ErasesFront old new
+front_more old mid new some one = record {
+  front = some.front ++ one.page ∷ [];
+  waited = some.waited ∙ ap (λ list. some.front ++ list) one.waited ∙ sym (append_assoc some.front (one.page ∷ []) (pending_pages new));
+  wears = wears_both some.front (one.page ∷ []) old mid new some.wears one.wear;
+}
+
+empty_of : (pages : List ℕ) → length pages ≡ 0 → pages ≡ []
+empty_of [] e = refl
+empty_of (page ∷ pages) e = absurd (omega (arith, e))
+
+pub front_all : (old new : Device) → ErasesFront old new → (state_of new).pending ≡ 0 → Wears (pending_pages old) old new
+front_all old new some none =
+    let rest : pending_pages new ≡ [] = empty_of (pending_pages new) (length-pending_pages new ∙ none) in
+    let all : pending_pages old ≡ some.front = some.waited ∙ ap (λ list. some.front ++ list) rest ∙ append-nil some.front in
+    subst (λ (pages : List ℕ). Wears pages old new) (sym all) some.wears

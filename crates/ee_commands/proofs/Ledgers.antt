@@ -1,0 +1,194 @@
+-- The text of a ledger grows by a page at a time; and there is one cause at most for which no wear is told.
+use Rattle.std.proofs.Common.{◌≡◌, ◌≢◌, ◌∙◌, ◌⊎◌, ◌+◌, ◌<◌, ℕ, zero, suc, Option, Some, None, List, [], ◌∷◌, ◌++◌}
+use Rattle.std.proofs.Common.{length, take, inl, inr, refl, sym, ap, subst, arith, add-one, append_assoc}
+use Rattle.std.proofs.Common.{Result, Ok, Err, IfErr, IfOk, MatchResult}
+use Rattle.std.specs.Prelude.{slice_index}
+use Rattle.std.proofs.lemmas.Bool.{cases_order}
+use Rattle.std.proofs.lemmas.List.{append-nil}
+use Rattle.ee_text.specs.Line.{line_of}
+use Rattle.ee_flash.specs.Device.{Device}
+use Rattle.ee_image.specs.Fault.{IsImageFault}
+use Rattle.ee_image.specs.declared.fault.ImageFault.{ImageFault}
+use Rattle.ee_image.specs.declared.fault.ImageFault.TheVariants as image
+use Rattle.ee_image.proofs.Texts.{one_device_lem, one_fault_lem, short}
+use Rattle.ee_wear.specs.Since.{IsFirstFallen, IsSinceFault, NoneFell}
+use Rattle.ee_wear.specs.declared.since.SinceFault.{SinceFault}
+use Rattle.ee_wear.specs.declared.since.SinceFault.TheVariants as since
+use Rattle.ee_words.specs.Fault.{fault_of_image, fault_of_since}
+use Rattle.ee_words.specs.declared.fault.Fault.{Fault}
+use Rattle.ee_words.specs.declared.fault.Fault.TheVariants.{Memory}
+use Rattle.ee_words.specs.declared.fault.File.{File}
+use Rattle.ee_words.specs.declared.fault.File.TheVariants.{Image, Before}
+use Rattle.ee_commands.specs.Images.{IsReadingFault}
+use Rattle.ee_image_store.specs.Opening.{Spells}
+use Rattle.ee_commands.specs.Wear.{IsDifferenceFault, IsFileFault, IsWear, IsWearFault, count_lines, count_text}
+use Rattle.ee_image_store.proofs.OneCause.{is_no_text}
+
+lines_push : (start : ℕ) (counts : List ℕ) (n number : ℕ) → number ≡ start + n → n < length counts
+    → count_lines start (take (suc n) counts)
+    ≡ count_lines start (take n counts) ++ line_of (count_text number (slice_index counts n))
+lines_push start [] n number e within = absurd (omega arith)
+lines_push start (count ∷ counts) zero number e within =
+    let same : start ≡ number = omega arith in
+    append-nil (line_of (count_text start count)) ∙ ap (λ k. line_of (count_text k count)) same
+lines_push start (count ∷ counts) (suc n) number e within =
+    let line : List ℕ = line_of (count_text start count) in
+    ap (λ l. line ++ l) (lines_push (start + 1) counts n number (omega arith) (omega arith))
+    ∙ sym (append_assoc line (count_lines (start + 1) (take n counts)) (line_of (count_text number (slice_index counts n))))
+
+-- one page more
+pub counts_grow : (counts : List ℕ) (n : ℕ) (count : ℕ) (old out new : List ℕ) → n < length counts
+    → out ≡ old ++ count_lines 0 (take n counts)
+    → count ≡ slice_index counts n → new ≡ out ++ line_of (count_text n count) → new ≡ old ++ count_lines 0 (take (n + 1) counts)
+counts_grow counts n count old out new within so_far is written =
+    let line : List ℕ = line_of (count_text n count) in
+    let grown : count_lines 0 (take (n + 1) counts) ≡ count_lines 0 (take n counts) ++ line =
+    rw add-one (lines_push 0 counts n n (omega arith) within)
+    ∙ ap (λ k. count_lines 0 (take n counts) ++ line_of (count_text n k)) (sym is) in
+    written ∙ ap (λ l. l ++ line) so_far ∙ append_assoc old (count_lines 0 (take n counts)) line ∙ ap (λ l. old ++ l) (sym grown)
+
+-- ---- the faults of a file
+
+-- memory may run out where a device was read
+pub no_memory_for : (file : File) (text : List ℕ) (device : Device) → Spells text device → IsFileFault file text Memory
+no_memory_for file text device spelled = record {
+  cause = image.Memory;
+  applies = inr (omega (arith, ap length spelled.text_is, short device spelled.formed), refl);
+  fault_is = refl;
+}
+
+memory_alone : (file : File) (text : List ℕ) (device : Device) (fault : Fault) (cause : ImageFault) → Spells text device
+    → IsImageFault text cause → fault ≡ fault_of_image file cause
+    → fault ≡ Memory
+memory_alone file text device fault cause spelled (inl bad) is = absurd (is_no_text text device cause spelled bad)
+memory_alone file text device fault cause spelled (inr none) is = is ∙ ap (fault_of_image file) none.1
+
+-- where the text is a device's, nothing but memory was wanting
+only_memory : (file : File) (text : List ℕ) (device : Device) (fault : Fault) → Spells text device → IsFileFault file text fault
+    → fault ≡ Memory
+only_memory file text device fault spelled bad = memory_alone file text device fault bad.cause spelled bad.applies bad.fault_is
+
+one_of_file : (file : File) (text : List ℕ) (cause fault : Fault) (first second : ImageFault) → cause ≢ Memory
+    → IsImageFault text first → cause ≡ fault_of_image file first
+    → IsImageFault text second → fault ≡ fault_of_image file second → (fault ≡ cause) ⊎ (fault ≡ Memory)
+one_of_file file text cause fault first second some (inr none) is h i = absurd (some (is ∙ ap (fault_of_image file) none.1))
+one_of_file file text cause fault first second some (inl bad) is (inr none) i = inr (i ∙ ap (fault_of_image file) none.1)
+one_of_file file text cause fault first second some (inl bad) is (inl other) i =
+    inl (i ∙ ap (fault_of_image file) (one_fault_lem text second first other bad) ∙ sym is)
+
+one_file_fault : (file : File) (text : List ℕ) (cause fault : Fault) → cause ≢ Memory → IsFileFault file text cause
+    → IsFileFault file text fault → (fault ≡ cause) ⊎ (fault ≡ Memory)
+one_file_fault file text cause fault some h i =
+    one_of_file file text cause fault h.cause i.cause some h.applies h.fault_is i.applies i.fault_is
+
+-- why a text is read as no device is the cause
+pub reading_named : (text : List ℕ) (why : ImageFault) (fault cause : Fault) → IsImageFault text why
+    → fault ≡ fault_of_image Image why → cause ≢ Memory → IsReadingFault text cause
+    → (fault ≡ cause) ⊎ (fault ≡ Memory)
+reading_named text why fault cause bad told some h =
+    one_of_file Image text cause fault h.cause why some h.applies h.fault_is bad told
+
+-- a device's text has no cause
+pub reading_good : (text : List ℕ) (device : Device) (cause : Fault) → Spells text device → cause ≢ Memory
+    → IsReadingFault text cause → ⊥
+reading_good text device cause spelled some h =
+    some (memory_alone Image text device cause h.cause spelled h.applies h.fault_is)
+
+-- ---- the faults of a difference
+
+one_page : (before now : List ℕ) (page other : ℕ) → IsFirstFallen before now page → IsFirstFallen before now other → other ≡ page
+one_page before now page other first second = elim (cases_order page other) [
+  | inl same ↦ sym same
+  | inr (inl less) ↦ absurd (omega (arith, second.none_below page less, first.less))
+  | inr (inr more) ↦ absurd (omega (arith, first.none_below other more, second.less))
+]
+
+one_since_fault : (before now : List ℕ) (cause fault : SinceFault) → cause ≢ since.Memory → IsSinceFault before now cause
+    → IsSinceFault before now fault
+    → (fault ≡ cause) ⊎ (fault ≡ since.Memory)
+one_since_fault before now since.Memory fault some h i = absurd (some refl)
+one_since_fault before now cause since.Memory some h i = inr refl
+one_since_fault before now since.OtherShape since.OtherShape some h i = inl refl
+one_since_fault before now since.OtherShape (since.Backwards page) some h i = absurd (h i.0)
+one_since_fault before now (since.Backwards page) since.OtherShape some h i = absurd (i h.0)
+one_since_fault before now (since.Backwards page) (since.Backwards other) some h i =
+    inl (ap since.Backwards (one_page before now page other h.1 i.1))
+
+none_fell_is_good : (before now : List ℕ) (cause : SinceFault) → NoneFell before now → cause ≢ since.Memory
+    → IsSinceFault before now cause → ⊥
+none_fell_is_good before now since.OtherShape none some h = h none.as_many
+none_fell_is_good before now (since.Backwards page) none some h =
+    let least = none.each page h.1.within in omega (arith, least, h.1.less)
+none_fell_is_good before now since.Memory none some h = some refl
+
+-- the wear of two devices with one text is one
+same_wear : (text : List ℕ) (device other : Device) → Spells text device → Spells text other → other.wear ≡ device.wear
+same_wear text device other spelled again =
+    ap (λ (d : Device). d.wear) (one_device_lem other device again.formed spelled.formed (sym again.text_is ∙ spelled.text_is))
+
+-- what is wrong with the difference of two devices, of which the texts spell, is so of those that they spell too
+moved_cause : (image before : List ℕ) (fault : Fault) (device old : Device) (wrong : IsDifferenceFault image before fault)
+    → Spells image device → Spells before old
+    → IsSinceFault old.wear device.wear wrong.cause
+moved_cause image before fault device old wrong spelled spelled_before =
+    subst (λ (wear : List ℕ). IsSinceFault wear device.wear wrong.cause)
+    (same_wear before old wrong.old spelled_before wrong.spelled_before)
+    (subst (λ (wear : List ℕ). IsSinceFault wrong.old.wear wear wrong.cause)
+    (same_wear image device wrong.device spelled wrong.spelled) wrong.applies)
+
+some_cause : (image before : List ℕ) (fault : Fault) (wrong : IsDifferenceFault image before fault) → fault ≢ Memory
+    → wrong.cause ≢ since.Memory
+some_cause image before fault wrong some none = some (wrong.fault_is ∙ ap fault_of_since none)
+
+one_difference : (image before : List ℕ) (cause fault : Fault) → cause ≢ Memory → IsDifferenceFault image before cause
+    → IsDifferenceFault image before fault
+    → (fault ≡ cause) ⊎ (fault ≡ Memory)
+one_difference image before cause fault some h i =
+    elim (one_since_fault h.old.wear h.device.wear h.cause i.cause (some_cause image before cause h some) h.applies
+    (moved_cause image before fault h.device h.old i h.spelled h.spelled_before)) [
+      | inl same ↦ inl (i.fault_is ∙ ap fault_of_since same ∙ sym h.fault_is)
+      | inr none ↦ inr (i.fault_is ∙ ap fault_of_since none)
+    ]
+
+-- ---- the faults of the wear
+
+one_wear_fault : (image : List ℕ) (before : Option (List ℕ)) (cause fault : Fault) → cause ≢ Memory
+    → IsWearFault image before cause → IsWearFault image before fault
+    → (fault ≡ cause) ⊎ (fault ≡ Memory)
+one_wear_fault image None cause fault some h i = one_file_fault Image image cause fault some h i
+one_wear_fault image (Some before) cause fault some (inl h) (inl i) = one_file_fault Image image cause fault some h i
+one_wear_fault image (Some before) cause fault some (inl h) (inr (inl i)) =
+    absurd (some (only_memory Image image i.0.0 cause i.0.1 h))
+one_wear_fault image (Some before) cause fault some (inl h) (inr (inr i)) =
+    absurd (some (only_memory Image image i.device cause i.spelled h))
+one_wear_fault image (Some before) cause fault some (inr (inl h)) (inl i) = inr (only_memory Image image h.0.0 fault h.0.1 i)
+one_wear_fault image (Some before) cause fault some (inr (inl h)) (inr (inl i)) =
+    one_file_fault Before before cause fault some h.1 i.1
+one_wear_fault image (Some before) cause fault some (inr (inl h)) (inr (inr i)) =
+    absurd (some (only_memory Before before i.old cause i.spelled_before h.1))
+one_wear_fault image (Some before) cause fault some (inr (inr h)) (inl i) =
+    inr (only_memory Image image h.device fault h.spelled i)
+one_wear_fault image (Some before) cause fault some (inr (inr h)) (inr (inl i)) =
+    inr (only_memory Before before h.old fault h.spelled_before i.1)
+one_wear_fault image (Some before) cause fault some (inr (inr h)) (inr (inr i)) = one_difference image before cause fault some h i
+
+told_is_good : (image : List ℕ) (before : Option (List ℕ)) (text : List ℕ) (cause : Fault) → IsWear image before text
+    → cause ≢ Memory → IsWearFault image before cause → ⊥
+told_is_good image None text cause told some h =
+    some (only_memory Image image told.are_counts.device cause told.are_counts.spelled h)
+told_is_good image (Some before) text cause told some (inl h) =
+    some (only_memory Image image told.are_counts.device cause told.are_counts.spelled h)
+told_is_good image (Some before) text cause told some (inr (inl h)) =
+    some (only_memory Before before told.are_counts.old cause told.are_counts.spelled_before h.1)
+told_is_good image (Some before) text cause told some (inr (inr h)) =
+    let counts = told.are_counts in
+    none_fell_is_good counts.old.wear counts.device.wear h.cause counts.none_fell (some_cause image before cause h some)
+    (moved_cause image before cause counts.device counts.old h counts.spelled counts.spelled_before)
+
+-- no cause is passed over
+pub wear_names : {T : Type 0} (items : T → List ℕ) (r : Result T Fault) (image : List ℕ) (before : Option (List ℕ))
+    → IfOk r (λ text. IsWear image before (items text))
+    → IfErr r (IsWearFault image before) → (cause : Fault) → cause ≢ Memory → IsWearFault image before cause
+    → MatchResult r (λ _. ⊥) (λ fault. (fault ≡ cause) ⊎ (fault ≡ Memory))
+wear_names items (Ok text) image before told wrong cause some h = told_is_good image before (items text) cause told some h
+wear_names items (Err fault) image before told wrong cause some h = one_wear_fault image before cause fault some h wrong

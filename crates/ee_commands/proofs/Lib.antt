@@ -1,0 +1,16 @@
+pub mod Cleaning
+pub mod Fronts
+pub mod Ledgers
+pub mod Named
+pub mod NewImages
+pub mod Pages
+pub mod PageStates
+pub mod Traces
+pub mod OneTask
+pub mod Planned
+pub mod TidiedImages
+pub mod Listings
+pub mod Sizes
+pub mod MadeRuns
+pub mod AskedRuns
+pub mod SizedRuns

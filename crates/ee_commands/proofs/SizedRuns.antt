@@ -1,0 +1,176 @@
+-- A store that was just formatted lasts as the line of its size tells.
+use Rattle.std.proofs.Common.{◌≡◌, ◌∙◌, inl, inr, ℕ, ◌+◌, ◌<◌, ◌≤◌, Bool, None, List, [], ◌∷◌, ◌++◌, length, refl, sym, subst, ap, arith}
+use Rattle.std.proofs.lemmas.Bool.{cases_eq, leb-true}
+use Rattle.std.specs.List.Sorted.{IsStrictlySortedBy}
+use Rattle.std.specs.Ordering.{nat_cmp}
+use Rattle.ee_flash.specs.Device.{Device}
+use Rattle.ee_flash.specs.Size.{size_of, slot_count}
+use Rattle.ee_store.proofs.PageWears.{no_page_wears_more_lem}
+use Rattle.ee_store.specs.Openings.{IsFormatted}
+use Rattle.ee_store.specs.Runs.{Call, IsWholeRun, transfers}
+use Rattle.ee_store.specs.State.{State, formatted, state_of}
+use Rattle.ee_check.proofs.Bounds.{late_stores_meet_it_lem}
+use Rattle.ee_check.specs.declared.change.Change.{Change}
+use Rattle.ee_check.specs.Live.{KeepsWithin}
+use Rattle.ee_check.specs.Schedule.{IsProper, Situation}
+use Rattle.ee_plan.proofs.Fitting.{none_breaks}
+use Rattle.ee_plan.specs.Rounds.{IsDemand, fresh, repeated}
+use Rattle.ee_plan.specs.Start.{AreLive, IsStartOf}
+use Rattle.ee_plan.specs.declared.demand.Demand.{Demand}
+use Rattle.ee_plan.specs.declared.demand.Demand.TheVariants.{Transfers, NotFitting}
+use Rattle.ee_commands.specs.ToldSizes.{IsDemandOf, LastsAsTold, asked_by_calls, made_by_calls}
+use Rattle.ee_commands.specs.Sizing.{AreDemands, IsSized, erases_for}
+use Rattle.ee_image_store.proofs.Starts.{length_map}
+use Rattle.ee_commands.proofs.AskedRuns.{IsBelow, bounded}
+use Rattle.ee_commands.proofs.MadeRuns.{AreProper, IsLateOf, late_calls, repeated_proper, trace_proper}
+
+-- ---- the line of a size
+
+-- a demand among those of all sizes, with those of fewer pages and those of more
+record IsAmong (words pages first : ℕ) (trace : List Change) (demands : List Demand) : Type 0 where
+  smaller : List Demand
+  demand : Demand
+  larger : List Demand
+  parts : demands ≡ smaller ++ demand ∷ larger
+  place : pages ≡ first + length smaller
+  demanded : IsDemand (fresh (slot_count (size_of pages words))) trace demand
+
+first_of : (words pages first : ℕ) (trace : List Change) (demand : Demand) (demands : List Demand) → pages ≡ first
+    → IsDemand (fresh (slot_count (size_of first words))) trace demand → IsAmong words pages first trace (demand ∷ demands)
+first_of words pages first trace demand demands here demanded = record {
+  smaller = [];
+  demand = demand;
+  larger = demands;
+  parts = refl;
+  place = omega (arith, here);
+  demanded = subst (λ n. IsDemand (fresh (slot_count (size_of n words))) trace demand) (sym here) demanded;
+}
+
+further_of : (words pages first : ℕ) (trace : List Change) (demand : Demand) (demands : List Demand) → IsAmong words pages (first + 1) trace demands
+    → IsAmong words pages first trace (demand ∷ demands)
+further_of words pages first trace demand demands later = record {
+  smaller = demand ∷ later.smaller;
+  demand = later.demand;
+  larger = later.larger;
+  parts = ap (λ l. demand ∷ l) later.parts;
+  place = omega (arith, later.place);
+  demanded = later.demanded;
+}
+
+among : (words pages first : ℕ) (trace : List Change) (demands : List Demand) → first ≤ pages → pages < first + length demands
+    → AreDemands words trace first demands → IsAmong words pages first trace demands
+among words pages first trace [] low high are = absurd (omega (arith, low, high))
+among words pages first trace (demand ∷ demands) low high are = elim (cases_eq pages first) [
+  | inl here ↦ first_of words pages first trace demand demands here are.0
+  | inr other ↦ further_of words pages first trace demand demands (among words pages (first + 1) trace demands (omega (arith, low, other)) (omega (arith, high)) are.1)
+]
+
+-- and what is demanded of a size, by its place among all
+demand_at : (words first : ℕ) (trace : List Change) (smaller larger : List Demand) (demand : Demand) → AreDemands words trace first (smaller ++ demand ∷ larger)
+    → IsDemand (fresh (slot_count (size_of (first + length smaller) words))) trace demand
+demand_at words first trace [] larger demand are =
+    let here : first + 0 ≡ first = omega arith in
+    subst (λ n. IsDemand (fresh (slot_count (size_of n words))) trace demand) (sym here) are.0
+demand_at words first trace (one ∷ smaller) larger demand are =
+    let here : first + length (one ∷ smaller) ≡ first + 1 + length smaller = omega arith in
+    subst (λ n. IsDemand (fresh (slot_count (size_of n words))) trace demand) (sym here) (demand_at words (first + 1) trace smaller larger demand are.1)
+
+-- what the changes demand is what the calls did
+did_so : (start : Situation) (trace : List Change) (demand : Demand) (calls : List Call) → IsProper start → IsLateOf start calls → made_by_calls calls ≡ trace
+    → IsDemand start trace demand → demand ≡ Transfers (transfers calls)
+did_so start trace (Transfers told) calls proper late same demanded =
+    let fewest = demanded.1 in
+    let met = late_stores_meet_it_lem start trace fewest.claim late.moves proper fewest.tight (late.changes_are ∙ same) late.late in
+    let count : transfers calls ≡ length fewest.claim.stretches = sym (late.carried 0) ∙ ap length met.0 ∙ length_map fewest.claim.stretches in
+    ap Transfers (fewest.stretches ∙ sym count)
+did_so start trace (NotFitting n) calls proper late same demanded =
+    absurd (none_breaks start trace n (subst (λ l. KeepsWithin start.slots start.live l) same late.keeps) demanded)
+
+-- ---- together
+
+none_sorted : IsStrictlySortedBy nat_cmp []
+unfolding IsStrictlySortedBy
+none_sorted = tt
+
+-- where nothing was written no slot is used and no address is live
+none_live : AreLive (λ address. None) []
+none_live = record {
+  ascending = none_sorted;
+  proper = λ n usual h. absurd (omega (arith, h));
+  have_values = λ n usual h. absurd (omega (arith, h));
+  all = λ address some. absurd (some refl);
+}
+
+empty_start : (slots : ℕ) (state : State) → state ≡ formatted → IsStartOf slots state (fresh slots)
+empty_start slots state same =
+    subst (λ (s : State). IsStartOf slots s (fresh slots)) (sym same) (record { slots_are = refl; fill_is = refl; are_live = none_live })
+
+empty_proper : (slots : ℕ) → IsProper (fresh slots)
+empty_proper slots = record { held = omega arith; fits = omega arith }
+
+-- a store beside a schedule, before the first change
+both_begin : (device : Device) → state_of device ≡ formatted → IsBelow device 0 (fresh (slot_count device.size)) 0
+both_begin device same = record {
+  wide = λ address. None;
+  live = none_live;
+  under = λ address some. absurd (some (ap (λ (s : State). s.map address) same));
+  proper = empty_proper (slot_count device.size);
+  slots = refl;
+  few = omega arith;
+  room = λ e. let fill : (state_of device).fill ≡ 0 = ap (λ (s : State). s.fill) same in omega (arith, fill);
+}
+
+-- where the calls moved the map no more often than a line tells
+lasts : (cycles most : ℕ) (calls : List Call) (blank old new : Device) → IsFormatted blank old → IsWholeRun calls old new → transfers calls ≤ most
+    → LastsAsTold cycles most calls old new
+lasts cycles most calls blank old new formats whole few =
+    let none_waits : (state_of old).pending ≡ 0 = ap (λ (s : State). s.pending) formats.state_is in
+    record {
+      moves = few;
+      wear = λ page h. omega (arith, few, no_page_wears_more_lem calls old new page whole formats.store.legal none_waits h);
+      enough = λ within page h.
+          omega (arith, few, leb-true (erases_for most) cycles within, no_page_wears_more_lem calls old new page whole formats.store.legal none_waits h);
+    }
+
+-- the addresses of the script that is made so many times
+all_proper : (words cycles runs : ℕ) (text told : List ℕ) (some_enough : Bool) (sized : IsSized words text cycles runs told some_enough) → AreProper (repeated runs sized.trace)
+all_proper words cycles runs text told some_enough sized =
+    let once = trace_proper sized.trace_is.commands sized.trace_is.is_script.proper in
+    repeated_proper runs sized.trace (subst AreProper (sym sized.trace_is.trace_is) once)
+
+pub each_size_lasts_as_told_lem : (text told : List ℕ) (cycles runs most : ℕ) (some_enough : Bool) (calls : List Call) (blank old new : Device)
+    → (sized : IsSized old.size.words text cycles runs told some_enough) → IsDemandOf old.size.pages sized.demands (Transfers most)
+    → IsFormatted blank old → IsWholeRun calls old new
+    → asked_by_calls calls ≡ repeated runs sized.trace → LastsAsTold cycles most calls old new
+each_size_lasts_as_told_lem text told cycles runs most some_enough calls blank old new sized line formats whole asked =
+    let words = old.size.words in
+    let trace = repeated runs sized.trace in
+    let are = subst AreProper (sym asked) (all_proper words cycles runs text told some_enough sized) in
+    let demands = subst (AreDemands words trace 1) line.parts sized.demanded in
+    let there = demand_at words 1 trace line.smaller line.larger (Transfers most) demands in
+    let demanded = subst (λ n. IsDemand (fresh (slot_count (size_of n words))) trace (Transfers most)) (sym line.place) there in
+    let reached = demanded.1.reached in
+    let few = bounded calls old new whole.run whole.without_cuts are (fresh (slot_count old.size)) reached.0 0 0 reached.1.allowed (reached.1.changes ∙ sym asked)
+    (both_begin old formats.state_is) in
+    lasts cycles most calls blank old new formats whole (omega (arith, few, reached.2))
+
+pub each_size_moves_as_told_lem : (text told : List ℕ) (cycles runs : ℕ) (some_enough : Bool) (calls : List Call) (blank old new : Device)
+    → (sized : IsSized old.size.words text cycles runs told some_enough) → IsFormatted blank old → IsWholeRun calls old new
+    → made_by_calls calls ≡ repeated runs sized.trace
+    → IsDemandOf old.size.pages sized.demands (Transfers (transfers calls)) × LastsAsTold cycles (transfers calls) calls old new
+each_size_moves_as_told_lem text told cycles runs some_enough calls blank old new sized formats whole made =
+    let words = old.size.words in
+    let slots = slot_count old.size in
+    let trace = repeated runs sized.trace in
+    let limits = formats.store.legal.2.formed.within_limits in
+    let are = subst AreProper (sym made) (all_proper words cycles runs text told some_enough sized) in
+    let late = late_calls calls old new (fresh slots) whole.run whole.without_cuts are (empty_start slots (state_of old) formats.state_is) (empty_proper slots) in
+    let here = among words old.size.pages 1 trace sized.demands limits.some_pages (omega (arith, limits.few_pages, sized.each_size)) sized.demanded in
+    let did = did_so (fresh slots) trace here.demand calls (empty_proper slots) late made here.demanded in
+    let line : IsDemandOf old.size.pages sized.demands (Transfers (transfers calls)) = record {
+      smaller = here.smaller;
+      larger = here.larger;
+      parts = here.parts ∙ ap (λ d. here.smaller ++ d ∷ here.larger) did;
+      place = here.place;
+    } in
+    (line, lasts cycles (transfers calls) calls blank old new formats whole (omega arith))

@@ -1,0 +1,57 @@
+-- What is told of the sizes of a part, one size further, and why none is told.
+use Rattle.std.proofs.Common.{◌≡◌, ◌≢◌, ◌⊎◌, ℕ, ◌+◌, ◌<◌, List, [], ◌∷◌, ◌++◌, length, take, get_or, refl, sym, ap, subst, ◌∙◌, arith, append_assoc}
+use Rattle.std.proofs.lemmas.List.{take_more, length-take-le, append-nil}
+use Rattle.ee_flash.specs.Size.{size_of, slot_count}
+use Rattle.ee_text.specs.Line.{line_of}
+use Rattle.ee_check.specs.declared.change.Change.{Change}
+use Rattle.ee_plan.specs.Rounds.{IsDemand, fresh}
+use Rattle.ee_plan.specs.declared.demand.Demand.{Demand}
+use Rattle.ee_script.specs.declared.session.ScriptFault.{ScriptFault}
+use Rattle.ee_script.specs.declared.session.ScriptFault.TheVariants as script
+use Rattle.ee_words.specs.Fault.{fault_of_script}
+use Rattle.ee_words.specs.declared.fault.Fault.{Fault}
+use Rattle.ee_words.specs.declared.fault.Fault.TheVariants.{Memory}
+use Rattle.ee_commands.specs.Planning.{IsTrace, IsTraceFault}
+use Rattle.ee_commands.specs.Sizing.{AreDemands, IsSizingFault, size_lines, size_text}
+use Rattle.ee_commands.proofs.OneTask.{one_name, one_trace_fault, other_cause, trace_memory}
+
+-- ---- one size further
+
+pub demands_grow : (words : ℕ) (trace : List Change) (pages next : ℕ) (demands : List Demand) (demand : Demand) → AreDemands words trace pages demands
+    → next ≡ pages + length demands → IsDemand (fresh (slot_count (size_of next words))) trace demand → AreDemands words trace pages (demands ++ demand ∷ [])
+demands_grow words trace pages next [] demand are is one =
+    let e : next ≡ pages = omega arith in
+    (subst (λ n. IsDemand (fresh (slot_count (size_of n words))) trace demand) e one, tt)
+demands_grow words trace pages next (first ∷ demands) demand are is one =
+    (are.0, demands_grow words trace (pages + 1) next demands demand are.1 (omega arith) one)
+
+lines_append : (words cycles pages next : ℕ) (demands : List Demand) (demand : Demand) → next ≡ pages + length demands
+    → size_lines words cycles pages (demands ++ demand ∷ []) ≡ size_lines words cycles pages demands ++ line_of (size_text words cycles next demand)
+lines_append words cycles pages next [] demand is =
+    let e : next ≡ pages = omega arith in
+    rw e (simp append-nil)
+lines_append words cycles pages next (first ∷ demands) demand is =
+    ap (λ l. line_of (size_text words cycles pages first) ++ l) (lines_append words cycles (pages + 1) next demands demand (omega arith))
+    ∙ sym (append_assoc (line_of (size_text words cycles pages first)) (size_lines words cycles (pages + 1) demands) (line_of (size_text words cycles next demand)))
+
+-- ---- why none is told
+
+pub cause_of_trace : (text : List ℕ) (cause : Fault) (fault : ScriptFault) → cause ≢ Memory → IsSizingFault text cause → IsTraceFault text fault
+    → (fault_of_script fault ≡ cause) ⊎ (fault_of_script fault ≡ Memory)
+cause_of_trace text cause fault some h is =
+    one_name fault_of_script cause (fault_of_script fault) h.cause fault script.Memory h.fault_is refl refl
+    (one_trace_fault text h.cause fault (other_cause fault_of_script cause h.cause script.Memory some h.fault_is refl) h.applies is)
+
+-- a script that gives a trace has no cause but want of memory
+pub only_want_of_memory : (text : List ℕ) (trace : List Change) (cause : Fault) → IsTrace text trace → cause ≢ Memory → IsSizingFault text cause → ⊥
+only_want_of_memory text trace cause is some h = some (h.fault_is ∙ ap fault_of_script (trace_memory text trace h.cause is h.applies))
+
+-- the lines so far, and that of one size more
+pub sizes_grow : (words cycles pages n : ℕ) (demands : List Demand) (d : Demand) (old new : List ℕ) → n < length demands → pages ≡ n
+    → old ≡ size_lines words cycles 1 (take n demands)
+    → new ≡ old ++ line_of (size_text words cycles (pages + 1) (get_or demands n d)) → new ≡ size_lines words cycles 1 (take (n + 1) demands)
+sizes_grow words cycles pages n demands d old new within counted so_far written =
+    let demand = get_or demands n d in
+    let size = length-take-le n demands (omega arith) in
+    written ∙ ap (λ l. l ++ line_of (size_text words cycles (pages + 1) demand)) so_far
+    ∙ sym (ap (size_lines words cycles 1) (take_more demands n d within) ∙ lines_append words cycles 1 (pages + 1) (take n demands) demand (omega arith))

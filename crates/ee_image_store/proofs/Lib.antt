@@ -1,0 +1,4 @@
+pub mod Erasing
+pub mod OneCause
+pub mod Stores
+pub mod Starts

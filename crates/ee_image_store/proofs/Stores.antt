@@ -1,0 +1,80 @@
+-- What a store is opened from, and what a new one stands on.
+use Rattle.std.proofs.Common.{◌≡◌, ◌∙◌, ℕ, zero, suc, Bool, false, List, length, replicate, sym, ap, subst, refl}
+use Rattle.std.specs.List.{filter, list_any}
+use Rattle.ee_flash.specs.Device.{Device, IsFormed, blank_device}
+use Rattle.ee_flash.specs.Formed.{IsFormed-pages_of}
+use Rattle.ee_flash.specs.Memory.{device_of}
+use Rattle.ee_flash.specs.Size.{Size, page_count}
+use Rattle.ee_flash.specs.declared.memory.MemFlash.{MemFlash}
+use Rattle.ee_flash.specs.declared.word.Word.TheVariants.{Erased}
+use Rattle.ee_pages.specs.Page.{is_written}
+use Rattle.ee_pages.specs.Sets.{pending_of}
+use Rattle.ee_store.proofs.NotBlank.{length-not_blank}
+use Rattle.ee_store.proofs.Wears.{no_wear, wears_rise}
+use Rattle.ee_store.specs.Openings.{IsFormatted, Opens}
+use Rattle.ee_store.specs.State.{not_blank_pages}
+use Rattle.ee_image.specs.Text.{at_rest, image_text}
+use Rattle.ee_words.specs.declared.fault.Fault.TheVariants.{Memory}
+use Rattle.ee_words.specs.declared.replay_fault.ReplayFault.{ReplayFault}
+use Rattle.ee_words.specs.declared.replay_fault.ReplayFault.TheVariants as replay
+use Rattle.ee_image_store.specs.Opening.{IsNewStore, IsOpenFault, IsOpened, IsStillFault, Spells, StaysOn}
+use Rattle.ee_image_store.proofs.Erasing.{by_wear, unworn}
+
+-- a device in memory is formed
+pub formed_of : {A : Type 0} (flash : MemFlash A) → IsFormed (device_of flash)
+formed_of flash =
+    IsFormed-pages_of flash.shape flash.cells.items flash.wear.items flash.cuts flash.fuse flash.on flash.within_limits
+    (sym flash.cells.ok.0 ∙ flash.cells_length) flash.below_all_ones (sym flash.wear.ok.0 ∙ flash.wear_length) flash.wear_fits flash.cuts_fit
+
+-- a device whose power goes on
+stays : (old new : Device) → StaysOn old → new.on ≡ old.on → new.cuts_left ≡ old.cuts_left → StaysOn new
+stays old new kept on left = record { on = on ∙ kept.on; never_cut = left ∙ kept.never_cut }
+
+pub is_opened : (text : List ℕ) (old new : Device) → old ≡ at_rest old → text ≡ image_text old → Opens old new → IsOpened text new
+is_opened text old new rest spelled opens =
+    let kept : StaysOn old = record { on = ap (λ (d : Device). d.on) rest; never_cut = ap (λ (d : Device). d.cuts_left) rest } in
+    record {
+      device = old;
+      old = record { spelled = record { formed = opens.legal.2.formed; text_is = spelled }; legal = opens.legal };
+      opens = opens;
+      stays_on = stays old new kept opens.goes_on.same_power opens.goes_on.same_cuts_left;
+      same_size = opens.goes_on.same_size;
+      state_is = opens.state_is;
+      same_pending = opens.same_pending;
+      no_wear = opens.no_wear;
+      erases = by_wear old new opens.state_is (no_wear old new opens.no_wear);
+    }
+
+-- why it is not opened, as a cause of its text
+pub still_fault : (text : List ℕ) (device : Device) (fault : ReplayFault) → Spells text device → IsStillFault device fault → IsOpenFault text fault
+still_fault text device (replay.Image fault) spelled still = absurd still
+still_fault text device (replay.Open fault) spelled still = (device, spelled, still)
+still_fault text device (replay.Script n) spelled still = absurd still
+still_fault text device replay.Memory spelled still = tt
+still_fault text device replay.Read spelled still = absurd still
+
+-- ---- a new device
+
+none_written : (n : ℕ) → list_any is_written (replicate n Erased) ≡ false
+none_written zero = refl
+none_written (suc n) = none_written n
+
+none_of : {X : Type 0} (test : X → Bool) (x : X) (n : ℕ) → test x ≡ false → length (filter test (replicate n x)) ≡ 0
+none_of test x zero e = refl
+none_of test x (suc n) e = rw e (none_of test x n e)
+
+none_pending : (size : Size) → pending_of (blank_device size).image ≡ 0
+none_pending size = none_of _ (replicate size.words Erased) (page_count size) (rw (none_written size.words) refl)
+
+pub is_new : (size : Size) (old new : Device) → old ≡ blank_device size → IsFormatted old new → IsNewStore size new
+is_new size old new blank made =
+    let kept : StaysOn old = record { on = ap (λ (d : Device). d.on) blank; never_cut = ap (λ (d : Device). d.cuts_left) blank } in
+    let none : length (not_blank_pages old) ≡ 0 = length-not_blank old.image 0 ∙ ap (λ (d : Device). pending_of d.image) blank ∙ none_pending size in
+    let fresh : old.wear ≡ replicate (page_count size) 0 = ap (λ (d : Device). d.wear) blank in
+    record {
+      formats = subst (λ (device : Device). IsFormatted device new) blank made;
+      stays_on = stays old new kept made.goes_on.same_power made.goes_on.same_cuts_left;
+      size_is = made.goes_on.same_size ∙ ap (λ (d : Device). d.size) blank;
+      state_is = made.state_is;
+      no_wear = unworn old new (wears_rise (not_blank_pages old) 0 old new made.wear none) ∙ fresh;
+    }

@@ -1,0 +1,5 @@
+pub mod Machine
+pub mod Erases
+pub mod Steps
+pub mod Trace
+pub mod Opening

@@ -1,0 +1,205 @@
+-- What a line does at a desk is a step of the report machine.
+use Rattle.std.proofs.Common.{◌≡◌, ◌∙◌, ◌⊎◌, ◌+◌, arith, ℕ, Bool, Option, Some, None, Ok, Err, List, [], ◌∷◌, ap, false, inl, inr, option_map, refl, subst, sym, true}
+use Rattle.std.proofs.lemmas.List.Elements.{All-cons, All-nil}
+use Rattle.std.specs.Prelude.{IsSomeAnd}
+use Rattle.ee_flash.specs.Device.{Device}
+use Rattle.ee_flash.specs.Power.{GoesOn, IsCut}
+use Rattle.ee_flash.specs.Size.{Size}
+use Rattle.ee_flash.specs.declared.fuse.Fuse.{Fuse}
+use Rattle.ee_pages.specs.Meaning.{Change, Put}
+use Rattle.ee_pages.specs.Meaning as meaning
+use Rattle.ee_store.proofs.Running.{runs_go_on_lem}
+use Rattle.ee_store.specs.Changes.{IsCutChange}
+use Rattle.ee_store.specs.Events.{Point, powered}
+use Rattle.ee_store.specs.Runs.{Call, Cleaned as DidClean, DidRead, Follows, Forgot, Wrote, is_cut}
+use Rattle.ee_store.specs.State.{State, state_of}
+use Rattle.ee_store.specs.declared.variables.ForgetFault.TheVariants as forgetting
+use Rattle.ee_store.specs.declared.variables.WriteFault.TheVariants as fault
+use Rattle.ee_store.specs.declared.variables.Written.TheVariants as written
+use Rattle.ee_script.specs.declared.command.Command.{Command}
+use Rattle.ee_script.specs.declared.command.Command.TheVariants.{Write, Read, Forget, Clean, Arm, PowerOn}
+use Rattle.ee_script.specs.declared.answer.Answer.{Answer}
+use Rattle.ee_script.specs.declared.answer.Answer.TheVariants.{Appended, Moved, Full, Spent, Cleaned, Idle, Value, NoValue, Absent, Cut, Off, Opened}
+use Rattle.ee_script.specs.Run.{Run}
+use Rattle.ee_image_store.specs.Machine.{CallStep, CutsChange, Desk, DeskStep, PowerStep, Step, is_cut_answer}
+use Rattle.ee_replay.specs.Serving.{Asks, Attends, Powers, Serves, call_of, desk_of, is_armed, serving_on}
+use Rattle.ee_image_store.specs.Steps.{Steps}
+use Rattle.ee_replay.proofs.Powering.{state_armed, state_powered}
+use Rattle.ee_replay.proofs.Runs.{machine_step}
+
+-- ---- how often a cut may come
+
+-- one may come at the most
+abbrev pub AtMostOne : Device → Type 0
+AtMostOne device = (device.cuts_left ≡ Some 0) ⊎ (device.cuts_left ≡ Some 1)
+
+at_most_still : (old new : Device) → new.cuts_left ≡ old.cuts_left → AtMostOne old → AtMostOne new
+at_most_still old new same (inl none) = inl (same ∙ none)
+at_most_still old new same (inr one) = inr (same ∙ one)
+
+-- where one is taken, one was to come, and none is
+taken : (before after : Option ℕ) → before ≡ option_map (λ left. left + 1) after → (before ≡ Some 0) ⊎ (before ≡ Some 1)
+    → (is_armed before ≡ true) × (after ≡ Some 0)
+taken before None e (inl none) = absurd (cc (e, none))
+taken before None e (inr one) = absurd (cc (e, one))
+taken before (Some left) e (inl none) = absurd (grind (arith, e, none))
+taken before (Some left) e (inr one) = (rw one refl, grind (arith, e, one))
+
+goes_on : (made : Call) (old new : Device) → Follows made old new → is_cut made ≡ false → GoesOn old new
+goes_on made old new follows whole = runs_go_on_lem (made ∷ []) old new (record {
+  run = (new, follows, refl);
+  without_cuts = All-cons (λ call. is_cut call ≡ false) made [] whole (All-nil (λ call. is_cut call ≡ false));
+})
+
+-- ---- one line
+
+-- a call, or what stands in its place, is a step of the machine
+record IsCallMade (serving : Bool) (old : Device) (command : Command) (answer : Answer) (new : Point) : Type 0 where
+  step : CallStep (is_cut_answer answer) old.size (desk_of (record { serving = serving; device = old })) command answer (desk_of new)
+  same_size : new.device.size ≡ old.size
+  at_most : AtMostOne new.device
+
+-- a line is a step of the machine
+pub record IsLineMade (old : Point) (command : Command) (answer : Answer) (new : Point) : Type 0 where
+  pub step : DeskStep old.device.size (desk_of old) command answer (desk_of new)
+  pub same_size : new.device.size ≡ old.device.size
+  pub at_most : AtMostOne new.device
+
+whole : (old : Device) (command : Command) (answer : Answer) (new : Point) (made : Call) → Serves old command answer new.device → Follows made old new.device
+    → is_cut made ≡ false → is_cut_answer answer ≡ false → new.serving ≡ true → AtMostOne old → IsCallMade true old command answer new
+whole old command answer new made serves follows uncut plain still most =
+    let on = goes_on made old new.device follows uncut in
+    let here = machine_step old new.device command answer serves in
+    let desk : desk_of new ≡ record (desk_of (serving_on old)) { state = state_of new.device } = rw (still, on.same_cuts_left) refl in
+    record {
+      step = subst (λ b. CallStep b old.size (desk_of (serving_on old)) command answer (desk_of new)) (sym plain) (here.step, desk);
+      same_size = on.same_size;
+      at_most = at_most_still old new.device on.same_cuts_left most;
+    }
+
+cut_change : (old : Device) (change : Change) (new : Device) → IsCutChange old change new → CutsChange old.size (state_of old) change (state_of new)
+cut_change old change new cut = record { accepted = cut.proceeds.accepted; free = cut.free; all_used = cut.all_used }
+
+-- what is so of each cut in a call of an open store
+record IsCutHere (old : Device) (new : Point) : Type 0 where
+  armed : is_armed old.cuts_left ≡ true
+  desk : desk_of new ≡ record { state = state_of new.device; serving = false; armed = false }
+  at_most : AtMostOne new.device
+
+cut_here : (old : Device) (new : Point) → IsCut old new.device → new.serving ≡ false → AtMostOne old → IsCutHere old new
+cut_here old new cut off most =
+    let once = taken old.cuts_left new.device.cuts_left cut.one_less_left most in
+    record { armed = once.0; desk = rw (off, once.1) refl; at_most = inl once.1 }
+
+-- of these no store is asked
+no_arming : (old : Device) (fuse : Fuse) (answer : Answer) (new : Point) → Asks true old (Arm fuse) answer new → ⊥
+no_arming old fuse Cut new asks = asks
+no_arming old fuse answer new asks = asks
+
+no_power : (old : Device) (answer : Answer) (new : Point) → Asks true old PowerOn answer new → ⊥
+no_power old Cut new asks = asks
+no_power old answer new asks = asks
+
+asked_on : (old : Device) (command : Command) (answer : Answer) (new : Point) → AtMostOne old → Asks true old command answer new → IsCallMade true old command answer new
+asked_on old (Write address value) Appended new most asks = whole old (Write address value) Appended new (Wrote address value (Ok written.Appended)) asks.0 asks.0 refl refl asks.1 most
+asked_on old (Write address value) Moved new most asks = whole old (Write address value) Moved new (Wrote address value (Ok written.Moved)) asks.0 asks.0 refl refl asks.1 most
+asked_on old (Write address value) Full new most asks = whole old (Write address value) Full new (Wrote address value (Err fault.Full)) asks.0 asks.0 refl refl asks.1 most
+asked_on old (Write address value) Spent new most asks = whole old (Write address value) Spent new (Wrote address value (Err fault.Spent)) asks.0 asks.0 refl refl asks.1 most
+asked_on old (Write address value) Cut new most asks =
+    let here = cut_here old new asks.0.cut asks.1 most in
+    record { step = (refl, here.armed, cut_change old (Put address value) new.device asks.0, here.desk); same_size = asks.0.cut.same_size; at_most = here.at_most }
+asked_on old (Forget address) Appended new most asks = whole old (Forget address) Appended new (Forgot address (Ok written.Appended)) asks.0 asks.0 refl refl asks.1 most
+asked_on old (Forget address) Moved new most asks = whole old (Forget address) Moved new (Forgot address (Ok written.Moved)) asks.0 asks.0 refl refl asks.1 most
+asked_on old (Forget address) Absent new most asks = whole old (Forget address) Absent new (Forgot address (Err forgetting.Absent)) asks.0 asks.0 refl refl asks.1 most
+asked_on old (Forget address) Spent new most asks = whole old (Forget address) Spent new (Forgot address (Err forgetting.Spent)) asks.0 asks.0 refl refl asks.1 most
+asked_on old (Forget address) Cut new most asks =
+    let here = cut_here old new asks.0.cut asks.1 most in
+    record { step = (refl, here.armed, cut_change old (meaning.Forget address) new.device asks.0, here.desk); same_size = asks.0.cut.same_size; at_most = here.at_most }
+asked_on old (Read address) (Value value) new most asks = whole old (Read address) (Value value) new (DidRead address (Ok (Some value))) asks.0 asks.0 refl refl asks.1 most
+asked_on old (Read address) NoValue new most asks = whole old (Read address) NoValue new (DidRead address (Ok None)) asks.0 asks.0 refl refl asks.1 most
+asked_on old Clean Cleaned new most asks = whole old Clean Cleaned new (DidClean (Ok true)) asks.0 asks.0 refl refl asks.1 most
+asked_on old Clean Idle new most asks = whole old Clean Idle new (DidClean (Ok false)) asks.0 asks.0 refl refl asks.1 most
+asked_on old Clean Cut new most asks =
+    let here = cut_here old new asks.0.cut asks.1 most in
+    record { step = (refl, here.armed, (asks.0.some, asks.0.state_is), here.desk); same_size = asks.0.cut.same_size; at_most = here.at_most }
+asked_on old (Arm fuse) answer new most asks = absurd (no_arming old fuse answer new asks)
+asked_on old PowerOn answer new most asks = absurd (no_power old answer new asks)
+asked_on old command answer new most asks = absurd asks
+
+asked_off : (old : Device) (command : Command) (answer : Answer) (new : Point) → AtMostOne old → Asks false old command answer new → IsCallMade false old command answer new
+asked_off old command Off new most asks = record {
+  step = (ap (λ (point : Point). state_of point.device) asks, rw asks refl);
+  same_size = ap (λ (point : Point). point.device.size) asks;
+  at_most = at_most_still old new.device (ap (λ (point : Point). point.device.cuts_left) asks) most;
+}
+asked_off old command answer new most asks = absurd asks
+
+asked : (serving : Bool) (old : Device) (command : Command) (answer : Answer) (new : Point) → AtMostOne old → Asks serving old command answer new
+    → IsCallMade serving old command answer new
+asked true old command answer new most asks = asked_on old command answer new most asks
+asked false old command answer new most asks = asked_off old command answer new most asks
+
+-- a desk by its parts
+desk_is : (point : Point) (state : State) (serving : Bool) (left : Option ℕ) → state_of point.device ≡ state → point.serving ≡ serving → point.device.cuts_left ≡ left
+    → desk_of point ≡ record { state = state; serving = serving; armed = is_armed left }
+desk_is point state serving left says still kept =
+    ap (λ (s : State). record { state = s; serving = point.serving; armed = is_armed point.device.cuts_left }) says
+    ∙ ap (λ (b : Bool). record { state = state; serving = b; armed = is_armed point.device.cuts_left }) still
+    ∙ ap (λ (n : Option ℕ). record { state = state; serving = serving; armed = is_armed n }) kept
+
+-- power that comes on
+power_made : (serving : Bool) (old : Device) (answer : Answer) (new : Point) → AtMostOne old → Powers serving old answer new
+    → IsLineMade (record { serving = serving; device = old }) PowerOn answer new
+power_made true old Opened new most powers = record {
+  step = ap desk_of powers;
+  same_size = ap (λ (point : Point). point.device.size) powers;
+  at_most = at_most_still old new.device (ap (λ (point : Point). point.device.cuts_left) powers) most;
+}
+power_made false old Opened new most powers = record {
+  step = desk_is new (state_of old) true old.cuts_left (powers.0.state_is ∙ state_powered old) powers.1 powers.0.goes_on.same_cuts_left;
+  same_size = powers.0.goes_on.same_size;
+  at_most = at_most_still old new.device powers.0.goes_on.same_cuts_left most;
+}
+power_made false old Cut new most powers =
+    let here = cut_here (powered old) new powers.0.cut powers.1 most in
+    record { step = (refl, here.armed, here.desk ∙ ap (λ (state : State). record { state = state; serving = false; armed = false }) (powers.0.state_is ∙ state_powered old)); same_size = powers.0.cut.same_size; at_most = here.at_most }
+power_made serving old answer new most powers = absurd powers
+
+pub line_made : (old : Point) (command : Command) (answer : Answer) (new : Point) → AtMostOne old.device → Attends old command answer new → IsLineMade old command answer new
+line_made old (Arm fuse) answer new most attends = record {
+  step = (attends.0, ap desk_of attends.1 ∙ rw (state_armed old.device) refl);
+  same_size = ap (λ (point : Point). point.device.size) attends.1;
+  at_most = inr (ap (λ (point : Point). point.device.cuts_left) attends.1);
+}
+line_made old PowerOn answer new most attends = power_made old.serving old.device answer new most attends
+line_made old (Write address value) answer new most attends =
+    let made = asked old.serving old.device (Write address value) answer new most attends in
+    record { step = made.step; same_size = made.same_size; at_most = made.at_most }
+line_made old (Forget address) answer new most attends =
+    let made = asked old.serving old.device (Forget address) answer new most attends in
+    record { step = made.step; same_size = made.same_size; at_most = made.at_most }
+line_made old (Read address) answer new most attends =
+    let made = asked old.serving old.device (Read address) answer new most attends in
+    record { step = made.step; same_size = made.same_size; at_most = made.at_most }
+line_made old Clean answer new most attends =
+    let made = asked old.serving old.device Clean answer new most attends in
+    record { step = made.step; same_size = made.same_size; at_most = made.at_most }
+
+-- ---- a run
+
+pub record IsDeskRun (old : Point) (commands : List Command) (answers : List Answer) (new : Point) : Type 0 where
+  pub run : Run (DeskStep old.device.size) (desk_of old) commands answers (desk_of new)
+  pub same_size : new.device.size ≡ old.device.size
+
+pub desk_run : (old new : Point) (commands : List Command) (answers : List Answer) → AtMostOne old.device → Run Attends old commands answers new
+    → IsDeskRun old commands answers new
+desk_run old new [] [] most run = record { run = ap desk_of run; same_size = ap (λ (point : Point). point.device.size) run }
+desk_run old new [] (answer ∷ answers) most run = absurd run
+desk_run old new (command ∷ commands) [] most run = absurd run
+desk_run old new (command ∷ commands) (answer ∷ answers) most run =
+    let here = line_made old command answer run.0 most run.1 in
+    let rest = desk_run run.0 new commands answers here.at_most run.2 in
+    record {
+      run = (desk_of run.0, here.step, subst (λ (size : Size). Run (DeskStep size) (desk_of run.0) commands answers (desk_of new)) here.same_size rest.run);
+      same_size = rest.same_size ∙ here.same_size;
+    }

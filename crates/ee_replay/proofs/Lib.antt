@@ -1,0 +1,14 @@
+pub mod Causes
+pub mod OneReplayCause
+pub mod Runs
+pub mod NotedRuns
+pub mod Replays
+pub mod Reported
+pub mod Late
+pub mod Given
+pub mod Desks
+pub mod Arming
+pub mod UncutRuns
+pub mod LegalAlone
+pub mod Powering
+pub mod Calling

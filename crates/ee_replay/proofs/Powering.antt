@@ -1,0 +1,157 @@
+-- What a device's image says stays as power comes on and a cut is armed.
+use Rattle.std.proofs.Common.{◌≡◌, ◌∙◌, ◌≤◌, ℕ, arith, Bool, Option, Some, None, ap, refl, subst, sym, true}
+use Rattle.ee_flash.specs.Device.{Device, IsFormed, IsOn, all_ones}
+use Rattle.ee_pages.proofs.ScanFaults.{legal_is_good}
+use Rattle.ee_pages.specs.Layout.{IsScanFault}
+use Rattle.ee_pages.specs.Legal.{IsLegal, IsLive}
+use Rattle.ee_pages.specs.Sets.{live_of}
+use Rattle.ee_pages.specs.declared.find.ScanFault.{ScanFault}
+use Rattle.ee_pages.specs.declared.side.Side.{Side}
+use Rattle.ee_pages.specs.declared.side.Side.TheVariants.{First, Second}
+use Rattle.ee_store.specs.Events.{powered}
+use Rattle.ee_store.specs.Finished.{IsFinished, IsMarked, IsStore}
+use Rattle.ee_store.specs.State.{State, state_in, state_of, state_with}
+use Rattle.ee_store.specs.Events.{Point}
+use Rattle.ee_store.specs.Openings.{IndexedOpenFails, IsCutOpening, Opens}
+use Rattle.ee_store.specs.declared.indexed.IndexedFault.{IndexedFault}
+use Rattle.ee_store.specs.declared.indexed.IndexedFault.TheVariants as indexed
+use Rattle.ee_flash.specs.Memory.{Memory}
+use Rattle.ee_flash.specs.Memory as memory
+use Rattle.ee_flash.specs.declared.fuse.Fuse.{Fuse}
+use Rattle.ee_replay.specs.Desk.{SaysTheSame}
+use Rattle.ee_replay.specs.Serving.{IsSound, armed, opened}
+
+state_with_armed : (device : Device) (side : Side) (generation : ℕ) → state_with (armed device) side generation ≡ state_with device side generation
+state_with_armed device First generation = refl
+state_with_armed device Second generation = refl
+
+state_in_armed : (device : Device) (live : Option (Side × ℕ)) → state_in (armed device) live ≡ state_in device live
+state_in_armed device None = refl
+state_in_armed device (Some live) = state_with_armed device live.0 live.1
+
+pub state_armed : (device : Device) → state_of (armed device) ≡ state_of device
+state_armed device = state_in_armed device (live_of device)
+
+state_with_powered : (device : Device) (side : Side) (generation : ℕ) → state_with (powered device) side generation ≡ state_with device side generation
+state_with_powered device First generation = refl
+state_with_powered device Second generation = refl
+
+state_in_powered : (device : Device) (live : Option (Side × ℕ)) → state_in (powered device) live ≡ state_in device live
+state_in_powered device None = refl
+state_in_powered device (Some live) = state_with_powered device live.0 live.1
+
+pub state_powered : (device : Device) → state_of (powered device) ≡ state_of device
+state_powered device = state_in_powered device (live_of device)
+
+few_cuts : (left : ℕ) → Some 1 ≡ Some left → left ≤ all_ones
+few_cuts left e =
+    let one : left ≡ 1 = cc e in
+    omega arith
+
+formed_armed : (device : Device) → IsFormed device → IsFormed (armed device)
+formed_armed device formed = record {
+  within_limits = formed.within_limits;
+  image_length = formed.image_length;
+  page_lengths = formed.page_lengths;
+  below_all_ones = formed.below_all_ones;
+  wear_length = formed.wear_length;
+  wear_fits = formed.wear_fits;
+  cuts_fit = formed.cuts_fit;
+  cuts_left_fit = few_cuts;
+}
+
+live_armed : (device : Device) (side : Side) (generation : ℕ) → IsLive device side generation → IsLive (armed device) side generation
+live_armed device First generation live = record { formed = formed_armed device live.formed; live = live.live; allowed = live.allowed }
+live_armed device Second generation live = record { formed = formed_armed device live.formed; live = live.live; allowed = live.allowed }
+
+pub legal_armed : (device : Device) → IsLegal device → IsLegal (armed device)
+legal_armed device legal = (legal.0, legal.1, live_armed device legal.0 legal.1 legal.2)
+
+formed_powered : (device : Device) → IsFormed device → IsFormed (powered device)
+formed_powered device formed = record {
+  within_limits = formed.within_limits;
+  image_length = formed.image_length;
+  page_lengths = formed.page_lengths;
+  below_all_ones = formed.below_all_ones;
+  wear_length = formed.wear_length;
+  wear_fits = formed.wear_fits;
+  cuts_fit = formed.cuts_fit;
+  cuts_left_fit = formed.cuts_left_fit;
+}
+
+live_powered : (device : Device) (side : Side) (generation : ℕ) → IsLive device side generation → IsLive (powered device) side generation
+live_powered device First generation live = record { formed = formed_powered device live.formed; live = live.live; allowed = live.allowed }
+live_powered device Second generation live = record { formed = formed_powered device live.formed; live = live.live; allowed = live.allowed }
+
+pub legal_powered : (device : Device) → IsLegal device → IsLegal (powered device)
+legal_powered device legal = (legal.0, legal.1, live_powered device legal.0 legal.1 legal.2)
+
+marked_armed : (device : Device) (side : Side) → IsMarked device side → IsMarked (armed device) side
+marked_armed device First marked = record { live = record { valid = marked.live.valid; active = marked.live.active }; old = marked.old }
+marked_armed device Second marked = record { live = record { valid = marked.live.valid; active = marked.live.active }; old = marked.old }
+
+pub finished_armed : (device : Device) → IsStore device → IsOn device → IsFinished (armed device)
+finished_armed device store on = λ side generation live. marked_armed device side (store.finished on side generation live)
+
+-- so no scan meets a fault
+pub no_fault_armed : (device : Device) (fault : ScanFault) → IsLegal device → IsScanFault (armed device) fault → ⊥
+no_fault_armed device fault legal found = legal_is_good (armed device) fault (legal_armed device legal) found
+
+pub no_fault_powered : (device : Device) (fault : ScanFault) → IsLegal device → IsScanFault (powered device) fault → ⊥
+no_fault_powered device fault legal found = legal_is_good (powered device) fault (legal_powered device legal) found
+
+-- ---- a device that is armed
+
+-- what the fuse makes of the device
+pub now_armed : (fuse : Fuse) (old new : Memory) → new ≡ memory.armed fuse old → new.device ≡ armed old.device
+now_armed fuse old new is = ap (λ (kept : Memory). kept.device) is
+
+pub arm_legal : (old flash new : Device) → flash ≡ old → new ≡ armed flash → IsLegal old → IsLegal new
+arm_legal old flash new same is legal = subst IsLegal (sym (is ∙ ap armed same)) (legal_armed old legal)
+
+pub arm_scan : (old flash new : Device) (fault : ScanFault) → flash ≡ old → new ≡ armed flash → IsLegal old → IsScanFault new fault → ⊥
+arm_scan old flash new fault same is legal found = no_fault_armed old fault legal (subst (λ (device : Device). IsScanFault device fault) (is ∙ ap armed same) found)
+
+pub arm_cut : (old : Point) (flash new last : Device) → flash ≡ old.device → new ≡ armed flash → old.serving ≡ true → IsSound old → IsCutOpening new last → ⊥
+arm_cut old flash new last same is still sound cut =
+    let finished = finished_armed old.device (sound.store still) (sound.on still) in
+    cut.mark_left (subst IsFinished (sym (is ∙ ap armed same)) finished)
+
+pub arm_failed : (old : Point) (flash new last : Device) (fault : IndexedFault) → fault ≡ indexed.Cut → flash ≡ old.device → new ≡ armed flash → old.serving ≡ true → IsSound old
+    → IndexedOpenFails new fault last → ⊥
+arm_failed old flash new last fault cut same is still sound fails =
+    arm_cut old flash new last same is still sound (subst (λ (one : IndexedFault). IndexedOpenFails new one last) cut fails)
+
+pub arm_opens : (old : Point) (flash new last : Device) → flash ≡ old.device → new ≡ armed flash → old.serving ≡ true → IsSound old → Opens new last
+    → opened last ≡ record old { device = armed old.device }
+arm_opens old flash new last same is still sound opens =
+    let here : new ≡ armed old.device = is ∙ ap armed same in
+    let finished = finished_armed old.device (sound.store still) (sound.on still) in
+    let there : last ≡ armed old.device = opens.no_step (subst IsFinished (sym here) finished) ∙ here in
+    ap opened there ∙ rw (sound.on still, still) refl
+
+-- an open store is on, and no mark is left to set
+pub store_sound : (device : Device) → IsStore device → IsSound (opened device)
+store_sound device store = record { legal = store.legal; on = λ on. on; store = λ on. store }
+
+-- ---- the image says the same
+
+pub same_armed : (old flash new : Device) → flash ≡ old → new ≡ armed flash → SaysTheSame old new
+same_armed old flash new same is =
+    let here : new ≡ armed old = is ∙ ap armed same in
+    record { same_size = ap (λ (device : Device). device.size) here; state_is = ap state_of here ∙ state_armed old }
+
+pub same_opened : (old new : Device) → Opens (powered old) new → SaysTheSame old new
+same_opened old new opens = record { same_size = opens.goes_on.same_size; state_is = opens.state_is ∙ state_powered old }
+
+pub same_cut : (old new : Device) → IsCutOpening (powered old) new → SaysTheSame old new
+same_cut old new cut = record { same_size = cut.cut.same_size; state_is = cut.state_is ∙ state_powered old }
+
+pub same_powered : (old new : Device) → new ≡ powered old → SaysTheSame old new
+same_powered old new is = record { same_size = ap (λ (device : Device). device.size) is; state_is = ap state_of is ∙ state_powered old }
+
+pub same_still : (device : Device) → SaysTheSame device device
+same_still device = record { same_size = refl; state_is = refl }
+
+pub same_after : (old mid new : Device) → SaysTheSame old mid → new ≡ mid → SaysTheSame old new
+same_after old mid new same is = subst (SaysTheSame old) (sym is) same

@@ -1,0 +1,42 @@
+use Rattle.std.proofs.Common.{rules, inl, inr}
+use Rattle.std.proofs.lemmas.Result.{err_from_is_err_and}
+use Rattle.ee_replay.proofs.Given.{given_is_good, named_of_stream, only_memory}
+use Rattle.ee_image_store.proofs.OneCause.{one_open_fault, store_is_good}
+use Rattle.ee_replay.proofs.Replays.{is_replayed}
+use Rattle.ee_replay.proofs.replaying.replay_reader.Goals as goal
+
+pub returns-in_err-store-clause-names : goal.returns-in_err-store-clause-names
+returns-in_err-store-clause-names g c = λ cause some applies.
+    let p = err_from_is_err_and c.from_residual.result c.from_residual.ensures.1 in
+    rw p.1 (rw p.2 (one_open_fault c.args.image.now cause _ some applies c.in_err-store.ensures.fault))
+
+pub returns-in_err-store-clause-bad : goal.returns-in_err-store-clause-bad
+returns-in_err-store-clause-bad g c = λ script n known store bad.
+    let p = err_from_is_err_and c.from_residual.result c.from_residual.ensures.1 in
+    rw p.1 (rw p.2 (inr (inl (only_memory c.args.image.now _ store c.in_err-store.ensures.fault))))
+
+pub returns-in_err-replayed-clause-names : goal.returns-in_err-replayed-clause-names
+returns-in_err-replayed-clause-names g c = λ cause some applies.
+    let opened = c.in_ok-store.ensures.opened in
+    absurd (store_is_good c.args.image.now opened.device cause opened.old some applies)
+
+pub returns-in_err-replayed-clause-bad : goal.returns-in_err-replayed-clause-bad
+returns-in_err-replayed-clause-bad g c = λ script n known store bad.
+    let p = err_from_is_err_and c.from_residual-in_err-replayed.result c.from_residual-in_err-replayed.ensures.1 in
+    rw p.1 (rw p.2 (named_of_stream _ _ script n _ known bad c.in_err-replayed.ensures.fault))
+
+pub returns-clause-replayed : goal.returns-clause-replayed
+returns-clause-replayed g c =
+    let run = c.in_ok-replayed.ensures.run in
+    (run.0, run.1, search (rules, is_replayed, run.2))
+
+pub returns-clause-names : goal.returns-clause-names
+returns-clause-names g c = λ cause some applies.
+    let opened = c.in_ok-store.ensures.opened in
+    store_is_good c.args.image.now opened.device cause opened.old some applies
+
+pub returns-clause-bad : goal.returns-clause-bad
+returns-clause-bad g c = λ script n known store bad.
+    let run = c.in_ok-replayed.ensures.run in
+    given_is_good _ _ c.args.image.now script run.0 _ _ n known bad run.1
+    (is_replayed _ _ _ _ c.in_ok-store.store c.in_ok-store.ensures.opened run.2)

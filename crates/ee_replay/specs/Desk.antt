@@ -1,0 +1,56 @@
+-- Where a desk is: its device, and whether a store is open on it.
+use Rattle.std.specs.Prelude.{◌≡◌, ℕ, Bool, true, false, IsTrue, Option, Some, None, Ok, Err, is_some}
+use Rattle.ee_flash.specs.Device.{Device, IsOn, blank_device}
+use Rattle.ee_flash.specs.Memory.{device_of}
+use Rattle.ee_flash.specs.declared.memory.MemFlash.{MemFlash}
+use Rattle.ee_pages.specs.Legal.{IsLegal, IsLive}
+use Rattle.ee_pages.specs.Sets.{live_of}
+use Rattle.ee_pages.specs.declared.side.Side.{Side}
+use Rattle.ee_store.specs.Events.{Point, closed}
+use Rattle.ee_store.specs.Runs.{Call, Cleaned, DidRead, Follows, Forgot, Wrote}
+use Rattle.ee_store.specs.State.{state_of}
+use Rattle.ee_store.specs.declared.variables.ForgetFault.TheVariants as forgetting
+use Rattle.ee_store.specs.declared.variables.WriteFault.TheVariants as fault
+use Rattle.ee_replay.specs.Serving.{opened}
+use Rattle.ee_replay.specs.declared.desk.Desk.{Desk}
+use Rattle.ee_replay.specs.declared.desk.Desk.TheVariants.{Open, Bare, Gone}
+
+-- the desk is there, and a device alone on it has a legal image; a store sees to its own
+abbrev pub IsLegalDesk : {S A : Type 0} → Desk S A → Type 0
+IsLegalDesk (Open store) = Unit {0}
+IsLegalDesk (Bare flash) = IsLegal (device_of flash)
+IsLegalDesk Gone = ⊥
+
+-- the image is legal, in a form that has one proof at most: there is a live set, and each that is the live one is fit
+abbrev pub HasLegalImage : Device → Type 0
+HasLegalImage device =
+    IsTrue (is_some (live_of device)) × ((side : Side) (generation : ℕ) → live_of device ≡ Some (side, generation) → IsLive device side generation)
+
+-- the same of a desk, in that form
+pub record IsLegalSo {S A : Type 0} (desk : Desk S A) : Type 0 where
+  pub there : desk ≡ Gone → ⊥
+  pub alone : (flash : MemFlash A) → desk ≡ Bare flash → HasLegalImage (device_of flash)
+
+-- where no store is open, a call is answered that it is off
+abbrev pub IsOffCall : Call → Type 0
+IsOffCall (Wrote address value (Err fault.Off)) = Unit {0}
+IsOffCall (Forgot address (Err forgetting.Off)) = Unit {0}
+IsOffCall (Cleaned (Err fault.Off)) = Unit {0}
+IsOffCall (DidRead address (Err off)) = Unit {0}
+IsOffCall call = ⊥
+
+-- a call at a desk, by whether a store is open
+abbrev pub Calls : Bool → Device → Call → Point → Type 0
+Calls true old made new = IsOn old × Follows made old new.device × (new ≡ opened new.device)
+Calls false old made new = IsOffCall made × (new ≡ closed old)
+
+-- the size is as before, and what the image says
+pub record SaysTheSame (old new : Device) : Type 0 where
+  pub same_size : new.size ≡ old.size
+  pub state_is : state_of new ≡ state_of old
+
+module _ {S A : Type 0} (device : S → Device) where
+  abbrev pub point_of : Desk S A → Point
+  point_of (Open store) = opened (device store)
+  point_of (Bare flash) = closed (device_of flash)
+  point_of Gone = closed (blank_device (record { pages = 0; words = 0 }))

@@ -1,0 +1,6 @@
+pub mod Report
+pub mod Serving
+pub mod Desk
+pub mod Replaying
+pub mod Reading
+pub mod ArmedCuts

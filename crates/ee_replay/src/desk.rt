@@ -1,0 +1,168 @@
+//! A device on the desk, with a store open on it or without: a cut is armed, and power comes back.
+ghost use Rattle.std.specs.Prelude.{◌≡◌, IfOk, true};
+ghost use Rattle.ee_flash.specs.Memory.{device_of};
+ghost use Rattle.ee_pages.specs.Legal.{IsLegal};
+ghost use Rattle.ee_script.specs.declared.command.Command.TheVariants.{Arm, PowerOn};
+ghost use Rattle.ee_store.specs.Finished.{IsStore};
+ghost use Rattle.ee_store.specs.Runs.{Cleaned, DidRead, Forgot, Wrote};
+ghost use Rattle.ee_store.specs.State.{state_of};
+ghost use Rattle.ee_replay.specs.Desk.{Calls, IsLegalDesk, IsLegalSo, SaysTheSame, point_of};
+ghost use Rattle.ee_replay.specs.Serving.{Attends, IsSound};
+
+use ee_codec::Address;
+use ee_flash::{Flash, Fuse, MemFlash};
+use ee_image_store::Opened;
+use ee_script::Answer;
+use ee_store::{ForgetFault, IndexedFault, Off, Variables, WriteFault, Written};
+use std::alloc::{AllocError, Allocator};
+
+/// A device, with a store open on it or without.
+#[derive(Drop)]
+pub(crate) enum Desk<S: Variables + Drop, A: Allocator> {
+    /// A store. It is open as long as its device is on.
+    Open(S),
+    /// The device alone.
+    Bare(MemFlash<A>),
+    /// Nothing, while a call has taken what is there.
+    Gone,
+}
+
+impl<S: Opened<MemFlash<A>, A>, A: Allocator + Copy> Desk<S, A> {
+    /// Whether a store is open.
+    pub(crate) fn is_open(&self) -> bool
+        ensures { result ≡ (point_of S.device self.now).serving }
+    {
+        match self {
+            Desk::Open(store) => store.is_on(),
+            Desk::Bare(_) | Desk::Gone => false,
+        }
+    }
+
+    /// The device. A store that was open on it is closed.
+    pub(crate) fn into_flash(self) -> MemFlash<A>
+        requires { IsLegalDesk self }
+        ensures device { device_of result ≡ (point_of S.device self).device }
+        ensures sound { IsSound (point_of S.device self) }
+    {
+        match self {
+            Desk::Open(store) => store.close(),
+            Desk::Bare(flash) => flash,
+            Desk::Gone => unreachable!("it is there"),
+        }
+    }
+
+    /// Writes. Where no store is open, the fault is `Off`.
+    pub(crate) fn write(&mut self, address: Address, value: u32) -> Result<Written, WriteFault>
+        ensures calls { let old = point_of S.device self.old in Calls old.serving old.device
+            (Wrote address value result) (point_of S.device self.new) }
+        ensures store { let old = point_of S.device self.old in
+            old.serving ≡ true → IsStore old.device }
+        ensures legal { IsLegalSo self.old → IsLegalSo self.new }
+    {
+        match self {
+            Desk::Open(store) => {
+                // It says that the image is legal, which tells how many slots may be used.
+                let _ = store.is_on();
+                store.write(address, value)
+            }
+            Desk::Bare(_) | Desk::Gone => Err(WriteFault::Off),
+        }
+    }
+
+    /// Forgets. Where no store is open, the fault is `Off`.
+    pub(crate) fn forget(&mut self, address: Address) -> Result<Written, ForgetFault>
+        ensures calls { let old = point_of S.device self.old in Calls old.serving old.device
+            (Forgot address result) (point_of S.device self.new) }
+        ensures store { let old = point_of S.device self.old in
+            old.serving ≡ true → IsStore old.device }
+        ensures legal { IsLegalSo self.old → IsLegalSo self.new }
+    {
+        match self {
+            Desk::Open(store) => {
+                // It says that the image is legal, which tells how many slots may be used.
+                let _ = store.is_on();
+                store.forget(address)
+            }
+            Desk::Bare(_) | Desk::Gone => Err(ForgetFault::Off),
+        }
+    }
+
+    /// Takes a clean step. Where no store is open, the fault is `Off`.
+    pub(crate) fn clean_step(&mut self) -> Result<bool, WriteFault>
+        ensures calls { let old = point_of S.device self.old in Calls old.serving old.device
+            (Cleaned result) (point_of S.device self.new) }
+        ensures legal { IsLegalSo self.old → IsLegalSo self.new }
+    {
+        match self {
+            Desk::Open(store) => store.clean_step(),
+            Desk::Bare(_) | Desk::Gone => Err(WriteFault::Off),
+        }
+    }
+
+    /// Reads.
+    pub(crate) fn read(&self, address: Address) -> Result<Option<u32>, Off>
+        ensures { let point = point_of S.device self.now in Calls point.serving point.device
+            (DidRead address result) point }
+    {
+        match self {
+            Desk::Open(store) => store.read(address),
+            Desk::Bare(_) | Desk::Gone => Err(Off),
+        }
+    }
+
+    /// How many slots are used.
+    pub(crate) fn fill(&self) -> usize
+        requires { (point_of S.device self.now).serving ≡ true }
+        ensures { result ≡ (state_of (point_of S.device self.now).device).fill }
+    {
+        match self {
+            Desk::Open(store) => store.fill(),
+            Desk::Bare(_) | Desk::Gone => unreachable!("a store is open"),
+        }
+    }
+
+    /// Arms a cut. A store that is open gives its device back, and is opened again, which takes no
+    /// step. An error says that memory ran out.
+    pub(crate) fn arm(self, alloc: A, fuse: Fuse) -> (Desk<S, A>, Result<Answer, AllocError>)
+        requires { IsLegalDesk self }
+        ensures attends { IfOk result.1 (λ answer. Attends (point_of S.device self)
+            (Arm fuse) answer (point_of S.device result.0)) }
+        ensures legal { IsLegalDesk result.0 }
+        ensures same { SaysTheSame (point_of S.device self).device (point_of S.device result.0).device }
+    {
+        let open = self.is_open();
+        let mut flash = self.into_flash();
+        flash.arm(fuse);
+        if !open {
+            return (Desk::Bare(flash), Ok(Answer::Armed));
+        }
+        match S::open_on(alloc, flash) {
+            Ok(store) => (Desk::Open(store), Ok(Answer::Armed)),
+            Err((flash, IndexedFault::Memory)) => (Desk::Bare(flash), Err(AllocError)),
+            Err((_, IndexedFault::Scan(_))) => unreachable!("the image is legal"),
+            Err((_, IndexedFault::Cut)) => unreachable!("no mark is left to set"),
+        }
+    }
+
+    /// Turns power on and opens the store, which changes nothing where one is open. An error says
+    /// that memory ran out.
+    pub(crate) fn power_on(self, alloc: A) -> (Desk<S, A>, Result<Answer, AllocError>)
+        requires { IsLegalDesk self }
+        ensures attends { IfOk result.1 (λ answer. Attends (point_of S.device self)
+            PowerOn answer (point_of S.device result.0)) }
+        ensures legal { IsLegalDesk result.0 }
+        ensures same { SaysTheSame (point_of S.device self).device (point_of S.device result.0).device }
+    {
+        if self.is_open() {
+            return (self, Ok(Answer::Opened));
+        }
+        let mut flash = self.into_flash();
+        flash.power_on();
+        match S::open_on(alloc, flash) {
+            Ok(store) => (Desk::Open(store), Ok(Answer::Opened)),
+            Err((flash, IndexedFault::Cut)) => (Desk::Bare(flash), Ok(Answer::Cut)),
+            Err((flash, IndexedFault::Memory)) => (Desk::Bare(flash), Err(AllocError)),
+            Err((_, IndexedFault::Scan(_))) => unreachable!("its image is legal"),
+        }
+    }
+}

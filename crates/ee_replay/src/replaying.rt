@@ -1,0 +1,191 @@
+//! Scripts on images.
+ghost use Rattle.std.specs.Prelude.{◌≡◌, ◌≢◌, ◌⊎◌, ℕ, List, IfOk, IfErr, MatchResult, Some};
+ghost use Rattle.ee_script.specs.Script.{IsFirstBadLine};
+ghost use Rattle.ee_replay.specs.Replaying.{IsReplayFault, IsReplayed, IsRunFault, IsRunOn, IsTried};
+ghost use Rattle.ee_replay.specs.Reading.{IsGiven, IsNotAnswered, IsReaderFault};
+ghost use Rattle.ee_image_store.specs.Opening.{HasStore, IsOpenFault, StaysOn};
+
+use super::reporting::{answer_on, answer_reader_on};
+use ee_flash::{MemFlash, Shape};
+use ee_image_store::{Opened, new_store, open_as, open_image, text_of};
+use ee_store::{IndexedStore, Store};
+use ee_words::ReplayFault;
+use std::alloc::{Allocator, Global};
+use std::io::Read;
+
+/// What a script leaves: the image as text, and the report.
+///
+/// Source: ours.
+#[derive(Debug, Drop)]
+pub struct Replayed<A: Allocator = Global> {
+    /// The text of the image afterwards.
+    pub image: Vec<u8, A>,
+    /// One line for each line of the script, the line of the end, and the text of the certificate that
+    /// no store makes the accepted changes with fewer moves, or that there is none, after a cut.
+    pub report: Vec<u8, A>,
+}
+
+/// Answers a script on the store whose image a text spells, and gives the image that this leaves and
+/// the report. Marks that a cut left to set are set.
+///
+/// Source: ours.
+///
+/// # Errors
+///
+/// The first `ReplayFault` that applies; `Memory` can come in place of any answer.
+pub fn replay<A: Allocator + Copy>(
+    alloc: A,
+    image: &[u8],
+    script: &[u8],
+) -> Result<Replayed<A>, ReplayFault>
+    ensures replayed { IfOk result (λ replayed.
+        IsReplayed image.now script.now replayed.image.items replayed.report.items) }
+    ensures fault { IfErr result (IsReplayFault image.now script.now) }
+    // No cause is passed over.
+    ensures names { (cause : ReplayFault) → cause ≢ ReplayFault.Memory
+        → IsReplayFault image.now script.now cause
+        → MatchResult result (λ _. ⊥)
+        (λ fault. (fault ≡ cause) ⊎ (fault ≡ ReplayFault.Memory)) }
+{
+    replay_as::<A, Store<MemFlash<A>>>(alloc, image, script)
+}
+
+/// `replay` on a store that keeps an index in memory.
+///
+/// Source: ours.
+///
+/// # Errors
+///
+/// The first `ReplayFault` that applies; `Memory` can come in place of any answer.
+pub fn replay_indexed<A: Allocator + Copy>(
+    alloc: A,
+    image: &[u8],
+    script: &[u8],
+) -> Result<Replayed<A>, ReplayFault>
+    ensures replayed { IfOk result (λ replayed.
+        IsReplayed image.now script.now replayed.image.items replayed.report.items) }
+    ensures fault { IfErr result (IsReplayFault image.now script.now) }
+    // No cause is passed over.
+    ensures names { (cause : ReplayFault) → cause ≢ ReplayFault.Memory
+        → IsReplayFault image.now script.now cause
+        → MatchResult result (λ _. ⊥)
+        (λ fault. (fault ≡ cause) ⊎ (fault ≡ ReplayFault.Memory)) }
+{
+    replay_as::<A, IndexedStore<MemFlash<A>, A>>(alloc, image, script)
+}
+
+/// The same on either kind of store.
+fn replay_as<A: Allocator + Copy, S: Opened<MemFlash<A>, A>>(
+    alloc: A,
+    image: &[u8],
+    script: &[u8],
+) -> Result<Replayed<A>, ReplayFault>
+    ensures replayed { IfOk result (λ replayed.
+        IsReplayed image.now script.now replayed.image.items replayed.report.items) }
+    ensures fault { IfErr result (IsReplayFault image.now script.now) }
+    // No cause is passed over.
+    ensures names { (cause : ReplayFault) → cause ≢ ReplayFault.Memory
+        → IsReplayFault image.now script.now cause
+        → MatchResult result (λ _. ⊥)
+        (λ fault. (fault ≡ cause) ⊎ (fault ≡ ReplayFault.Memory)) }
+{
+    let store = open_as::<A, S>(alloc, image)?;
+    let replayed = run_on(alloc, store, script)?;
+    Ok(replayed)
+}
+
+/// `replay` of a script that a reader gives in pieces. The image is opened before the first read; what
+/// one read call gives is judged before the next; no more than `MOST_READS` read calls are made, tries
+/// after an interruption among them. Of the script no more is kept than one unfinished line.
+///
+/// Source: ours.
+///
+/// # Errors
+///
+/// The first `ReplayFault` that applies, and of those of the script the one that is met first: `Read`
+/// where a read failed or there were too many, with no bad line judged before. `Memory` can come in
+/// place of any answer.
+pub fn replay_reader<A: Allocator + Copy, R: Read>(
+    alloc: A,
+    image: &[u8],
+    reader: &mut R,
+) -> Result<Replayed<A>, ReplayFault>
+    ensures replayed { IfOk result (λ replayed. (script : List ℕ)
+        × IsGiven (R.remaining reader.old) (R.remaining reader.new) script
+        × IsReplayed image.now script replayed.image.items replayed.report.items) }
+    ensures fault { IfErr result
+        (IsReaderFault (R.remaining reader.old) (R.remaining reader.new) image.now) }
+    // No cause against the image is passed over.
+    ensures names { (cause : ReplayFault) → cause ≢ ReplayFault.Memory
+        → IsOpenFault image.now cause → MatchResult result (λ _. ⊥)
+        (λ fault. (fault ≡ cause) ⊎ (fault ≡ ReplayFault.Memory)) }
+    // A bad line is never passed over.
+    ensures bad { (script : List ℕ) (n : ℕ) → R.remaining reader.old ≡ Some script
+        → HasStore image.now → IsFirstBadLine script n → MatchResult result (λ _. ⊥)
+        (λ fault. (fault ≡ ReplayFault.Script n) ⊎ (fault ≡ ReplayFault.Memory)
+        ⊎ (fault ≡ ReplayFault.Read)) }
+{
+    let store = open_image(alloc, image)?;
+    let replayed = run_reader(alloc, store, reader)?;
+    Ok(replayed)
+}
+
+/// Answers a script on a new device of this shape, which is formatted first, and gives the image that
+/// this leaves and the report.
+///
+/// Source: ours.
+///
+/// # Errors
+///
+/// `Script`, the first bad line; `Memory` can come in place of any answer.
+pub fn try_script<A: Allocator + Copy>(
+    alloc: A,
+    shape: Shape,
+    script: &[u8],
+) -> Result<Replayed<A>, ReplayFault>
+    ensures tried { IfOk result (λ replayed.
+        IsTried shape script.now replayed.image.items replayed.report.items) }
+    ensures fault { IfErr result (IsRunFault script.now) }
+    // A bad line is never passed over.
+    ensures bad { (n : ℕ) → IsFirstBadLine script.now n
+        → MatchResult result (λ _. ⊥)
+        (λ fault. (fault ≡ ReplayFault.Script n) ⊎ (fault ≡ ReplayFault.Memory)) }
+{
+    let store = new_store(alloc, shape)?;
+    let tried = run_on(alloc, store, script)?;
+    Ok(tried)
+}
+
+/// Answers a script on a store, and gives the image that this leaves and the report.
+fn run_on<A: Allocator + Copy, S: Opened<MemFlash<A>, A>>(
+    alloc: A,
+    store: S,
+    script: &[u8],
+) -> Result<Replayed<A>, ReplayFault>
+    requires { StaysOn (S.device store) }
+    ensures run { IfOk result (λ replayed.
+        IsRunOn (S.device store) script.now replayed.image.items replayed.report.items) }
+    ensures fault { IfErr result (IsRunFault script.now) }
+{
+    let (flash, report) = answer_on(alloc, store, script)?;
+    let image = text_of(alloc, &flash)?;
+    Ok(Replayed { image, report })
+}
+
+/// The same of a script that a reader gives.
+fn run_reader<A: Allocator + Copy, S: Opened<MemFlash<A>, A>, R: Read>(
+    alloc: A,
+    store: S,
+    reader: &mut R,
+) -> Result<Replayed<A>, ReplayFault>
+    requires { StaysOn (S.device store) }
+    ensures run { IfOk result (λ replayed. (script : List ℕ)
+        × IsGiven (R.remaining reader.old) (R.remaining reader.new) script
+        × IsRunOn (S.device store) script replayed.image.items replayed.report.items) }
+    ensures fault { IfErr result
+        (IsNotAnswered (R.remaining reader.old) (R.remaining reader.new)) }
+{
+    let (flash, report) = answer_reader_on(alloc, store, reader)?;
+    let image = text_of(alloc, &flash)?;
+    Ok(Replayed { image, report })
+}

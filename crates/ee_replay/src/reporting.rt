@@ -1,0 +1,183 @@
+//! The whole report of a script: its answers, how the desk stands at the end, and the certificate that
+//! no store could have moved its live set less often.
+ghost use Rattle.std.specs.Prelude.{◌≡◌, ◌⊎◌, ◌++◌, ℕ, List, [], IfOk, IfErr, MatchResult, OnOk, codes, decimal, false, true};
+ghost use Rattle.ee_check.specs.Schedule.{IsProper};
+ghost use Rattle.ee_check.specs.Text.{text_of};
+ghost use Rattle.ee_flash.specs.Device.{Device, IsOn};
+ghost use Rattle.ee_flash.specs.Memory.{device_of};
+ghost use Rattle.ee_flash.specs.Size.{slot_count};
+ghost use Rattle.ee_plan.specs.Start.{IsStartOf};
+ghost use Rattle.ee_script.specs.Reading.{IsStreamFault};
+ghost use Rattle.ee_script.specs.Script.{IsFirstBadLine};
+ghost use Rattle.ee_script.specs.Whole.{IsScriptFault};
+ghost use Rattle.ee_store.specs.Events.{Point};
+ghost use Rattle.ee_store.specs.State.{state_of};
+ghost use Rattle.ee_replay.specs.Desk.{IsLegalDesk, point_of};
+ghost use Rattle.ee_replay.specs.Report.{desk_line, end_line};
+ghost use Rattle.ee_replay.specs.Reading.{IsGiven};
+ghost use Rattle.ee_replay.specs.Serving.{IsServed, IsSound, IsTraced, claim_noted};
+ghost use Rattle.ee_image_store.specs.Opening.{StaysOn};
+
+use super::desk::Desk;
+use super::noting::Notes;
+use super::serving::{Traced, trace_on, trace_reader};
+use ee_check::{Start, write_certificate};
+use ee_flash::MemFlash;
+use ee_image_store::Opened;
+use ee_plan::start_of;
+use ee_script::{ScriptFault, StreamFault};
+use ee_store::Variables;
+use ee_text::push_number;
+use std::alloc::{AllocError, Allocator};
+use std::io::Read;
+
+/// Answers a script, from a store on a device that is on and on which no cut is to come, and gives the
+/// device and the report: a line for each line of the script, a line on how the desk stands, and the
+/// certificate that no store makes the changes that were accepted with fewer moves, or after a cut
+/// that there is none.
+pub(crate) fn answer_on<A: Allocator + Copy, S: Opened<MemFlash<A>, A>>(
+    alloc: A,
+    store: S,
+    script: &[u8],
+) -> Result<(MemFlash<A>, Vec<u8, A>), ScriptFault>
+    requires { StaysOn (S.device store) }
+    ensures served { IfOk result (λ done. (last : Point) × (device_of done.0 ≡ last.device)
+        × IsSound last × IsServed (S.device store) script.now last done.1.items) }
+    ensures fault { IfErr result (IsScriptFault script.now) }
+    // A bad line is never passed over.
+    ensures bad { (n : ℕ) → IsFirstBadLine script.now n
+        → MatchResult result (λ _. ⊥)
+        (λ fault. (fault ≡ ScriptFault.BadLine n) ⊎ (fault ≡ ScriptFault.Memory)) }
+{
+    let start = start_of(alloc, &store)?;
+    let left = trace_on(alloc, store, script)?;
+    let Traced { desk, notes, lines } = left;
+    let report = report_on(&start, notes, &desk, lines)?;
+    Ok((desk.into_flash(), report))
+}
+
+/// The same of a script that a reader gives. Of the script no more is kept than one unfinished line.
+pub(crate) fn answer_reader_on<A: Allocator + Copy, S: Opened<MemFlash<A>, A>, R: Read>(
+    alloc: A,
+    store: S,
+    reader: &mut R,
+) -> Result<(MemFlash<A>, Vec<u8, A>), StreamFault>
+    requires { StaysOn (S.device store) }
+    ensures served { IfOk result (λ done. (script : List ℕ)
+        × IsGiven (R.remaining reader.old) (R.remaining reader.new) script
+        × (last : Point) × (device_of done.0 ≡ last.device)
+        × IsSound last × IsServed (S.device store) script last done.1.items) }
+    ensures fault { IfErr result
+        (IsStreamFault (R.remaining reader.old) (R.remaining reader.new)) }
+{
+    let start = start_of(alloc, &store)?;
+    let left = trace_reader(alloc, store, reader)?;
+    let Traced { desk, notes, lines } = left;
+    let report = report_on(&start, notes, &desk, lines)?;
+    Ok((desk.into_flash(), report))
+}
+
+/// The whole report: the lines of the answers, how the desk stands, and the certificate of what was
+/// noted, if power was not cut.
+fn report_on<A: Allocator + Copy, B: Allocator, S: Opened<MemFlash<A>, A>>(
+    start: &Start<B>,
+    notes: Notes<A>,
+    desk: &Desk<S, A>,
+    lines: Vec<u8, A>,
+) -> Result<Vec<u8, A>, AllocError>
+    ensures { IfOk result (λ report. (old : Device) (script : List ℕ)
+        → IsTraced old script (point_of S.device desk.now) notes lines.items
+        → IsStartOf (slot_count old.size) (state_of old) start.now → IsProper start.now
+        → StaysOn old
+        → IsServed old script (point_of S.device desk.now) report.items) }
+{
+    let mut report = lines;
+    push_desk(desk, notes.transfers(), &mut report)?;
+    push_certificate(start, notes, &mut report)?;
+    Ok(report)
+}
+
+/// Writes the certificate of what was noted, or that there is none, after a cut. After an error there
+/// may be a part of it.
+fn push_certificate<A: Allocator, B: Allocator>(
+    start: &Start<B>,
+    notes: Notes<A>,
+    report: &mut Vec<u8, A>,
+) -> Result<(), AllocError>
+    ensures cut { OnOk result (notes.cut ≡ true
+        → report.new.items ≡ report.old.items ++ codes "no certificate\n") }
+    ensures plain { OnOk result (notes.cut ≡ false
+        → report.new.items ≡ report.old.items ++ text_of (claim_noted start.now notes)) }
+{
+    if notes.was_cut() {
+        report.extend_from_slice(b"no certificate\n")?;
+        return Ok(());
+    }
+    write_certificate(&notes.into_certificate(start), report)?;
+    Ok(())
+}
+
+/// Writes how a desk stands, and how often the store on it moved. After an error there may be a part
+/// of the line.
+fn push_desk<A: Allocator + Copy, S: Opened<MemFlash<A>, A>>(
+    desk: &Desk<S, A>,
+    transfers: u64,
+    report: &mut Vec<u8, A>,
+) -> Result<(), AllocError>
+    ensures { let point = point_of S.device desk.now in OnOk result (report.new.items
+        ≡ report.old.items ++ desk_line (slot_count point.device.size) point.serving
+        (state_of point.device) transfers) }
+{
+    match desk {
+        Desk::Open(store) => {
+            if store.is_on() {
+                return push_end(store, transfers, report);
+            }
+            push_off(transfers, report)
+        }
+        Desk::Bare(_) | Desk::Gone => push_off(transfers, report),
+    }
+}
+
+/// Writes that no store is open, and how often it moved. After an error there may be a part of the line.
+fn push_off<A: Allocator>(transfers: u64, report: &mut Vec<u8, A>) -> Result<(), AllocError>
+    ensures { OnOk result (report.new.items ≡ report.old.items
+        ++ (codes "end off transfers " ++ decimal transfers ++ codes "\n")) }
+{
+    push_count(b"end off transfers ", transfers, report)?;
+    report.extend_from_slice(b"\n")?;
+    Ok(())
+}
+
+/// Writes how a store stands, and how often it moved. After an error there may be a part of the line.
+fn push_end<A: Allocator, V: Variables>(
+    store: &V,
+    transfers: u64,
+    report: &mut Vec<u8, A>,
+) -> Result<(), AllocError>
+    requires { IsOn (V.device store.now) }
+    ensures { let device = V.device store.now in OnOk result (report.new.items ≡ report.old.items
+        ++ end_line (slot_count device.size) (state_of device) transfers) }
+{
+    let fill = store.fill();
+    let room = store.slots() - fill;
+    push_count(b"end fill ", fill as u64, report)?;
+    push_count(b" room ", room as u64, report)?;
+    push_count(b" live ", store.live_count() as u64, report)?;
+    push_count(b" pending ", store.pending() as u64, report)?;
+    push_count(b" transfers ", transfers, report)?;
+    report.extend_from_slice(b"\n")?;
+    Ok(())
+}
+
+/// Writes a count behind its name. After an error there may be a part of them.
+fn push_count<A: Allocator>(
+    name: &[u8],
+    count: u64,
+    report: &mut Vec<u8, A>,
+) -> Result<(), AllocError>
+    ensures { OnOk result (report.new.items ≡ report.old.items ++ (name.now ++ decimal count)) }
+{
+    report.extend_from_slice(name)?;
+    push_number(report, count)
+}

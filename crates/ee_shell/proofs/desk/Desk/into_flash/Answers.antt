@@ -1,5 +1,0 @@
-use Rattle.ee_shell.proofs.Powering.{store_sound}
-use Rattle.ee_shell.proofs.desk.Desk.into_flash.Goals as goal
-
-pub returns-in-Open-clause-sound : goal.returns-in-Open-clause-sound
-returns-in-Open-clause-sound g c = rw c.in-Open.is (store_sound _ c.close.ensures.store)

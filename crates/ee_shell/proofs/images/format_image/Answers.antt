@@ -1,6 +1,0 @@
-use Rattle.std.proofs.Common.{rules}
-use Rattle.ee_shell.proofs.Stores.{is_formatted}
-use Rattle.ee_shell.proofs.images.format_image.Goals as goal
-
-pub returns-clause-formatted : goal.returns-clause-formatted
-returns-clause-formatted g c = search (rules, is_formatted)

@@ -1,8 +1,0 @@
-use Rattle.std.proofs.Common.{rules}
-use Rattle.ee_shell.proofs.Pages.{states_grow}
-use Rattle.ee_shell.proofs.images.push_states.Goals as goal
-
-pub pages-preserved : goal.pages-preserved
-pages-preserved g c =
-    states_grow (g.F.Flash.device c.args.flash.now) c.pages.page c.args.out.now.items c.pages.out.items c.push_state.new.out.items c.state_of.result
-    (g.met.F.Flash.formed c.args.flash.now) (search rules) c.pages.invariant c.state_of.ensures c.in_ok-push_state.ensures

@@ -1,6 +1,0 @@
-use Rattle.std.proofs.Common.{rules}
-use Rattle.ee_shell.proofs.Arming.{each_cut_was_armed}
-use Rattle.ee_shell.proofs.laws.cuts_are_armed.Goals as goal
-
-pub returns : goal.returns
-returns c = search (rules, each_cut_was_armed)

@@ -1,6 +1,0 @@
-use Rattle.std.proofs.Common.{rules}
-use Rattle.ee_shell.proofs.Ledgers.{counts_grow}
-use Rattle.ee_shell.proofs.wear.push_counts.Goals as goal
-
-pub pages-preserved : goal.pages-preserved
-pages-preserved g c = search (rules, counts_grow)
