@@ -52,13 +52,13 @@ pub struct Numbers {
     generation: u32,
 }
 
-/// `ee_store` of `ee.h`: memory for a store, or for none where it could not be opened.
+/// `ee_store` of `ee.h`: memory for a store, which is off where it could not be opened.
 #[repr(C)]
 pub struct Memory {
     words: [usize; 8],
 }
 
-type Kept = Option<Store<Calls>>;
+type Kept = Store<Calls>;
 
 const _: () = assert!(size_of::<Kept>() <= size_of::<Memory>());
 const _: () = assert!(align_of::<Kept>() <= align_of::<Memory>());
@@ -138,7 +138,7 @@ unsafe fn opened(
     }
     let kept: *mut Kept = memory.cast();
     // SAFETY: the memory is C's, large enough and aligned. What it held needs no drop.
-    unsafe { kept.write(None) };
+    unsafe { kept.write(Store::off(Calls { flash })) };
     // SAFETY: a pointer that is not null is good.
     let Some(given) = (unsafe { flash.as_ref() }) else {
         return EE_NULL;
@@ -152,7 +152,7 @@ unsafe fn opened(
     match open(Calls { flash }, shape) {
         Ok(store) => {
             // SAFETY: as above.
-            unsafe { kept.write(Some(store)) };
+            unsafe { kept.write(store) };
             EE_OK
         }
         Err(failed) => open_status(failed.fault),
@@ -164,8 +164,7 @@ unsafe fn kept<'a>(memory: *mut Memory) -> Result<&'a mut Store<Calls>, u32> {
     // SAFETY: `opened` wrote what is read here.
     match unsafe { memory.cast::<Kept>().as_mut() } {
         None => Err(EE_NULL),
-        Some(None) => Err(EE_OFF),
-        Some(Some(store)) => Ok(store),
+        Some(store) => Ok(store),
     }
 }
 

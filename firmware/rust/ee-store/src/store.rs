@@ -64,6 +64,13 @@ fn failed<D: Driver>(part: Part<D>) -> Failed<D> {
 }
 
 impl<D: Driver> Store<D> {
+    /// A store that is off, as one is whose driver failed.
+    pub fn off(driver: D) -> Store<D> {
+        Store {
+            state: State::Off(driver),
+        }
+    }
+
     fn on(store: proved::Store<Part<D>>) -> Store<D> {
         Store {
             state: State::On(store),
@@ -79,6 +86,8 @@ impl<D: Driver> Store<D> {
     }
 
     // A call was cut: takes the store apart, and gives the error of the driver.
+    #[cold]
+    #[inline(never)]
     fn cut(&mut self) -> Option<D::Error> {
         match replace(&mut self.state, State::Between) {
             State::On(store) => {

@@ -209,6 +209,42 @@ fn torn_slots_are_counted() {
 }
 
 #[test]
+fn a_store_that_is_off() {
+    let mut store = Store::off(full().into_driver());
+    assert_eq!(store.read(address(1)), Err(Off));
+    assert_eq!(store.write(address(1), 1), Err(WriteFault::Off));
+    assert_eq!(store.slots(), Err(Off));
+    let store = open(store.into_driver(), shape()).unwrap();
+    assert_eq!(store.read(address(1)), Ok(Some(11)));
+}
+
+#[test]
+fn limits() {
+    for (pages, words) in [
+        (0, 5),
+        (65, 5),
+        (1, 4),
+        (1, 513),
+        (usize::MAX, 5),
+        (1, usize::MAX),
+    ] {
+        assert_eq!(Shape::new(pages, words), None);
+    }
+    for (pages, words, slots) in [(1, 5, 1), (64, 5, 64), (1, 512, 508), (64, 512, 32512)] {
+        let shape = Shape::new(pages, words).unwrap();
+        assert_eq!(
+            (shape.pages(), shape.words(), shape.slots()),
+            (pages, words, slots)
+        );
+    }
+    assert_eq!((Address::new(0), Address::new(65535)), (None, None));
+    assert_eq!(address(1).get(), 1);
+    assert_eq!(address(65534).get(), 65534);
+    assert_eq!(Address::default(), address(1));
+    assert!(address(2) < address(10));
+}
+
+#[test]
 fn words_of_all_ones_are_erased() {
     assert_eq!(Word::from(u64::MAX), Word::Erased);
     assert_eq!(Word::from(1), Word::Held(1));
