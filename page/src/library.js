@@ -20,7 +20,7 @@
 
 const ERASE = -1;
 const ALL_ONES = 2n ** 64n - 1n;
-const STATUS = { OK: 0, UNFORMATTED: 6, FOREIGN: 9 }; // those of firmware/ee.h that are asked for by name
+const STATUS = { OK: 0, UNFORMATTED: 6, FOREIGN: 9 }; // those of ee_page's Answers.antt that are asked for by name
 const MEMORY_PAGE = 65536;
 
 /** @param {number} pages @param {number} pageWords @returns {Cells} a part as it comes, each word erased */

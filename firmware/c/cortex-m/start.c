@@ -1,31 +1,14 @@
-/* Starts a Cortex-M, runs the checksum, and prints it with the bytes of stack that the deepest call took. It prints and ends
- * by semihosting: calls to a debugger, which QEMU answers. */
+/* Starts a Cortex-M, runs the checksum, and prints it with the bytes of stack that the deepest call took. */
 #include "../checksum/checksum.h"
+#include "semihosting.h"
 
-enum { SYS_WRITE0 = 0x04, SYS_EXIT = 0x18, ENDED = 0x20026, FAILED = 0x20024 };
 enum { UNTOUCHED = 0xa5, LEFT_ALONE = 128 };
 
 /* What link.ld names. */
 extern unsigned char bss_start[], bss_end[], stack_low[], stack_top[];
 
-static void ask(int operation, uintptr_t with) {
-    register int r0 __asm__("r0") = operation;
-    register uintptr_t r1 __asm__("r1") = with;
-    __asm__ volatile("bkpt 0xab" : "+r"(r0) : "r"(r1) : "memory");
-}
-
-static void end(int is_well) {
-    for (;;) ask(SYS_EXIT, is_well ? ENDED : FAILED);
-}
-
 static char *put_hex(char *at, uint64_t number) {
     for (int shift = 60; shift >= 0; shift -= 4) *at++ = "0123456789abcdef"[(number >> shift) & 15];
-    return at;
-}
-
-static char *put_decimal(char *at, uint32_t number) {
-    if (number >= 10) at = put_decimal(at, number / 10);
-    *at++ = (char)('0' + number % 10);
     return at;
 }
 

@@ -21,7 +21,7 @@ def case(name, *pages, script="r 1, r 2, w 1 1, w 1 2, w 1 3, r 1, c, c"):
     words = len(pages[0])
     count = (len(pages) + 1) // 2
     rows = [" ".join(["0", *page]) for page in pages]
-    return cases.Case(name, cases.image_text(count, words, rows), [cases.listed(script)])
+    return cases.Case(name, cases.image_text(count, words, rows), [cases.script_text(*script.split(", "))])
 
 
 def slot_cases():
@@ -75,7 +75,7 @@ def many(addresses, words):
     forgets = [f"f {n}" for n in range(1, addresses + 1, 3)]
     script = cases.script_text(*writes, *forgets, *writes[5:40], *forgets[2:], *(f"r {n}" for n in range(addresses + 2)
                                                                               if n > 0))
-    return cases.Case(f"{addresses} addresses", cases.fresh(2, words), [script, script])
+    return cases.Case(f"{addresses} addresses", cases.worked.formatted(2, words), [script, script])
 
 
 def all_cases():

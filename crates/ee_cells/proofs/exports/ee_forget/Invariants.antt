@@ -1,8 +1,0 @@
-use Rattle.ee_cells.specs.Mirror.{device_of}
-use Rattle.ee_cells.proofs.exports.ee_forget.Given as goal
-
-abbrev pub ghosts-draft_forget : goal.ghosts-draft_forget
-ghosts-draft_forget a = record {
-  start = device_of a.shape a.words.now a.flags.now a.wears.now;
-  list = a.listed.ghost_name;
-}

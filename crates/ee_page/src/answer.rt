@@ -1,0 +1,156 @@
+ghost use Rattle.std.specs.Prelude.{◌≡◌};
+
+use ee_pages::ScanFault;
+use ee_store::{ForgetFault, OpenFault, WriteFault, Written};
+
+/// What a call answers.
+///
+/// Source: ours.
+#[derive(Clone, Copy, Debug, PartialEq, Eq)]
+pub enum Answer {
+    /// It is done: appended to the live set, where it is a change.
+    Done,
+    /// It is done, and the live addresses were moved to the other set.
+    Moved,
+    /// There is nothing: no value, no next address, no page to be erased.
+    Nothing,
+    /// As many addresses have a value as there are slots, and this one has none.
+    Full,
+    /// Every slot is used, and the generation is the greatest.
+    Spent,
+    /// The address has no value to be forgotten.
+    Absent,
+    /// The words are no store.
+    NoStore(ScanFault),
+    /// The call takes more steps than the list has places.
+    ListTooShort,
+    /// The shape is out of range, or the words, the flags or the wears are not as many as it says.
+    WrongShape,
+    /// The address is 0 or 65535.
+    ImproperAddress,
+}
+
+/// What a call tells its caller.
+///
+/// Source: ours.
+#[repr(C)]
+#[derive(Clone, Copy, Debug, PartialEq, Eq)]
+pub struct CallResult {
+    /// The number of an answer (`status_of` in `specs/Answers.antt`).
+    pub status: usize,
+    /// How many steps are listed; 0 where the words are no store, or the call is refused.
+    pub listed: usize,
+    /// The page of the foreign word, where the status is that there is one; else 0.
+    pub page: usize,
+    /// Its place in the page.
+    pub place: usize,
+}
+
+impl Answer {
+    ghost use Rattle.ee_page.specs.Answers.{answer_of_clean, answer_of_forget, answer_of_opening, answer_of_write, foreign_at, is_played, result_of, status_of};
+
+    /// The number of this answer.
+    pub(crate) fn status(self) -> usize
+        ensures { result ≡ status_of self }
+    {
+        match self {
+            Answer::Done => 0,
+            Answer::Moved => 1,
+            Answer::Nothing => 2,
+            Answer::Full => 3,
+            Answer::Spent => 4,
+            Answer::Absent => 5,
+            Answer::NoStore(ScanFault::Unformatted) => 6,
+            Answer::NoStore(ScanFault::NoLiveSet) => 7,
+            Answer::NoStore(ScanFault::TwoLive) => 8,
+            Answer::NoStore(ScanFault::Foreign { .. }) => 9,
+            Answer::ListTooShort => 10,
+            Answer::WrongShape => 11,
+            Answer::ImproperAddress => 12,
+        }
+    }
+
+    /// The page and the place of a foreign word, 0 where the answer names none.
+    pub(crate) fn foreign(self) -> (usize, usize)
+        ensures { result ≡ foreign_at self }
+    {
+        match self {
+            Answer::NoStore(ScanFault::Foreign { page, at }) => (page, at),
+            _ => (0, 0),
+        }
+    }
+
+    /// Whether the steps that a call listed are played on the mirror.
+    pub(crate) fn is_played(self) -> bool
+        ensures { result ≡ is_played self }
+    {
+        match self {
+            Answer::NoStore(_)
+            | Answer::ListTooShort
+            | Answer::WrongShape
+            | Answer::ImproperAddress => false,
+            _ => true,
+        }
+    }
+
+    /// What the caller is told of this answer, with so many steps listed.
+    pub(crate) fn told(self, listed: usize) -> CallResult
+        ensures { result ≡ result_of self listed }
+    {
+        let status = self.status();
+        let (page, place) = self.foreign();
+        CallResult {
+            status,
+            listed,
+            page,
+            place,
+        }
+    }
+
+    /// What a failed opening is answered with.
+    pub(crate) fn of_opening(fault: OpenFault) -> Answer
+        ensures { result ≡ answer_of_opening fault }
+    {
+        match fault {
+            OpenFault::Scan(fault) => Answer::NoStore(fault),
+            OpenFault::Cut => Answer::ListTooShort,
+        }
+    }
+
+    /// What a write is answered with. A draft is on, and its store keeps no index.
+    pub(crate) fn of_write(written: Result<Written, WriteFault>) -> Answer
+        ensures { result ≡ answer_of_write written }
+    {
+        match written {
+            Ok(Written::Appended) => Answer::Done,
+            Ok(Written::Moved) => Answer::Moved,
+            Err(WriteFault::Full) => Answer::Full,
+            Err(WriteFault::Spent) => Answer::Spent,
+            Err(WriteFault::Off | WriteFault::Memory | WriteFault::Cut) => Answer::ListTooShort,
+        }
+    }
+
+    /// What a forgetting is answered with.
+    pub(crate) fn of_forget(forgotten: Result<Written, ForgetFault>) -> Answer
+        ensures { result ≡ answer_of_forget forgotten }
+    {
+        match forgotten {
+            Ok(Written::Appended) => Answer::Done,
+            Ok(Written::Moved) => Answer::Moved,
+            Err(ForgetFault::Absent) => Answer::Absent,
+            Err(ForgetFault::Spent) => Answer::Spent,
+            Err(ForgetFault::Off | ForgetFault::Cut) => Answer::ListTooShort,
+        }
+    }
+
+    /// What a clean step is answered with.
+    pub(crate) fn of_clean(cleaned: Result<bool, WriteFault>) -> Answer
+        ensures { result ≡ answer_of_clean cleaned }
+    {
+        match cleaned {
+            Ok(true) => Answer::Done,
+            Ok(false) => Answer::Nothing,
+            Err(_) => Answer::ListTooShort,
+        }
+    }
+}

@@ -1,0 +1,31 @@
+//! The page's module: the store's calls over a mirror of the flash, each with the list of the steps
+//! that it takes. It is a static library with a C interface, without a heap, callbacks or global
+//! state, which `page/build` links as WebAssembly; firmware has `firmware/rust` and `firmware/c`.
+//!
+//! Proved of a list, as a whole: each listed step can be taken when it comes, and all of them in
+//! order lead from what the mirror meant to what it means. Not proved: what a front of it leaves,
+//! as when power is cut between two of its steps; `page/test` compares that with the program. Of a
+//! cut at any step the contracts of `ee_store` speak, over a device that is asked step by step.
+//!
+//! A call works on a mirror of the flash, which the caller lends: its words, a flag for each, and the
+//! wears of its pages (`specs/Mirror.antt`). It makes a draft of the device that the mirror means: a
+//! device that reads as the mirror with the steps that were listed, and lists one more in place of
+//! taking it (`specs/Draft.antt`). A step that finds no place in the list is a power cut of the
+//! draft. When the call has ended the list is played on the mirror, unless it was too short or the
+//! words are no store: then nothing is written, and the call says that nothing is listed.
+//!
+//! `specs/Calls.antt` and `specs/Looks.antt` say what each call leaves and finds, `specs/Answers.antt`
+//! which number stands for which answer, and `specs/Exports.antt` what a call tells its caller and
+//! leaves in the memory that is lent to it. Nothing can stand on a static library: the exports are
+//! all that there is to use.
+#![tactic(auto)]
+
+mod answer;
+mod draft;
+mod drafting;
+mod exports;
+mod listing;
+mod looking;
+mod looks;
+mod mirror;
+mod playing;

@@ -1,0 +1,38 @@
+ghost use Rattle.std.specs.Prelude.{◌≡◌, ◌<◌};
+ghost use Rattle.ee_flash.specs.Device.{all_ones};
+
+use ee_flash::Word;
+
+/// A step as it is listed: a word to be programmed with a value, or a page to be erased.
+///
+/// Source: ours.
+#[repr(C)]
+#[derive(Clone, Copy, Debug, PartialEq, Eq)]
+pub struct ListedStep {
+    /// The page, by its number in the device.
+    pub page: usize,
+    /// The place of the word in its page; all ones where the page is erased.
+    pub place: usize,
+    /// What the word is programmed with, below all ones; 0 where the page is erased.
+    pub value: u64,
+}
+
+impl ListedStep {
+    ghost use Rattle.ee_page.specs.Listing.{left_by, step_of};
+
+    /// What it leaves of this word of a page.
+    pub(crate) fn leaves(self, page: usize, at: usize, word: Word) -> Word
+        ensures { result ≡ left_by (step_of self) page at word }
+    {
+        if self.page != page {
+            return word;
+        }
+        if self.place == usize::MAX {
+            return Word::Erased;
+        }
+        if self.place != at {
+            return word;
+        }
+        Word::Held(self.value)
+    }
+}

@@ -1,0 +1,109 @@
+ghost use Rattle.std.specs.Prelude.{◌≡◌, ◌<◌, IfNone, IfSome};
+ghost use Rattle.ee_codec.specs.Words.{IsAddress};
+ghost use Rattle.ee_flash.specs.Size.{size_of};
+ghost use Rattle.ee_pages.specs.Meaning.{above_of};
+ghost use Rattle.ee_page.specs.Looks.{CountsIn, IsNext, IsRead, Looks};
+ghost use Rattle.ee_page.specs.Mirror.{mirror_of};
+
+use crate::answer::Answer;
+use crate::listing::ListedStep;
+use crate::looking::{Counts, CountsResult, Found, FoundResult, count, look_on, look_up};
+use crate::mirror::shape_of;
+use ee_codec::Address;
+use std::marker::Brand;
+
+/// The value of an address, 1 to 65534. It takes no step, and sets no mark.
+///
+/// `Done`, or `Nothing` if it has none; `NoStore`, `WrongShape`, `ImproperAddress`.
+///
+/// Source: ours.
+#[unsafe(no_mangle)]
+pub extern "C" fn ee_read(
+    pages: usize,
+    page_words: usize,
+    words: &[u64],
+    flags: &[u8],
+    wears: &[u64],
+    address: u16,
+) -> FoundResult
+    ensures { Looks (size_of pages page_words) (λ device. IsRead device address)
+        (IsAddress address) result (mirror_of words.now flags.now wears.now) }
+{
+    let Some(shape) = shape_of(pages, page_words, words, flags, wears) else {
+        return Found::none(Answer::WrongShape).told();
+    };
+    let Some(address) = Address::new(address) else {
+        return Found::none(Answer::ImproperAddress).told();
+    };
+    let mut no_steps: [ListedStep; 0] = [];
+    let (found, _list) = look_up::<Brand>(shape, words, flags, wears, &mut no_steps, address);
+    found.told()
+}
+
+/// The next address above `after` that has a value, with the value: the first of all where `after`
+/// is 0. It takes no step, and sets no mark.
+///
+/// `Done`, or `Nothing` if there is none; `NoStore`, `WrongShape`; `ImproperAddress` of 65535 alone.
+///
+/// Source: ours.
+#[unsafe(no_mangle)]
+pub extern "C" fn ee_next(
+    pages: usize,
+    page_words: usize,
+    words: &[u64],
+    flags: &[u8],
+    wears: &[u64],
+    after: u16,
+) -> FoundResult
+    ensures { Looks (size_of pages page_words) (λ device. IsNext device after)
+        (after < 65535) result (mirror_of words.now flags.now wears.now) }
+{
+    let Some(shape) = shape_of(pages, page_words, words, flags, wears) else {
+        return Found::none(Answer::WrongShape).told();
+    };
+    let Some(begin) = begin_of(after) else {
+        return Found::none(Answer::ImproperAddress).told();
+    };
+    let mut no_steps: [ListedStep; 0] = [];
+    let (found, _list) = look_on::<Brand>(shape, words, flags, wears, &mut no_steps, begin);
+    found.told()
+}
+
+// Where a reader begins: behind an address, or before all at 0. `None` of 65535.
+fn begin_of(after: u16) -> Option<Option<Address>>
+    ensures some { IfSome result (λ begin. above_of begin ≡ after) }
+    ensures below { IfSome result (λ begin. after < 65535) }
+    ensures none { IfNone result (after ≡ 65535) }
+{
+    if after == 0 {
+        return Some(None);
+    }
+    match Address::new(after) {
+        Some(address) => Some(Some(address)),
+        None => None,
+    }
+}
+
+/// How far the store is used. It takes no step, and sets no mark.
+///
+/// `Done`; `NoStore` or `WrongShape`, and each count is 0.
+///
+/// Source: ours.
+#[unsafe(no_mangle)]
+pub extern "C" fn ee_counts(
+    pages: usize,
+    page_words: usize,
+    words: &[u64],
+    flags: &[u8],
+    wears: &[u64],
+) -> CountsResult
+    ensures { CountsIn (size_of pages page_words) result
+        (mirror_of words.now flags.now wears.now) }
+{
+    let Some(shape) = shape_of(pages, page_words, words, flags, wears) else {
+        return Counts::none(Answer::WrongShape).told();
+    };
+    let mut no_steps: [ListedStep; 0] = [];
+    let (counts, _list) = count::<Brand>(shape, words, flags, wears, &mut no_steps);
+    counts.told()
+}

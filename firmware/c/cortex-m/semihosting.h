@@ -1,0 +1,25 @@
+/* Calls to a debugger, which QEMU answers: printing and ending. */
+#ifndef SEMIHOSTING_H
+#define SEMIHOSTING_H
+
+#include <stdint.h>
+
+enum { SYS_WRITE0 = 0x04, SYS_EXIT = 0x18, ENDED = 0x20026, FAILED = 0x20024 };
+
+static inline void ask(int operation, uintptr_t with) {
+    register int r0 __asm__("r0") = operation;
+    register uintptr_t r1 __asm__("r1") = with;
+    __asm__ volatile("bkpt 0xab" : "+r"(r0) : "r"(r1) : "memory");
+}
+
+static inline void end(int is_well) {
+    for (;;) ask(SYS_EXIT, is_well ? ENDED : FAILED);
+}
+
+static inline char *put_decimal(char *at, uint32_t number) {
+    if (number >= 10) at = put_decimal(at, number / 10);
+    *at++ = (char)('0' + number % 10);
+    return at;
+}
+
+#endif
