@@ -1,5 +1,5 @@
 -- What laws of this crate need: without the named premise they would be false, and here is where.
-use Rattle.std.proofs.Common.{◌≡◌, ◌≤◌, ℕ, List, [], ◌∷◌, Option, Some, None, length, refl, ap, sym, arith}
+use Rattle.std.proofs.Common.{◌≡◌, List, [], ◌∷◌, None, refl, ap, sym}
 use Rattle.std.proofs.lemmas.Bool.{true≢false}
 use Rattle.ee_flash.specs.Device.{Device, IsOn, blank_device}
 use Rattle.ee_flash.specs.Laws.{after_steps, all_completed}
