@@ -35,7 +35,7 @@ module _ (old new : Device) (side : Side) (generation count : ℕ) (filling : Is
   differs : DiffersInPage (first_page old.size side) old new
   differs = step_changes_one_page (marking (first_page old.size side) Active) old new taken
 
-  same_other : set_of (other side) new ≡ set_of (other side) old
+  pub same_other : set_of (other side) new ≡ set_of (other side) old
   same_other =
       let at : IsPageOf old.size (other (other side)) (first_page old.size side) =
       subst (λ set. IsPageOf old.size set (first_page old.size side)) (sym (other_twice side)) (in_other_set side old taken.formed) in
@@ -51,7 +51,7 @@ module _ (old new : Device) (side : Side) (generation count : ℕ) (filling : Is
       let count = length-page_at old (first_page old.size side) taken.formed taken.may.0 in
       omega (arith, ap length same, count, taken.formed.within_limits.some_words)
 
-  commits : new.image ≡ (completed (marking (first_page old.size side) Active) old).image → IsCommitted old new side generation
+  pub commits : new.image ≡ (completed (marking (first_page old.size side) Active) old).image → IsCommitted old new side generation
   commits is =
       let pages = set_marked old new side taken.formed differs (Held mark_number) is in
       let after : committed (set_of side new) ≡ Some generation =

@@ -36,7 +36,7 @@ first_word Second device k formed =
 abbrev Weaker : Word → Word → Type 0
 Weaker new old = (new ≡ old) ⊎ (new ≡ Erased) ⊎ (new ≡ Torn)
 
-abbrev commits : Word → Word → Option ℕ
+abbrev pub commits : Word → Word → Option ℕ
 commits receive mark = cond (is_mark (mark_of mark)) (receive_of receive) None
 
 either_way : (b : Bool) (same : Option ℕ) → cond b same same ≡ same
@@ -55,17 +55,17 @@ other_word image page at k word h other =
     ap (λ words. word_in words k) (get_or-set_same image page (set (get_or image page []) at word) [] h)
     ∙ get_or-set_other (get_or image page []) at k word Erased other
 
-programmed_word : (old new : Device) (page at value k : ℕ) → page < length old.image → k ≢ at → MayLeave (Program page at value) old new → word_at new page k ≡ word_at old page k
+pub programmed_word : (old new : Device) (page at value k : ℕ) → page < length old.image → k ≢ at → MayLeave (Program page at value) old new → word_at new page k ≡ word_at old page k
 programmed_word old new page at value k h other (inl same) = ap (λ image. word_in (get_or image page []) k) same
 programmed_word old new page at value k h other (inr (inl held)) = ap (λ image. word_in (get_or image page []) k) held ∙ other_word old.image page at k (Held value) h other
 programmed_word old new page at value k h other (inr (inr torn)) = ap (λ image. word_in (get_or image page []) k) torn ∙ other_word old.image page at k Torn h other
 
-elsewhere : (old new : Device) (page first k : ℕ) → DiffersInPage page old new → first ≢ page → word_at new first k ≡ word_at old first k
+pub elsewhere : (old new : Device) (page first k : ℕ) → DiffersInPage page old new → first ≢ page → word_at new first k ≡ word_at old first k
 elsewhere old new page first k differs other =
     ap (λ image. word_in (get_or image first []) k) differs.image ∙ ap (λ words. word_in words k) (get_or-set_other old.image page first (page_at new page) [] other)
 
 -- what is left of the two words that commit a set
-commit_after : (step : Step) (old new : Device) (first : ℕ) → IsStep step old new → CannotCommit first step old → let after : Option ℕ = commits (word_at new first 0) (word_at new first 1) in (after ≡ commits (word_at old first 0) (word_at old first 1)) ⊎ (after ≡ None)
+pub commit_after : (step : Step) (old new : Device) (first : ℕ) → IsStep step old new → CannotCommit first step old → let after : Option ℕ = commits (word_at new first 0) (word_at new first 1) in (after ≡ commits (word_at old first 0) (word_at old first 1)) ⊎ (after ≡ None)
 commit_after (Erase page) old new first taken may = elim (cases_eq first page) [
   | inr apart ↦
       let differs = step_changes_one_page (Erase page) old new taken in
@@ -129,7 +129,7 @@ live_stays First old new generation same (inr gone) e = rw (same, gone) (greater
 live_stays Second old new generation same (inl as_before) e = rw (same, as_before) e
 live_stays Second old new generation same (inr gone) e = rw (same, gone) (greater_second _ _ generation e)
 
-commits_by : (side : Side) (device : Device) → IsFormed device → committed (set_of side device) ≡ commits (word_at device (first_page device.size side) 0) (word_at device (first_page device.size side) 1)
+pub commits_by : (side : Side) (device : Device) → IsFormed device → committed (set_of side device) ≡ commits (word_at device (first_page device.size side) 0) (word_at device (first_page device.size side) 1)
 commits_by side device formed = rw (first_word side device 0 formed, first_word side device 1 formed) refl
 
 -- so the live set is live still, where the other one commits as it did, or not at all

@@ -34,17 +34,17 @@ pub unmarked : (device : Device) (page : ℕ) (mark : Mark) → IsFormed device 
 unmarked device page mark formed all h =
     ap is_written (blank_word (page_at device page) (place_of_mark mark) (All-get_or (λ words. is_blank words ≡ true) device.image page [] (omega (arith, formed.image_length)) all))
 
-erased_commits : (pages : List (List Word)) → word_of pages 0 1 ≡ Erased → committed pages ≡ None
+pub erased_commits : (pages : List (List Word)) → word_of pages 0 1 ≡ Erased → committed pages ≡ None
 erased_commits pages e = rw e refl
 
-no_pending : (pages : List (List Word)) → All (λ words. is_blank words ≡ true) pages → pending_of pages ≡ 0
+pub no_pending : (pages : List (List Word)) → All (λ words. is_blank words ≡ true) pages → pending_of pages ≡ 0
 no_pending [] each = refl
 no_pending (page ∷ pages) each =
     let here : is_blank page ≡ true = each 0 [] (omega arith) in
     let rest : pending_of pages ≡ 0 = no_pending pages (λ k none h. each (suc k) none (omega arith)) in
     rw here rest
 
-proper_first : IsProper (Receive 1)
+pub proper_first : IsProper (Receive 1)
 proper_first generation e = let same : generation ≡ 1 = cc in (omega arith, omega arith)
 
 pub proper_active : IsProper Active
@@ -54,22 +54,22 @@ module _ (blank mid : Device) (formed : IsFormed blank) (all : All (λ words. is
   in_device : 0 < page_count blank.size
   in_device = omega (arith, formed.within_limits.some_pages)
 
-  receiving : IsStep (marking 0 (Receive 1)) blank mid
+  pub receiving : IsStep (marking 0 (Receive 1)) blank mid
   receiving = mark_step 0 (Receive 1) blank mid formed in_device proper_first (unmarked blank 0 (Receive 1) formed all in_device) (inl (record { was_on = on; done = whole }))
 
-  opened : IsFilling mid First 1 0 × ((address : ℕ) → meaning (slots_of (set_of First mid)) address ≡ None)
+  pub opened : IsFilling mid First 1 0 × ((address : ℕ) → meaning (slots_of (set_of First mid)) address ≡ None)
   opened = opens_set blank mid First 1 (omega arith, omega arith) (All-take (λ words. is_blank words ≡ true) blank.size.pages blank.image all) receiving whole
 
   pub active_unset : is_marked mid 0 Active ≡ false
   active_unset = ap is_written (sym (first_word First mid 1 opened.0.formed) ∙ opened.0.uncommitted)
 
-  same_second : set_of Second mid ≡ set_of Second blank
+  pub same_second : set_of Second mid ≡ set_of Second blank
   same_second = same_set Second blank mid 0 (step_changes_one_page (marking 0 (Receive 1)) blank mid receiving) (record { from = omega arith; below = omega (arith, formed.within_limits.some_pages) })
 
   second_blank : All (λ words. is_blank words ≡ true) (set_of Second blank)
   second_blank = All-drop (λ words. is_blank words ≡ true) blank.size.pages blank.image all
 
-  alone : committed (set_of Second mid) ≡ None
+  pub alone : committed (set_of Second mid) ≡ None
   alone =
       let below : blank.size.pages < page_count blank.size = omega (arith, formed.within_limits.some_pages) in
       let word : word_at blank blank.size.pages 1 ≡ Erased = erased_from (word_at blank blank.size.pages 1) (unmarked blank blank.size.pages Active formed all below) in

@@ -213,14 +213,14 @@ live_on : (device : Device) (side : Side) (generation : ℕ) → IsLive device s
 live_on device First generation live = record { formed = formed_on device live.formed; live = live.live; allowed = live.allowed }
 live_on device Second generation live = record { formed = formed_on device live.formed; live = live.live; allowed = live.allowed }
 
-legal_on : (device : Device) → IsLegal device → IsLegal (powered device)
+pub legal_on : (device : Device) → IsLegal device → IsLegal (powered device)
 legal_on device legal = (legal.0, legal.1, live_on device legal.0 legal.1 legal.2)
 
 state_with_on : (device : Device) (side : Side) (generation : ℕ) → state_with (powered device) side generation ≡ state_with device side generation
 state_with_on device First generation = refl
 state_with_on device Second generation = refl
 
-state_in_on : (device : Device) (live : Option (Side × ℕ)) → state_in (powered device) live ≡ state_in device live
+pub state_in_on : (device : Device) (live : Option (Side × ℕ)) → state_in (powered device) live ≡ state_in device live
 state_in_on device None = refl
 state_in_on device (Some live) = state_with_on device live.0 live.1
 

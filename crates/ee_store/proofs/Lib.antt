@@ -42,3 +42,4 @@ pub mod IndexedAppends
 pub mod IndexedMoves
 pub mod IndexedBatches
 pub mod IndexedStores
+pub mod Startable

@@ -12,3 +12,4 @@ pub mod PageStates
 pub mod Events
 pub mod Outcome
 pub mod Bench
+pub mod Starts

@@ -1,4 +1,4 @@
-ghost use Rattle.std.specs.Prelude.{◌≡◌, ℕ, IfOk, [], OnOk, true};
+ghost use Rattle.std.specs.Prelude.{◌≡◌, ℕ, IfOk, [], OnErr, OnOk, true};
 ghost use Rattle.std.specs.List.{All};
 ghost use Rattle.ee_flash.specs.Device.{IsOn};
 ghost use Rattle.ee_flash.specs.Power.{Ends};
@@ -7,6 +7,7 @@ ghost use Rattle.ee_pages.specs.Page.{is_blank};
 ghost use Rattle.ee_pages.specs.declared.side.Side.TheVariants.{First, Second};
 ghost use Rattle.ee_store.specs.Finished.{IsMarked};
 ghost use Rattle.ee_store.specs.Picture.{IsDrawn, blank, filled};
+ghost use Rattle.ee_store.specs.Starts.{IsStartable, IsStarting};
 ghost use Rattle.ee_store.specs.State.{Wears, formatted, not_blank_pages, state_of};
 
 use ee_flash::{Cut, Flash};
@@ -24,6 +25,9 @@ pub(crate) fn write_format<F: Flash>(flash: &mut F) -> Result<Layout, Cut>
     ensures second_set { OnOk result (IsDrawn Second (F.device flash.new) blank) }
     ensures wear { OnOk result (Wears (not_blank_pages (F.device flash.old))
         (F.device flash.old) (F.device flash.new)) }
+    ensures starting { OnErr result
+        (IsOn (F.device flash.old) → IsStartable (F.device flash.old)
+        → IsStarting (F.device flash.new)) }
     ensures power { Ends result (F.device flash.old) (F.device flash.new) }
 {
     erase_all(flash)?;
@@ -42,6 +46,7 @@ fn erase_all<F: Flash>(flash: &mut F) -> Result<(), Cut>
     ensures blank { OnOk result (All (λ page. is_blank page ≡ true) (F.device flash.new).image) }
     ensures wear { OnOk result (Wears (not_blank_pages (F.device flash.old))
         (F.device flash.old) (F.device flash.new)) }
+    ensures startable { IsStartable (F.device flash.old) → IsStartable (F.device flash.new) }
     ensures power { Ends result (F.device flash.old) (F.device flash.new) }
 {
     'pages: for page in 0..2 * flash.shape().pages() {

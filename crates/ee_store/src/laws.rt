@@ -3,6 +3,7 @@
 //! contract of a function that does nothing.
 ghost use Rattle.ee_store.specs.Outcome.{AKeptChangeStays, NoAnsweredChangeIsLost};
 ghost use Rattle.ee_store.specs.PageStates.{MovedWordsAreLive, PicturesTellImages, StatesAfterAppend, StatesAfterClean, StatesAfterFormat, StatesAfterOpening, StatesAfterTransfer};
+ghost use Rattle.ee_store.specs.Starts.{StartsEnd};
 ghost use Rattle.ee_store.specs.Runs.{CleanRunsEraseSets, EachPageWearsEverySecondTransfer, EachTransferErasesASet, NoPageWearsMore, NoPageWearsMuchMore, RunsGoOn, TheStoreIsAMap};
 
 /// Size, power and cuts are as before.
@@ -92,4 +93,9 @@ pub fn no_answered_change_is_lost()
 /// its address is asked for.
 pub fn a_kept_change_stays()
     ensures { AKeptChangeStays }
+{}
+
+/// A device with no word programmed gets an empty store by `start`, however often power is cut in it.
+pub fn starts_end()
+    ensures { StartsEnd }
 {}

@@ -2,13 +2,13 @@
 //! outcomes, with power cuts in the contract of each call.
 //!
 //! `specs/State.antt` says what a store is to its users, `specs/Changes.antt` and `specs/Calls.antt`
-//! what each call answers and leaves, cuts included, `specs/Openings.antt` how a store comes to be,
+//! what each call answers and leaves, cuts included, `specs/Openings.antt` and `specs/Starts.antt` how a store comes to be,
 //! `specs/Finished.antt` which marks an opening sets, `specs/Picture.antt` how the image is drawn that
 //! a call leaves, and `specs/Events.antt` and `specs/Outcome.antt` what becomes of a list of events,
 //! power cuts and openings among them.
 //!
 //! The layers above may use: the contract of `Variables`, which is one relation for each call over
-//! the device before and after; `open` and `format`; that a store's image is legal, always;
+//! the device before and after; `open`, `format` and `start`; that a store's image is legal, always;
 //! `count_pending`, of a device on which no store is open too; and `drive`, by which a test bench, a
 //! simulator or a fuzzer drives a store through power cuts. `Store` takes no memory,
 //! `drive` takes some for its answers, and `IndexedStore` keeps an index of the live addresses
@@ -21,6 +21,7 @@ mod cleaning;
 mod copying;
 mod driving;
 mod event;
+mod first_start;
 mod formatting;
 mod index;
 mod index_changing;
@@ -38,6 +39,7 @@ pub use cleaning::count_pending;
 pub use driving::drive;
 pub use ee_pages::LiveBatch;
 pub use event::{Answer, Driven, Event};
+pub use first_start::start;
 pub use indexed::{IndexedFault, IndexedStore};
 pub use opening::{OpenFault, format, open};
 pub use store::Store;

@@ -1,9 +1,11 @@
-use Rattle.std.proofs.Common.{◌≡◌, ◌≢◌, ◌<◌, ◌+◌, true, false, length, ap, arith, ◌∙◌, sym}
+use Rattle.std.proofs.Common.{◌≡◌, ◌≢◌, ◌<◌, ◌+◌, inl, inr, true, false, length, ap, arith, ◌∙◌, sym}
 use Rattle.ee_flash.specs.Device.{page_at}
 use Rattle.ee_flash.specs.Size.{page_count}
 use Rattle.ee_pages.specs.Page.{is_blank}
 use Rattle.ee_store.proofs.AfterCalls.{goes_on_both}
 use Rattle.ee_store.proofs.FormatFacts.{BlanksPage, all_blank, blank_already, blank_more, blanks_page}
+use Rattle.ee_store.proofs.Startable.{erase_startable}
+use Rattle.ee_store.specs.Starts.{IsStartable}
 use Rattle.ee_store.proofs.ErasedPages.{all_wear, wears_next}
 use Rattle.ee_store.proofs.formatting.erase_all.Goals.{then-not-is_blank+in_ok-erase, else-not-is_blank}
 use Rattle.ee_store.proofs.formatting.erase_all.Goals as goal
@@ -28,6 +30,11 @@ pages-preserved g c =
           let blank : is_blank (page_at mid page) ≡ true = cc in
           rw w.flash-is (blank_already mid page blank)
     ] in
+    let stays : IsStartable mid → IsStartable new = elim c.if-not-is_blank.branch [
+      | then-not-is_blank+in_ok-erase w ↦
+          rw w.flash-is (erase_startable page mid _ (g.met.F.Flash.formed c.pages.flash) now_in_range (inl (record { was_on = w.in_ok-erase.ensures.on; done = w.in_ok-erase.ensures.done })))
+      | else-not-is_blank w ↦ rw w.flash-is (λ before. before)
+    ] in
     let at : 0 + page ≡ page = omega arith in
     let same_page = sym (c.pages.invariant.rest page (omega arith)) in
     record {
@@ -37,6 +44,7 @@ pages-preserved g c =
           step.others k apart ∙ c.pages.invariant.rest k (omega (arith, h));
       wear = wears_next old.image 0 page page old mid new at within same_page c.pages.invariant.wear step.wear;
       power = goes_on_both old mid new c.pages.invariant.power step.power;
+      startable = λ before. stays (c.pages.invariant.startable before);
     }
 
 pub returns-clause-blank : goal.returns-clause-blank
@@ -56,3 +64,11 @@ returns-clause-wear g c =
     let formed = g.met.F.Flash.formed c.args.flash.now in
     let all : c.pages.page ≡ length old.image = omega (arith, c.pages-page-end.ensures.value, pages, formed.image_length, c.pages.auto.page-end, c.pages-test.false) in
     all_wear old.image 0 c.pages.page old new all c.pages.invariant.wear
+
+pub returns-in_err-erase-clause-startable : goal.returns-in_err-erase-clause-startable
+returns-in_err-erase-clause-startable g c =
+    let old = g.F.Flash.device c.args.flash.now in
+    let mid = g.F.Flash.device c.pages.flash in
+    let same = ap page_count c.pages.invariant.power.same_size in
+    let in_range : c.pages.page < page_count mid.size = omega (arith, c.pages-page-end.ensures.value, ap (λ size. size.pages) c.shape.ensures, c.pages-test.true, same) in
+    λ before. erase_startable c.pages.page mid (g.F.Flash.device c.erase.new.self) (g.met.F.Flash.formed c.pages.flash) in_range (inr c.in_err-erase.ensures.cut) (c.pages.invariant.startable before)

@@ -2,6 +2,7 @@ use Rattle.std.proofs.Common.{◌≡◌, ℕ, ◌<◌, ◌≤◌, true, take}
 use Rattle.ee_flash.specs.Device.{page_at}
 use Rattle.ee_flash.specs.Power.{GoesOn}
 use Rattle.ee_pages.specs.Page.{is_blank}
+use Rattle.ee_store.specs.Starts.{IsStartable}
 use Rattle.ee_store.specs.State.{Wears, not_blank_from}
 use Rattle.ee_store.proofs.formatting.erase_all.Given as goal
 
@@ -14,4 +15,5 @@ invariant-pages g l =
       rest : (k : ℕ) → l.page ≤ k → page_at now k ≡ page_at old k;
       wear : Wears (not_blank_from 0 (take l.page old.image)) old now;
       power : GoesOn old now;
+      startable : IsStartable old → IsStartable now;
     }

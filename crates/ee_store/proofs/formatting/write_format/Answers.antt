@@ -1,10 +1,13 @@
-use Rattle.std.proofs.Common.{◌≡◌, ◌<◌, ap, arith, rules}
+use Rattle.std.proofs.Common.{◌≡◌, ◌<◌, inl, inr, ap, arith, rules}
 use Rattle.ee_flash.specs.Device.{Device}
 use Rattle.ee_store.specs.State.{Wears, not_blank_pages}
 use Rattle.ee_store.proofs.Wears.{wears_still}
 use Rattle.ee_flash.specs.Size.{page_count}
 use Rattle.ee_pages.specs.declared.state.Mark.TheVariants.{Active, Receive}
-use Rattle.ee_store.proofs.FirstSet.{active_unset, first_layout, first_marked, first_state, unmarked}
+use Rattle.ee_store.proofs.FirstSet.{active_unset, first_layout, first_marked, first_state, proper_active, proper_first, receiving, unmarked}
+use Rattle.ee_store.proofs.Making.{always_on_err}
+use Rattle.ee_store.proofs.Marks.{mark_step}
+use Rattle.ee_store.proofs.Startable.{active_starting, received_startable}
 use Rattle.ee_store.proofs.Drawings.{sets_mark}
 use Rattle.ee_store.proofs.MovedSets.{formats_first, formats_second}
 use Rattle.ee_store.proofs.formatting.write_format.Goals as goal
@@ -93,3 +96,33 @@ returns-clause-wear g c =
     let erased : Wears (not_blank_pages old) old blank = search rules in
     let same : new.wear ≡ blank.wear = search rules in
     wears_still (not_blank_pages old) old blank new erased same
+
+pub returns-in_err-erase_all-clause-starting : goal.returns-in_err-erase_all-clause-starting
+returns-in_err-erase_all-clause-starting g c = always_on_err c.from_residual.result (λ on startable. inl (c.erase_all.ensures.startable startable))
+
+pub returns-in_err-mark-clause-starting : goal.returns-in_err-mark-clause-starting
+returns-in_err-mark-clause-starting g c =
+    let blank = g.F.Flash.device c.erase_all.new.flash in
+    let mid = g.F.Flash.device c.mark.new.flash in
+    let formed = g.met.F.Flash.formed c.erase_all.new.flash in
+    let all = c.in_ok-erase_all.ensures.blank in
+    let h : 0 < page_count blank.size = omega (arith, formed.within_limits.some_pages) in
+    let taken = mark_step 0 (Receive 1) blank mid formed h proper_first (unmarked blank 0 (Receive 1) formed all h) (inr c.in_err-mark.ensures.cut) in
+    always_on_err c.from_residual-in_err-mark.result (λ on startable. inl (received_startable blank mid formed all taken))
+
+pub returns-in_err-mark-2-clause-starting : goal.returns-in_err-mark-2-clause-starting
+returns-in_err-mark-2-clause-starting g c =
+    let blank = g.F.Flash.device c.erase_all.new.flash in
+    let mid = g.F.Flash.device c.mark.new.flash in
+    let new = g.F.Flash.device c.mark-2.new.flash in
+    let formed = g.met.F.Flash.formed c.erase_all.new.flash in
+    let mid_formed = g.met.F.Flash.formed c.mark.new.flash in
+    let all = c.in_ok-erase_all.ensures.blank in
+    let h : 0 < page_count blank.size = omega (arith, formed.within_limits.some_pages) in
+    let still : 0 < page_count mid.size = omega (arith, mid_formed.within_limits.some_pages) in
+    let unset = unmarked blank 0 (Receive 1) formed all h in
+    let on = c.in_ok-mark.ensures.on unset in
+    let whole = c.in_ok-mark.ensures.done unset in
+    let next = active_unset blank mid formed all on whole in
+    let taken = mark_step 0 Active mid new mid_formed still proper_active next (inr c.in_err-mark-2.ensures.cut) in
+    always_on_err c.from_residual-in_err-mark-2.result (λ _ startable. active_starting blank mid new formed all on whole taken (received_startable blank mid formed all (receiving blank mid formed all on whole)))
