@@ -72,8 +72,13 @@ typedef struct ee_numbers {
     uint32_t generation; /* of the live set: 1 to 4294967294, one more with each move */
 } ee_numbers;
 
-/* Opens the store that the flash holds: the call to make at each start. Where power was cut it sets the marks that were
- * left to set, else it writes nothing. EE_OK; EE_UNFORMATTED, EE_NO_LIVE_SET, EE_TWO_LIVE, EE_FOREIGN, EE_DRIVER. */
+/* The call to make at each start. Opens the store that the flash holds, as ee_open, or makes the first one: where no set is
+ * live and no word behind the header of a page can be read. A first start in which power was cut is made again; no stored
+ * value is erased. EE_OK; EE_NO_LIVE_SET, EE_TWO_LIVE, EE_FOREIGN, EE_DRIVER. */
+uint32_t ee_start(ee_store *store, const ee_flash *flash);
+
+/* Opens the store that the flash holds. Where power was cut it sets the marks that were left to set, else it writes nothing.
+ * EE_OK; EE_UNFORMATTED, EE_NO_LIVE_SET, EE_TWO_LIVE, EE_FOREIGN, EE_DRIVER. */
 uint32_t ee_open(ee_store *store, const ee_flash *flash);
 
 /* Makes a store with nothing in it, whatever the flash held. Where it is cut the flash may hold no store: format again.

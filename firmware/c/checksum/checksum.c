@@ -80,7 +80,7 @@ static uint32_t erase(void *context, uint32_t page) {
     return (uint32_t)is_cut;
 }
 
-enum call { CLEAN, FORGET, FORMAT, OPEN, WRITE };
+enum call { CLEAN, FORGET, FORMAT, OPEN, START, WRITE };
 
 static __attribute__((noinline)) uint32_t make(enum call call, uint16_t address, uint32_t value) {
     checksum_frame = __builtin_frame_address(0);
@@ -89,6 +89,7 @@ static __attribute__((noinline)) uint32_t make(enum call call, uint16_t address,
     case FORGET: return ee_forget(&store, address);
     case FORMAT: return ee_format(&store, &flash);
     case OPEN: return ee_open(&store, &flash);
+    case START: return ee_start(&store, &flash);
     default: return ee_write(&store, address, value);
     }
 }
@@ -161,6 +162,8 @@ static int run(void) {
     }
     steps_left = UINT32_MAX;
     add(make(OPEN, 0, 0));
+    for (steps_left = below(3); make(START, 0, 0) != EE_OK;) steps_left = below(4);
+    steps_left = UINT32_MAX;
     if (make(FORMAT, 0, 0) != EE_OK) return 0;
     for (uint32_t n = 0; n < CALLS; n++) {
         if (!any_call(addresses)) return 0;

@@ -185,6 +185,11 @@ pub unsafe extern "C" fn ee_open(store: *mut Memory, flash: *const Flash) -> u32
 }
 
 #[no_mangle]
+pub unsafe extern "C" fn ee_start(store: *mut Memory, flash: *const Flash) -> u32 {
+    unsafe { opened(store, flash, ee_store::start) }
+}
+
+#[no_mangle]
 pub unsafe extern "C" fn ee_format(store: *mut Memory, flash: *const Flash) -> u32 {
     unsafe { opened(store, flash, ee_store::format) }
 }

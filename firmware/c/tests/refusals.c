@@ -12,6 +12,7 @@ static void nulls(void) {
     CHECK(ee_open(NULL, &flash) == EE_NULL);
     CHECK(ee_open(&store, NULL) == EE_NULL);
     CHECK(ee_format(NULL, NULL) == EE_NULL);
+    CHECK(ee_start(NULL, &flash) == EE_NULL && ee_start(&store, NULL) == EE_NULL);
     lacking = flash, lacking.word = NULL;
     CHECK(ee_open(&store, &lacking) == EE_NULL);
     lacking = flash, lacking.program = NULL;
@@ -92,6 +93,26 @@ static void no_store(void) {
     CHECK(ee_write(&store, 1, 1) == EE_SPENT && ee_forget(&store, 1) == EE_SPENT);
 }
 
+/* A first start is cut in each of its steps in each way, again and again, and ends with an empty store. */
+static void first_starts(void) {
+    ee_flash flash = flash_of(&p);
+    blank(&p, 1, 6);
+    for (uint32_t round = 0; round < 12; round++) {
+        p.steps = 0, p.cut_in = 1 + round % 3, p.tear = (enum tear)(round % TEARS);
+        uint32_t status = ee_start(&store, &flash);
+        if (status == EE_OK) blank(&p, 1, 6);
+        else CHECK(status == EE_DRIVER && ee_read(&store, 1, &value) == EE_OFF);
+    }
+    p.cut_in = 0;
+    CHECK(ee_start(&store, &flash) == EE_OK);
+    CHECK(ee_counts(&store, &numbers) == EE_OK && numbers.live == 0 && numbers.fill == 0);
+    CHECK(ee_write(&store, 1, 10) == EE_OK && ee_start(&store, &flash) == EE_OK);
+    CHECK(ee_read(&store, 1, &value) == EE_OK && value == 10);
+    p.torn[0][1] = 1;
+    part before = p;
+    CHECK(ee_start(&store, &flash) == EE_NO_LIVE_SET && memcmp(&before, &p, sizeof p) == 0);
+}
+
 static void failing(void) {
     ee_flash flash = flash_of(&p);
     blank(&p, 1, 6);
@@ -110,6 +131,7 @@ int main(void) {
     shapes();
     statuses();
     no_store();
+    first_starts();
     failing();
     return 0;
 }

@@ -31,4 +31,4 @@ pub use crate::ee_pages::ScanFault;
 pub use crate::ee_store::Written;
 pub use driver::Driver;
 pub use error::{CleanFault, Failed, ForgetFault, Off, OpenFault, WriteFault};
-pub use store::{format, open, Store};
+pub use store::{format, open, start, Store};

@@ -30,14 +30,18 @@ enum State<D: Driver> {
 ///
 /// The driver, and why: a flash that holds no store, or a driver that failed.
 pub fn open<D: Driver>(driver: D, shape: Shape) -> Result<Store<D>, Failed<D>> {
-    match proved::open(Part::new(driver, shape)) {
-        Ok(store) => Ok(Store::on(store)),
-        Err((part, proved::OpenFault::Scan(fault))) => Err(Failed {
-            driver: part.driver,
-            fault: OpenFault::Scan(fault),
-        }),
-        Err((part, proved::OpenFault::Cut)) => Err(failed(part)),
-    }
+    opened(proved::open(Part::new(driver, shape)))
+}
+
+/// Opens the store that the flash holds, as [`open`] does, or makes the first one: where no set is live and no word behind
+/// the header of a page can be read. It is the call to make at each start: a first start in which power failed is made
+/// again, and no stored value is erased.
+///
+/// # Errors
+///
+/// The driver, and why: a flash that holds something else than a store, or a driver that failed.
+pub fn start<D: Driver>(driver: D, shape: Shape) -> Result<Store<D>, Failed<D>> {
+    opened(proved::start(Part::new(driver, shape)))
 }
 
 /// Makes a store with nothing in it, whatever the flash held: each page that is not blank is erased.
@@ -49,6 +53,19 @@ pub fn format<D: Driver>(driver: D, shape: Shape) -> Result<Store<D>, Failed<D>>
     match proved::format(Part::new(driver, shape)) {
         Ok(store) => Ok(Store::on(store)),
         Err((part, _)) => Err(failed(part)),
+    }
+}
+
+type Opened<D> = Result<proved::Store<Part<D>>, (Part<D>, proved::OpenFault)>;
+
+fn opened<D: Driver>(answer: Opened<D>) -> Result<Store<D>, Failed<D>> {
+    match answer {
+        Ok(store) => Ok(Store::on(store)),
+        Err((part, proved::OpenFault::Scan(fault))) => Err(Failed {
+            driver: part.driver,
+            fault: OpenFault::Scan(fault),
+        }),
+        Err((part, proved::OpenFault::Cut)) => Err(failed(part)),
     }
 }
 

@@ -1,8 +1,8 @@
 //! The store by its methods, over a part in memory that can be told to fail in a step.
 
 use ee_store::{
-    format, open, Address, CleanFault, Driver, ForgetFault, Off, OpenFault, ScanFault, Shape,
-    Store, Word, WriteFault, Written,
+    format, open, start, Address, CleanFault, Driver, ForgetFault, Off, OpenFault, ScanFault,
+    Shape, Store, Word, WriteFault, Written,
 };
 use std::fmt;
 
@@ -194,6 +194,38 @@ fn a_flash_without_a_store() {
         OpenFault::Scan(ScanFault::Foreign { page: 0, at: 4 })
     );
     assert_eq!(failed.to_string(), "word 4 of page 0 is not the store's");
+}
+
+#[test]
+fn a_first_start_that_failed_is_made_again() {
+    let mut part = Part::new();
+    for step in 1..=3 {
+        part.steps = 0;
+        part.fails_in = Some(step);
+        let Err(failed) = start(part, shape()) else {
+            panic!("step {step} fails");
+        };
+        assert_eq!(failed.fault, OpenFault::Driver(Broken { step }));
+        part = failed.driver;
+        let refused = open(&mut part, shape()).err().unwrap().fault;
+        assert_eq!(refused, OpenFault::Scan(ScanFault::NoLiveSet));
+    }
+    part.fails_in = None;
+    let mut store = start(part, shape()).unwrap();
+    assert_eq!((store.fill(), store.live_count()), (Ok(0), Ok(0)));
+    assert_eq!(store.write(address(1), 10), Ok(Written::Appended));
+    let store = start(store.into_driver(), shape()).unwrap();
+    assert_eq!(store.read(address(1)), Ok(Some(10)));
+}
+
+#[test]
+fn a_start_formats_over_no_word() {
+    let mut part = full().into_driver();
+    part.words[0][1] = Word::Torn;
+    let words = part.words;
+    let failed = start(part, shape()).err().unwrap();
+    assert_eq!(failed.fault, OpenFault::Scan(ScanFault::NoLiveSet));
+    assert_eq!(failed.driver.words, words);
 }
 
 #[test]

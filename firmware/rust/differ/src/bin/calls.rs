@@ -2,7 +2,7 @@
 //!
 //!     calls COUNT SEED
 //!
-//! plays so many calls of stores of random sizes. A call is played first with a cut at its first step, at its second,
+//! plays so many calls of stores of random sizes. Each is started on a new part, cut as often as it happens. A call is played first with a cut at its first step, at its second,
 //! and so on, in each of the four ways, up to a step that it does not take; each time the store is opened again, with
 //! a cut in the opening too now and then, and must hold the map before the call or after it. Then it is played uncut.
 //! At last the part is formatted, cut in each step and then again. All these count as calls. The first difference ends the program with a panic; without one it ends with a line
@@ -10,7 +10,7 @@
 #![forbid(unsafe_code)]
 
 use ee_store::{
-    format, open, Address, CleanFault, ForgetFault, OpenFault, Shape, Store, WriteFault, Written,
+    format, open, start, Address, CleanFault, ForgetFault, OpenFault, Shape, Store, WriteFault, Written,
 };
 use ee_store_differ::{Part, PowerCut, Shared, Tear, TEARS};
 use std::collections::BTreeMap;
@@ -96,15 +96,14 @@ impl Course {
         } else {
             1 + dice.below(500) as u16
         };
-        let store = format(Shared::new(Part::blank(shape)), shape).expect("nothing is armed");
-        let part = store.into_driver().0.borrow().clone();
+        let (part, starts) = started(shape, dice);
         Course {
             shape,
             part,
             map: Map::new(),
             addresses: (0..many as u16).map(|number| 1 + number * step).collect(),
-            calls: 0,
-            cuts: 0,
+            calls: starts,
+            cuts: starts - 1,
         }
     }
 
@@ -261,6 +260,32 @@ impl Course {
         assert_eq!(store.live_count(), Ok(self.map.len()));
         assert_eq!(listed(&store), self.map);
     }
+}
+
+/// A new part on which a store was started, cut in as many steps as it happens, and how many starts that took.
+fn started(shape: Shape, dice: &mut Dice) -> (Part, u64) {
+    let mut part = Part::blank(shape);
+    for starts in 1.. {
+        let (_, tear) = TEARS[dice.below(4) as usize];
+        part.fuse = Some((dice.below(1 + 2 * starts.min(9)), tear));
+        let shared = Shared::new(part);
+        let is_started = match start(shared.clone(), shape) {
+            Ok(store) => {
+                assert_eq!(store.live_count(), Ok(0));
+                true
+            }
+            Err(failed) => {
+                assert_eq!(failed.fault, OpenFault::Driver(PowerCut));
+                false
+            }
+        };
+        part = shared.0.borrow().clone();
+        part.fuse = None;
+        if is_started {
+            return (part, starts);
+        }
+    }
+    unreachable!("a start ends")
 }
 
 /// Makes a call.
