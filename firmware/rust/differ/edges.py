@@ -78,6 +78,16 @@ def many(addresses, words):
     return cases.Case(f"{addresses} addresses", cases.worked.formatted(2, words), [script, script])
 
 
+def sparse(kept):
+    """A move over 48 addresses, of which those of the second sixteen are forgotten but for some."""
+    writes = [f"w {n} {n}" for n in range(1, 49)]
+    forgets = [f"f {n}" for n in range(17, 33) if n not in kept]
+    more = [f"w 1 {n}" for n in range(40)]
+    script = cases.script_text(*writes, *forgets, *more, *(f"r {n}" for n in range(1, 50)))
+    return cases.Case(f"sparse, with {kept}", cases.fresh(2, 45), [script, script])
+
+
 def all_cases():
     return [*slot_cases(), *header_cases(), *set_cases(),
+            *(sparse(kept) for kept in ((), (17,), (20,), (32,), (17, 32))),
             *(many(count, 45) for count in (14, 15, 16, 17, 31, 32, 33, 48, 64, 80, 82, 83))]
