@@ -84,7 +84,7 @@ def sparse(kept):
     forgets = [f"f {n}" for n in range(17, 33) if n not in kept]
     more = [f"w 1 {n}" for n in range(40)]
     script = cases.script_text(*writes, *forgets, *more, *(f"r {n}" for n in range(1, 50)))
-    return cases.Case(f"sparse, with {kept}", cases.fresh(2, 45), [script, script])
+    return cases.Case(f"sparse, with {kept}", cases.worked.formatted(2, 45), [script, script])
 
 
 def all_cases():
