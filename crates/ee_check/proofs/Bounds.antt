@@ -103,16 +103,30 @@ some_is_tight_lem start trace proper keeps =
     let claim : Claim = record { slots = start.slots; fill = start.fill; live = length start.live; writes = length trace; stretches = found.0 } in
     (claim, record { header = record { slots = refl; fill = refl; live = refl; writes = refl }; stretches = found.1; fits = found.2 })
 
-pub tight_is_met_lem : (start : Situation) (trace : List Change) (claim : Claim) → IsProper start → IsTight start trace claim
-    → (moves : List Move) × IsSchedule start trace moves × (cost moves ≡ length claim.stretches)
-    × ((after_moves start moves).fill ≡ used_at_end start trace claim.stretches)
-tight_is_met_lem start trace claim proper tight =
+-- the moves of the store that transfers exactly when each slot is used
+pub record LateMoves (start : Situation) (trace : List Change) (claim : Claim) : Type 0 where
+  pub moves : List Move
+  pub changes_are : changes_of moves ≡ trace
+  pub late : EachMove IsLate start moves
+  pub cost_is : cost moves ≡ length claim.stretches
+  pub allowed : EachMove IsAllowed start moves
+  pub fill_is : (after_moves start moves).fill ≡ used_at_end start trace claim.stretches
+
+pub late_moves : (start : Situation) (trace : List Change) (claim : Claim) → IsProper start → IsTight start trace claim → LateMoves start trace claim
+late_moves start trace claim proper tight =
     let late = late_at_start start trace proper in
     let went = late_goes start trace trace start 0 (first_place start) claim.stretches late proper.fits tight.stretches tight.fits in
     let here : IsLateAt start trace start 0 (changes_of went.0) (first_place start) =
     subst (λ changes. IsLateAt start trace start 0 changes (first_place start)) (sym went.1) late in
     let met = late_meets start trace went.0 start 0 (first_place start) claim.stretches here proper.fits went.2 tight.stretches tight.fits in
-    (went.0, record { allowed = met.3; changes = went.1 }, met.2, met.1)
+    record { moves = went.0; changes_are = went.1; late = went.2; cost_is = met.2; allowed = met.3; fill_is = met.1 }
+
+pub tight_is_met_lem : (start : Situation) (trace : List Change) (claim : Claim) → IsProper start → IsTight start trace claim
+    → (moves : List Move) × IsSchedule start trace moves × (cost moves ≡ length claim.stretches)
+    × ((after_moves start moves).fill ≡ used_at_end start trace claim.stretches)
+tight_is_met_lem start trace claim proper tight =
+    let late = late_moves start trace claim proper tight in
+    (late.moves, record { allowed = late.allowed; changes = late.changes_are }, late.cost_is, late.fill_is)
 
 pub late_stores_meet_it_lem : (start : Situation) (trace : List Change) (claim : Claim) (moves : List Move) → IsProper start → IsTight start trace claim
     → changes_of moves ≡ trace → EachMove IsLate start moves

@@ -98,7 +98,7 @@ stays_done (Wrote address value (Ok Moved)) old new whole call done = absurd (ne
 stays_done (Wrote address value (Err write.Off)) old new whole call done = (refl, as_before old new call.1 done)
 stays_done (Wrote address value (Err write.Full)) old new whole call done = (refl, as_before old new call.2 done)
 stays_done (Wrote address value (Err write.Spent)) old new whole call done = (refl, as_before old new call.3 done)
-stays_done (Wrote address value (Err write.Memory)) old new whole call done = (refl, as_before old new call.1 done)
+stays_done (Wrote address value (Err write.Memory)) old new whole call done = (refl, as_before old new call.2 done)
 stays_done (Wrote address value (Err write.Cut)) old new whole call done = absurd cc
 stays_done (Forgot address (Ok Appended)) old new whole call done = absurd (never_appends old new (meaning.Forget address) call done)
 stays_done (Forgot address (Ok Moved)) old new whole call done = absurd (never_moves old new (meaning.Forget address) call done)
@@ -345,7 +345,7 @@ bounded (Wrote address value (Err write.Spent) ∷ calls) old new run whole are 
     (λ wide under. still_under (state_of old).map wide address value under) (bounded calls run.0 new run.2 (uncut_behind call calls whole) are.1)
 bounded (Wrote address value (Err write.Memory) ∷ calls) old new run whole are =
     let call = Wrote address value (Err write.Memory) in
-    refused old run.0 call calls (changes.Write address) (Put address value) refl (λ wide live is. live_after_put wide live address value are.0 is) refl run.1.1
+    refused old run.0 call calls (changes.Write address) (Put address value) refl (λ wide live is. live_after_put wide live address value are.0 is) refl run.1.2
     (λ wide under. still_under (state_of old).map wide address value under) (bounded calls run.0 new run.2 (uncut_behind call calls whole) are.1)
 bounded (Wrote address value (Err write.Cut) ∷ calls) old new run whole are =
     let cut : is_cut (Wrote address value (Err write.Cut)) ≡ false = whole 0 (Wrote address value (Err write.Cut)) (omega arith) in absurd cc

@@ -210,7 +210,7 @@ late_calls (Wrote address value (Err write.Spent) ∷ calls) old new start run w
     same_then old run.0 start call calls refl refl run.1.3 is proper (λ here kept. late_calls calls run.0 new start run.2 (uncut_behind call calls whole) are here kept)
 late_calls (Wrote address value (Err write.Memory) ∷ calls) old new start run whole are is proper =
     let call = Wrote address value (Err write.Memory) in
-    same_then old run.0 start call calls refl refl run.1.1 is proper (λ here kept. late_calls calls run.0 new start run.2 (uncut_behind call calls whole) are here kept)
+    same_then old run.0 start call calls refl refl run.1.2 is proper (λ here kept. late_calls calls run.0 new start run.2 (uncut_behind call calls whole) are here kept)
 late_calls (Wrote address value (Err write.Cut) ∷ calls) old new start run whole are is proper =
     let cut : is_cut (Wrote address value (Err write.Cut)) ≡ false = whole 0 (Wrote address value (Err write.Cut)) (omega arith) in cc
 late_calls (Forgot address (Err forget.Off) ∷ calls) old new start run whole are is proper =

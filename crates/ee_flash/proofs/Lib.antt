@@ -3,4 +3,5 @@ pub mod Tears
 pub mod Outcomes
 pub mod Fuses
 pub mod Joined
+pub mod Endurance
 pub mod Premises

@@ -9,3 +9,4 @@ pub mod Formed
 pub mod Cells
 pub mod Memory
 pub mod Laws
+pub mod Endurance

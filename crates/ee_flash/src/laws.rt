@@ -1,4 +1,5 @@
 //! Laws that hold of every device and every step, each the contract of a function that does nothing.
+ghost use Rattle.ee_flash.specs.Endurance.{ProgramsNeedErases, SomePageWears};
 ghost use Rattle.ee_flash.specs.Laws.{CallsCompose, FuseCuts, FuseWaits, JoinedPages, NoCutLeft, NoFuseNoCut, PagesJoin, StepChangesOnePage, StepEnds, StepKeepsFormed, StepLeavesPages};
 
 /// Every outcome of a step changes the words and the wear of one page at most.
@@ -54,4 +55,16 @@ pub fn pages_join()
 /// Pages of one length, joined and cut again, are the pages.
 pub fn joined_pages()
     ensures { JoinedPages }
+{}
+
+/// No more words are programmed than were erased at the start, and the words of a page for each erase,
+/// whoever takes the steps.
+pub fn programs_need_erases()
+    ensures { ProgramsNeedErases }
+{}
+
+/// Where a word at the least is programmed for each of N changes, some page is erased as often as N
+/// divided by the words of the device says, rounded up, less one; 0 times where N is 0.
+pub fn some_page_wears()
+    ensures { SomePageWears }
 {}

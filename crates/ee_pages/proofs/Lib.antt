@@ -22,3 +22,4 @@ pub mod LiveCounts
 pub mod Nearest
 pub mod BatchLists
 pub mod Premises
+pub mod LastElements

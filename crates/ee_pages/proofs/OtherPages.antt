@@ -17,7 +17,7 @@ step_keeps_other_pages step old new page taken apart =
     let differs = step_changes_one_page step old new taken in
     ap (λ (image : List (List Word)). get_or image page []) differs.image ∙ get_or-set_other old.image _ page _ [] apart
 
-written_page : (image : List (List Word)) (page at : ℕ) (word : Word) → page < length image → at < length (get_or image page []) → is_written word ≡ true → is_blank (get_or (set image page (set (get_or image page []) at word)) page []) ≡ false
+pub written_page : (image : List (List Word)) (page at : ℕ) (word : Word) → page < length image → at < length (get_or image page []) → is_written word ≡ true → is_blank (get_or (set image page (set (get_or image page []) at word)) page []) ≡ false
 written_page image page at word h within written =
     let words = get_or image page [] in
     ap is_blank (get_or-set_same image page (set words at word) [] h)

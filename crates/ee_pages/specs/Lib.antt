@@ -8,3 +8,4 @@ pub mod Pushing
 pub mod Filling
 pub mod Pending
 pub mod Nearest
+pub mod Elements

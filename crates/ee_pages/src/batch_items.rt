@@ -92,6 +92,13 @@ impl Batch {
         self.len += 1;
     }
 
+    // Takes all addresses out.
+    pub(crate) fn clear(&mut self)
+        ensures { self.new.named ≡ [] }
+    {
+        self.len = 0;
+    }
+
     // How many of the addresses, which rise, are below this one. It looks from the last down, since
     // most addresses are above all.
     pub(crate) fn place_of(&self, address: Address) -> usize

@@ -1,4 +1,5 @@
 //! Laws that hold of every device and every step, each the contract of a function that does nothing.
+ghost use Rattle.ee_pages.specs.Elements.{LastElementCounts};
 ghost use Rattle.ee_pages.specs.Filling.{CommitCommits, FirstCommitCommits, OpensPage, OpensSet, StagesChange, WholeCommitCommits};
 ghost use Rattle.ee_pages.specs.Laws.{OtherSetKeepsLive, ProgramLeavesWritten, StepKeepsOtherPages};
 ghost use Rattle.ee_pages.specs.Pending.{ChangeCounts, EraseLowersPending, FullSetHasNoBlankPage, LiveWithinFill, ProgramKeepsPending, WholeEraseLowersPending};
@@ -97,4 +98,11 @@ pub fn change_counts()
 /// and leaves that other set as it was.
 pub fn first_commit_commits()
     ensures { FirstCommitCommits }
+{}
+
+/// With no forgetting among the slots, the value of an address is that of its last element.
+///
+/// Source: AN4894.
+pub fn last_element_counts()
+    ensures { LastElementCounts }
 {}

@@ -1,4 +1,4 @@
-ghost use Rattle.std.specs.Prelude.{◌≡◌, ◌<◌, ◌≤◌, ◌-◌, ◌*◌, ℕ, IfSome, drop, slice_index_or, take, true};
+ghost use Rattle.std.specs.Prelude.{◌≡◌, ◌<◌, ◌≤◌, ◌+◌, ◌-◌, ◌*◌, ℕ, IfSome, drop, slice_index_or, take, true};
 ghost use Rattle.ee_codec.specs.Reading.{ends_in as word_ends_in};
 ghost use Rattle.ee_codec.specs.Words.{IsAddress};
 ghost use Rattle.ee_flash.specs.Size.{slot_count};
@@ -6,7 +6,7 @@ ghost use Rattle.ee_pages.specs.Layout.{IsLayout};
 ghost use Rattle.ee_pages.specs.Meaning.{IsNextLive, above_of, latest_in, live_in, meaning, says as word_says};
 ghost use Rattle.ee_pages.specs.Sets.{set_of, slots_of, torn_of};
 
-use crate::batch::next_batch;
+use crate::batch::{LiveBatch, next_batch};
 use crate::find::Layout;
 use crate::side::{Side, first_page, page_slot, set_slot};
 use crate::state::is_torn;
@@ -65,8 +65,9 @@ pub fn next_live<F: Flash>(
     ensures proper { IfSome result (λ found. IsAddress found.0) }
 {
     let mut behind = after;
+    let mut batch = LiveBatch::new();
     'batches: loop {
-        let batch = next_batch(flash, layout, behind);
+        next_batch(flash, layout, behind, &mut batch);
         if let Some(found) = batch.found.as_slice().first() {
             return Some(*found);
         }
@@ -88,8 +89,9 @@ pub fn live_count<F: Flash>(flash: &F, layout: &Layout) -> usize
 {
     let mut count = 0;
     let mut after = None;
+    let mut batch = LiveBatch::new();
     'live: loop {
-        let batch = next_batch(flash, layout, after);
+        next_batch(flash, layout, after, &mut batch);
         count += batch.found.len();
         let Some(through) = batch.through else {
             return count;
@@ -108,8 +110,24 @@ pub fn torn_slots<F: Flash>(flash: &F, layout: &Layout) -> usize
         result ≡ torn_of slots }
 {
     let mut torn = 0;
-    for number in 0..flash.shape().slots() {
-        if is_torn(set_slot(flash, layout.side, number)) {
+    for page in 0..flash.shape().pages() {
+        torn = torn_through(flash, layout.side, page, torn);
+    }
+    torn
+}
+
+// How many slots are torn up to the end of a page of a set, where this many are torn before it. Page
+// by page, since finding a slot by its number takes a division.
+fn torn_through<F: Flash>(flash: &F, side: Side, page: usize, before: usize) -> usize
+    requires page_in_range { page < (F.device flash.now).size.pages }
+    requires before { let device = F.device flash.now in before
+        ≡ torn_of (take (page * (device.size.words - 4)) (slots_of (set_of side device))) }
+    ensures { let device = F.device flash.now in result
+        ≡ torn_of (take ((page + 1) * (device.size.words - 4)) (slots_of (set_of side device))) }
+{
+    let mut torn = before;
+    for slot in 0..flash.shape().words() - 4 {
+        if is_torn(page_slot(flash, side, page, slot)) {
             torn += 1;
         }
     }

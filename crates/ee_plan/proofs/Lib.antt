@@ -10,3 +10,4 @@ pub mod Counted
 pub mod Stations
 pub mod Demanded
 pub mod Answering
+pub mod Wearing

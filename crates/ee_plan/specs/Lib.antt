@@ -3,3 +3,4 @@ pub mod LateStore
 pub mod Start
 pub mod Rounds
 pub mod Places
+pub mod Wearing

@@ -16,6 +16,7 @@
 mod counts;
 mod demand;
 mod late_store;
+pub mod laws;
 mod planned;
 mod planning;
 mod rounds;

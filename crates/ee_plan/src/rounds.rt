@@ -61,6 +61,16 @@ impl<A: Allocator + Copy> Rounds<A> {
 }
 
 impl<A: Allocator> Rounds<A> {
+    /// How many changes all rounds together have: fewer than 2^63.
+    ///
+    /// Source: ours.
+    pub fn changes(&self) -> u64
+        ensures changes { result ≡ length self.now }
+        ensures few { result < 2 ^ 63 }
+    {
+        self.runs * self.trace.as_slice().len() as u64
+    }
+
     /// What the rounds demand of a set of so many slots that starts empty: the fewest transfers of any
     /// store that appends each change and transfers by copying the live addresses, when it likes; or the
     /// first change that doesn't fit.

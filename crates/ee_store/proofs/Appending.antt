@@ -12,7 +12,7 @@ use Rattle.ee_flash.specs.declared.word.Word.TheVariants.{Erased, Held, Torn}
 use Rattle.ee_flash.proofs.Outcomes.{step_leaves_pages}
 use Rattle.ee_pages.specs.Laws.{Keeps}
 use Rattle.ee_pages.specs.Legal.{IsLive}
-use Rattle.ee_pages.specs.Meaning.{Change, Spells, changed, meaning}
+use Rattle.ee_pages.specs.Meaning.{Change, Map, Spells, changed, meaning}
 use Rattle.ee_pages.specs.Page.{is_written, place_of_mark}
 use Rattle.ee_pages.specs.Pushing.{Takes, slot_step}
 use Rattle.ee_pages.specs.Sets.{fill_of, first_page, other, page_of_slot, place_of_slot, set_of, slots_of}
@@ -23,6 +23,8 @@ use Rattle.ee_pages.proofs.BlankWords.{erased_word}
 use Rattle.ee_pages.proofs.Legal.{fill-front, slots_behind}
 use Rattle.ee_pages.proofs.OtherPages.{step_keeps_other_pages}
 use Rattle.ee_pages.proofs.Slots.{page_in_range, place_in_range, slot_at}
+use Rattle.ee_store.proofs.Cuts.{program_partly}
+use Rattle.ee_store.specs.Cuts.{PutsPartly}
 use Rattle.ee_store.specs.Parts.{IsSameSet, KeepsMarks}
 use Rattle.ee_pages.proofs.LiveSteps.{push_takes, whole_push_takes}
 use Rattle.ee_store.proofs.SetPages.{page_in_device, page_of_set}
@@ -113,6 +115,11 @@ module _ (side : Side) (generation fill first words : ℕ) (old : Device) (live 
       pub cut_push_marks : KeepsMarks old new
       cut_push_marks = keeps_marks (inr cut)
 
+      pub cut_push_partly : PutsPartly (first_page old.size side + page_of_slot old.size fill) (place_of_slot old.size fill) (Held number) old new
+      cut_push_partly =
+          let at_slot = subst (λ (step : Step). IsCutIn step old new ⊎ IsUntouched old new) step_is cut in
+          program_partly (first_page old.size side + page_of_slot old.size fill) (place_of_slot old.size fill) number old new live.formed may_take.0 may_take.1 may_take.2 at_slot
+
     module _ (on : IsOn old) (done : new ≡ completed (Program (first + fill / (words - 4)) (4 + fill % (words - 4)) number) old) where
       whole : MayFollow (Program (first + fill / (words - 4)) (4 + fill % (words - 4)) number) old new
       whole = inl (record { was_on = on; done = done })
@@ -129,3 +136,12 @@ module _ (side : Side) (generation fill first words : ℕ) (old : Device) (live 
 
       pub push_is_taken : Takes old new side generation (changed change (meaning (slots_of (set_of side old))))
       push_is_taken = (whole_push_takes change number old new side generation live free_there spells (at_fill (taken whole)) done_there).0
+
+-- a change behind what keeps the live set
+pub taken_after : (old mid new : Device) (side : Side) (generation : ℕ) (now map : Map) → Keeps old mid side generation → now ≡ map → Takes mid new side generation now → Takes old new side generation map
+taken_after old mid new side generation now map keeps same takes = record {
+  live = takes.live;
+  same_size = takes.same_size ∙ keeps.same_size;
+  one_more = takes.one_more ∙ ap (λ n. n + 1) keeps.same_fill;
+  map_is = λ address. takes.map_is address ∙ ap (λ (said : Map). said address) same;
+}

@@ -96,7 +96,7 @@ adds_next map except above next value old mid new side generation count so_far m
 ]
 
 -- the change first, and then the others
-all_moved : (change : Change) (map : Map) → put_words change ++ elements_of (others map (address_of change)) ≡ moved_words change map
+pub all_moved : (change : Change) (map : Map) → put_words change ++ elements_of (others map (address_of change)) ≡ moved_words change map
 all_moved (Put address value) map = refl
 all_moved (Forget address) map = refl
 

@@ -78,7 +78,7 @@ put_apart side old new page at word sizes of puts k place h within =
 abbrev pub with_mark : ℕ → Mark → Picture → Picture
 with_mark k mark picture = with_word k (place_of_mark mark) (marked mark (picture k (place_of_mark mark))) picture
 
-place_below : (mark : Mark) → place_of_mark mark < 4
+pub place_below : (mark : Mark) → place_of_mark mark < 4
 place_below (Receive generation) = omega arith
 place_below Active = omega arith
 place_below Valid = omega arith

@@ -44,3 +44,6 @@ pub mod IndexedBatches
 pub mod IndexedStores
 pub mod Premises
 pub mod Startable
+pub mod Cuts
+pub mod CutMarks
+pub mod CutMoves

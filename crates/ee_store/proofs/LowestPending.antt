@@ -2,6 +2,7 @@
 use Rattle.std.proofs.Common.{◌≡◌, ◌<◌, ◌≤◌, ℕ, Option, Some, None, true, false, [], ◌∷◌, sym, subst, ap, ◌∙◌}
 use Rattle.std.proofs.lemmas.Bool.{true≢false}
 use Rattle.ee_flash.specs.Device.{Device, page_at}
+use Rattle.ee_flash.specs.Step.{IsPartlyErased}
 use Rattle.ee_pages.specs.Laws.{IsPageOf, Keeps}
 use Rattle.ee_pages.specs.Legal.{IsLive}
 use Rattle.ee_pages.specs.Page.{is_blank}
@@ -41,5 +42,5 @@ module _ (old new : Device) (side searched : Side) (generation page : ℕ) (live
   pub erases_lowest : is_blank (page_at new page) ≡ true → IsLive old side generation → Keeps old new side generation → ErasesLowest old new
   erases_lowest blank found keeps = record { waited = waited_first found keeps blank; page = page; lowest = is_lowest; blank = blank; others = others; wear = wear }
 
-  pub keeps_all_but_lowest : KeepsAllButLowest old new
-  keeps_all_but_lowest = record { page = page; lowest = is_lowest; others = others; wear = wear }
+  pub keeps_all_but_lowest : IsPartlyErased (page_at old page) (page_at new page) → KeepsAllButLowest old new
+  keeps_all_but_lowest partly = record { here = partly; page = page; lowest = is_lowest; others = others; wear = wear }

@@ -24,7 +24,8 @@ use Rattle.ee_pages.specs.declared.side.Side.TheVariants.{First}
 use Rattle.ee_pages.proofs.Commits.{live_commits}
 use Rattle.ee_pages.proofs.LiveCounts.{change_counts, live_within_fill}
 use Rattle.ee_pages.proofs.Slots.{length-set_of, length-slots}
-use Rattle.ee_store.specs.Changes.{Appends, IsAccepted, IsCutAppend, IsCutChange, IsCutMove, IsFull, IsSpent, Moves, Proceeds, ShowsAppended, ShowsMoved, greatest_generation}
+use Rattle.ee_store.specs.Changes.{Appends, IsAccepted, IsCutAppend, IsCutChange, IsCutMove, IsFull, IsSpent, Moves, Proceeds, ShowsAppended, ShowsCutAppend, ShowsCutMove, ShowsMoved, greatest_generation}
+use Rattle.ee_store.specs.Cuts.{ErasesPartly, IsDrawnPartly, MovesPartly}
 use Rattle.ee_store.specs.Picture.{IsDrawn, filled, moved_words, number_of_change, picture_of, retired, with_change}
 use Rattle.ee_store.specs.declared.change.Change as declared
 use Rattle.ee_store.specs.declared.change.Change.TheVariants as kinds
@@ -78,6 +79,15 @@ module _ (old new : Device) (side : Side) (generation : ℕ) (live : IsLive old 
     old_pages = same_drawn (other side) old new sizes same;
   }
 
+  pub shows_cut_append : (change : Change) (fill number : ℕ) → fill ≡ fill_of (slots_of (set_of side old)) → number ≡ number_of_change (state_of old).map change → new.size ≡ old.size
+      → IsDrawnPartly side new (picture_of side old) (with_change old.size fill number (picture_of side old)) → IsSameSet (other side) old new → ShowsCutAppend old change new side
+  shows_cut_append change fill number filled spelled sizes drawn same = record {
+    live_pages =
+        let there = subst (λ n. IsDrawnPartly side new (picture_of side old) (with_change old.size n number (picture_of side old))) (filled ∙ sym fill_was) drawn in
+        subst (λ n. IsDrawnPartly side new (picture_of side old) (with_change old.size (state_of old).fill n (picture_of side old))) spelled there;
+    old_pages = same_drawn (other side) old new sizes same;
+  }
+
   pub shows_moved : (change : Change) → IsDrawn (other side) new (filled old.size (generation + 1) (moved_words change (meaning (slots_of (set_of side old))))) → IsDrawn side new (retired (λ page. true) (picture_of side old)) → ShowsMoved old change new side generation
   shows_moved change new_drawn old_drawn = record {
     new_pages =
@@ -85,6 +95,11 @@ module _ (old new : Device) (side : Side) (generation : ℕ) (live : IsLive old 
         subst (λ (said : Map). IsDrawn (other side) new (filled old.size (generation + 1) (moved_words change said))) (sym map) new_drawn;
     old_pages = old_drawn;
   }
+
+  pub shows_cut_move : (change : Change) → (let first = first_page old.size (other side) in ErasesPartly first (first + old.size.pages) old new ⊎ MovesPartly old new side generation (moved_words change (meaning (slots_of (set_of side old))))) → ShowsCutMove old change new side generation
+  shows_cut_move change left =
+      let map : (state_of old).map ≡ meaning (slots_of (set_of side old)) = ap (λ (state : State). state.map) (state_is old side generation live) in
+      subst (λ (said : Map). let first = first_page old.size (other side) in ErasesPartly first (first + old.size.pages) old new ⊎ MovesPartly old new side generation (moved_words change said)) (sym map) left
 
   pub appends : (change : Change) → Proceeds old change → GoesOn old new → fill_of (slots_of (set_of side old)) < capacity old → Takes old new side generation (changed change (meaning (slots_of (set_of side old)))) → IsSameSet (other side) old new → new.wear ≡ old.wear → ShowsAppended old change new side → Appends old change new
   appends change proceeds goes_on free takes same wear shows = record {
@@ -107,8 +122,10 @@ module _ (old new : Device) (side : Side) (generation : ℕ) (live : IsLive old 
 
   pub cut_in_append : (change : Change) → Proceeds old change → IsCut old new → fill_of (slots_of (set_of side old)) < capacity old → IsSameSet (other side) old new
       → Keeps old new side generation ⊎ Takes old new side generation (meaning (slots_of (set_of side old))) ⊎ Takes old new side generation (changed change (meaning (slots_of (set_of side old))))
-      → new.wear ≡ old.wear → IsCutChange old change new
-  cut_in_append change proceeds cut free same left wear = record {
+      → new.wear ≡ old.wear → ShowsCutAppend old change new side → IsCutChange old change new
+  cut_in_append change proceeds cut free same left wear shows = record {
+    free_words = λ _. (side, generation, live.live, shows);
+    used_words = λ all. absurd (omega (arith, fill_was));
     proceeds = proceeds;
     cut = cut;
     free = λ _. cut_append change same left;
@@ -133,8 +150,10 @@ module _ (old new : Device) (side : Side) (generation : ℕ) (live : IsLive old 
   cut_move change few (inr has) = inr (state_moved old new side generation live change has)
 
   pub cut_in_move : (change : Change) → Proceeds old change → IsCut old new → fill_of (slots_of (set_of side old)) ≡ capacity old → pending_of (set_of (other side) new) ≤ old.size.pages
-      → Keeps old new side generation ⊎ HasMoved old new side generation change → WearsFront (not_blank_in (other side) old) old new → IsCutChange old change new
-  cut_in_move change proceeds cut all few left begun = record {
+      → Keeps old new side generation ⊎ HasMoved old new side generation change → WearsFront (not_blank_in (other side) old) old new → ShowsCutMove old change new side generation → IsCutChange old change new
+  cut_in_move change proceeds cut all few left begun shows = record {
+    used_words = λ _. (side, generation, live.live, shows);
+    free_words = λ less. absurd (omega (arith, fill_was));
     proceeds = proceeds;
     cut = cut;
     free = λ less. absurd (omega (arith, fill_was));

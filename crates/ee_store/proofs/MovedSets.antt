@@ -36,7 +36,7 @@ blank_drawn side device formed all page at h within =
     ap (λ (words : List Word). word_in words at) (sym (page_of_set side device page h))
     ∙ blank_word (get_or (set_of side device) page []) at (All-get_or (λ (words : List Word). is_blank words ≡ true) (set_of side device) page [] in_range all)
 
-first_opened : (size : Size) (generation page at : ℕ) → with_mark 0 (Receive generation) blank page at ≡ opened size generation (page_of_slot size (0 - 1)) [] page at
+pub first_opened : (size : Size) (generation page at : ℕ) → with_mark 0 (Receive generation) blank page at ≡ opened size generation (page_of_slot size (0 - 1)) [] page at
 first_opened size generation page at = elim (cases_eq at 0) [
   | inr away ↦
       with_word-elsewhere 0 0 _ blank page at (inr away)
@@ -70,12 +70,12 @@ commits side old new generation words formed sizes sets holds =
     subst (λ (size : Size). IsDrawn side new (with_mark 0 Active (opened size generation (page_of_slot size (length words - 1)) words))) (sym sizes) drawn
 
 -- with the marks of a live set, it is the set that a transfer leaves
-abbrev committed : Size → ℕ → List Word → Picture
+abbrev pub committed : Size → ℕ → List Word → Picture
 committed size generation words page at =
     if (page == 0) && (at == 1) then mark_where true Active
     else opened size generation (page_of_slot size (length words - 1)) words page at
 
-all_marked : (size : Size) (generation : ℕ) (words : List Word) (page at : ℕ) → marked_to (page_of_slot size (length words - 1)) (committed size generation words) page at ≡ filled size generation words page at
+pub all_marked : (size : Size) (generation : ℕ) (words : List Word) (page at : ℕ) → marked_to (page_of_slot size (length words - 1)) (committed size generation words) page at ≡ filled size generation words page at
 all_marked size generation words page at = elim (cases_lt 3 at) [
   | inl slot ↦ rw (ne_eqb at 2 (λ e. omega (arith, e)), ne_eqb at 1 (λ e. omega (arith, e)), lt-ltb 3 at slot) (elim (cases_Bool (page == 0)) [ inl zeroth ↦ rw zeroth refl | inr further ↦ rw further refl ])
   | inr low ↦ elim (cases_eq at 0) [
@@ -124,21 +124,25 @@ full_written side device generation page live full h =
     ∙ sym (ap is_written same)
     ∙ first
 
--- so each page of a set that was left is marked
+-- so each page of a set that was left waits
+pub all_waiting : (side : Side) (old mid : Device) (generation : ℕ) → IsLive old side generation → fill_of (slots_of (set_of side old)) ≡ slot_count old.size → IsFormed mid → mid.size ≡ old.size → IsDrawn side mid (picture_of side old)
+    → (page at : ℕ) → page < mid.size.pages → at < mid.size.words → retired (λ page. not (is_blank (page_at mid (first_page mid.size side + page)))) (picture_of side mid) page at ≡ retired (λ page. true) (picture_of side old) page at
+all_waiting side old mid generation live full formed sizes same page at below inside =
+    let some : 4 < mid.size.words = omega (arith, formed.within_limits.some_words) in
+    let written : is_written (picture_of side mid page 4) ≡ true =
+    ap is_written (same page 4 below some) ∙ full_written side old generation page live full (omega (arith, ap (λ (size : Size). size.pages) sizes)) in
+    let long = length-page_at mid (first_page mid.size side + page) formed (page_in_device mid.size side page below) in
+    let any = list_any_at is_written (page_at mid (first_page mid.size side + page)) 4 Erased (omega (arith, long)) written in
+    rw any refl
+    ∙ ap (λ (held : Word). retired (λ p. true) (λ p a. held) page at) (same page at below inside)
+
+-- and is marked
 pub all_retired : (side : Side) (old mid new : Device) (generation : ℕ) → IsLive old side generation → fill_of (slots_of (set_of side old)) ≡ slot_count old.size → IsFormed mid → mid.size ≡ old.size → new.size ≡ mid.size
     → IsDrawn side mid (picture_of side old) → IsDrawn side new (retired (λ page. not (is_blank (page_at mid (first_page mid.size side + page)))) (picture_of side mid))
     → IsDrawn side new (retired (λ page. true) (picture_of side old))
 all_retired side old mid new generation live full formed first_sizes second_sizes same drawn page at h within =
-    let below : page < mid.size.pages = omega (arith, ap (λ (size : Size). size.pages) second_sizes) in
-    let inside : at < mid.size.words = omega (arith, ap (λ (size : Size). size.words) second_sizes) in
-    let some : 4 < mid.size.words = omega (arith, formed.within_limits.some_words) in
-    let written : is_written (picture_of side mid page 4) ≡ true =
-    ap is_written (same page 4 below some) ∙ full_written side old generation page live full (omega (arith, ap (λ (size : Size). size.pages) first_sizes)) in
-    let long = length-page_at mid (first_page mid.size side + page) formed (page_in_device mid.size side page below) in
-    let any = list_any_at is_written (page_at mid (first_page mid.size side + page)) 4 Erased (omega (arith, long)) written in
     drawn page at h within
-    ∙ rw any refl
-    ∙ ap (λ (held : Word). retired (λ p. true) (λ p a. held) page at) (same page at below inside)
+    ∙ all_waiting side old mid generation live full formed first_sizes same page at (omega (arith, ap (λ (size : Size). size.pages) second_sizes)) (omega (arith, ap (λ (size : Size). size.words) second_sizes))
 
 -- a set with no word needs no further mark
 no_further : (picture : Picture) (page at : ℕ) → is_written (picture 0 1) ≡ true → marked_to 0 picture page at ≡ picture page at

@@ -10,7 +10,7 @@ use Rattle.ee_pages.specs.declared.side.Side.{Side}
 use Rattle.ee_pages.specs.declared.side.Side.TheVariants.{First, Second}
 use Rattle.ee_store.proofs.States.{state_is, state_stays}
 use Rattle.ee_store.specs.Finished.{IsFinished, IsMarked}
-use Rattle.ee_store.specs.Openings.{IsCutOpening, IsFormatted, Opens, ShowsMarks}
+use Rattle.ee_store.specs.Openings.{IsCutOpening, IsFormatted, Opens, ShowsCutMarks, ShowsMarks}
 use Rattle.ee_store.specs.Picture.{IsDrawn, blank, filled}
 use Rattle.ee_store.specs.Parts.{Stays}
 use Rattle.ee_store.specs.State.{State, Wears, formatted, not_blank_pages, pending_pages_in, state_of}
@@ -42,8 +42,9 @@ module _ (layout : Layout) (old new : Device) (is : IsLayout old layout) (stays 
     no_step = λ finished. no_step (finished layout.side layout.generation is.live.live);
   }
 
-  pub opening_cut : (IsMarked old layout.side → ⊥) → IsCut old new → IsCutOpening old new
-  opening_cut left cut = record {
+  pub opening_cut : (IsMarked old layout.side → ⊥) → ShowsCutMarks old new layout.side → IsCut old new → IsCutOpening old new
+  opening_cut left shows cut = record {
+    words = (layout.side, layout.generation, is.live.live, shows);
     was_legal = (layout.side, layout.generation, is.live);
     mark_left = λ finished. left (finished layout.side layout.generation is.live.live);
     cut = cut;

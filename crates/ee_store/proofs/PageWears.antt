@@ -65,7 +65,7 @@ not_named device side generation page live at = ap (λ found. times page (pendin
 -- ---- one call
 
 -- What a call does to a page of the live set, and to one of the other set: that one waits, is erased, or neither.
-record Ages (transfer : Bool) (old new : Device) : Type 0 where
+pub record Ages (transfer : Bool) (old new : Device) : Type 0 where
   pub same_size : new.size ≡ old.size
   pub live_is : live_of new ≡ cond transfer (turned (live_of old)) (live_of old)
   pub live_page : (side : Side) (generation page : ℕ) → Live old side generation → IsPageOf old.size side page → wear_at new page ≤ wear_at old page
@@ -74,19 +74,23 @@ record Ages (transfer : Bool) (old new : Device) : Type 0 where
 unchanged : (old new : Device) → new ≡ old → Ages false old new
 unchanged old new same = rw same (record { same_size = refl; live_is = refl; live_page = λ side generation page live at. omega arith; other_page = λ side generation page live at. omega arith })
 
-appends : (old new : Device) (change : Change) → Appends old change new → Ages false old new
-appends old new change done =
-    let wear : (page : ℕ) → wear_at new page ≡ wear_at old page = λ page. ap (λ (list : List ℕ). get_or list page 0) done.no_wear in
+-- the same pages are live, the same wait, and none was erased
+pub stays : (old new : Device) → new.size ≡ old.size → live_of new ≡ live_of old → pending_pages new ≡ pending_pages old → new.wear ≡ old.wear → Ages false old new
+stays old new same_size live_is same_pending no_wear =
+    let wear : (page : ℕ) → wear_at new page ≡ wear_at old page = λ page. ap (λ (list : List ℕ). get_or list page 0) no_wear in
     record {
-      same_size = done.goes_on.same_size;
-      live_is = done.live_is;
+      same_size = same_size;
+      live_is = live_is;
       live_page = λ side generation page live at. omega (arith, wear page);
       other_page = λ side generation page live at.
-          let now = named_in new side generation page (done.live_is ∙ live) (subst (λ (size : Size). IsPageOf size (other side) page) (sym done.goes_on.same_size) at) in
+          let now = named_in new side generation page (live_is ∙ live) (subst (λ (size : Size). IsPageOf size (other side) page) (sym same_size) at) in
           let was = named_in old side generation page live at in
-          let same : waits new page ≡ waits old page = sym now ∙ ap (times page) done.same_pending ∙ was in
+          let same : waits new page ≡ waits old page = sym now ∙ ap (times page) same_pending ∙ was in
           omega (arith, wear page, same);
     }
+
+appends : (old new : Device) (change : Change) → Appends old change new → Ages false old new
+appends old new change done = stays old new done.goes_on.same_size done.live_is done.same_pending done.no_wear
 
 moves : (old new : Device) (change : Change) → Moves old change new → Ages true old new
 moves old new change done =
@@ -128,13 +132,13 @@ erases old new done =
       ];
     }
 
-ages : (call : Call) (old new : Device) → is_cut call ≡ false → Follows call old new → Ages (is_transfer call) old new
+pub ages : (call : Call) (old new : Device) → is_cut call ≡ false → Follows call old new → Ages (is_transfer call) old new
 ages (Wrote address value (Ok Appended)) old new whole done = appends old new (Put address value) done
 ages (Wrote address value (Ok Moved)) old new whole done = moves old new (Put address value) done
 ages (Wrote address value (Err write.Off)) old new whole done = unchanged old new done.1
 ages (Wrote address value (Err write.Full)) old new whole done = unchanged old new done.2
 ages (Wrote address value (Err write.Spent)) old new whole done = unchanged old new done.3
-ages (Wrote address value (Err write.Memory)) old new whole done = unchanged old new done.1
+ages (Wrote address value (Err write.Memory)) old new whole done = unchanged old new done.2
 ages (Wrote address value (Err write.Cut)) old new whole done = cc
 ages (Forgot address (Ok Appended)) old new whole done = appends old new (Forget address) done
 ages (Forgot address (Ok Moved)) old new whole done = moves old new (Forget address) done
@@ -155,11 +159,11 @@ ages (DidRead address (Err off)) old new whole done = unchanged old new done.1
 -- ---- a run
 
 -- what a run with so many transfers does to a page of the live set, and to one of the other set
-record Aged (count : ℕ) (old new : Device) : Type 0 where
+pub record Aged (count : ℕ) (old new : Device) : Type 0 where
   pub live_page : (side : Side) (generation page : ℕ) → Live old side generation → IsPageOf old.size side page → wear_at new page ≤ wear_at old page + (count + 1) / 2
   pub other_page : (side : Side) (generation page : ℕ) → Live old side generation → IsPageOf old.size (other side) page → wear_at new page ≤ wear_at old page + waits old page + count / 2
 
-one_more : (transfer : Bool) (rest : ℕ) (old mid new : Device) → Ages transfer old mid → Aged rest mid new → Aged (cond transfer 1 0 + rest) old new
+pub one_more : (transfer : Bool) (rest : ℕ) (old mid new : Device) → Ages transfer old mid → Aged rest mid new → Aged (cond transfer 1 0 + rest) old new
 one_more true rest old mid new first later = record {
   live_page = λ side generation page live at.
       let now : Live mid (other side) (generation + 1) = first.live_is ∙ ap turned live in
@@ -182,23 +186,28 @@ one_more false rest old mid new first later = record {
       rw none (omega (arith, first.other_page side generation page live at, later.other_page side generation page (first.live_is ∙ live) there));
 }
 
+pub none_more : (device : Device) → Aged 0 device device
+none_more device = record { live_page = λ side generation page live at. omega arith; other_page = λ side generation page live at. omega arith }
+
 aged : (calls : List Call) (old new : Device) → IsRun calls old new → All (λ call. is_cut call ≡ false) calls → Aged (transfers calls) old new
-aged [] old new run whole = rw run (record { live_page = λ side generation page live at. omega arith; other_page = λ side generation page live at. omega arith })
+aged [] old new run whole = rw run (none_more old)
 aged (call ∷ calls) old new run whole =
     let later = aged calls run.0 new run.2 (All-tail (λ (one : Call). is_cut one ≡ false) call calls whole) in
     subst (λ (count : ℕ). Aged count old new) (sym (sum_by-cons (λ (one : Call). cond (is_transfer one) 1 0) call calls))
     (one_more (is_transfer call) (transfers calls) old run.0 new (ages call old run.0 (whole 0 call (omega arith)) run.1) later)
 
+-- so often at the most, by where a page stood at the start
+pub wears_at_most : (count page : ℕ) (old new : Device) → Aged count old new → WearsAtMost count page old new
+wears_at_most count page old new all = record {
+  live = λ stands. omega (arith, all.live_page stands.side stands.generation page stands.live stands.in_live);
+  spare = λ stands.
+      let none : waits old page ≡ 0 = ap (λ b. cond b 0 1) stands.blank in
+      omega (arith, all.other_page stands.side stands.generation page stands.live stands.in_other, none);
+  pending = λ stands. omega (arith, all.other_page stands.side stands.generation page stands.live stands.in_other, few_wait (is_blank (page_at old page)));
+}
+
 pub each_page_wears_every_second_transfer_lem : (calls : List Call) (old new : Device) (page : ℕ) → IsWholeRun calls old new → WearsAtMost (transfers calls) page old new
-each_page_wears_every_second_transfer_lem calls old new page whole =
-    let all = aged calls old new whole.run whole.without_cuts in
-    record {
-      live = λ stands. omega (arith, all.live_page stands.side stands.generation page stands.live stands.in_live);
-      spare = λ stands.
-          let none : waits old page ≡ 0 = ap (λ b. cond b 0 1) stands.blank in
-          omega (arith, all.other_page stands.side stands.generation page stands.live stands.in_other, none);
-      pending = λ stands. omega (arith, all.other_page stands.side stands.generation page stands.live stands.in_other, few_wait (is_blank (page_at old page)));
-    }
+each_page_wears_every_second_transfer_lem calls old new page whole = wears_at_most (transfers calls) page old new (aged calls old new whole.run whole.without_cuts)
 
 pub no_page_wears_more_lem : (calls : List Call) (old new : Device) (page : ℕ) → IsWholeRun calls old new → IsLegal old → (state_of old).pending ≡ 0
     → page < page_count old.size → wear_at new page ≤ wear_at old page + (transfers calls + 1) / 2

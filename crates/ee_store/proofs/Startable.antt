@@ -246,7 +246,7 @@ powered_starting device (inl startable) = inl (record { uncommitted = λ side. a
 powered_starting device (inr new) = inr (record { legal = legal_on device new.legal; state_is = state_in_on device (live_of device) ∙ new.state_is })
 
 cut_starting : (old new : Device) → IsStarting old → StartFails old Cut new → IsStarting new × IsCut old new
-cut_starting old new starting (inl cut) = (cut.starting, cut.cut)
+cut_starting old new starting (inl cut) = (cut.starting, cut.cut.cut)
 cut_starting old new (inl startable) (inr cut) = absurd (legal_stays old cut.was_legal startable)
 cut_starting old new (inr before) (inr cut) = (inr (record { legal = cut.legal; state_is = cut.state_is ∙ before.state_is }), cut.cut)
 

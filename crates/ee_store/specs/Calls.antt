@@ -3,6 +3,7 @@
 use Rattle.std.specs.Prelude.{◌≡◌, ◌≢◌, ◌<◌, ◌⊎◌, ℕ, ◌-◌, Option, Some, None, Result, Ok, Err, Bool, true, false, [], ◌∷◌}
 use Rattle.ee_flash.specs.Device.{Device, IsOff, IsOn, page_at}
 use Rattle.ee_flash.specs.Power.{GoesOn, IsCut}
+use Rattle.ee_flash.specs.Step.{IsPartlyErased}
 use Rattle.ee_pages.specs.Laws.{IsPageOf}
 use Rattle.ee_pages.specs.Meaning.{Put, Forget}
 use Rattle.ee_pages.specs.Page.{is_blank}
@@ -23,15 +24,15 @@ abbrev pub Reads : {E : Type 0} → Device → ℕ → Result (Option ℕ) E →
 Reads device address (Ok value) = IsOn device × (value ≡ (state_of device).map address)
 Reads device address (Err off) = IsOff device
 
--- A write is appended or moved; or it was refused, for the first cause that applies, and nothing changed; or memory ran out,
--- and nothing changed; or power was cut.
+-- A write is appended or moved; or it was refused, for the first cause that applies, and nothing changed; or memory ran out
+-- for an address that has no value, and nothing changed; or power was cut.
 abbrev pub Writes : Device → ℕ → ℕ → Result Written WriteFault → Device → Type 0
 Writes old address value (Ok Appended) new = Appends old (Put address value) new
 Writes old address value (Ok Moved) new = Moves old (Put address value) new
 Writes old address value (Err write.Off) new = IsOff old × (new ≡ old)
 Writes old address value (Err write.Full) new = IsOn old × IsFull (capacity old) (state_of old) address × (new ≡ old)
 Writes old address value (Err write.Spent) new = IsOn old × ¬ IsFull (capacity old) (state_of old) address × IsSpent (capacity old) (state_of old) × (new ≡ old)
-Writes old address value (Err write.Memory) new = Proceeds old (Put address value) × (new ≡ old)
+Writes old address value (Err write.Memory) new = Proceeds old (Put address value) × ((state_of old).map address ≡ None) × (new ≡ old)
 Writes old address value (Err write.Cut) new = IsCutChange old (Put address value) new
 
 -- a forgetting likewise, of an address that has a value; it needs no memory
@@ -65,10 +66,12 @@ pub record ErasesLowest (old new : Device) : Type 0 where
   pub others : IsSameBut page old new
   pub wear : Wears (page ∷ []) old new
 
--- the erase of the lowest page that waited was begun, and each other page is as before
+-- the erase of the lowest page that waited was begun: in it each word is as before, erased or torn, and each other page is
+-- as before
 pub record KeepsAllButLowest (old new : Device) : Type 0 where
   pub page : ℕ
   pub lowest : IsLowestPending old page
+  pub here : IsPartlyErased (page_at old page) (page_at new page)
   pub others : IsSameBut page old new
   pub wear : Wears (page ∷ []) old new
 

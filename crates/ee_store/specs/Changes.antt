@@ -3,8 +3,9 @@ use Rattle.std.specs.Prelude.{◌≡◌, ◌<◌, ◌≤◌, ◌⊎◌, ℕ, ◌
 use Rattle.ee_flash.specs.Device.{Device, IsOn}
 use Rattle.ee_flash.specs.Power.{GoesOn, IsCut}
 use Rattle.ee_pages.specs.Meaning.{Change, Put, Forget, live_in}
-use Rattle.ee_pages.specs.Sets.{live_of, other}
+use Rattle.ee_pages.specs.Sets.{first_page, live_of, other}
 use Rattle.ee_pages.specs.declared.side.Side.{Side}
+use Rattle.ee_store.specs.Cuts.{ErasesPartly, IsDrawnPartly, MovesPartly}
 use Rattle.ee_store.specs.Picture.{IsDrawn, OfLive, filled, moved_words, number_of_change, picture_of, retired, with_change}
 use Rattle.ee_store.specs.State.{State, Wears, WearsFront, appended, capacity, moved, pending_pages, spoiled, state_of, turned, with_pending}
 
@@ -79,6 +80,19 @@ IsCutAppend old change new = (new ≡ old) ⊎ (new ≡ spoiled old) ⊎ (new �
 abbrev pub IsCutMove : ℕ → State → Change → State → Type 0
 IsCutMove pages old change new = ((pending : ℕ) × (pending ≤ pages) × (new ≡ with_pending pending old)) ⊎ (new ≡ moved pages change old)
 
+-- what is drawn when power was cut in an append: of the change's word and the marks of its page each is as before, as the
+-- whole append leaves it, or torn; each other word and the other set are as before
+pub record ShowsCutAppend (old : Device) (change : Change) (new : Device) (side : Side) : Type 0 where
+  pub live_pages : let before = picture_of side old in
+      IsDrawnPartly side new before (with_change old.size (state_of old).fill (number_of_change (state_of old).map change) before)
+  pub old_pages : IsDrawn (other side) new (picture_of (other side) old)
+
+-- power was cut in a transfer: in erasing the pages of the other set, or behind that
+abbrev pub ShowsCutMove : Device → Change → Device → Side → ℕ → Type 0
+ShowsCutMove old change new side generation =
+    let first = first_page old.size (other side) in
+    ErasesPartly first (first + old.size.pages) old new ⊎ MovesPartly old new side generation (moved_words change (state_of old).map)
+
 -- Power was cut in a change. With a slot free no page was erased; with none free, a front of those that waited.
 pub record IsCutChange (old : Device) (change : Change) (new : Device) : Type 0 where
   pub proceeds : Proceeds old change
@@ -87,3 +101,5 @@ pub record IsCutChange (old : Device) (change : Change) (new : Device) : Type 0 
   pub all_used : (state_of old).fill ≡ capacity old → IsCutMove old.size.pages (state_of old) change (state_of new)
   pub no_wear : (state_of old).fill < capacity old → new.wear ≡ old.wear
   pub wear : (state_of old).fill ≡ capacity old → WearsFront (pending_pages old) old new
+  pub free_words : (state_of old).fill < capacity old → OfLive old (λ side generation. ShowsCutAppend old change new side)
+  pub used_words : (state_of old).fill ≡ capacity old → OfLive old (λ side generation. ShowsCutMove old change new side generation)

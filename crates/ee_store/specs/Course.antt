@@ -1,5 +1,5 @@
 -- How a reader goes over the live addresses of a map.
-use Rattle.std.specs.Prelude.{ℕ, Option, List}
+use Rattle.std.specs.Prelude.{ℕ, Option, List, drop, take}
 use Rattle.std.specs.List.{All}
 use Rattle.ee_codec.specs.Words.{IsAddress}
 use Rattle.ee_pages.specs.Meaning.{AreNextLive, IsNoneLive, Map, last_of}
@@ -10,6 +10,13 @@ pub record Course : Type 0 where
   pub after : ℕ
   pub ready : List (ℕ × ℕ)
   pub through : Option ℕ
+
+-- of a batch of which this many were given: the last of those, and where a reader is then
+abbrev pub last_given : List (ℕ × ℕ) → ℕ → ℕ
+last_given found given = last_of 0 (take given found)
+
+abbrev pub course_of : List (ℕ × ℕ) → Option ℕ → ℕ → Course
+course_of found through given = record { after = last_given found given; ready = drop given found; through = through }
 
 -- it goes over the live addresses of this map
 pub record GoesOver (map : Map) (course : Course) : Type 0 where

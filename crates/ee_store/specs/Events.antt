@@ -25,9 +25,10 @@ pub record Turn : Type 0 where
   pub answer : Answer
   pub found : Option Bool
 
--- the call of the store that the event makes, with its answer
+-- the call of the store that the event makes, with its answer; the store takes no memory, so none is refused for want of it
 abbrev pub call_of : Event → Answer → Option Call
 call_of (Put address value) (Done written) = Some (Wrote address value (Ok written))
+call_of (Put address value) (Refused write.Memory) = None
 call_of (Put address value) (Refused fault) = Some (Wrote address value (Err fault))
 call_of (Forget address) (Done written) = Some (Forgot address (Ok written))
 call_of (Forget address) (NotForgotten fault) = Some (Forgot address (Err fault))

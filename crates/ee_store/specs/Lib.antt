@@ -5,6 +5,7 @@ pub mod Changes
 pub mod Calls
 pub mod Openings
 pub mod Parts
+pub mod Cuts
 pub mod Course
 pub mod Index
 pub mod Runs

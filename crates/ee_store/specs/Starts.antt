@@ -1,14 +1,13 @@
 -- The call to make whenever a device is switched on: it opens a store, and makes the first one.
 use Rattle.std.specs.Prelude.{◌≡◌, ◌≢◌, ◌≤◌, ◌⊎◌, ℕ, Some, None, zero, suc}
 use Rattle.ee_flash.specs.Device.{Device, word_at}
-use Rattle.ee_flash.specs.Power.{IsCut}
 use Rattle.ee_flash.specs.declared.word.Word.TheVariants.{Held}
 use Rattle.ee_pages.specs.Layout.{IsScanFault, IsUnformatted}
 use Rattle.ee_pages.specs.Legal.{IsLegal}
 use Rattle.ee_pages.specs.Sets.{committed, set_of}
 use Rattle.ee_pages.specs.declared.side.Side.{Side}
 use Rattle.ee_store.specs.Events.{powered}
-use Rattle.ee_store.specs.Openings.{IsCutOpening, IsFormatted, Opens}
+use Rattle.ee_store.specs.Openings.{IsCutFormat, IsCutOpening, IsFormatted, Opens}
 use Rattle.ee_store.specs.State.{formatted, state_of}
 use Rattle.ee_store.specs.declared.opening.OpenFault.{OpenFault}
 use Rattle.ee_store.specs.declared.opening.OpenFault.TheVariants.{Scan, Cut}
@@ -39,7 +38,7 @@ Starts old new = (IsStartable old × IsFormatted old new) ⊎ Opens old new
 -- power was cut in the first format: it can be started still, or was
 pub record IsCutStart (old new : Device) : Type 0 where
   pub was_startable : IsStartable old
-  pub cut : IsCut old new
+  pub cut : IsCutFormat old new
   pub starting : IsStarting new
 
 -- Why there is no store: the image is neither legal nor startable, and nothing changed; or power was cut, in the first

@@ -24,7 +24,6 @@ use ee_pages::Layout;
 
 /// Makes a change to which no refusal applies: in a free slot if there is one, else with a transfer.
 /// The layout follows.
-#[inline(always)]
 pub(crate) fn make_change<F: Flash>(
     flash: &mut F,
     layout: &mut Layout,
@@ -48,8 +47,8 @@ pub(crate) fn make_change<F: Flash>(
         append_change(flash, layout, change)?;
         Ok(Written::Appended)
     } else {
-        let cursor = Cursor::new(flash, layout);
-        move_change(flash, layout, change, cursor)?;
+        let mut cursor = Cursor::new(flash, layout);
+        move_change(flash, layout, change, &mut cursor)?;
         Ok(Written::Moved)
     }
 }
@@ -90,18 +89,18 @@ pub(crate) fn append_change<F: Flash>(
 
 /// Makes a change to which no refusal applies with a transfer, where no slot is free. The cursor,
 /// which is before the first, goes over the live addresses. The layout follows.
-pub(crate) fn move_change<F: Flash, C: LiveCursor + Drop>(
+pub(crate) fn move_change<F: Flash, C: LiveCursor>(
     flash: &mut F,
     layout: &mut Layout,
     change: Change,
-    cursor: C,
+    cursor: &mut C,
 ) -> Result<(), Cut>
     requires layout { IsLayout (F.device flash.old) layout.old }
     requires address { IsAddress (address_of (meant change)) }
     requires proceeds { Proceeds (F.device flash.old) (meant change) }
     requires all_used { layout.old.fill ≡ slot_count (F.device flash.old).size }
-    requires first { C.behind cursor ≡ 0 }
-    requires over { C.goes_over cursor (slots_of (set_of layout.old.side (F.device flash.old))) }
+    requires first { C.behind cursor.old ≡ 0 }
+    requires over { C.goes_over cursor.old (slots_of (set_of layout.old.side (F.device flash.old))) }
     ensures moved { OnOk result
         (Moves (F.device flash.old) (meant change) (F.device flash.new)) }
     ensures has_moved { OnOk result

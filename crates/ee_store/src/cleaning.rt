@@ -1,6 +1,7 @@
 ghost use Rattle.std.specs.Prelude.{◌≡◌, ◌<◌, ◌≤◌, ◌⊎◌, ℕ, ◌+◌, [], ◌∷◌, IfNone, IfSome, OnErr, OnOk, false, true};
 ghost use Rattle.ee_flash.specs.Device.{IsOn, page_at};
 ghost use Rattle.ee_flash.specs.Power.{Ends};
+ghost use Rattle.ee_flash.specs.Step.{IsPartlyErased};
 ghost use Rattle.ee_pages.specs.Laws.{IsPageOf, Keeps};
 ghost use Rattle.ee_pages.specs.Layout.{IsLayout};
 ghost use Rattle.ee_pages.specs.Legal.{IsLive};
@@ -61,6 +62,8 @@ pub(crate) fn erase_other<F: Flash>(
     ensures same_set { IsSameSet side (F.device flash.old) (F.device flash.new) }
     ensures others { IsSameBut page (F.device flash.old) (F.device flash.new) }
     ensures blank { OnOk result (is_blank (page_at (F.device flash.new) page) ≡ true) }
+    ensures partly { OnErr result (IsPartlyErased
+        (page_at (F.device flash.old) page) (page_at (F.device flash.new) page)) }
     ensures one_less { OnOk result (pending_of (set_of (other_of side) (F.device flash.new)) + 1
         ≡ pending_of (set_of (other_of side) (F.device flash.old))) }
     ensures cut { (pending_of (set_of (other_of side) (F.device flash.new))

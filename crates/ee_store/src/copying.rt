@@ -1,4 +1,4 @@
-ghost use Rattle.std.specs.Prelude.{◌≡◌, ◌≢◌, ◌<◌, ◌≤◌, ℕ, ◌+◌, ◌-◌, IfOk, IfSome, List, [], ◌∷◌, ◌++◌, None, Ok, OnOk, OnSome, length, slice_set};
+ghost use Rattle.std.specs.Prelude.{◌≡◌, ◌≢◌, ◌<◌, ◌≤◌, ℕ, ◌+◌, ◌-◌, IfOk, IfSome, List, [], ◌∷◌, ◌++◌, None, Ok, OnErr, OnOk, OnSome, length, slice_set};
 ghost use Rattle.std.specs.List.{All};
 ghost use Rattle.ee_codec.specs.Words.{IsAddress, IsGeneration};
 ghost use Rattle.ee_flash.specs.Power.{Ends};
@@ -10,8 +10,9 @@ ghost use Rattle.ee_pages.specs.Filling.{IsFilling};
 ghost use Rattle.ee_pages.specs.Laws.{Keeps};
 ghost use Rattle.ee_pages.specs.Layout.{IsLayout};
 ghost use Rattle.ee_pages.specs.Meaning.{AreLiveThrough, Forget, IsNextLive, Put, Spells, changed, live_in};
-ghost use Rattle.ee_pages.specs.Sets.{other as other_of, page_of_slot, set_of, slots_of};
-ghost use Rattle.ee_store.specs.Course.{GoesOver};
+ghost use Rattle.ee_pages.specs.Sets.{first_page as first_of, other as other_of, page_of_slot, place_of_slot, set_of, slots_of};
+ghost use Rattle.ee_store.specs.Course.{GoesOver, course_of, last_given};
+ghost use Rattle.ee_store.specs.Cuts.{AddsPartly, PutsPartly, SetsPartly};
 ghost use Rattle.ee_store.specs.Parts.{AddsWords, Stands, map_in, meant, number_of, opened, put_words, replaced};
 ghost use Rattle.ee_store.specs.Picture.{IsDrawn, elements_of, moved_words, picture_of};
 
@@ -32,17 +33,11 @@ pub(crate) struct Cursor {
 }
 
 impl Model for Cursor {
-    ghost use Rattle.std.specs.Prelude.{drop, take};
-    ghost use Rattle.ee_pages.specs.Meaning.{last_of};
-    ghost use Rattle.ee_store.specs.Course.{Course};
+    ghost use Rattle.ee_store.specs.Course.{Course, course_of};
 
     ghost Value = { Course };
 
-    ghost view = { λ cursor. record {
-      after = last_of 0 (take cursor.given cursor.batch.found.items);
-      ready = drop cursor.given cursor.batch.found.items;
-      through = cursor.batch.through;
-    } };
+    ghost view = { λ cursor. course_of cursor.batch.found.items cursor.batch.through cursor.given };
 }
 
 impl Cursor {
@@ -52,10 +47,12 @@ impl Cursor {
         ensures first { result.after ≡ 0 }
         ensures over { GoesOver (map_in layout.now.side (F.device flash.now)) result }
     {
-        Cursor {
-            batch: next_batch(flash, layout, None),
+        let mut cursor = Cursor {
+            batch: LiveBatch::new(),
             given: 0,
-        }
+        };
+        next_batch(flash, layout, None, &mut cursor.batch);
+        cursor
     }
 }
 
@@ -68,41 +65,41 @@ impl LiveCursor for Cursor {
     ghost goes_over = { λ cursor slots. GoesOver (meaning slots) cursor };
 
     fn next<F: Flash>(&mut self, flash: &F, layout: &Layout) -> Option<(Address, u32)> {
-        if self.given >= self.batch.found.len() {
-            let Some(through) = self.batch.through else {
-                return None;
-            };
-            self.batch = batch_behind(flash, layout, through);
-            self.given = 0;
-        }
-        let found = self.batch.found.as_slice();
-        if self.given >= found.len() {
-            return None;
-        }
-        let live = found[self.given];
-        self.given += 1;
-        Some(live)
+        next_given(flash, layout, &mut self.batch, &mut self.given)
     }
 }
 
-// The next live addresses above this one. The batch is empty only if there are none.
-fn batch_behind<F: Flash>(flash: &F, layout: &Layout, after: Address) -> LiveBatch
-    requires { IsLayout (F.device flash.now) layout.now }
-    ensures live { AreLiveThrough (map_in layout.now.side (F.device flash.now)) after
-        result.found.items result.through }
-    ensures proper { All (λ found. IsAddress found.0) result.found.items }
-    ensures last { result.found.items ≡ [] → result.through ≡ None }
+// The next live address behind those that were given of a batch. Where all were, the batch becomes
+// the next one with an address.
+fn next_given<F: Flash>(
+    flash: &F,
+    layout: &Layout,
+    batch: &mut LiveBatch,
+    given: &mut usize,
+) -> Option<(Address, u32)>
+    requires layout { IsLayout (F.device flash.now) layout.now }
+    requires over { GoesOver (map_in layout.now.side (F.device flash.now))
+        (course_of batch.old.found.items batch.old.through given.old) }
+    ensures next { IsNextLive (map_in layout.now.side (F.device flash.now))
+        (last_given batch.old.found.items given.old) result }
+    ensures proper { IfSome result (λ found. IsAddress found.0) }
+    ensures moved { IfSome result
+        (λ found. last_given batch.new.found.items given.new ≡ found.0) }
+    ensures over { OnSome result (GoesOver (map_in layout.now.side (F.device flash.now))
+        (course_of batch.new.found.items batch.new.through given.new)) }
 {
-    let mut above = after;
-    'empty: loop {
-        let batch = next_batch(flash, layout, Some(above));
-        if !batch.found.is_empty() {
-            return batch;
+    'batches: loop {
+        let found = batch.found.as_slice();
+        if *given < found.len() {
+            let live = found[*given];
+            *given += 1;
+            return Some(live);
         }
         let Some(through) = batch.through else {
-            return batch;
+            return None;
         };
-        above = through;
+        next_batch(flash, layout, Some(through), batch);
+        *given = 0;
     }
 }
 
@@ -120,15 +117,15 @@ struct Place {
 
 /// Fills the other set, which was opened, with the map after a change: a value that is written
 /// comes first, and then each other live address, rising. Gives how many slots that takes.
-pub(crate) fn fill_set<F: Flash, C: LiveCursor + Drop>(
+pub(crate) fn fill_set<F: Flash, C: LiveCursor>(
     flash: &mut F,
     layout: &Layout,
     change: Change,
-    cursor: C,
+    cursor: &mut C,
 ) -> Result<usize, Cut>
     requires layout { IsLayout (F.device flash.old) layout.now }
-    requires first { C.behind cursor ≡ 0 }
-    requires over { C.goes_over cursor (slots_of (set_of layout.now.side (F.device flash.old))) }
+    requires first { C.behind cursor.old ≡ 0 }
+    requires over { C.goes_over cursor.old (slots_of (set_of layout.now.side (F.device flash.old))) }
     requires generation { IsGeneration (layout.now.generation + 1) }
     requires filling { IsFilling (F.device flash.old) (other_of layout.now.side)
         (layout.now.generation + 1) 0 }
@@ -150,6 +147,10 @@ pub(crate) fn fill_set<F: Flash, C: LiveCursor + Drop>(
         (layout.now.generation + 1) 0
         (moved_words (meant change) (map_in layout.now.side (F.device flash.old)))) }
     ensures as_many { IfOk result (λ count. count ≡ length
+        (moved_words (meant change) (map_in layout.now.side (F.device flash.old)))) }
+    ensures begun { OnErr result
+        (AddsPartly (F.device flash.old) (F.device flash.new) layout.now.side
+        (layout.now.generation + 1) 0
         (moved_words (meant change) (map_in layout.now.side (F.device flash.old)))) }
     ensures wear { (F.device flash.new).wear ≡ (F.device flash.old).wear }
     ensures power { Ends result (F.device flash.old) (F.device flash.new) }
@@ -185,29 +186,32 @@ fn put_first<F: Flash>(flash: &mut F, layout: &Layout, change: Change) -> Result
     ensures as_many { IfOk result (λ place. place.slot ≡ length (put_words (meant change))) }
     ensures stands { IfOk result
         (Stands (F.device flash.new).size (other_of layout.now.side)) }
+    ensures begun { OnErr result
+        (AddsPartly (F.device flash.old) (F.device flash.new) layout.now.side
+        (layout.now.generation + 1) 0 (put_words (meant change))) }
     ensures wear { (F.device flash.new).wear ≡ (F.device flash.old).wear }
     ensures power { Ends result (F.device flash.old) (F.device flash.new) }
 {
-    let place = first_place(flash, layout);
+    let mut place = first_place(flash, layout);
     if let Change::Forget { .. } = change {
         return Ok(place);
     }
-    let next = stage(flash, layout, place, change)?;
-    Ok(next)
+    stage(flash, layout, &mut place, change)?;
+    Ok(place)
 }
 
 // Copies each live address but this one to the other set, from this place on. Gives how many of its
 // slots are written then.
-fn copy_others<F: Flash, C: LiveCursor + Drop>(
+fn copy_others<F: Flash, C: LiveCursor>(
     flash: &mut F,
     layout: &Layout,
     except: Address,
     place: Place,
-    cursor: C,
+    cursor: &mut C,
 ) -> Result<usize, Cut>
     requires layout { IsLayout (F.device flash.old) layout.now }
-    requires first { C.behind cursor ≡ 0 }
-    requires over { C.goes_over cursor (slots_of (set_of layout.now.side (F.device flash.old))) }
+    requires first { C.behind cursor.old ≡ 0 }
+    requires over { C.goes_over cursor.old (slots_of (set_of layout.now.side (F.device flash.old))) }
     requires generation { IsGeneration (layout.now.generation + 1) }
     requires filling { IsFilling (F.device flash.old) (other_of layout.now.side)
         (layout.now.generation + 1) place.slot }
@@ -238,104 +242,112 @@ fn copy_others<F: Flash, C: LiveCursor + Drop>(
     ensures as_many { IfOk result (λ all. all ≡ place.slot + length
         (elements_of
         (changed (Forget except) (map_in layout.now.side (F.device flash.old))))) }
+    ensures begun { OnErr result
+        (AddsPartly (F.device flash.old) (F.device flash.new) layout.now.side
+        (layout.now.generation + 1) place.slot
+        (elements_of
+        (changed (Forget except) (map_in layout.now.side (F.device flash.old))))) }
     ensures wear { (F.device flash.new).wear ≡ (F.device flash.old).wear }
     ensures power { Ends result (F.device flash.old) (F.device flash.new) }
 {
     let mut place = place;
-    let mut cursor = cursor;
     'live: while let Some((address, value)) = cursor.next(flash, layout) {
-        place = copy_one(flash, layout, except, place, address, value)?;
+        copy_one(flash, layout, except, &mut place, address, value)?;
     }
     Ok(place.slot)
 }
 
 // Copies a live address to this place of the other set, unless it is the one that is not copied.
-// Gives the place of the next free slot.
-#[inline(always)]
+// The place becomes that of the next free slot.
 fn copy_one<F: Flash>(
     flash: &mut F,
     layout: &Layout,
     except: Address,
-    place: Place,
+    place: &mut Place,
     address: Address,
     value: u32,
-) -> Result<Place, Cut>
+) -> Result<(), Cut>
     requires layout { IsLayout (F.device flash.old) layout.now }
     requires generation { IsGeneration (layout.now.generation + 1) }
     requires filling { IsFilling (F.device flash.old) (other_of layout.now.side)
-        (layout.now.generation + 1) place.slot }
-    requires stands { Stands (F.device flash.old).size (other_of layout.now.side) place }
-    requires free { address ≢ except → place.slot < slot_count (F.device flash.old).size }
+        (layout.now.generation + 1) place.old.slot }
+    requires stands { Stands (F.device flash.old).size (other_of layout.now.side) place.old }
+    requires free { address ≢ except → place.old.slot < slot_count (F.device flash.old).size }
     ensures keeps { Keeps (F.device flash.old)
         (F.device flash.new) layout.now.side layout.now.generation }
-    ensures filling { IfOk result (λ next.
-        IsFilling (F.device flash.new) (other_of layout.now.side)
-        (layout.now.generation + 1) next.slot) }
-    ensures stands { IfOk result
-        (Stands (F.device flash.new).size (other_of layout.now.side)) }
-    ensures passed { address ≡ except
-        → (result ≡ Ok place) × (F.device flash.new ≡ F.device flash.old) }
-    ensures one_more { address ≢ except → IfOk result (λ next. next.slot ≡ place.slot + 1) }
+    ensures filling { OnOk result
+        (IsFilling (F.device flash.new) (other_of layout.now.side)
+        (layout.now.generation + 1) place.new.slot) }
+    ensures stands { OnOk result
+        (Stands (F.device flash.new).size (other_of layout.now.side) place.new) }
+    ensures passed { address ≡ except → (result ≡ Ok tt) × (place.new ≡ place.old)
+        × (F.device flash.new ≡ F.device flash.old) }
+    ensures one_more { address ≢ except → OnOk result (place.new.slot ≡ place.old.slot + 1) }
     ensures map { address ≢ except → OnOk result ((named : ℕ)
         → map_in (other_of layout.now.side) (F.device flash.new) named
         ≡ changed (Put address value)
         (map_in (other_of layout.now.side) (F.device flash.old)) named) }
     ensures adds { address ≢ except → OnOk result
         (AddsWords (F.device flash.old) (F.device flash.new) layout.now.side
-        (layout.now.generation + 1) place.slot (Held (element address value) ∷ [])) }
+        (layout.now.generation + 1) place.old.slot (Held (element address value) ∷ [])) }
+    ensures begun { OnErr result ((address ≢ except)
+        × AddsPartly (F.device flash.old) (F.device flash.new) layout.now.side
+        (layout.now.generation + 1) place.old.slot (Held (element address value) ∷ [])) }
     ensures wear { (F.device flash.new).wear ≡ (F.device flash.old).wear }
     ensures power { Ends result (F.device flash.old) (F.device flash.new) }
 {
     if address == except {
-        return Ok(place);
+        return Ok(());
     }
-    let next = stage(flash, layout, place, Change::Put { address, value })?;
-    Ok(next)
+    stage(flash, layout, place, Change::Put { address, value })?;
+    Ok(())
 }
 
 // Writes a change into this place of the other set, its first free slot. A further page gets its
-// receive word first. Gives the place of the next slot. Inlined, since a transfer does it for each
-// word.
-#[inline(always)]
+// receive word first. The place becomes that of the next slot.
 fn stage<F: Flash>(
     flash: &mut F,
     layout: &Layout,
-    place: Place,
+    place: &mut Place,
     change: Change,
-) -> Result<Place, Cut>
+) -> Result<(), Cut>
     requires layout { IsLayout (F.device flash.old) layout.now }
     requires generation { IsGeneration (layout.now.generation + 1) }
     requires filling { IsFilling (F.device flash.old) (other_of layout.now.side)
-        (layout.now.generation + 1) place.slot }
-    requires stands { Stands (F.device flash.old).size (other_of layout.now.side) place }
-    requires free { place.slot < slot_count (F.device flash.old).size }
+        (layout.now.generation + 1) place.old.slot }
+    requires stands { Stands (F.device flash.old).size (other_of layout.now.side) place.old }
+    requires free { place.old.slot < slot_count (F.device flash.old).size }
     ensures keeps { Keeps (F.device flash.old)
         (F.device flash.new) layout.now.side layout.now.generation }
     ensures filling { OnOk result
         (IsFilling (F.device flash.new) (other_of layout.now.side) (layout.now.generation + 1)
-        (place.slot + 1)) }
-    ensures next { IfOk result (λ next. next.slot ≡ place.slot + 1) }
-    ensures stands { IfOk result
-        (Stands (F.device flash.new).size (other_of layout.now.side)) }
+        (place.old.slot + 1)) }
+    ensures next { OnOk result (place.new.slot ≡ place.old.slot + 1) }
+    ensures stands { OnOk result
+        (Stands (F.device flash.new).size (other_of layout.now.side) place.new) }
     // The change stands in the slot of this number.
     ensures slot { OnOk result ((number : ℕ) × Spells number (meant change)
         × (slots_of (set_of (other_of layout.now.side) (F.device flash.new))
-        ≡ slice_set (slots_of (set_of (other_of layout.now.side) (F.device flash.old))) place.slot
+        ≡ slice_set (slots_of (set_of (other_of layout.now.side) (F.device flash.old))) place.old.slot
         (Held number))) }
     ensures map { OnOk result ((address : ℕ)
         → map_in (other_of layout.now.side) (F.device flash.new) address
         ≡ changed (meant change) (map_in (other_of layout.now.side) (F.device flash.old)) address) }
     ensures adds { OnOk result
         (AddsWords (F.device flash.old) (F.device flash.new) layout.now.side
-        (layout.now.generation + 1) place.slot (Held (number_of change) ∷ [])) }
+        (layout.now.generation + 1) place.old.slot (Held (number_of change) ∷ [])) }
+    ensures begun { OnErr result
+        (AddsPartly (F.device flash.old) (F.device flash.new) layout.now.side
+        (layout.now.generation + 1) place.old.slot (Held (number_of change) ∷ [])) }
     ensures wear { (F.device flash.new).wear ≡ (F.device flash.old).wear }
     ensures power { Ends result (F.device flash.old) (F.device flash.new) }
 {
     if place.at == 4 {
-        receive(flash, layout, place)?;
+        receive(flash, layout, *place)?;
     }
-    put_in(flash, layout, place, change)?;
-    Ok(next_place(flash, layout, place))
+    put_in(flash, layout, *place, change)?;
+    step(flash, layout, place);
+    Ok(())
 }
 
 // Gives the page of this place of the other set the receive word, if it has none.
@@ -365,6 +377,10 @@ fn receive<F: Flash>(flash: &mut F, layout: &Layout, place: Place) -> Result<(),
         → IsDrawn side (F.device flash.new)
         (opened (F.device flash.old).size (layout.now.generation + 1)
         (page_of_slot (F.device flash.old).size place.slot) words)) }
+    ensures begun { let old = F.device flash.old in OnErr result
+        (SetsPartly (first_of old.size (other_of layout.now.side)
+        + page_of_slot old.size place.slot) (Mark.Receive (layout.now.generation + 1))
+        old (F.device flash.new)) }
     ensures wear { (F.device flash.new).wear ≡ (F.device flash.old).wear }
     ensures power { Ends result (F.device flash.old) (F.device flash.new) }
 {
@@ -403,6 +419,10 @@ fn put_in<F: Flash>(flash: &mut F, layout: &Layout, place: Place, change: Change
         (opened (F.device flash.old).size (layout.now.generation + 1)
         (page_of_slot (F.device flash.old).size place.slot)
         (words ++ (Held (number_of change) ∷ [])))) }
+    ensures begun { let old = F.device flash.old in OnErr result
+        (PutsPartly (first_of old.size (other_of layout.now.side)
+        + page_of_slot old.size place.slot) (place_of_slot old.size place.slot)
+        (Held (number_of change)) old (F.device flash.new)) }
     ensures wear { (F.device flash.new).wear ≡ (F.device flash.old).wear }
     ensures power { Ends result (F.device flash.old) (F.device flash.new) }
 {
@@ -422,26 +442,18 @@ fn first_place<F: Flash>(flash: &F, layout: &Layout) -> Place
     }
 }
 
-// The place of the next slot of the other set: one further in the page, or the first one of the
-// next page. Behind the set's last slot it is in no page of the set.
-fn next_place<F: Flash>(flash: &F, layout: &Layout, place: Place) -> Place
-    requires free { place.slot < slot_count (F.device flash.now).size }
-    requires stands { Stands (F.device flash.now).size (other_of layout.now.side) place }
-    ensures next { result.slot ≡ place.slot + 1 }
-    ensures stands { Stands (F.device flash.now).size (other_of layout.now.side) result }
+// Goes on to the next slot of the other set: one further in the page, or the first one of the next
+// page. Behind the set's last slot it is in no page of the set.
+fn step<F: Flash>(flash: &F, layout: &Layout, place: &mut Place)
+    requires free { place.old.slot < slot_count (F.device flash.now).size }
+    requires stands { Stands (F.device flash.now).size (other_of layout.now.side) place.old }
+    ensures next { place.new.slot ≡ place.old.slot + 1 }
+    ensures stands { Stands (F.device flash.now).size (other_of layout.now.side) place.new }
 {
-    let slot = place.slot + 1;
-    let at = place.at + 1;
-    if at == flash.shape().words() {
-        return Place {
-            slot,
-            page: place.page + 1,
-            at: 4,
-        };
-    }
-    Place {
-        slot,
-        page: place.page,
-        at,
+    place.slot += 1;
+    place.at += 1;
+    if place.at == flash.shape().words() {
+        place.page += 1;
+        place.at = 4;
     }
 }

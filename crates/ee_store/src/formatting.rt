@@ -1,14 +1,17 @@
-ghost use Rattle.std.specs.Prelude.{◌≡◌, ℕ, IfOk, [], OnErr, OnOk, true};
+ghost use Rattle.std.specs.Prelude.{◌≡◌, ◌⊎◌, ℕ, IfOk, [], OnErr, OnOk, true};
 ghost use Rattle.std.specs.List.{All};
 ghost use Rattle.ee_flash.specs.Device.{IsOn};
 ghost use Rattle.ee_flash.specs.Power.{Ends};
+ghost use Rattle.ee_flash.specs.Size.{page_count};
 ghost use Rattle.ee_pages.specs.Layout.{IsLayout};
 ghost use Rattle.ee_pages.specs.Page.{is_blank};
 ghost use Rattle.ee_pages.specs.declared.side.Side.TheVariants.{First, Second};
+ghost use Rattle.ee_store.specs.Cuts.{ErasesPartly};
 ghost use Rattle.ee_store.specs.Finished.{IsMarked};
+ghost use Rattle.ee_store.specs.Openings.{ShowsCutFormat};
 ghost use Rattle.ee_store.specs.Picture.{IsDrawn, blank, filled};
 ghost use Rattle.ee_store.specs.Starts.{IsStartable, IsStarting};
-ghost use Rattle.ee_store.specs.State.{Wears, formatted, not_blank_pages, state_of};
+ghost use Rattle.ee_store.specs.State.{Wears, WearsFront, formatted, not_blank_pages, state_of};
 
 use ee_flash::{Cut, Flash};
 use ee_pages::{Layout, Mark, Side, is_blank as page_is_blank, mark};
@@ -25,6 +28,12 @@ pub(crate) fn write_format<F: Flash>(flash: &mut F) -> Result<Layout, Cut>
     ensures second_set { OnOk result (IsDrawn Second (F.device flash.new) blank) }
     ensures wear { OnOk result (Wears (not_blank_pages (F.device flash.old))
         (F.device flash.old) (F.device flash.new)) }
+    ensures begun { OnErr result (WearsFront (not_blank_pages (F.device flash.old))
+        (F.device flash.old) (F.device flash.new)) }
+    ensures words { OnErr result
+        (ErasesPartly 0 (page_count (F.device flash.old).size)
+        (F.device flash.old) (F.device flash.new)
+        ⊎ ShowsCutFormat (F.device flash.new)) }
     ensures starting { OnErr result
         (IsOn (F.device flash.old) → IsStartable (F.device flash.old)
         → IsStarting (F.device flash.new)) }
@@ -45,6 +54,10 @@ pub(crate) fn write_format<F: Flash>(flash: &mut F) -> Result<Layout, Cut>
 fn erase_all<F: Flash>(flash: &mut F) -> Result<(), Cut>
     ensures blank { OnOk result (All (λ page. is_blank page ≡ true) (F.device flash.new).image) }
     ensures wear { OnOk result (Wears (not_blank_pages (F.device flash.old))
+        (F.device flash.old) (F.device flash.new)) }
+    ensures begun { OnErr result (WearsFront (not_blank_pages (F.device flash.old))
+        (F.device flash.old) (F.device flash.new)) }
+    ensures partly { OnErr result (ErasesPartly 0 (page_count (F.device flash.old).size)
         (F.device flash.old) (F.device flash.new)) }
     ensures startable { IsStartable (F.device flash.old) → IsStartable (F.device flash.new) }
     ensures power { Ends result (F.device flash.old) (F.device flash.new) }

@@ -20,7 +20,8 @@ use ee_flash::{Cut, Flash};
 use ee_pages::Layout;
 use std::alloc::{AllocError, Allocator};
 
-/// Gives an address the slot of this number in an index. An `Err` leaves the index as it was.
+/// Gives an address the slot of this number in an index. An `Err`, which only a new address meets,
+/// leaves the index as it was.
 pub(crate) fn enter_slot<A: Allocator + Copy>(
     index: &mut Index<A>,
     address: Address,
@@ -28,6 +29,7 @@ pub(crate) fn enter_slot<A: Allocator + Copy>(
 ) -> Result<(), AllocError>
     ensures entered { OnOk result ((named : ℕ) → slot_for index.new.entries named
         ≡ changed (MapPut address number) (slot_for index.old.entries) named) }
+    ensures absent { OnErr result (slot_for index.old.entries address ≡ None) }
     ensures err { OnErr result (index.new.entries ≡ index.old.entries) }
 {
     index.insert(address, number)?;
@@ -35,7 +37,7 @@ pub(crate) fn enter_slot<A: Allocator + Copy>(
 }
 
 /// Makes room in an index for the slot of an address, and gives the address if it is new there. An
-/// `Err` leaves the index as it was.
+/// `Err`, which only a new address meets, leaves the index as it was.
 pub(crate) fn make_room<A: Allocator + Copy>(
     index: &mut Index<A>,
     address: Address,
@@ -44,6 +46,7 @@ pub(crate) fn make_room<A: Allocator + Copy>(
         → shown hidden (slot_for index.new.entries) named ≡ slot_for index.old.entries named) }
     ensures there { OnOk result (is_some (slot_for index.new.entries address) ≡ true) }
     ensures hidden { IfOk result (λ hidden. (hidden ≡ None) ⊎ (hidden ≡ Some address)) }
+    ensures absent { OnErr result (slot_for index.old.entries address ≡ None) }
     ensures err { OnErr result (index.new.entries ≡ index.old.entries) }
 {
     if index.contains_key(&address) {
@@ -110,8 +113,8 @@ pub(crate) fn move_indexed<F: Flash, A: Allocator>(
     ensures index { let slots = slots_of (set_of layout.new.side (F.device flash.new)) in
         IsOn (F.device flash.new) → IsIndex slots (slot_for index.new.entries) }
 {
-    let cursor = IndexCursor::new(index, hidden);
-    move_change(flash, layout, change, cursor)?;
+    let mut cursor = IndexCursor::new(index, hidden);
+    move_change(flash, layout, change, &mut cursor)?;
     let first = leave(index, &change);
     renumber(index, first);
     Ok(())

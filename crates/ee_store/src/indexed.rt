@@ -174,7 +174,8 @@ impl<F: Flash + Drop, A: Allocator + Copy> Variables for IndexedStore<F, A> {
             index,
         } = self;
         let change = Change::Put { address, value };
-        // The index grows before the first step, so want of memory leaves all as it was.
+        // The index grows before the first step, so want of memory leaves all as it was. An address
+        // that has a value stands in it, and needs none.
         if layout.fill < flash.shape().slots() {
             let Ok(()) = enter_slot(index, address, layout.fill) else {
                 return Err(WriteFault::Memory);

@@ -1,4 +1,4 @@
-ghost use Rattle.std.specs.Prelude.{◌≡◌, ◌<◌, ◌≤◌, ℕ, ◌+◌, ◌-◌, OnOk, false, not, true};
+ghost use Rattle.std.specs.Prelude.{◌≡◌, ◌<◌, ◌≤◌, ℕ, ◌+◌, ◌-◌, OnErr, OnOk, false, not, true};
 ghost use Rattle.ee_flash.specs.Power.{Ends};
 ghost use Rattle.ee_flash.specs.Device.{page_at};
 ghost use Rattle.ee_pages.specs.Layout.{IsLayout};
@@ -7,7 +7,8 @@ ghost use Rattle.ee_pages.specs.Pushing.{IsMarkBehind};
 ghost use Rattle.ee_pages.specs.Laws.{IsPageOf};
 ghost use Rattle.ee_pages.specs.Sets.{first_page as first, other as other_of};
 ghost use Rattle.ee_store.specs.Finished.{IsLiveMarked, IsMarked, IsOldMarked, last_used};
-ghost use Rattle.ee_store.specs.Openings.{ShowsMarks};
+ghost use Rattle.ee_store.specs.Cuts.{IsDrawnPartly, SetsPartly};
+ghost use Rattle.ee_store.specs.Openings.{ShowsCutMarks, ShowsMarks};
 ghost use Rattle.ee_store.specs.Parts.{IsSameBut, IsSameSet, KeepsMarks, SetsMark, Stays};
 ghost use Rattle.ee_store.specs.Picture.{IsDrawn, marked_to, picture_of, retired};
 
@@ -24,6 +25,8 @@ pub(crate) fn finish<F: Flash>(flash: &mut F, layout: &Layout) -> Result<(), Cut
     ensures finished { OnOk result (IsMarked (F.device flash.new) layout.now.side) }
     ensures shows { OnOk result
         (ShowsMarks (F.device flash.old) (F.device flash.new) layout.now.side) }
+    ensures begun { OnErr result
+        (ShowsCutMarks (F.device flash.old) (F.device flash.new) layout.now.side) }
     ensures no_step { IsMarked (F.device flash.old) layout.now.side
         → (result ≡ Ok tt) × (F.device flash.new ≡ F.device flash.old) }
     ensures power { Ends result (F.device flash.old) (F.device flash.new) }
@@ -44,6 +47,13 @@ fn mark_live_set<F: Flash>(flash: &mut F, layout: &Layout) -> Result<(), Cut>
         (marked_to (last_used (F.device flash.old) layout.now.side)
         (picture_of layout.now.side (F.device flash.old)))) }
     ensures old_pages { OnOk result
+        (IsSameSet (other_of layout.now.side) (F.device flash.old) (F.device flash.new)) }
+    ensures begun { OnErr result
+        (IsDrawnPartly layout.now.side (F.device flash.new)
+        (picture_of layout.now.side (F.device flash.old))
+        (marked_to (last_used (F.device flash.old) layout.now.side)
+        (picture_of layout.now.side (F.device flash.old)))) }
+    ensures old_pages_stay { OnErr result
         (IsSameSet (other_of layout.now.side) (F.device flash.old) (F.device flash.new)) }
     ensures no_step { IsLiveMarked (F.device flash.old) layout.now.side
         → (result ≡ Ok tt) × (F.device flash.new ≡ F.device flash.old) }
@@ -71,6 +81,14 @@ fn mark_old_set<F: Flash>(flash: &mut F, layout: &Layout) -> Result<(), Cut>
         (retired
         (λ page. not (is_blank (page_at old (first old.size (other_of layout.now.side) + page))))
         (picture_of (other_of layout.now.side) old))) }
+    ensures begun { let old = F.device flash.old in OnErr result
+        (IsDrawnPartly (other_of layout.now.side) (F.device flash.new)
+        (picture_of (other_of layout.now.side) old)
+        (retired
+        (λ page. not (is_blank (page_at old (first old.size (other_of layout.now.side) + page))))
+        (picture_of (other_of layout.now.side) old))) }
+    ensures live_pages_stay { OnErr result
+        (IsSameSet layout.now.side (F.device flash.old) (F.device flash.new)) }
     ensures no_step { IsOldMarked (F.device flash.old) (other_of layout.now.side)
         → (result ≡ Ok tt) × (F.device flash.new ≡ F.device flash.old) }
     ensures power { Ends result (F.device flash.old) (F.device flash.new) }
@@ -101,6 +119,7 @@ pub(crate) fn mark_live<F: Flash>(
     ensures marks { KeepsMarks (F.device flash.old) (F.device flash.new) }
     ensures marked { OnOk result (is_marked (F.device flash.new) page kind ≡ true) }
     ensures sets { OnOk result (SetsMark page kind (F.device flash.old) (F.device flash.new)) }
+    ensures begun { OnErr result (SetsPartly page kind (F.device flash.old) (F.device flash.new)) }
     ensures no_step { is_marked (F.device flash.old) page kind ≡ true
         → (result ≡ Ok tt) × (F.device flash.new ≡ F.device flash.old) }
     ensures power { Ends result (F.device flash.old) (F.device flash.new) }
@@ -121,6 +140,8 @@ fn mark_old<F: Flash>(flash: &mut F, layout: &Layout, page: usize) -> Result<(),
     ensures marked { OnOk result (is_marked (F.device flash.new) page Mark.Erasing ≡ true) }
     ensures sets { OnOk result
         (SetsMark page Mark.Erasing (F.device flash.old) (F.device flash.new)) }
+    ensures begun { OnErr result
+        (SetsPartly page Mark.Erasing (F.device flash.old) (F.device flash.new)) }
     ensures no_step { is_marked (F.device flash.old) page Mark.Erasing ≡ true
         → (result ≡ Ok tt) × (F.device flash.new ≡ F.device flash.old) }
     ensures power { Ends result (F.device flash.old) (F.device flash.new) }

@@ -1,4 +1,4 @@
-ghost use Rattle.std.specs.Prelude.{◌≡◌, ◌<◌, ◌≤◌, ◌⊎◌, ℕ, ◌+◌, IfOk, [], None, OnErr, OnOk, length, true};
+ghost use Rattle.std.specs.Prelude.{◌≡◌, ◌<◌, ◌≤◌, ◌⊎◌, ℕ, ◌+◌, IfOk, List, [], None, OnErr, OnOk, length, true};
 ghost use Rattle.std.specs.List.{All};
 ghost use Rattle.ee_codec.specs.Words.{IsGeneration};
 ghost use Rattle.ee_flash.specs.Power.{Ends};
@@ -9,9 +9,11 @@ ghost use Rattle.ee_pages.specs.Layout.{IsLayout};
 ghost use Rattle.ee_pages.specs.Meaning.{changed, live_in, meaning};
 ghost use Rattle.ee_pages.specs.Page.{is_blank};
 ghost use Rattle.ee_pages.specs.Sets.{first_page as first_of, other as other_of, set_of, slots_of};
+ghost use Rattle.ee_flash.specs.declared.word.Word.{Word};
+ghost use Rattle.ee_store.specs.Cuts.{ErasesPartly, FillsPartly, IsDrawnPartly, MovesMapPartly, MovesPartly};
 ghost use Rattle.ee_store.specs.Finished.{IsMarked};
 ghost use Rattle.ee_store.specs.Parts.{HasMoved, Holds, IsCommittedWith, IsSameSet, SetsMark, map_in, meant};
-ghost use Rattle.ee_store.specs.Picture.{IsDrawn, filled, moved_words, picture_of, retired};
+ghost use Rattle.ee_store.specs.Picture.{IsDrawn, blank, filled, moved_words, picture_of, retired};
 ghost use Rattle.ee_store.specs.State.{Wears, WearsFront, not_blank_in};
 
 use crate::change::Change;
@@ -25,15 +27,15 @@ use ee_pages::{Layout, Mark, first_page, is_blank as page_is_blank, mark};
 /// Moves the map, with a change, from a live set of which every slot is used to the other set, and
 /// makes that one live. The cursor, which is before the first, goes over the live addresses. The
 /// layout follows.
-pub(crate) fn transfer<F: Flash, C: LiveCursor + Drop>(
+pub(crate) fn transfer<F: Flash, C: LiveCursor>(
     flash: &mut F,
     layout: &mut Layout,
     change: Change,
-    cursor: C,
+    cursor: &mut C,
 ) -> Result<(), Cut>
     requires layout { IsLayout (F.device flash.old) layout.old }
-    requires first { C.behind cursor ≡ 0 }
-    requires over { C.goes_over cursor (slots_of (set_of layout.old.side (F.device flash.old))) }
+    requires first { C.behind cursor.old ≡ 0 }
+    requires over { C.goes_over cursor.old (slots_of (set_of layout.old.side (F.device flash.old))) }
     requires all_used { layout.old.fill ≡ slot_count (F.device flash.old).size }
     requires generation { IsGeneration (layout.old.generation + 1) }
     requires fits { live_in (changed (meant change) (map_in layout.old.side (F.device flash.old)))
@@ -59,6 +61,11 @@ pub(crate) fn transfer<F: Flash, C: LiveCursor + Drop>(
     ensures begun { OnErr result
         (WearsFront (not_blank_in (other_of layout.old.side) (F.device flash.old))
         (F.device flash.old) (F.device flash.new)) }
+    ensures words { let old = F.device flash.old in
+        let first = first_of old.size (other_of layout.old.side) in OnErr result (
+        ErasesPartly first (first + old.size.pages) old (F.device flash.new)
+        ⊎ MovesPartly old (F.device flash.new) layout.old.side layout.old.generation
+        (moved_words (meant change) (map_in layout.old.side old))) }
     ensures cut { OnErr result (
         Keeps (F.device flash.old) (F.device flash.new) layout.old.side layout.old.generation
         ⊎ HasMoved (F.device flash.old) (F.device flash.new) layout.old.side layout.old.generation
@@ -79,15 +86,15 @@ pub(crate) fn transfer<F: Flash, C: LiveCursor + Drop>(
 
 // Moves the map, with a change, to the other set, and makes that one live. Gives how many slots it
 // takes there.
-fn move_map<F: Flash, C: LiveCursor + Drop>(
+fn move_map<F: Flash, C: LiveCursor>(
     flash: &mut F,
     layout: &Layout,
     change: Change,
-    cursor: C,
+    cursor: &mut C,
 ) -> Result<usize, Cut>
     requires layout { IsLayout (F.device flash.old) layout.now }
-    requires first { C.behind cursor ≡ 0 }
-    requires over { C.goes_over cursor (slots_of (set_of layout.now.side (F.device flash.old))) }
+    requires first { C.behind cursor.old ≡ 0 }
+    requires over { C.goes_over cursor.old (slots_of (set_of layout.now.side (F.device flash.old))) }
     requires all_used { layout.now.fill ≡ slot_count (F.device flash.old).size }
     requires generation { IsGeneration (layout.now.generation + 1) }
     requires fits { live_in (changed (meant change) (map_in layout.now.side (F.device flash.old)))
@@ -112,6 +119,11 @@ fn move_map<F: Flash, C: LiveCursor + Drop>(
     ensures begun { OnErr result
         (WearsFront (not_blank_in (other_of layout.now.side) (F.device flash.old))
         (F.device flash.old) (F.device flash.new)) }
+    ensures words { let old = F.device flash.old in
+        let first = first_of old.size (other_of layout.now.side) in OnErr result (
+        ErasesPartly first (first + old.size.pages) old (F.device flash.new)
+        ⊎ MovesMapPartly old (F.device flash.new) layout.now.side layout.now.generation
+        (moved_words (meant change) (map_in layout.now.side old))) }
     ensures cut { OnErr result (
         Keeps (F.device flash.old) (F.device flash.new) layout.now.side layout.now.generation
         ⊎ HasMoved (F.device flash.old) (F.device flash.new) layout.now.side layout.now.generation
@@ -141,6 +153,9 @@ fn clear<F: Flash>(flash: &mut F, layout: &Layout) -> Result<(), Cut>
     ensures begun { OnErr result
         (WearsFront (not_blank_in (other_of layout.now.side) (F.device flash.old))
         (F.device flash.old) (F.device flash.new)) }
+    ensures partly { let old = F.device flash.old in
+        let first = first_of old.size (other_of layout.now.side) in OnErr result
+        (ErasesPartly first (first + old.size.pages) old (F.device flash.new)) }
     ensures power { Ends result (F.device flash.old) (F.device flash.new) }
 {
     let first = first_page(flash, layout.side.other());
@@ -169,6 +184,12 @@ fn open_set<F: Flash>(flash: &mut F, layout: &Layout) -> Result<(), Cut>
     ensures live_pages { OnOk result
         (IsDrawn layout.now.side (F.device flash.new)
         (picture_of layout.now.side (F.device flash.old))) }
+    ensures begun { OnErr result ((words : List Word)
+        → FillsPartly (F.device flash.new) (other_of layout.now.side)
+        (layout.now.generation + 1) words) }
+    ensures live_pages_stay { OnErr result
+        (IsDrawn layout.now.side (F.device flash.new)
+        (picture_of layout.now.side (F.device flash.old))) }
     ensures wear { (F.device flash.new).wear ≡ (F.device flash.old).wear }
     ensures power { Ends result (F.device flash.old) (F.device flash.new) }
 {
@@ -195,6 +216,11 @@ fn commit<F: Flash>(flash: &mut F, layout: &Layout) -> Result<(), Cut>
     ensures sets { OnOk result
         (SetsMark (first_of (F.device flash.old).size (other_of layout.now.side)) Mark.Active
         (F.device flash.old) (F.device flash.new)) }
+    ensures begun { let side = other_of layout.now.side in OnErr result ((words : List Word)
+        → Holds (F.device flash.old) side (layout.now.generation + 1) words
+        → IsDrawnPartly side (F.device flash.new) blank
+        (filled (F.device flash.old).size (layout.now.generation + 1) words)) }
+    ensures same_size { (F.device flash.new).size ≡ (F.device flash.old).size }
     ensures wear { (F.device flash.new).wear ≡ (F.device flash.old).wear }
     ensures power { Ends result (F.device flash.old) (F.device flash.new) }
 {

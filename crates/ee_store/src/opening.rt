@@ -1,7 +1,7 @@
 ghost use Rattle.std.specs.Prelude.{◌≡◌, ℕ, IfErr, IfOk, OnErr, OnOk};
 ghost use Rattle.ee_flash.specs.Device.{IsOn};
-ghost use Rattle.ee_flash.specs.Power.{Ends, IsCut};
-ghost use Rattle.ee_store.specs.Openings.{IsFormatted, OpenFails, Opens};
+ghost use Rattle.ee_flash.specs.Power.{Ends};
+ghost use Rattle.ee_store.specs.Openings.{IsCutFormat, IsFormatted, OpenFails, Opens};
 
 use crate::formatting::write_format;
 use crate::marking::finish;
@@ -52,11 +52,11 @@ pub fn open<F: Flash + Drop>(flash: F) -> Result<Store<F>, (F, OpenFault)>
 ///
 /// # Errors
 ///
-/// The device, off: power failed. What it holds is not said, until a `format` ends.
+/// The device, off: power failed. What it held is gone in part, until a `format` ends.
 pub fn format<F: Flash + Drop>(flash: F) -> Result<Store<F>, (F, Cut)>
     requires { IsOn (F.device flash) }
     ensures formatted { IfOk result (IsFormatted (F.device flash)) }
-    ensures cut { IfErr result (λ failed. IsCut (F.device flash) (F.device failed.0)) }
+    ensures cut { IfErr result (λ failed. IsCutFormat (F.device flash) (F.device failed.0)) }
 {
     let mut flash = flash;
     match write_format(&mut flash) {

@@ -7,6 +7,7 @@ ghost use Rattle.ee_pages.specs.Layout.{IsLayout};
 ghost use Rattle.ee_pages.specs.Meaning.{Spells, changed, meaning};
 ghost use Rattle.ee_pages.specs.Pushing.{Takes};
 ghost use Rattle.ee_pages.specs.Sets.{first_page as first_of, other as other_of, page_of_slot, place_of_slot, set_of, slots_of};
+ghost use Rattle.ee_store.specs.Cuts.{IsDrawnPartly, PutsPartly};
 ghost use Rattle.ee_store.specs.Finished.{IsMarked};
 ghost use Rattle.ee_store.specs.Parts.{IsReady, IsSameSet, KeepsMarks, PutsWord, Stays, map_in, meant, number_of};
 ghost use Rattle.ee_store.specs.Picture.{IsDrawn, marked_to, picture_of, with_change};
@@ -46,6 +47,11 @@ pub(crate) fn append<F: Flash>(
         (IsDrawn layout.old.side (F.device flash.new)
         (with_change (F.device flash.old).size layout.old.fill (number_of change)
         (picture_of layout.old.side (F.device flash.old)))) }
+    ensures begun { OnErr result
+        (IsDrawnPartly layout.old.side (F.device flash.new)
+        (picture_of layout.old.side (F.device flash.old))
+        (with_change (F.device flash.old).size layout.old.fill (number_of change)
+        (picture_of layout.old.side (F.device flash.old)))) }
     ensures other { IsSameSet (other_of layout.old.side) (F.device flash.old) (F.device flash.new) }
     ensures wear { (F.device flash.new).wear ≡ (F.device flash.old).wear }
     ensures power { Ends result (F.device flash.old) (F.device flash.new) }
@@ -70,6 +76,11 @@ fn open_page<F: Flash>(flash: &mut F, layout: &Layout) -> Result<(), Cut>
     ensures ready { OnOk result (IsReady (F.device flash.new) layout.now.side layout.now.fill) }
     ensures drawn { OnOk result
         (IsDrawn layout.now.side (F.device flash.new)
+        (marked_to (page_of_slot (F.device flash.old).size layout.now.fill)
+        (picture_of layout.now.side (F.device flash.old)))) }
+    ensures begun { OnErr result
+        (IsDrawnPartly layout.now.side (F.device flash.new)
+        (picture_of layout.now.side (F.device flash.old))
         (marked_to (page_of_slot (F.device flash.old).size layout.now.fill)
         (picture_of layout.now.side (F.device flash.old)))) }
     ensures power { Ends result (F.device flash.old) (F.device flash.new) }
@@ -105,6 +116,10 @@ fn push<F: Flash>(flash: &mut F, layout: &Layout, change: Change) -> Result<usiz
     ensures marks { KeepsMarks (F.device flash.old) (F.device flash.new) }
     ensures puts { let old = F.device flash.old in OnOk result
         (PutsWord (first_of old.size layout.now.side + page_of_slot old.size layout.now.fill)
+        (place_of_slot old.size layout.now.fill) (Held (number_of change))
+        old (F.device flash.new)) }
+    ensures begun { let old = F.device flash.old in OnErr result
+        (PutsPartly (first_of old.size layout.now.side + page_of_slot old.size layout.now.fill)
         (place_of_slot old.size layout.now.fill) (Held (number_of change))
         old (F.device flash.new)) }
     ensures other { IsSameSet (other_of layout.now.side) (F.device flash.old) (F.device flash.new) }

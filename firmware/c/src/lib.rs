@@ -76,10 +76,8 @@ impl Driver for Calls {
         // SAFETY: `opened` found the function, and C keeps what the pointer shows while the store is open.
         let failed = unsafe {
             let flash = &*self.flash;
-            match flash.word {
-                Some(call) => call(flash.context, page as u32, at as u32, &mut value),
-                None => EE_NULL,
-            }
+            let call = flash.word.unwrap_unchecked();
+            call(flash.context, page as u32, at as u32, &mut value)
         };
         match failed {
             0 => Word::from(value),
@@ -91,10 +89,8 @@ impl Driver for Calls {
         // SAFETY: as in `word`.
         done(unsafe {
             let flash = &*self.flash;
-            match flash.program {
-                Some(call) => call(flash.context, page as u32, at as u32, value),
-                None => EE_NULL,
-            }
+            let call = flash.program.unwrap_unchecked();
+            call(flash.context, page as u32, at as u32, value)
         })
     }
 
@@ -102,10 +98,8 @@ impl Driver for Calls {
         // SAFETY: as in `word`.
         done(unsafe {
             let flash = &*self.flash;
-            match flash.erase {
-                Some(call) => call(flash.context, page as u32),
-                None => EE_NULL,
-            }
+            let call = flash.erase.unwrap_unchecked();
+            call(flash.context, page as u32)
         })
     }
 }
@@ -279,10 +273,10 @@ pub unsafe extern "C" fn ee_counts(store: *const Memory, numbers: *mut Numbers) 
         *numbers = Numbers {
             slots: counted(store.slots())?,
             fill: counted(store.fill())?,
+            generation: store.generation().map_err(|_| EE_OFF)?,
             live: counted(store.live_count())?,
             pending: counted(store.pending())?,
             torn: counted(store.torn_slots())?,
-            generation: store.generation().map_err(|_| EE_OFF)?,
         };
         Ok(EE_OK)
     };

@@ -114,6 +114,8 @@ impl<D: Driver> Flash for Part<D> {
         }
     }
 
+    // Steps stay out of the calls that make them: a call costs nothing beside a step of flash, and there are several.
+    #[inline(never)]
     fn program(&mut self, page: usize, at: usize, value: u64) -> Result<(), Cut> {
         if self.error.is_some() {
             return Err(Cut);
@@ -122,6 +124,7 @@ impl<D: Driver> Flash for Part<D> {
         self.end(step)
     }
 
+    #[inline(never)]
     fn erase(&mut self, page: usize) -> Result<(), Cut> {
         if self.error.is_some() {
             return Err(Cut);

@@ -1,7 +1,6 @@
 use Rattle.std.proofs.Common.{subst, sym}
 use Rattle.ee_flash.specs.Device.{Device}
-use Rattle.ee_flash.specs.Power.{IsCut}
-use Rattle.ee_store.specs.Openings.{IsFormatted}
+use Rattle.ee_store.specs.Openings.{IsCutFormat, IsFormatted}
 use Rattle.ee_page.specs.Calls.{Drafts, FormatsCells}
 use Rattle.ee_page.specs.Draft.{drafted}
 use Rattle.ee_page.specs.Listing.{steps_of}
@@ -15,9 +14,9 @@ returns-in-Err-clause-drafts g c =
     let ended = c.ended in
     let draft = c.in-Err.failed.0 in
     let device = drafted start (steps_of draft.count draft.listed.now) draft.wear.items draft.cuts draft.on in
-    let cut = subst (λ (old : Device). IsCut old device) c.of.ensures c.in-Err.ensures.cut in
+    let left = subst (λ (old : Device). IsCutFormat old device) c.of.ensures c.in-Err.ensures.cut in
     subst (λ (answer : Answer). Drafts (FormatsCells start) answer start ended.result.listed.now ended.result.count) (sym ended.ensures.answer)
-    (not_formatted start device ended.result.listed.now ended.result.count ended.ensures.fresh ended.ensures.ended cut)
+    (not_formatted start device ended.result.listed.now ended.result.count ended.ensures.fresh ended.ensures.ended left.cut)
 
 pub returns-in-Ok-clause-drafts : goal.returns-in-Ok-clause-drafts
 returns-in-Ok-clause-drafts g c =

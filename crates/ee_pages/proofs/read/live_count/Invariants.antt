@@ -1,11 +1,10 @@
-use Rattle.std.proofs.Common.{◌≡◌, ◌≤◌, ◌<◌, ◌-◌}
+use Rattle.std.proofs.Common.{◌≡◌, ◌≤◌, ◌-◌}
 use Rattle.ee_pages.specs.Meaning.{above_of, live_to, meaning}
 use Rattle.ee_pages.specs.Sets.{set_of, slots_of}
 use Rattle.ee_pages.proofs.read.live_count.Given as goal
 
 abbrev pub invariant-live : goal.invariant-live
 invariant-live g l = record {
-  below : above_of l.after < 65535;
   few : l.count ≤ above_of l.after;
   count : l.count ≡ live_to (meaning (slots_of (set_of l.layout.side (g.F.Flash.device l.flash)))) (above_of l.after);
 }

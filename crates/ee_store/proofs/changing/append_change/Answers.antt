@@ -1,7 +1,7 @@
 use Rattle.std.proofs.Common.{arith}
 use Rattle.ee_store.specs.Parts.{meant, number_of}
 use Rattle.ee_store.specs.State.{state_of}
-use Rattle.ee_store.proofs.Making.{always_on_err, appends, cut_in_append, live_after_append, number_is, off_store, shows_appended}
+use Rattle.ee_store.proofs.Making.{always_on_err, appends, cut_in_append, live_after_append, number_is, off_store, shows_appended, shows_cut_append}
 use Rattle.ee_store.proofs.changing.append_change.Goals as goal
 
 pub returns-in_err-append-clause-cut : goal.returns-in_err-append-clause-cut
@@ -11,7 +11,9 @@ returns-in_err-append-clause-cut g c =
     let layout = c.args.layout.now in
     always_on_err c.from_residual.result
     (cut_in_append old new layout.side layout.generation c.requires.layout.live (meant c.args.change) c.requires.proceeds (c.in_err-append.ensures.power.cut c.requires.proceeds.on)
-    (omega (arith, c.requires.free, c.requires.layout.fill)) c.append.ensures.other c.in_err-append.ensures.cut c.append.ensures.wear)
+    (omega (arith, c.requires.free, c.requires.layout.fill)) c.append.ensures.other c.in_err-append.ensures.cut c.append.ensures.wear
+    (shows_cut_append old new layout.side layout.generation c.requires.layout.live (meant c.args.change) layout.fill (number_of c.args.change) c.requires.layout.fill
+    (number_is c.args.change (state_of old).map c.requires.forgets) (c.in_err-append.ensures.power.cut c.requires.proceeds.on).same_size c.in_err-append.ensures.begun c.append.ensures.other))
 
 pub returns-in_err-append-clause-store : goal.returns-in_err-append-clause-store
 returns-in_err-append-clause-store g c =

@@ -1,7 +1,7 @@
 use Rattle.std.proofs.Common.{ap, arith}
 use Rattle.ee_pages.specs.Sets.{other}
 use Rattle.ee_store.specs.Parts.{meant}
-use Rattle.ee_store.proofs.Making.{always_on_err, change_fits, cut_in_move, few_pending, few_within, generation_left, moves, shows_moved, store_after_move}
+use Rattle.ee_store.proofs.Making.{always_on_err, change_fits, cut_in_move, few_pending, few_within, generation_left, moves, shows_cut_move, shows_moved, store_after_move}
 use Rattle.ee_store.proofs.changing.move_change.Goals as goal
 
 pub transfer-requires-clause-generation : goal.transfer-requires-clause-generation
@@ -25,7 +25,8 @@ returns-in_err-transfer-clause-cut g c =
     let few = few_pending new (other layout.side) (g.met.F.Flash.formed c.transfer.new.flash) in
     always_on_err c.from_residual.result
     (cut_in_move old new layout.side layout.generation c.requires.layout.live (meant c.args.change) c.requires.proceeds cut
-    (omega (arith, c.requires.all_used, c.requires.layout.fill)) (omega (arith, few, ap (λ size. size.pages) cut.same_size)) c.in_err-transfer.ensures.cut c.in_err-transfer.ensures.begun)
+    (omega (arith, c.requires.all_used, c.requires.layout.fill)) (omega (arith, few, ap (λ size. size.pages) cut.same_size)) c.in_err-transfer.ensures.cut c.in_err-transfer.ensures.begun
+    (shows_cut_move old new layout.side layout.generation c.requires.layout.live (meant c.args.change) c.in_err-transfer.ensures.words))
 
 pub returns-in_err-transfer-clause-store : goal.returns-in_err-transfer-clause-store
 returns-in_err-transfer-clause-store g c =

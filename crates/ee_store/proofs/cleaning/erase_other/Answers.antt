@@ -1,4 +1,5 @@
 use Rattle.std.proofs.Common.{rules}
+use Rattle.ee_store.proofs.Cuts.{erase_partly}
 use Rattle.ee_store.proofs.Erasing.{cut_keeps, cut_lowers, cut_same_set, cut_wears, done_blank, done_keeps, done_lowers, done_same_set, done_wears}
 use Rattle.ee_store.proofs.cleaning.erase_other.Goals as goal
 
@@ -31,3 +32,6 @@ returns-clause-cut g c = search (rules, done_lowers)
 
 pub returns-clause-wear : goal.returns-clause-wear
 returns-clause-wear g c = search (rules, done_wears)
+
+pub returns-in_err-erase-clause-partly : goal.returns-in_err-erase-clause-partly
+returns-in_err-erase-clause-partly g c = search (rules, erase_partly)

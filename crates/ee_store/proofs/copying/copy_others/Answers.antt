@@ -9,6 +9,8 @@ use Rattle.ee_store.proofs.CopiedWords.{adds_next, all_words, no_words}
 use Rattle.ee_store.proofs.FilledSets.{adds_none}
 use Rattle.ee_store.proofs.CopiedMaps.{at_first, at_last, meaning-zero, room, same_counts, taken_up}
 use Rattle.ee_store.proofs.MovingFacts.{goes_on-same, keeps_both, keeps_same}
+use Rattle.ee_store.proofs.CutMoves.{copies_partly}
+use Rattle.ee_store.proofs.Making.{always_on_err}
 use Rattle.ee_store.proofs.copying.copy_others.Goals as goal
 
 pub live-init : goal.live-init
@@ -47,25 +49,25 @@ live-preserved g c =
     let start = meaning (slots_of (set_of (other_of c.args.layout.now.side) device)) in
     let map = meaning (slots_of (set_of c.args.layout.now.side device)) in
     let next = rw c.live.invariant.keeps.same_slots at c.in-Some.ensures.next in
-    let after = taken_up start map c.args.except (g.C.LiveCursor.behind c.live.cursor) _ _ next c.in-Some.ensures.proper _ _ c.live.place.slot c.in_ok-place.place.slot c.live.invariant.map c.live.invariant.count
-    (λ same. (let e = (c.in_ok-place.ensures.passed same).0 in cc, λ address. ap (λ (at : Device). meaning (slots_of (set_of (other_of c.args.layout.now.side) at)) address) (c.in_ok-place.ensures.passed same).1))
-    (λ apart. (c.in_ok-place.ensures.one_more apart, c.in_ok-place.ensures.map apart)) in
-    let words = adds_next map c.args.except (g.C.LiveCursor.behind c.live.cursor) _ _ device (g.F.Flash.device c.live.flash) (g.F.Flash.device c.copy_one.new.flash) c.args.layout.now.side (c.args.layout.now.generation + 1) c.args.place.slot c.live.place.slot c.in_ok-place.place.slot
-    c.live.invariant.keeps.same_size c.in_ok-place.ensures.keeps.same_size next c.live.invariant.adds c.live.invariant.as_many
-    (λ same. (let e = (c.in_ok-place.ensures.passed same).0 in cc, (c.in_ok-place.ensures.passed same).1))
-    (λ apart. (c.in_ok-place.ensures.one_more apart, c.in_ok-place.ensures.adds apart)) in
+    let after = taken_up start map c.args.except (g.C.LiveCursor.behind c.live.cursor) _ _ next c.in-Some.ensures.proper _ _ c.live.place.slot c.copy_one.new.place.slot c.live.invariant.map c.live.invariant.count
+    (λ same. (let e = (c.in_ok-copy_one.ensures.passed same).1 in cc, λ address. ap (λ (at : Device). meaning (slots_of (set_of (other_of c.args.layout.now.side) at)) address) (c.in_ok-copy_one.ensures.passed same).2))
+    (λ apart. (c.in_ok-copy_one.ensures.one_more apart, c.in_ok-copy_one.ensures.map apart)) in
+    let words = adds_next map c.args.except (g.C.LiveCursor.behind c.live.cursor) _ _ device (g.F.Flash.device c.live.flash) (g.F.Flash.device c.copy_one.new.flash) c.args.layout.now.side (c.args.layout.now.generation + 1) c.args.place.slot c.live.place.slot c.copy_one.new.place.slot
+    c.live.invariant.keeps.same_size c.in_ok-copy_one.ensures.keeps.same_size next c.live.invariant.adds c.live.invariant.as_many
+    (λ same. (let e = (c.in_ok-copy_one.ensures.passed same).1 in cc, (c.in_ok-copy_one.ensures.passed same).2))
+    (λ apart. (c.in_ok-copy_one.ensures.one_more apart, c.in_ok-copy_one.ensures.adds apart)) in
     rw c.in-Some.ensures.moved (record {
-      keeps = keeps_both _ _ _ _ _ c.live.invariant.keeps c.in_ok-place.ensures.keeps;
-      filling = c.in_ok-place.ensures.filling;
-      stands = c.in_ok-place.ensures.stands;
+      keeps = keeps_both _ _ _ _ _ c.live.invariant.keeps c.in_ok-copy_one.ensures.keeps;
+      filling = c.in_ok-copy_one.ensures.filling;
+      stands = c.in_ok-copy_one.ensures.stands;
       map = after.1;
       count = after.0;
       below = c.in-Some.ensures.proper.1;
       over = rw c.live.invariant.keeps.same_slots at c.in-Some.ensures.over;
       adds = words.0;
       as_many = words.1;
-      wear = c.in_ok-place.ensures.wear ∙ c.live.invariant.wear;
-      goes = (calls_compose _ _ _ c.live.invariant.goes).0 c.in_ok-place.ensures.power.ok;
+      wear = c.in_ok-copy_one.ensures.wear ∙ c.live.invariant.wear;
+      goes = (calls_compose _ _ _ c.live.invariant.goes).0 c.in_ok-copy_one.ensures.power.ok;
     })
 
 pub returns-clause-each_once : goal.returns-clause-each_once
@@ -89,3 +91,14 @@ returns-clause-as_many g c =
     let map = meaning (slots_of (set_of c.args.layout.now.side device)) in
     let none = subst (λ slots. IsNextLive (meaning slots) (g.C.LiveCursor.behind c.live.cursor) None) c.live.invariant.keeps.same_slots c.in_default.ensures.next in
     rw (all_words map c.args.except (g.C.LiveCursor.behind c.live.cursor) c.live.invariant.below none) c.live.invariant.as_many
+
+pub returns-in_err-copy_one-clause-begun : goal.returns-in_err-copy_one-clause-begun
+returns-in_err-copy_one-clause-begun g c =
+    let old = g.F.Flash.device c.args.flash.now in
+    let mid = g.F.Flash.device c.live.flash in
+    let new = g.F.Flash.device c.copy_one.new.flash in
+    let map = meaning (slots_of (set_of c.args.layout.now.side old)) in
+    let next = rw c.live.invariant.keeps.same_slots at c.in-Some.ensures.next in
+    always_on_err c.from_residual.result
+    (copies_partly map c.args.except (g.C.LiveCursor.behind c.live.cursor) _ _ old mid new c.args.layout.now.side (c.args.layout.now.generation + 1) c.args.place.slot c.live.place.slot (g.met.F.Flash.formed c.copy_one.new.flash)
+    c.live.invariant.keeps.same_size c.copy_one.ensures.keeps.same_size next c.in-Some.ensures.proper.1 c.live.invariant.adds c.live.invariant.as_many c.in_err-copy_one.ensures.begun)

@@ -7,6 +7,6 @@ returns-in-Forget-clause-each_once g c = c.first_place-place.ensures.first ∙ l
 
 pub returns-clause-each_once : goal.returns-clause-each_once
 returns-clause-each_once g c =
-    let slot = c.in_ok-next.ensures.slot in
-    c.in_ok-next.ensures.next ∙ ap (λ n. n + 1) c.first_place-place.ensures.first
-    ∙ put_alone c.args.change _ _ c.in_default.is slot.0 slot.1 _ _ c.requires.nothing c.in_ok-next.ensures.map
+    let slot = c.in_ok-stage.ensures.slot in
+    c.in_ok-stage.ensures.next ∙ ap (λ n. n + 1) c.first_place-place.ensures.first
+    ∙ put_alone c.args.change _ _ c.in_default.is slot.0 slot.1 _ _ c.requires.nothing c.in_ok-stage.ensures.map

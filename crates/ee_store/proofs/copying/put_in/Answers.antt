@@ -7,6 +7,8 @@ use Rattle.ee_store.proofs.Drawings.{page_of_its_set, put_apart, put_there, same
 use Rattle.ee_store.proofs.FilledSets.{slot_holds}
 use Rattle.ee_store.proofs.SetPages.{page_in_device}
 use Rattle.ee_store.proofs.OtherSteps.{free_slot, put_cut, put_done}
+use Rattle.ee_store.proofs.Cuts.{program_partly_at}
+use Rattle.ee_store.proofs.Making.{always_on_err}
 use Rattle.ee_store.proofs.copying.put_in.Goals as goal
 
 pub program-requires-clause-page_in_range : goal.program-requires-clause-page_in_range
@@ -75,3 +77,15 @@ returns-clause-live_pages g c =
     c.requires.stands.page c.requires.stands.at
     c.word.ensures.number c.in_ok-program.ensures.done in
     put_apart c.args.layout.now.side old new _ _ _ (same_size_of _ _ _ old new c.in_ok-program.ensures.done) (page_of_its_set old.size side (page_of_slot old.size c.args.place.slot) in_range) puts
+
+pub returns-in_err-program-clause-begun : goal.returns-in_err-program-clause-begun
+returns-in_err-program-clause-begun g c =
+    let old = g.F.Flash.device c.args.flash.now in
+    let new = g.F.Flash.device c.program.new.self in
+    let side = other_of c.args.layout.now.side in
+    let formed = c.requires.layout.live.formed in
+    always_on_err c.from_residual.result
+    (program_partly_at _ _ _ old new (first_page old.size side + page_of_slot old.size c.args.place.slot) (place_of_slot old.size c.args.place.slot) _ formed
+    (page_in_device old.size side (page_of_slot old.size c.args.place.slot) (page_in_range old c.args.place.slot c.requires.free)) (place_in_range old c.args.place.slot formed)
+    c.requires.stands.page c.requires.stands.at c.word.ensures.number
+    (free_slot old side _ c.args.place.slot c.requires.filling c.requires.free) c.in_err-program.ensures.cut)

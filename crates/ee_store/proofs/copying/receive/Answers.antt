@@ -6,6 +6,8 @@ use Rattle.ee_store.proofs.Drawings.{page_of_its_set, put_apart, sets_mark_at}
 use Rattle.ee_store.proofs.FilledSets.{receive_opens}
 use Rattle.ee_store.proofs.SetPages.{page_in_device}
 use Rattle.ee_store.proofs.OtherSteps.{receive_cut, receive_done}
+use Rattle.ee_store.proofs.Cuts.{mark_partly_at}
+use Rattle.ee_store.proofs.Making.{always_on_err}
 use Rattle.ee_store.proofs.copying.receive.Goals as goal
 
 pub mark-requires-clause-page_in_range : goal.mark-requires-clause-page_in_range
@@ -65,3 +67,14 @@ returns-clause-live_pages g c =
     c.requires.stands.page
     (λ set. (c.in_ok-mark.ensures.present set).1) c.in_ok-mark.ensures.done in
     put_apart c.args.layout.now.side old new _ _ _ sizes (page_of_its_set old.size side (page_of_slot old.size c.args.place.slot) in_range) sets
+
+pub returns-in_err-mark-clause-begun : goal.returns-in_err-mark-clause-begun
+returns-in_err-mark-clause-begun g c =
+    let old = g.F.Flash.device c.args.flash.now in
+    let new = g.F.Flash.device c.mark.new.flash in
+    let side = other_of c.args.layout.now.side in
+    let in_range = page_in_range old c.args.place.slot c.requires.free in
+    always_on_err c.from_residual.result
+    (mark_partly_at _ (first_page old.size side + page_of_slot old.size c.args.place.slot) (Receive (c.args.layout.now.generation + 1)) old new c.requires.layout.live.formed
+    (page_in_device old.size side (page_of_slot old.size c.args.place.slot) in_range) c.requires.stands.page
+    (λ set. (c.mark.ensures.present set).1) c.in_err-mark.ensures.cut)

@@ -1,12 +1,15 @@
-use Rattle.std.proofs.Common.{◌≡◌, ◌<◌, inl, inr, ap, arith, rules}
+use Rattle.std.proofs.Common.{◌≡◌, ◌<◌, inl, inr, ap, arith, rules, ◌∙◌}
 use Rattle.ee_flash.specs.Device.{Device}
 use Rattle.ee_store.specs.State.{Wears, not_blank_pages}
-use Rattle.ee_store.proofs.Wears.{wears_still}
+use Rattle.ee_store.proofs.Wears.{front_all, wears_still}
+use Rattle.ee_store.proofs.Marks.{mark_step, program_keeps_wear}
+use Rattle.ee_store.proofs.Cuts.{mark_partly}
+use Rattle.ee_store.proofs.CutMoves.{format_cut, format_cut_then}
 use Rattle.ee_flash.specs.Size.{page_count}
+use Rattle.ee_flash.proofs.Outcomes.{step_changes_one_page}
 use Rattle.ee_pages.specs.declared.state.Mark.TheVariants.{Active, Receive}
 use Rattle.ee_store.proofs.FirstSet.{active_unset, first_layout, first_marked, first_state, proper_active, proper_first, receiving, unmarked}
 use Rattle.ee_store.proofs.Making.{always_on_err}
-use Rattle.ee_store.proofs.Marks.{mark_step}
 use Rattle.ee_store.proofs.Startable.{active_starting, received_startable}
 use Rattle.ee_store.proofs.Drawings.{sets_mark}
 use Rattle.ee_store.proofs.MovedSets.{formats_first, formats_second}
@@ -126,3 +129,58 @@ returns-in_err-mark-2-clause-starting g c =
     let next = active_unset blank mid formed all on whole in
     let taken = mark_step 0 Active mid new mid_formed still proper_active next (inr c.in_err-mark-2.ensures.cut) in
     always_on_err c.from_residual-in_err-mark-2.result (λ _ startable. active_starting blank mid new formed all on whole taken (received_startable blank mid formed all (receiving blank mid formed all on whole)))
+
+pub returns-in_err-mark-clause-begun : goal.returns-in_err-mark-clause-begun
+returns-in_err-mark-clause-begun g c =
+    let old = g.F.Flash.device c.args.flash.now in
+    let blank = g.F.Flash.device c.erase_all.new.flash in
+    let mid = g.F.Flash.device c.mark.new.flash in
+    let erased : Wears (not_blank_pages old) old blank = search rules in
+    let same : mid.wear ≡ blank.wear = program_keeps_wear 0 0 _ blank mid (inr c.in_err-mark.ensures.cut) in
+    always_on_err c.from_residual-in_err-mark.result (front_all (not_blank_pages old) old mid (wears_still (not_blank_pages old) old blank mid erased same))
+
+pub returns-in_err-mark-2-clause-begun : goal.returns-in_err-mark-2-clause-begun
+returns-in_err-mark-2-clause-begun g c =
+    let old = g.F.Flash.device c.args.flash.now in
+    let blank = g.F.Flash.device c.erase_all.new.flash in
+    let mid = g.F.Flash.device c.mark.new.flash in
+    let new = g.F.Flash.device c.mark-2.new.flash in
+    let formed = g.met.F.Flash.formed c.erase_all.new.flash in
+    let all = c.in_ok-erase_all.ensures.blank in
+    let h : 0 < page_count blank.size = omega (arith, formed.within_limits.some_pages) in
+    let unset = unmarked blank 0 (Receive 1) formed all h in
+    let erased : Wears (not_blank_pages old) old blank = search rules in
+    let first : mid.wear ≡ blank.wear = ap (λ (device : Device). device.wear) (c.in_ok-mark.ensures.done unset) in
+    let second : new.wear ≡ mid.wear = program_keeps_wear 0 1 _ mid new (inr c.in_err-mark-2.ensures.cut) in
+    always_on_err c.from_residual-in_err-mark-2.result (front_all (not_blank_pages old) old new (wears_still (not_blank_pages old) old blank new erased (second ∙ first)))
+
+pub returns-in_err-mark-clause-words : goal.returns-in_err-mark-clause-words
+returns-in_err-mark-clause-words g c =
+    let blank = g.F.Flash.device c.erase_all.new.flash in
+    let mid = g.F.Flash.device c.mark.new.flash in
+    let formed = g.met.F.Flash.formed c.erase_all.new.flash in
+    let all = c.in_ok-erase_all.ensures.blank in
+    let h : 0 < page_count blank.size = omega (arith, formed.within_limits.some_pages) in
+    let taken = mark_step 0 (Receive 1) blank mid formed h proper_first (unmarked blank 0 (Receive 1) formed all h) (inr c.in_err-mark.ensures.cut) in
+    always_on_err c.from_residual-in_err-mark.result
+    (inr (format_cut blank mid formed (step_changes_one_page _ blank mid taken).same_size all (mark_partly 0 (Receive 1) blank mid formed h (λ set. (c.mark.ensures.present set).1) c.in_err-mark.ensures.cut)))
+
+pub returns-in_err-mark-2-clause-words : goal.returns-in_err-mark-2-clause-words
+returns-in_err-mark-2-clause-words g c =
+    let blank = g.F.Flash.device c.erase_all.new.flash in
+    let mid = g.F.Flash.device c.mark.new.flash in
+    let new = g.F.Flash.device c.mark-2.new.flash in
+    let formed = g.met.F.Flash.formed c.erase_all.new.flash in
+    let mid_formed = g.met.F.Flash.formed c.mark.new.flash in
+    let all = c.in_ok-erase_all.ensures.blank in
+    let h : 0 < page_count blank.size = omega (arith, formed.within_limits.some_pages) in
+    let still : 0 < page_count mid.size = omega (arith, mid_formed.within_limits.some_pages) in
+    let unset = unmarked blank 0 (Receive 1) formed all h in
+    let on = c.in_ok-mark.ensures.on unset in
+    let whole = c.in_ok-mark.ensures.done unset in
+    let next = active_unset blank mid formed all on whole in
+    let taken = mark_step 0 Active mid new mid_formed still proper_active next (inr c.in_err-mark-2.ensures.cut) in
+    always_on_err c.from_residual-in_err-mark-2.result
+    (inr (format_cut_then blank mid new formed mid_formed (ap (λ (device : Device). device.size) whole) (step_changes_one_page _ mid new taken).same_size all
+    (sets_mark 0 (Receive 1) blank mid formed h (λ set. (c.in_ok-mark.ensures.present set).1) c.in_ok-mark.ensures.done)
+    (mark_partly 0 Active mid new mid_formed still (λ set. (c.mark-2.ensures.present set).1) c.in_err-mark-2.ensures.cut)))

@@ -3,6 +3,8 @@ use Rattle.ee_pages.specs.Sets.{other}
 use Rattle.ee_store.proofs.LiveMarks.{layout_stays, live_marks_kept, old_marks_kept, stays_both}
 use Rattle.ee_store.proofs.MarkedSets.{shows}
 use Rattle.ee_store.specs.Finished.{last_used}
+use Rattle.ee_store.proofs.CutMarks.{cut_live, cut_old}
+use Rattle.ee_store.proofs.Making.{always_on_err}
 use Rattle.ee_store.proofs.marking.finish.Goals as goal
 
 pub returns-clause-finished : goal.returns-clause-finished
@@ -44,3 +46,19 @@ returns-clause-shows g c =
     let both = shows layout.side old mid new (last_used old layout.side) c.mark_live_set.ensures.stays.keeps.same_size c.mark_old_set.ensures.stays.keeps.same_size
     c.in_ok-mark_live_set.ensures.live_pages c.in_ok-mark_live_set.ensures.old_pages c.in_ok-mark_old_set.ensures.live_pages c.in_ok-mark_old_set.ensures.old_pages in
     record { live_pages = both.0; old_pages = both.1 }
+
+pub returns-in_err-mark_live_set-clause-begun : goal.returns-in_err-mark_live_set-clause-begun
+returns-in_err-mark_live_set-clause-begun g c =
+    let old = g.F.Flash.device c.args.flash.now in
+    let new = g.F.Flash.device c.mark_live_set.new.flash in
+    always_on_err c.from_residual.result
+    (cut_live c.args.layout.now.side old new c.mark_live_set.ensures.stays.keeps.same_size c.in_err-mark_live_set.ensures.begun c.in_err-mark_live_set.ensures.old_pages_stay)
+
+pub returns-in_err-mark_old_set-clause-begun : goal.returns-in_err-mark_old_set-clause-begun
+returns-in_err-mark_old_set-clause-begun g c =
+    let old = g.F.Flash.device c.args.flash.now in
+    let mid = g.F.Flash.device c.mark_live_set.new.flash in
+    let new = g.F.Flash.device c.mark_old_set.new.flash in
+    always_on_err c.from_residual-in_err-mark_old_set.result
+    (cut_old c.args.layout.now.side old mid new c.mark_live_set.ensures.stays.keeps.same_size c.mark_old_set.ensures.stays.keeps.same_size
+    c.in_ok-mark_live_set.ensures.live_pages c.in_ok-mark_live_set.ensures.old_pages c.in_err-mark_old_set.ensures.live_pages_stay c.in_err-mark_old_set.ensures.begun)

@@ -2,6 +2,8 @@ use Rattle.std.proofs.Common.{◌<◌}
 use Rattle.ee_flash.specs.Size.{page_count}
 use Rattle.ee_store.proofs.Drawings.{sets_mark}
 use Rattle.ee_store.proofs.Marks.{live_mark_stays, mark_keeps_marks, marked_after, marks, page_in_device, proper_live}
+use Rattle.ee_store.proofs.Cuts.{mark_partly}
+use Rattle.ee_store.proofs.Making.{always_on_err}
 use Rattle.ee_store.proofs.marking.mark_live.Goals as goal
 
 pub returns-in_err-mark-clause-stays : goal.returns-in_err-mark-clause-stays
@@ -51,3 +53,11 @@ returns-clause-sets g c =
     let new = g.F.Flash.device c.mark.new.flash in
     let h : c.args.page < page_count old.size = page_in_device old c.args.layout.now.side c.args.page c.requires.from c.requires.behind.in_range in
     sets_mark c.args.page c.args.kind old new (g.met.F.Flash.formed c.args.flash.now) h (λ set. (c.in_ok-mark.ensures.present set).1) c.in_ok-mark.ensures.done
+
+pub returns-in_err-mark-clause-begun : goal.returns-in_err-mark-clause-begun
+returns-in_err-mark-clause-begun g c =
+    let old = g.F.Flash.device c.args.flash.now in
+    let new = g.F.Flash.device c.mark.new.flash in
+    let h : c.args.page < page_count old.size = page_in_device old c.args.layout.now.side c.args.page c.requires.from c.requires.behind.in_range in
+    always_on_err c.from_residual.result
+    (mark_partly c.args.page c.args.kind old new (g.met.F.Flash.formed c.args.flash.now) h (λ set. (c.mark.ensures.present set).1) c.in_err-mark.ensures.cut)

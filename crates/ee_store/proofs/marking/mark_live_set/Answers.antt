@@ -1,8 +1,8 @@
-use Rattle.std.proofs.Common.{◌≡◌, ◌≤◌, ◌<◌, ◌-◌, true, ap, arith, ◌∙◌, refl, subst}
+use Rattle.std.proofs.Common.{◌≡◌, ◌≤◌, ◌<◌, ◌+◌, ◌-◌, true, ap, arith, ◌∙◌, refl, subst}
 use Rattle.ee_flash.specs.Size.{Size}
 use Rattle.ee_pages.specs.Page.{is_marked}
 use Rattle.ee_pages.specs.Sets.{first_page}
-use Rattle.ee_pages.specs.declared.state.Mark.TheVariants.{Valid}
+use Rattle.ee_pages.specs.declared.state.Mark.TheVariants.{Active, Valid}
 use Rattle.ee_store.proofs.AfterCalls.{goes_on_both, goes_on_same}
 use Rattle.ee_store.proofs.Drawings.{valid_to}
 use Rattle.ee_store.proofs.MarkedSets.{active_then, other_stays, valid_next, valid_start}
@@ -10,6 +10,9 @@ use Rattle.ee_store.proofs.Marks.{same_stays}
 use Rattle.ee_store.specs.Finished.{last_used}
 use Rattle.ee_store.specs.Picture.{IsDrawn, picture_of}
 use Rattle.ee_store.proofs.LiveMarks.{active_behind, last_in_range, last_is, layout_stays, live_marked, stays_both, valid_already, valid_behind, valid_more}
+use Rattle.ee_store.proofs.CutMarks.{active_partly, valid_partly}
+use Rattle.ee_store.proofs.Making.{always_on_err}
+use Rattle.ee_store.specs.Cuts.{SetsPartly}
 use Rattle.ee_store.proofs.marking.mark_live_set.Goals as goal
 
 pub mark_live-requires-clause-behind : goal.mark_live-requires-clause-behind
@@ -111,3 +114,61 @@ returns-clause-old_pages g c =
     omega (arith, last, c.first_page-first.ensures, last_in_range layout old c.requires, ap (λ (size : Size). size.pages) c.pages.invariant.stays.keeps.same_size) in
     other_stays layout.side old c.first_page-first.result c.first_page-first.ensures mid new layout.current
     (g.met.F.Flash.formed c.pages.flash) (g.met.F.Flash.formed c.mark_live-2.new.flash) c.pages.invariant.stays.keeps.same_size c.mark_live-2.ensures.stays.keeps.same_size (omega (arith, last, c.first_page-first.ensures)) below c.mark_live-2.ensures.others c.pages.invariant.other
+
+pub returns-in_err-mark_live-clause-begun : goal.returns-in_err-mark_live-clause-begun
+returns-in_err-mark_live-clause-begun g c =
+    let old = g.F.Flash.device c.args.flash.now in
+    let mid = g.F.Flash.device c.pages.flash in
+    let new = g.F.Flash.device c.mark_live.new.flash in
+    let layout = c.args.layout.now in
+    let sizes = c.pages.invariant.stays.keeps.same_size in
+    let last = last_is layout old c.requires in
+    let k = c.pages.page - c.first_page-first.result in
+    let at : c.pages.page ≡ first_page mid.size layout.side + k = omega (arith, c.first_page-first.ensures, c.pages.auto.page, ap (λ (size : Size). first_page size layout.side) sizes) in
+    let before : k < last_used old layout.side = omega (arith, last, c.first_page-first.ensures, c.pages.auto.page, c.pages-test.true) in
+    let inside : k < mid.size.pages = omega (arith, before, last_in_range layout old c.requires, ap (λ (size : Size). size.pages) sizes) in
+    always_on_err c.from_residual.result
+    (valid_partly layout.side mid new k (last_used old layout.side) (picture_of layout.side old) (g.met.F.Flash.formed c.pages.flash) c.mark_live.ensures.stays.keeps.same_size inside before
+    (subst (λ n. SetsPartly n Valid mid new) at c.in_err-mark_live.ensures.begun) c.pages.invariant.drawn)
+
+pub returns-in_err-mark_live-clause-old_pages_stay : goal.returns-in_err-mark_live-clause-old_pages_stay
+returns-in_err-mark_live-clause-old_pages_stay g c =
+    let old = g.F.Flash.device c.args.flash.now in
+    let mid = g.F.Flash.device c.pages.flash in
+    let new = g.F.Flash.device c.mark_live.new.flash in
+    let layout = c.args.layout.now in
+    let sizes = ap (λ (size : Size). size.pages) c.pages.invariant.stays.keeps.same_size in
+    let behind : c.pages.page - c.first_page-first.result < mid.size.pages =
+    omega (arith, sizes, c.pages-test.true, c.pages.auto.page, c.first_page-first.ensures, last_is layout old c.requires, last_in_range layout old c.requires) in
+    always_on_err c.from_residual.result
+    (other_stays layout.side old c.first_page-first.result c.first_page-first.ensures mid new c.pages.page
+    (g.met.F.Flash.formed c.pages.flash) (g.met.F.Flash.formed c.mark_live.new.flash) c.pages.invariant.stays.keeps.same_size c.mark_live.ensures.stays.keeps.same_size c.pages.auto.page behind c.mark_live.ensures.others c.pages.invariant.other)
+
+pub returns-in_err-mark_live-2-clause-begun : goal.returns-in_err-mark_live-2-clause-begun
+returns-in_err-mark_live-2-clause-begun g c =
+    let old = g.F.Flash.device c.args.flash.now in
+    let mid = g.F.Flash.device c.pages.flash in
+    let new = g.F.Flash.device c.mark_live-2.new.flash in
+    let layout = c.args.layout.now in
+    let sizes = c.pages.invariant.stays.keeps.same_size in
+    let last = last_is layout old c.requires in
+    let reached : c.pages.page - c.first_page-first.result ≡ last_used old layout.side = omega (arith, last, c.first_page-first.ensures, c.pages-test.false, c.pages.auto.page-end) in
+    let below : last_used old layout.side < mid.size.pages = omega (arith, last_in_range layout old c.requires, ap (λ (size : Size). size.pages) sizes) in
+    let drawn = subst (λ n. IsDrawn layout.side mid (valid_to n (picture_of layout.side old))) reached c.pages.invariant.drawn in
+    let at : layout.current ≡ first_page mid.size layout.side + last_used old layout.side = omega (arith, last, ap (λ (size : Size). first_page size layout.side) sizes) in
+    always_on_err c.from_residual-in_err-mark_live-2.result
+    (active_partly layout.side mid new (last_used old layout.side) (picture_of layout.side old) (g.met.F.Flash.formed c.pages.flash) c.mark_live-2.ensures.stays.keeps.same_size below
+    (subst (λ n. SetsPartly n Active mid new) at c.in_err-mark_live-2.ensures.begun) drawn)
+
+pub returns-in_err-mark_live-2-clause-old_pages_stay : goal.returns-in_err-mark_live-2-clause-old_pages_stay
+returns-in_err-mark_live-2-clause-old_pages_stay g c =
+    let old = g.F.Flash.device c.args.flash.now in
+    let mid = g.F.Flash.device c.pages.flash in
+    let new = g.F.Flash.device c.mark_live-2.new.flash in
+    let layout = c.args.layout.now in
+    let last = last_is layout old c.requires in
+    let below : layout.current - c.first_page-first.result < mid.size.pages =
+    omega (arith, last, c.first_page-first.ensures, last_in_range layout old c.requires, ap (λ (size : Size). size.pages) c.pages.invariant.stays.keeps.same_size) in
+    always_on_err c.from_residual-in_err-mark_live-2.result
+    (other_stays layout.side old c.first_page-first.result c.first_page-first.ensures mid new layout.current
+    (g.met.F.Flash.formed c.pages.flash) (g.met.F.Flash.formed c.mark_live-2.new.flash) c.pages.invariant.stays.keeps.same_size c.mark_live-2.ensures.stays.keeps.same_size (omega (arith, last, c.first_page-first.ensures)) below c.mark_live-2.ensures.others c.pages.invariant.other)

@@ -1,4 +1,5 @@
-use Rattle.std.proofs.Common.{◌≡◌, ◌<◌, ◌≤◌, ◌+◌, ◌-◌, inr, ap, arith, ◌∙◌, refl, sym, subst}
+use Rattle.std.proofs.Common.{◌≡◌, ◌<◌, ◌≤◌, ◌+◌, ◌-◌, false, inr, ap, arith, ◌∙◌, refl, sym, subst}
+use Rattle.std.specs.Prelude.{not}
 use Rattle.std.proofs.lemmas.Bool.{true≢false}
 use Rattle.ee_flash.specs.Size.{Size}
 use Rattle.ee_pages.specs.Laws.{IsPageOf}
@@ -9,6 +10,12 @@ use Rattle.ee_store.proofs.MarkedSets.{RetiresPage, live_stays, retired_end, ret
 use Rattle.ee_store.proofs.Marks.{same_stays}
 use Rattle.ee_store.proofs.LiveMarks.{IsPageDone, MarksPage, done_already, done_more, marked_from, marks_none, stays_both}
 use Rattle.ee_store.proofs.marking.mark_old_set.Goals.{then-not-is_blank+in_ok-mark_old, else-not-is_blank}
+use Rattle.ee_store.proofs.CutMarks.{retired_partly}
+use Rattle.ee_store.proofs.Making.{always_on_err}
+use Rattle.ee_pages.specs.Page.{is_blank}
+use Rattle.ee_flash.specs.Device.{page_at}
+use Rattle.ee_pages.specs.declared.state.Mark.TheVariants.{Erasing}
+use Rattle.ee_store.specs.Cuts.{SetsPartly}
 use Rattle.ee_store.proofs.marking.mark_old_set.Goals as goal
 
 pub returns-in_err-mark_old-clause-no_step : goal.returns-in_err-mark_old-clause-no_step
@@ -110,3 +117,39 @@ returns-clause-old_pages g c =
     let pages = ap (λ (size : Size). size.pages) c.shape.ensures in
     retired_end side old c.first_page-first.result first new c.pages.page c.pages.invariant.stays.keeps.same_size
     (search (arith, c.pages-2.ensures.value, pages, c.pages-test.false, c.pages.auto.page-end)) c.pages.invariant.drawn
+
+pub returns-in_err-mark_old-clause-begun : goal.returns-in_err-mark_old-clause-begun
+returns-in_err-mark_old-clause-begun g c =
+    let old = g.F.Flash.device c.args.flash.now in
+    let mid = g.F.Flash.device c.pages.flash in
+    let new = g.F.Flash.device c.mark_old.new.flash in
+    let side = other c.args.layout.now.side in
+    let pages = ap (λ (size : Size). size.pages) c.shape.ensures in
+    let sizes = c.pages.invariant.stays.keeps.same_size in
+    let first : c.first_page-first.result ≡ first_page old.size side = c.first_page-first.ensures ∙ ap (λ (set : Side). first_page old.size set) c.other.ensures in
+    let k = c.pages.page - c.first_page-first.result in
+    let at : c.pages.page ≡ first_page mid.size side + k = omega (arith, first, c.pages.auto.page, ap (λ (size : Size). first_page size side) sizes) in
+    let there : first_page old.size side + k ≡ c.pages.page = omega (arith, first, c.pages.auto.page) in
+    let inside : k < mid.size.pages = omega (arith, first, c.pages-2.ensures.value, pages, c.pages-test.true, ap (λ (size : Size). size.pages) sizes) in
+    let written : is_blank (page_at mid c.pages.page) ≡ false = sym c.is_blank.ensures ∙ c.if-not-is_blank.true in
+    let was : is_blank (page_at old (first_page old.size side + k)) ≡ false =
+    ap (λ n. is_blank (page_at old n)) there ∙ ap is_blank (sym (c.pages.invariant.rest c.pages.page (omega arith))) ∙ written in
+    always_on_err c.from_residual.result
+    (retired_partly side old mid new k (g.met.F.Flash.formed c.pages.flash) c.mark_old.ensures.stays.keeps.same_size inside (ap not was)
+    (subst (λ n. SetsPartly n Erasing mid new) at c.in_err-mark_old.ensures.begun) c.pages.invariant.drawn)
+
+pub returns-in_err-mark_old-clause-live_pages_stay : goal.returns-in_err-mark_old-clause-live_pages_stay
+returns-in_err-mark_old-clause-live_pages_stay g c =
+    let old = g.F.Flash.device c.args.flash.now in
+    let mid = g.F.Flash.device c.pages.flash in
+    let new = g.F.Flash.device c.mark_old.new.flash in
+    let layout = c.args.layout.now in
+    let side = other layout.side in
+    let pages = ap (λ (size : Size). size.pages) c.shape.ensures in
+    let sizes = c.pages.invariant.stays.keeps.same_size in
+    let first : c.first_page-first.result ≡ first_page old.size side = c.first_page-first.ensures ∙ ap (λ (set : Side). first_page old.size set) c.other.ensures in
+    let of : IsPageOf mid.size side c.pages.page =
+    let start = ap (λ (size : Size). first_page size side) sizes in
+    record { from = omega (arith, start, first, c.pages.auto.page); below = omega (arith, start, first, c.pages-2.ensures.value, pages, c.pages-test.true, ap (λ (size : Size). size.pages) sizes) } in
+    always_on_err c.from_residual.result
+    (live_stays layout.side old mid new c.pages.page (g.met.F.Flash.formed c.pages.flash) (g.met.F.Flash.formed c.mark_old.new.flash) c.mark_old.ensures.stays.keeps.same_size of c.mark_old.ensures.others c.pages.invariant.live)

@@ -1,4 +1,4 @@
-use Rattle.std.proofs.Common.{◌≡◌, ◌≤◌, ◌<◌, ◌-◌, ℕ, true, take}
+use Rattle.std.proofs.Common.{◌≡◌, ◌⊎◌, ◌≤◌, ◌<◌, ◌-◌, ℕ, true, take}
 use Rattle.ee_flash.specs.Device.{page_at}
 use Rattle.ee_flash.specs.Power.{GoesOn}
 use Rattle.ee_pages.specs.Laws.{Keeps}
@@ -15,7 +15,7 @@ invariant-pages g l =
     record {
       keeps : Keeps old now l.layout.side l.layout.generation;
       blank : (page : ℕ) → l.first ≤ page → page < l.page → is_blank (page_at now page) ≡ true;
-      rest : (page : ℕ) → l.page ≤ page → page_at now page ≡ page_at old page;
+      rest : (page : ℕ) → (page < l.first) ⊎ (l.page ≤ page) → page_at now page ≡ page_at old page;
       wear : Wears (not_blank_from l.first (take (l.page - l.first) (set_of (other_of l.layout.side) old))) old now;
       same : IsSameSet l.layout.side old now;
       goes : GoesOn old now;

@@ -5,6 +5,11 @@ use Rattle.ee_store.proofs.Drawings.{sets_mark_at}
 use Rattle.ee_store.proofs.MovedSets.{opens_blank}
 use Rattle.ee_store.proofs.SetPages.{page_of_device}
 use Rattle.ee_store.proofs.OtherSteps.{first_in_set, opening_done, opening_keeps, opening_unmarked}
+use Rattle.ee_store.proofs.Cuts.{mark_partly_at, put_apart_partly}
+use Rattle.ee_store.proofs.CutMoves.{open_partly}
+use Rattle.ee_store.proofs.Making.{always_on_err}
+use Rattle.ee_store.proofs.MovedSets.{blank_drawn}
+use Rattle.ee_store.specs.Cuts.{SetsPartly}
 use Rattle.ee_store.proofs.moving.open_set.Goals as goal
 
 pub returns-in_err-mark-clause-keeps : goal.returns-in_err-mark-clause-keeps
@@ -47,3 +52,29 @@ returns-clause-holds g c =
     (page_of_device old.size side (first_page old.size side) (first_in_set side old formed)) (cc (c.first_page-first.ensures, c.other.ensures))
     (λ set. (c.in_ok-mark.ensures.present set).1) c.in_ok-mark.ensures.done in
     opens_blank side old new (c.args.layout.now.generation + 1) formed (returns-clause-keeps g c).same_size c.requires.blank sets
+
+pub returns-in_err-mark-clause-begun : goal.returns-in_err-mark-clause-begun
+returns-in_err-mark-clause-begun g c =
+    let old = g.F.Flash.device c.args.flash.now in
+    let new = g.F.Flash.device c.mark.new.flash in
+    let side = other_of c.args.layout.now.side in
+    let formed = c.requires.layout.live.formed in
+    let sets : SetsPartly (first_page old.size side) (Receive (c.args.layout.now.generation + 1)) old new =
+    mark_partly_at _ (first_page old.size side) (Receive (c.args.layout.now.generation + 1)) old new formed
+    (page_of_device old.size side (first_page old.size side) (first_in_set side old formed)) (cc (c.first_page-first.ensures, c.other.ensures))
+    (λ set. (c.mark.ensures.present set).1) c.in_err-mark.ensures.cut in
+    always_on_err c.from_residual.result
+    (λ words. open_partly side old new (c.args.layout.now.generation + 1) words formed (returns-in_err-mark-clause-keeps g c).same_size (blank_drawn side old formed c.requires.blank) sets)
+
+pub returns-in_err-mark-clause-live_pages_stay : goal.returns-in_err-mark-clause-live_pages_stay
+returns-in_err-mark-clause-live_pages_stay g c =
+    let old = g.F.Flash.device c.args.flash.now in
+    let new = g.F.Flash.device c.mark.new.flash in
+    let side = other_of c.args.layout.now.side in
+    let formed = c.requires.layout.live.formed in
+    let sets : SetsPartly (first_page old.size side) (Receive (c.args.layout.now.generation + 1)) old new =
+    mark_partly_at _ (first_page old.size side) (Receive (c.args.layout.now.generation + 1)) old new formed
+    (page_of_device old.size side (first_page old.size side) (first_in_set side old formed)) (cc (c.first_page-first.ensures, c.other.ensures))
+    (λ set. (c.mark.ensures.present set).1) c.in_err-mark.ensures.cut in
+    always_on_err c.from_residual.result
+    (put_apart_partly c.args.layout.now.side old new (first_page old.size side) _ _ (returns-in_err-mark-clause-keeps g c).same_size (first_in_set side old formed) sets)

@@ -9,3 +9,6 @@ returns-in-Ok-clause-formatted g c =
     let ok = c.in-Ok.ensures in
     let done : IsFormatted old new = formats c.in-Ok.layout old new ok.layout ok.first ok.marked ok.state ok.first_set ok.second_set ok.wear ok.power.ok in
     rw c.of.ensures done
+
+pub returns-in-Err-clause-cut : goal.returns-in-Err-clause-cut
+returns-in-Err-clause-cut g c = record { cut = c.in-Err.ensures.power.cut c.requires; wear = c.in-Err.ensures.begun; words = c.in-Err.ensures.words }

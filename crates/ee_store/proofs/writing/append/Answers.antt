@@ -1,9 +1,15 @@
-use Rattle.std.proofs.Common.{◌+◌, sym, ap, ◌∙◌}
+use Rattle.std.proofs.Common.{rules, ◌≡◌, ◌+◌, inl, inr, sym, ap, ◌∙◌}
 use Rattle.std.proofs.Math.Path.{fun_ext}
 use Rattle.ee_pages.specs.Meaning.{Map, changed}
+use Rattle.ee_store.proofs.Appending.{taken_after}
 use Rattle.ee_store.proofs.MarkedSets.{appends_word}
+use Rattle.ee_store.proofs.MovingFacts.{keeps_both}
+use Rattle.ee_store.specs.Parts.{map_in}
 use Rattle.ee_store.specs.Parts.{meant, number_of}
 use Rattle.ee_store.proofs.KeptMarks.{appended_marked}
+use Rattle.ee_store.proofs.CutMarks.{cut_marks, cut_word}
+use Rattle.ee_store.proofs.Making.{always_on_err}
+use Rattle.ee_pages.proofs.Slots.{page_in_range, place_in_range}
 use Rattle.ee_store.proofs.writing.append.Goals as goal
 
 pub returns-clause-marked : goal.returns-clause-marked
@@ -29,3 +35,33 @@ returns-clause-drawn g c =
     let layout = c.args.layout.now in
     appends_word layout.side (g.F.Flash.device c.args.flash.now) (g.F.Flash.device c.open_page.new.flash) (g.F.Flash.device c.push.new.flash) layout.fill (number_of c.args.change)
     c.open_page.ensures.stays.keeps.same_size c.in_ok-page.ensures.takes.same_size c.in_ok-open_page.ensures.drawn c.in_ok-page.ensures.puts
+
+pub returns-in_err-open_page-clause-begun : goal.returns-in_err-open_page-clause-begun
+returns-in_err-open_page-clause-begun g c =
+    let layout = c.args.layout.now in
+    always_on_err c.from_residual.result
+    (cut_marks layout.side (g.F.Flash.device c.args.flash.now) (g.F.Flash.device c.open_page.new.flash) layout.fill (number_of c.args.change) c.in_err-open_page.ensures.begun)
+
+pub returns-in_err-page-clause-begun : goal.returns-in_err-page-clause-begun
+returns-in_err-page-clause-begun g c =
+    let old = g.F.Flash.device c.args.flash.now in
+    let layout = c.args.layout.now in
+    always_on_err c.from_residual-in_err-page.result
+    (cut_word layout.side old (g.F.Flash.device c.open_page.new.flash) (g.F.Flash.device c.push.new.flash) layout.fill (number_of c.args.change)
+    c.open_page.ensures.stays.keeps.same_size (search rules)
+    (page_in_range old layout.fill c.requires.free) (place_in_range old layout.fill c.requires.layout.live.formed) c.in_ok-open_page.ensures.drawn c.in_err-page.ensures.begun)
+
+pub returns-in_err-page-clause-cut : goal.returns-in_err-page-clause-cut
+returns-in_err-page-clause-cut g c =
+    let old = g.F.Flash.device c.args.flash.now in
+    let mid = g.F.Flash.device c.open_page.new.flash in
+    let new = g.F.Flash.device c.push.new.flash in
+    let side = c.args.layout.now.side in
+    let generation = c.args.layout.now.generation in
+    let keeps = c.open_page.ensures.stays.keeps in
+    let same : map_in side mid ≡ map_in side old = fun_ext keeps.same_map in
+    always_on_err c.from_residual-in_err-page.result (elim c.in_err-page.ensures.cut [
+      | inl kept ↦ inl (keeps_both old mid new side generation keeps kept)
+      | inr (inl torn) ↦ inr (inl (taken_after old mid new side generation (map_in side mid) (map_in side old) keeps same torn))
+      | inr (inr whole) ↦ inr (inr (taken_after old mid new side generation (changed (meant c.args.change) (map_in side mid)) (changed (meant c.args.change) (map_in side old)) keeps (ap (changed (meant c.args.change)) same) whole))
+    ])

@@ -9,6 +9,9 @@ use Rattle.ee_store.specs.Parts.{SetsMark}
 use Rattle.ee_store.specs.Picture.{IsDrawn, marked_to, picture_of}
 use Rattle.ee_store.proofs.OpenedPages.{first_other, further, last_is, next_behind, ready_already, ready_now, second_other}
 use Rattle.ee_store.proofs.writing.open_page.Goals.{then-layout-eq0-via-then-layout-eq0, then-layout-eq0-via-else-layout-eq0+then-layout-slots-ne0}
+use Rattle.ee_store.proofs.CutMarks.{opens_partly, opens_partly_then}
+use Rattle.ee_store.proofs.Making.{always_on_err}
+use Rattle.ee_store.specs.Cuts.{IsDrawnPartly, SetsPartly}
 use Rattle.ee_store.proofs.writing.open_page.Goals as goal
 
 pub returns-then-layout-eq0-clause-ready : goal.returns-then-layout-eq0-clause-ready
@@ -83,3 +86,42 @@ returns-clause-drawn g c =
     (λ page below. c.requires.marked.live.valid page (subst (λ n. page < n) last below))
     (subst (λ n. SetsMark n Valid old mid) here c.in_ok-mark_live.ensures.sets)
     (subst (λ n. SetsMark n Active mid new) there c.in_ok-mark_live-2.ensures.sets))
+
+pub returns-in_err-mark_live-clause-begun : goal.returns-in_err-mark_live-clause-begun
+returns-in_err-mark_live-clause-begun g c =
+    let old = g.F.Flash.device c.args.flash.now in
+    let new = g.F.Flash.device c.mark_live.new.flash in
+    let layout = c.args.layout.now in
+    let words = c.words-slots.ensures.value ∙ ap (λ (size : Size). size.words) c.shape.ensures in
+    let some : 0 < layout.fill = omega (arith, c.if-layout-eq0.false) in
+    let k = page_of_slot old.size (layout.fill - 1) in
+    let next : page_of_slot old.size layout.fill ≡ k + 1 = further old layout c.requires.layout c.requires.free _ words some c.if-layout-slots-ne0.false in
+    let last = last_is old layout c.requires.layout c.requires.free _ words in
+    let here : layout.current ≡ first_page old.size layout.side + k = c.requires.layout.current in
+    always_on_err c.from_residual.result
+    (subst (λ n. IsDrawnPartly layout.side new (picture_of layout.side old) (marked_to n (picture_of layout.side old))) (sym next)
+    (opens_partly layout.side old new k c.requires.layout.live.formed c.mark_live.ensures.stays.keeps.same_size
+    (omega (arith, next, page_in_range old layout.fill c.requires.free))
+    (λ page below. c.requires.marked.live.valid page (subst (λ n. page < n) last below))
+    (subst (λ n. SetsPartly n Valid old new) here c.in_err-mark_live.ensures.begun)))
+
+pub returns-in_err-mark_live-2-clause-begun : goal.returns-in_err-mark_live-2-clause-begun
+returns-in_err-mark_live-2-clause-begun g c =
+    let old = g.F.Flash.device c.args.flash.now in
+    let mid = g.F.Flash.device c.mark_live.new.flash in
+    let new = g.F.Flash.device c.mark_live-2.new.flash in
+    let layout = c.args.layout.now in
+    let words = c.words-slots.ensures.value ∙ ap (λ (size : Size). size.words) c.shape.ensures in
+    let some : 0 < layout.fill = omega (arith, c.if-layout-eq0.false) in
+    let k = page_of_slot old.size (layout.fill - 1) in
+    let next : page_of_slot old.size layout.fill ≡ k + 1 = further old layout c.requires.layout c.requires.free _ words some c.if-layout-slots-ne0.false in
+    let last = last_is old layout c.requires.layout c.requires.free _ words in
+    let here : layout.current ≡ first_page old.size layout.side + k = c.requires.layout.current in
+    let there : layout.current + 1 ≡ first_page old.size layout.side + (k + 1) = omega arith in
+    always_on_err c.from_residual-in_err-mark_live-2.result
+    (subst (λ n. IsDrawnPartly layout.side new (picture_of layout.side old) (marked_to n (picture_of layout.side old))) (sym next)
+    (opens_partly_then layout.side old mid new k c.requires.layout.live.formed c.mark_live.ensures.stays.keeps.live.formed c.mark_live.ensures.stays.keeps.same_size c.mark_live-2.ensures.stays.keeps.same_size
+    (omega (arith, next, page_in_range old layout.fill c.requires.free))
+    (λ page below. c.requires.marked.live.valid page (subst (λ n. page < n) last below))
+    (subst (λ n. SetsMark n Valid old mid) here c.in_ok-mark_live.ensures.sets)
+    (subst (λ n. SetsPartly n Active mid new) there c.in_err-mark_live-2.ensures.begun)))

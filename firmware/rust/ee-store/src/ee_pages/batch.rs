@@ -16,20 +16,35 @@ pub struct LiveBatch {
     pub through: Option<Address>,
 }
 
-/// The next live addresses above `after`, or the first of all if `after` is `None`, with their
-/// values: up to `BATCH`, from one look through the slots. There may be none, and more behind
-/// `through`, where addresses were forgotten. The layout is the image's.
+impl LiveBatch {
+    /// One with no addresses. It stays out of the calls that begin with one, since it is long.
+    ///
+    /// Source: ours.
+    #[inline(never)]
+    pub fn new() -> LiveBatch {
+        LiveBatch {
+            found: Batch::new(),
+            through: None,
+        }
+    }
+}
+
+/// Puts the next live addresses above `after`, or the first of all if `after` is `None`, into a
+/// batch, with their values, in place of what it held: up to `BATCH`, from one look through the
+/// slots. There may be none, and more behind `through`, where addresses were forgotten. The layout is
+/// the image's.
 ///
 /// Source: ours.
-pub fn next_batch<F: Flash>(flash: &F, layout: &Layout, after: Option<Address>) -> LiveBatch {
-    let mut batch = LiveBatch {
-        found: Batch::new(),
-        through: None,
-    };
+pub fn next_batch<F: Flash>(
+    flash: &F,
+    layout: &Layout,
+    after: Option<Address>,
+    batch: &mut LiveBatch,
+) {
+    batch.found.clear();
     gather(flash, layout.side, number_of(after), &mut batch.found);
     batch.through = batch.found.last_if_full();
     batch.found.keep_living();
-    batch
 }
 
 // The number above which a batch begins.

@@ -1,5 +1,5 @@
 // Made by firmware/rust/erase from crates/ee_pages/src/read.rt. Change that file.
-use crate::ee_pages::batch::next_batch;
+use crate::ee_pages::batch::{LiveBatch, next_batch};
 use crate::ee_pages::find::Layout;
 use crate::ee_pages::side::{Side, first_page, page_slot, set_slot};
 use crate::ee_pages::state::is_torn;
@@ -44,8 +44,9 @@ pub fn next_live<F: Flash>(
     after: Option<Address>,
 ) -> Option<(Address, u32)> {
     let mut behind = after;
+    let mut batch = LiveBatch::new();
     loop {
-        let batch = next_batch(flash, layout, behind);
+        next_batch(flash, layout, behind, &mut batch);
         if let Some(found) = batch.found.as_slice().first() {
             return Some(*found);
         }
@@ -63,8 +64,9 @@ pub fn next_live<F: Flash>(
 pub fn live_count<F: Flash>(flash: &F, layout: &Layout) -> usize {
     let mut count = 0;
     let mut after = None;
+    let mut batch = LiveBatch::new();
     loop {
-        let batch = next_batch(flash, layout, after);
+        next_batch(flash, layout, after, &mut batch);
         count += batch.found.len();
         let Some(through) = batch.through else {
             return count;
@@ -79,8 +81,18 @@ pub fn live_count<F: Flash>(flash: &F, layout: &Layout) -> usize {
 /// Source: ours.
 pub fn torn_slots<F: Flash>(flash: &F, layout: &Layout) -> usize {
     let mut torn = 0;
-    for number in 0..flash.shape().slots() {
-        if is_torn(set_slot(flash, layout.side, number)) {
+    for page in 0..flash.shape().pages() {
+        torn = torn_through(flash, layout.side, page, torn);
+    }
+    torn
+}
+
+// How many slots are torn up to the end of a page of a set, where this many are torn before it. Page
+// by page, since finding a slot by its number takes a division.
+fn torn_through<F: Flash>(flash: &F, side: Side, page: usize, before: usize) -> usize {
+    let mut torn = before;
+    for slot in 0..flash.shape().words() - 4 {
+        if is_torn(page_slot(flash, side, page, slot)) {
             torn += 1;
         }
     }

@@ -10,7 +10,6 @@ use crate::ee_pages::Layout;
 
 /// Makes a change to which no refusal applies: in a free slot if there is one, else with a transfer.
 /// The layout follows.
-#[inline(always)]
 pub(crate) fn make_change<F: Flash>(
     flash: &mut F,
     layout: &mut Layout,
@@ -20,8 +19,8 @@ pub(crate) fn make_change<F: Flash>(
         append_change(flash, layout, change)?;
         Ok(Written::Appended)
     } else {
-        let cursor = Cursor::new(flash, layout);
-        move_change(flash, layout, change, cursor)?;
+        let mut cursor = Cursor::new(flash, layout);
+        move_change(flash, layout, change, &mut cursor)?;
         Ok(Written::Moved)
     }
 }
@@ -43,7 +42,7 @@ pub(crate) fn move_change<F: Flash, C: LiveCursor>(
     flash: &mut F,
     layout: &mut Layout,
     change: Change,
-    cursor: C,
+    cursor: &mut C,
 ) -> Result<(), Cut> {
     transfer(flash, layout, change, cursor)?;
     Ok(())

@@ -16,44 +16,41 @@ pub(crate) struct Cursor {
 impl Cursor {
     /// Before the first.
     pub(crate) fn new<F: Flash>(flash: &F, layout: &Layout) -> Cursor {
-        Cursor {
-            batch: next_batch(flash, layout, None),
+        let mut cursor = Cursor {
+            batch: LiveBatch::new(),
             given: 0,
-        }
+        };
+        next_batch(flash, layout, None, &mut cursor.batch);
+        cursor
     }
 }
 
 impl LiveCursor for Cursor {
     fn next<F: Flash>(&mut self, flash: &F, layout: &Layout) -> Option<(Address, u32)> {
-        if self.given >= self.batch.found.len() {
-            let Some(through) = self.batch.through else {
-                return None;
-            };
-            self.batch = batch_behind(flash, layout, through);
-            self.given = 0;
-        }
-        let found = self.batch.found.as_slice();
-        if self.given >= found.len() {
-            return None;
-        }
-        let live = found[self.given];
-        self.given += 1;
-        Some(live)
+        next_given(flash, layout, &mut self.batch, &mut self.given)
     }
 }
 
-// The next live addresses above this one. The batch is empty only if there are none.
-fn batch_behind<F: Flash>(flash: &F, layout: &Layout, after: Address) -> LiveBatch {
-    let mut above = after;
+// The next live address behind those that were given of a batch. Where all were, the batch becomes
+// the next one with an address.
+fn next_given<F: Flash>(
+    flash: &F,
+    layout: &Layout,
+    batch: &mut LiveBatch,
+    given: &mut usize,
+) -> Option<(Address, u32)> {
     loop {
-        let batch = next_batch(flash, layout, Some(above));
-        if !batch.found.is_empty() {
-            return batch;
+        let found = batch.found.as_slice();
+        if *given < found.len() {
+            let live = found[*given];
+            *given += 1;
+            return Some(live);
         }
         let Some(through) = batch.through else {
-            return batch;
+            return None;
         };
-        above = through;
+        next_batch(flash, layout, Some(through), batch);
+        *given = 0;
     }
 }
 
@@ -75,7 +72,7 @@ pub(crate) fn fill_set<F: Flash, C: LiveCursor>(
     flash: &mut F,
     layout: &Layout,
     change: Change,
-    cursor: C,
+    cursor: &mut C,
 ) -> Result<usize, Cut> {
     let address = change.address();
     let first = put_first(flash, layout, change)?;
@@ -86,12 +83,12 @@ pub(crate) fn fill_set<F: Flash, C: LiveCursor>(
 // Writes a value that is put into the first slot of the other set; a forgetting takes no slot.
 // Gives the place of the next slot.
 fn put_first<F: Flash>(flash: &mut F, layout: &Layout, change: Change) -> Result<Place, Cut> {
-    let place = first_place(flash, layout);
+    let mut place = first_place(flash, layout);
     if let Change::Forget { .. } = change {
         return Ok(place);
     }
-    let next = stage(flash, layout, place, change)?;
-    Ok(next)
+    stage(flash, layout, &mut place, change)?;
+    Ok(place)
 }
 
 // Copies each live address but this one to the other set, from this place on. Gives how many of its
@@ -101,49 +98,46 @@ fn copy_others<F: Flash, C: LiveCursor>(
     layout: &Layout,
     except: Address,
     place: Place,
-    cursor: C,
+    cursor: &mut C,
 ) -> Result<usize, Cut> {
     let mut place = place;
-    let mut cursor = cursor;
     while let Some((address, value)) = cursor.next(flash, layout) {
-        place = copy_one(flash, layout, except, place, address, value)?;
+        copy_one(flash, layout, except, &mut place, address, value)?;
     }
     Ok(place.slot)
 }
 
 // Copies a live address to this place of the other set, unless it is the one that is not copied.
-// Gives the place of the next free slot.
-#[inline(always)]
+// The place becomes that of the next free slot.
 fn copy_one<F: Flash>(
     flash: &mut F,
     layout: &Layout,
     except: Address,
-    place: Place,
+    place: &mut Place,
     address: Address,
     value: u32,
-) -> Result<Place, Cut> {
+) -> Result<(), Cut> {
     if address == except {
-        return Ok(place);
+        return Ok(());
     }
-    let next = stage(flash, layout, place, Change::Put { address, value })?;
-    Ok(next)
+    stage(flash, layout, place, Change::Put { address, value })?;
+    Ok(())
 }
 
 // Writes a change into this place of the other set, its first free slot. A further page gets its
-// receive word first. Gives the place of the next slot. Inlined, since a transfer does it for each
-// word.
-#[inline(always)]
+// receive word first. The place becomes that of the next slot.
 fn stage<F: Flash>(
     flash: &mut F,
     layout: &Layout,
-    place: Place,
+    place: &mut Place,
     change: Change,
-) -> Result<Place, Cut> {
+) -> Result<(), Cut> {
     if place.at == 4 {
-        receive(flash, layout, place)?;
+        receive(flash, layout, *place)?;
     }
-    put_in(flash, layout, place, change)?;
-    Ok(next_place(flash, layout, place))
+    put_in(flash, layout, *place, change)?;
+    step(flash, layout, place);
+    Ok(())
 }
 
 // Gives the page of this place of the other set the receive word, if it has none.
@@ -167,21 +161,13 @@ fn first_place<F: Flash>(flash: &F, layout: &Layout) -> Place {
     }
 }
 
-// The place of the next slot of the other set: one further in the page, or the first one of the
-// next page. Behind the set's last slot it is in no page of the set.
-fn next_place<F: Flash>(flash: &F, layout: &Layout, place: Place) -> Place {
-    let slot = place.slot + 1;
-    let at = place.at + 1;
-    if at == flash.shape().words() {
-        return Place {
-            slot,
-            page: place.page + 1,
-            at: 4,
-        };
-    }
-    Place {
-        slot,
-        page: place.page,
-        at,
+// Goes on to the next slot of the other set: one further in the page, or the first one of the next
+// page. Behind the set's last slot it is in no page of the set.
+fn step<F: Flash>(flash: &F, layout: &Layout, place: &mut Place) {
+    place.slot += 1;
+    place.at += 1;
+    if place.at == flash.shape().words() {
+        place.page += 1;
+        place.at = 4;
     }
 }

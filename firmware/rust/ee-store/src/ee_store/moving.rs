@@ -14,7 +14,7 @@ pub(crate) fn transfer<F: Flash, C: LiveCursor>(
     flash: &mut F,
     layout: &mut Layout,
     change: Change,
-    cursor: C,
+    cursor: &mut C,
 ) -> Result<(), Cut> {
     let count = move_map(flash, layout, change, cursor)?;
     let slots = flash.shape().words() - 4;
@@ -34,7 +34,7 @@ fn move_map<F: Flash, C: LiveCursor>(
     flash: &mut F,
     layout: &Layout,
     change: Change,
-    cursor: C,
+    cursor: &mut C,
 ) -> Result<usize, Cut> {
     clear(flash, layout)?;
     open_set(flash, layout)?;

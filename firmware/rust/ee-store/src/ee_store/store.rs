@@ -146,6 +146,8 @@ impl<F: Flash> Variables for Store<F> {
     }
 
     fn next_batch(&self, after: Option<Address>) -> LiveBatch {
-        next_batch(&self.flash, &self.layout, after)
+        let mut batch = LiveBatch::new();
+        next_batch(&self.flash, &self.layout, after, &mut batch);
+        batch
     }
 }

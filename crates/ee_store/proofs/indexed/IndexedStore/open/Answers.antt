@@ -12,5 +12,5 @@ returns-in-Err-finish-clause-failed g c =
     let old = g.F.Flash.device c.args.flash in
     let new = g.F.Flash.device c.finish.new.flash in
     search (opening_cut c.in-Ok.layout old new c.in-Ok.ensures.layout c.in-Err-finish.ensures.stays
-    (λ marked. let none = c.finish.ensures.no_step marked in cc (none.0, c.in-Err-finish.is))
+    (λ marked. let none = c.finish.ensures.no_step marked in cc (none.0, c.in-Err-finish.is)) c.in-Err-finish.ensures.begun
     (c.in-Err-finish.ensures.power.cut c.requires))
