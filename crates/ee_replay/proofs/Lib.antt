@@ -9,6 +9,7 @@ pub mod Given
 pub mod Desks
 pub mod Arming
 pub mod UncutRuns
+pub mod ScriptWears
 pub mod LegalAlone
 pub mod Powering
 pub mod Calling

@@ -7,6 +7,7 @@ use Rattle.ee_check.specs.Certificate.{Claim}
 use Rattle.ee_check.specs.Schedule.{Situation}
 use Rattle.ee_check.specs.Text.{text_of}
 use Rattle.ee_plan.specs.Start.{IsStartOf}
+use Rattle.ee_plan.specs.Wearing.{NoneWearsLess}
 use Rattle.ee_script.specs.Answer.{report}
 use Rattle.ee_script.specs.Run.{Run}
 use Rattle.ee_script.specs.Script.{IsScript}
@@ -27,7 +28,8 @@ report_text slots answers state claim = report answers ++ (end_line slots state 
 
 -- Power was not cut: from the old state, on a device of this size, these commands got these answers as the report machine
 -- gives them, and the new state is what it came to. The moves are the fewest for the changes that were accepted, no store
--- that makes as few has more room at the end, and the report prints the certificate. Every address reads the value last
+-- that makes as few has more room at the end, none erases the first pages of its sets less often than so many moves ask,
+-- and the report prints the certificate. Every address reads the value last
 -- written to it by them, or as before, and has none where it was forgotten since; and where all changes fit, what was
 -- accepted is each write and each forgetting of the script, with its address and its value.
 pub record IsReported (size : Size) (old : State) (commands : List Command) (answers : List Answer) (new : State) (reported : List ℕ) : Type 0 where
@@ -37,6 +39,7 @@ pub record IsReported (size : Size) (old : State) (commands : List Command) (ans
   pub start_is : IsStartOf (slot_count size) old start
   pub fewest : AreFewest start (trace_of (accepted commands answers)) answers claim
   pub room : NoneEndsWithMoreRoom start (trace_of (accepted commands answers)) (moves answers) new.fill
+  pub lasts : NoneWearsLess start (trace_of (accepted commands answers)) (moves answers)
   pub values : new.map ≡ changed_by (map_changes (accepted commands answers)) old.map
   pub all_accepted : Fits start old commands → map_changes (accepted commands answers) ≡ map_changes commands
   pub report_is : reported ≡ report_text (slot_count size) answers new claim
