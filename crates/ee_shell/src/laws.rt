@@ -2,4 +2,4 @@
 //! does nothing: its contract is the law.
 
 pub use ee_commands::laws::{each_size_lasts_as_told, each_size_moves_as_told};
-pub use ee_replay::laws::cuts_are_armed;
+pub use ee_replay::laws::{an_answered_change_stays, cuts_are_armed};
