@@ -1,5 +1,5 @@
 -- What a run at a desk keeps of a script's changes, whatever is cut in it.
-use Rattle.std.proofs.Common.{◌≡◌, ◌∙◌, ◌==◌, ◌++◌, ◌⊎◌, ◌-◌, ℕ, Bool, Option, Some, List, [], ◌∷◌, ap, arith, eq-eqb, false, inl, inr, length, refl, sym, true}
+use Rattle.std.proofs.Common.{◌≡◌, ◌∙◌, ◌==◌, ◌++◌, ◌⊎◌, ◌-◌, ℕ, Bool, Some, List, [], ◌∷◌, ap, arith, eq-eqb, false, inl, inr, length, refl, sym, true}
 use Rattle.std.proofs.lemmas.Bool.{cases_lt}
 use Rattle.std.specs.List.{All}
 use Rattle.std.proofs.lemmas.List.Elements.{All-head, All-tail}
@@ -13,7 +13,7 @@ use Rattle.ee_store.specs.Outcome.{HasChange}
 use Rattle.ee_store.specs.State.{State, with_pending}
 use Rattle.ee_script.specs.Run.{Run}
 use Rattle.ee_script.specs.declared.answer.Answer.{Answer}
-use Rattle.ee_script.specs.declared.answer.Answer.TheVariants.{Appended, Moved, Full, Spent, Cleaned, Idle, Value, NoValue, Absent, Cut, Off, Opened}
+use Rattle.ee_script.specs.declared.answer.Answer.TheVariants.{Appended, Moved, Full, Spent, Cleaned, Idle, Value, NoValue, Absent, Armed, Cut, Off, Opened}
 use Rattle.ee_script.specs.declared.command.Command.{Command}
 use Rattle.ee_script.specs.declared.command.Command.TheVariants.{Write, Read, Forget, Clean, Arm, PowerOn}
 use Rattle.ee_image_store.specs.Machine.{CallStep, CutStep, CutsChange, Desk, DeskStep, PowerStep, Step, StoreStep, is_cut_answer}
@@ -83,7 +83,7 @@ was_cut size old command new cut = absurd cut
 -- an answer is `cut`, or it isn't
 of_call : (cut : Bool) (size : Size) (old : Desk) (command : Command) (answer : Answer) (new : Desk) → is_cut_answer answer ≡ cut → CallStep cut size old command answer new
     → Keeps old.state.map command answer new.state.map
-of_call true size old command Cut new is step = was_cut size old.state command new.state step.2.0
+of_call true size old command Cut new is step = was_cut size old.state command new.state step.2
 of_call true size old command answer new is step = absurd (cc is)
 of_call false size old command answer new is step = not_cut size old.serving old.state command answer new.state step.0
 
@@ -153,10 +153,10 @@ made (meaning.Forget address) map after same = same ∙ forget-at map address ad
 
 -- the map right behind the change
 is_made : (command : Command) (answer : Answer) (change : Change) (old new : Map) → Keeps old command answer new → change_answered command answer ≡ Some change → new ≡ changed change old
-is_made (Write address value) Appended change old new kept is = kept ∙ ap (λ (one : Change). changed one old) (cc is)
-is_made (Write address value) Moved change old new kept is = kept ∙ ap (λ (one : Change). changed one old) (cc is)
-is_made (Forget address) Appended change old new kept is = kept ∙ ap (λ (one : Change). changed one old) (cc is)
-is_made (Forget address) Moved change old new kept is = kept ∙ ap (λ (one : Change). changed one old) (cc is)
+is_made (Write address value) Appended change old new kept is = let same : Put address value ≡ change = cc is in kept ∙ ap (λ (one : Change). changed one old) same
+is_made (Write address value) Moved change old new kept is = let same : Put address value ≡ change = cc is in kept ∙ ap (λ (one : Change). changed one old) same
+is_made (Forget address) Appended change old new kept is = let same : meaning.Forget address ≡ change = cc is in kept ∙ ap (λ (one : Change). changed one old) same
+is_made (Forget address) Moved change old new kept is = let same : meaning.Forget address ≡ change = cc is in kept ∙ ap (λ (one : Change). changed one old) same
 is_made command answer change old new kept is = absurd (cc is)
 
 pub an_answered_change_stays_lem : (before later : List Command) (said answers : List Answer) (command : Command) (answer : Answer) (change : Change) (old new : Map)
