@@ -1,19 +1,16 @@
 -- What tidying leaves of the map, and when the store is spent in it.
-use Rattle.std.proofs.Common.{◌≡◌, ◌⊎◌, ◌∙◌, ◌+◌, ◌-◌, ◌<◌, ◌≤◌, ℕ, Bool, true, false, cond, not, is_some, Option, Some, None, List, [], ◌∷◌, ◌++◌, length, map, inl, inr, refl, sym, ap, subst, append_assoc, arith, suc, zero, Result, Ok, Err}
+use Rattle.std.proofs.Common.{◌≡◌, ◌⊎◌, ◌∙◌, ◌-◌, ◌<◌, ◌≤◌, ℕ, Bool, true, false, cond, not, is_some, Option, Some, None, List, [], ◌∷◌, ◌++◌, length, map, inl, inr, refl, sym, ap, subst, append_assoc, arith, suc, zero, Result, Ok, Err}
 use Rattle.std.specs.Prelude.{◌&&◌}
 use Rattle.std.specs.List.{All, Contains, flat_map}
 use Rattle.std.proofs.lemmas.Bool.{cases_eq, eq-eqb, ne_eqb}
 use Rattle.std.proofs.lemmas.List.Elements.{All-append, All-cons, All-head, All-nil, All-tail}
 use Rattle.ee_flash.specs.Device.{Device, IsFormed}
 use Rattle.ee_flash.specs.Size.{slot_count}
-use Rattle.ee_pages.specs.Meaning.{Forget, Map, changed, live_in}
-use Rattle.ee_pages.specs.Sets.{live_of, set_of, slots_of}
-use Rattle.ee_pages.specs.declared.side.Side.{Side}
-use Rattle.ee_pages.proofs.LiveCounts.{live_within_fill}
-use Rattle.ee_store.proofs.CopiedMaps.{IsWithin, forget-at, forget-other, live_in-nothing, live_to-within}
+use Rattle.ee_pages.specs.Meaning.{Forget, Map, changed}
+use Rattle.ee_store.proofs.CopiedMaps.{forget-at, forget-other}
 use Rattle.ee_store.specs.Calls.{Forgets}
 use Rattle.ee_store.specs.Runs.{Call, Forgot, IsWholeRun, changes_of, is_cut}
-use Rattle.ee_store.specs.State.{State, appended, capacity, empty_state, moved, state_in, state_of}
+use Rattle.ee_store.specs.State.{appended, moved, state_of}
 use Rattle.ee_store.specs.declared.variables.ForgetFault.TheVariants as forget
 use Rattle.ee_store.specs.declared.variables.Written.{Written}
 use Rattle.ee_store.specs.declared.variables.Written.TheVariants.{Appended, Moved}
