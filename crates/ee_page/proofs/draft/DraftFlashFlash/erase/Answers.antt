@@ -1,4 +1,4 @@
-use Rattle.std.proofs.Common.{arith, refl, ◌≡◌, ◌+◌, slice_set, ◌∙◌, ◌≤◌, ◌<◌, ℕ, List, length, subst, sym, ap}
+use Rattle.std.proofs.Common.{arith, ◌≡◌, ◌+◌, slice_set, ◌∙◌, ◌≤◌, ◌<◌, ℕ, List, length, subst, sym, ap}
 use Rattle.std.specs.List.{All}
 use Rattle.std.proofs.lemmas.List.{length-set}
 use Rattle.std.proofs.lemmas.List.Elements.{All-set}
