@@ -18,7 +18,7 @@ use Rattle.ee_plan.specs.Rounds.{IsDemand, fresh, repeated}
 use Rattle.ee_plan.specs.Start.{AreLive, IsStartOf}
 use Rattle.ee_plan.specs.declared.demand.Demand.{Demand}
 use Rattle.ee_plan.specs.declared.demand.Demand.TheVariants.{Transfers, NotFitting}
-use Rattle.ee_commands.specs.ToldSizes.{IsDemandOf, LastsAsTold, asked_by_calls, made_by_calls}
+use Rattle.ee_commands.specs.ToldSizes.{IsDemandOf, WearsAsTold, asked_by_calls, made_by_calls}
 use Rattle.ee_commands.specs.Sizing.{AreDemands, IsSized, erases_for}
 use Rattle.ee_image_store.proofs.Starts.{length_map}
 use Rattle.ee_commands.proofs.AskedRuns.{IsBelow, bounded}
@@ -122,7 +122,7 @@ both_begin device same = record {
 
 -- where the calls moved the map no more often than a line tells
 lasts : (cycles most : ℕ) (calls : List Call) (blank old new : Device) → IsFormatted blank old → IsWholeRun calls old new → transfers calls ≤ most
-    → LastsAsTold cycles most calls old new
+    → WearsAsTold cycles most calls old new
 lasts cycles most calls blank old new formats whole few =
     let none_waits : (state_of old).pending ≡ 0 = ap (λ (s : State). s.pending) formats.state_is in
     record {
@@ -138,11 +138,11 @@ all_proper words cycles runs text told some_enough sized =
     let once = trace_proper sized.trace_is.commands sized.trace_is.is_script.proper in
     repeated_proper runs sized.trace (subst AreProper (sym sized.trace_is.trace_is) once)
 
-pub each_size_lasts_as_told_lem : (text told : List ℕ) (cycles runs most : ℕ) (some_enough : Bool) (calls : List Call) (blank old new : Device)
+pub each_size_wears_as_told_lem : (text told : List ℕ) (cycles runs most : ℕ) (some_enough : Bool) (calls : List Call) (blank old new : Device)
     → (sized : IsSized old.size.words text cycles runs told some_enough) → IsDemandOf old.size.pages sized.demands (Transfers most)
     → IsFormatted blank old → IsWholeRun calls old new
-    → asked_by_calls calls ≡ repeated runs sized.trace → LastsAsTold cycles most calls old new
-each_size_lasts_as_told_lem text told cycles runs most some_enough calls blank old new sized line formats whole asked =
+    → asked_by_calls calls ≡ repeated runs sized.trace → WearsAsTold cycles most calls old new
+each_size_wears_as_told_lem text told cycles runs most some_enough calls blank old new sized line formats whole asked =
     let words = old.size.words in
     let trace = repeated runs sized.trace in
     let are = subst AreProper (sym asked) (all_proper words cycles runs text told some_enough sized) in
@@ -157,7 +157,7 @@ each_size_lasts_as_told_lem text told cycles runs most some_enough calls blank o
 pub each_size_moves_as_told_lem : (text told : List ℕ) (cycles runs : ℕ) (some_enough : Bool) (calls : List Call) (blank old new : Device)
     → (sized : IsSized old.size.words text cycles runs told some_enough) → IsFormatted blank old → IsWholeRun calls old new
     → made_by_calls calls ≡ repeated runs sized.trace
-    → IsDemandOf old.size.pages sized.demands (Transfers (transfers calls)) × LastsAsTold cycles (transfers calls) calls old new
+    → IsDemandOf old.size.pages sized.demands (Transfers (transfers calls)) × WearsAsTold cycles (transfers calls) calls old new
 each_size_moves_as_told_lem text told cycles runs some_enough calls blank old new sized formats whole made =
     let words = old.size.words in
     let slots = slot_count old.size in

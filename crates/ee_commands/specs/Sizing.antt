@@ -14,7 +14,7 @@ use Rattle.ee_commands.specs.Planning.{IsTrace, IsTraceFault, Names}
 
 -- how often any page is erased at the most, from a fresh image on: at every second transfer, rounded up (`ee_store`'s law
 -- `each_page_wears_every_second_transfer`); a store that is asked for the changes keeps to it (the law
--- `each_size_lasts_as_told`)
+-- `each_size_wears_as_told`)
 abbrev pub erases_for : ℕ → ℕ
 erases_for transfers = (transfers + 1) / 2
 

@@ -34,7 +34,7 @@ pub record IsDemandOf (pages : ℕ) (demands : List Demand) (demand : Demand) : 
 
 -- The calls moved the map no more often than so many transfers. No page was erased more often than the line of a size with
 -- so many says; nor more often than so many cycles, where it says that this is enough.
-pub record LastsAsTold (cycles most : ℕ) (calls : List Call) (old new : Device) : Type 0 where
+pub record WearsAsTold (cycles most : ℕ) (calls : List Call) (old new : Device) : Type 0 where
   pub moves : transfers calls ≤ most
   pub wear : (page : ℕ) → page < page_count old.size → wear_at new page ≤ wear_at old page + erases_for most
   pub enough : is_enough cycles (Transfers most) ≡ true
@@ -43,12 +43,12 @@ pub record LastsAsTold (cycles most : ℕ) (calls : List Call) (old new : Device
 -- Sizes were told for a script that is made so many times. A device was formatted, and the line of its size tells so many
 -- transfers. Calls of its store, in which power is not cut, asked for the changes of the script so many times. Then it lasts
 -- as was told, whatever the calls were answered, and whatever else they read and cleaned.
-abbrev pub EachSizeLastsAsTold : Type 0
-EachSizeLastsAsTold =
+abbrev pub EachSizeWearsAsTold : Type 0
+EachSizeWearsAsTold =
     (text told : List ℕ) (cycles runs most : ℕ) (some_enough : Bool) (calls : List Call) (blank old new : Device)
     → (sized : IsSized old.size.words text cycles runs told some_enough) → IsDemandOf old.size.pages sized.demands (Transfers most)
     → IsFormatted blank old → IsWholeRun calls old new
-    → asked_by_calls calls ≡ repeated runs sized.trace → LastsAsTold cycles most calls old new
+    → asked_by_calls calls ≡ repeated runs sized.trace → WearsAsTold cycles most calls old new
 
 -- Where they made the changes of the script so many times, and no others, the line of its size tells just as many transfers
 -- as they made; and it lasts as was told.
@@ -57,4 +57,4 @@ EachSizeMovesAsTold =
     (text told : List ℕ) (cycles runs : ℕ) (some_enough : Bool) (calls : List Call) (blank old new : Device)
     → (sized : IsSized old.size.words text cycles runs told some_enough) → IsFormatted blank old → IsWholeRun calls old new
     → made_by_calls calls ≡ repeated runs sized.trace
-    → IsDemandOf old.size.pages sized.demands (Transfers (transfers calls)) × LastsAsTold cycles (transfers calls) calls old new
+    → IsDemandOf old.size.pages sized.demands (Transfers (transfers calls)) × WearsAsTold cycles (transfers calls) calls old new

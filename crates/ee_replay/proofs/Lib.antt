@@ -8,6 +8,7 @@ pub mod Late
 pub mod Given
 pub mod Desks
 pub mod Arming
+pub mod Kept
 pub mod UncutRuns
 pub mod LegalAlone
 pub mod Powering

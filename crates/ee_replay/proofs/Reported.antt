@@ -18,6 +18,7 @@ use Rattle.ee_replay.specs.Serving.{IsServed, IsTraced, Notes, claim_noted, desk
 use Rattle.ee_image_store.specs.Opening.{StaysOn}
 use Rattle.ee_image_store.specs.Trace.{moves}
 use Rattle.ee_replay.proofs.Desks.{desk_run}
+use Rattle.ee_replay.proofs.Kept.{keeps_all}
 use Rattle.ee_replay.proofs.Late.{all_put, run_fewest, run_room, values_are}
 use Rattle.ee_replay.proofs.Runs.{machine_run}
 use Rattle.ee_replay.proofs.UncutRuns.{made_of, run_open}
@@ -103,12 +104,14 @@ is_served old new text lines notes start run is proper stays ended reported end 
     let commands = run.answered.commands in
     let answers = run.answered.answers in
     let desk = desk_run (serving_on old) new commands answers (inl stays.never_cut) run.answered.run in
+    let machine = subst (λ (state : Desk). Run (DeskStep old.size) state commands answers (desk_of new)) (unarmed old stays) desk.run in
     record {
       report = record {
         commands = commands;
         answers = answers;
         is_script = run.answered.is_script;
-        run = subst (λ (state : Desk). Run (DeskStep old.size) state commands answers (desk_of new)) (unarmed old stays) desk.run;
+        run = machine;
+        kept = keeps_all old.size commands answers (desk_with (state_of old)) (desk_of new) machine;
         uncut = λ e. uncut_report old new text lines notes run start is proper e ended reported end (plain (run.cut ∙ e));
         cut = λ e. cut_report old new text lines notes run ended reported desk.same_size end (cut (run.cut ∙ e));
       };

@@ -13,6 +13,7 @@ use Rattle.ee_script.specs.Script.{IsScript}
 use Rattle.ee_script.specs.declared.answer.Answer.{Answer}
 use Rattle.ee_script.specs.declared.command.Command.{Command}
 use Rattle.ee_image_store.specs.Machine.{Desk, DeskStep, Step, desk_with, was_cut}
+use Rattle.ee_replay.specs.Kept.{Keeps}
 use Rattle.ee_image_store.specs.Trace.{AreFewest, Fits, NoneEndsWithMoreRoom, accepted, moves, map_changes, trace_of}
 
 -- how a store of so many slots stands, and how many answers were `moved`
@@ -53,12 +54,14 @@ abbrev pub cut_report_text : ℕ → List Answer → Desk → List ℕ
 cut_report_text slots answers desk = report answers ++ (desk_line slots desk.serving desk.state (moves answers) ++ codes "no certificate\n")
 
 -- From a store that is open with the old state, on a device of this size, the script was answered as the machine's desk
--- answers it, and the new desk is what it came to. Where no line was answered `cut`, all is said that there is to say of a
--- store whose power stays on; else there is no certificate.
+-- answers it, and the new desk is what it came to. Whatever was cut, each change that was answered is kept, and each read is
+-- the map at its point. Where no line was answered `cut`, all is said that there is to say of a store whose power stays on;
+-- else there is no certificate.
 pub record IsDeskReported (size : Size) (old : State) (text : List ℕ) (new : Desk) (reported : List ℕ) : Type 0 where
   pub commands : List Command
   pub answers : List Answer
   pub is_script : IsScript text commands
   pub run : Run (DeskStep size) (desk_with old) commands answers new
+  pub kept : Run Keeps old.map commands answers new.state.map
   pub uncut : was_cut answers ≡ false → IsReported size old commands answers new.state reported
   pub cut : was_cut answers ≡ true → reported ≡ cut_report_text (slot_count size) answers new
