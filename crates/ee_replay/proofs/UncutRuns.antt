@@ -9,6 +9,7 @@ use Rattle.ee_script.specs.declared.command.Command.{Command}
 use Rattle.ee_script.specs.declared.command.Command.TheVariants.{Write, Read, Forget, Clean, Arm, PowerOn}
 use Rattle.ee_image_store.specs.Machine.{is_cut_answer, was_cut}
 use Rattle.ee_replay.specs.Serving.{Attends, Serves, serving_on}
+use Rattle.ee_replay.proofs.Powering.{now_armed}
 use Rattle.ee_replay.proofs.Runs.{neither}
 
 -- a line that is served by a store that is open, and leaves it open
@@ -18,7 +19,9 @@ pub record IsServedOpen (old : Device) (command : Command) (answer : Answer) (ne
 
 pub served_open : (old : Device) (command : Command) (answer : Answer) (new : Point) → is_cut_answer answer ≡ false → Attends (serving_on old) command answer new
     → IsServedOpen old command answer new
-served_open old (Arm fuse) Armed new plain attends = record { serves = ap (λ (point : Point). point.device) attends.1; still = ap (λ (point : Point). point.serving) attends.1 }
+served_open old (Arm fuse) Armed new plain attends =
+    let here = now_armed (serving_on old) new fuse attends.1 in
+    record { serves = ap (λ (point : Point). point.device) here; still = ap (λ (point : Point). point.serving) here }
 served_open old (Arm fuse) answer new plain attends = absurd (cc (attends.0))
 served_open old PowerOn Opened new plain attends = record { serves = ap (λ (point : Point). point.device) attends; still = ap (λ (point : Point). point.serving) attends }
 served_open old (Write address value) Appended new plain attends = record { serves = attends.0; still = attends.1 }

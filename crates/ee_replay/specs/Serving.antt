@@ -2,7 +2,9 @@
 use Rattle.std.specs.Prelude.{◌≡◌, ◌≤◌, ◌+◌, ◌*◌, zero, ℕ, Bool, List, [], ◌∷◌, ◌++◌, length, Option, Some, None, Ok, Err, true, false, IsSomeAnd}
 use Rattle.std.specs.List.{list_any}
 use Rattle.ee_flash.specs.Device.{Device, IsOn}
+use Rattle.ee_flash.specs.Memory.{Memory}
 use Rattle.ee_flash.specs.Size.{slot_count}
+use Rattle.ee_flash.specs.declared.fuse.Fuse.{Fuse}
 use Rattle.ee_pages.specs.Legal.{IsLegal}
 use Rattle.ee_store.specs.Changes.{greatest_generation}
 use Rattle.ee_store.specs.Events.{Point, closed, powered}
@@ -76,6 +78,15 @@ abbrev pub is_armed : Option ℕ → Bool
 is_armed (Some zero) = false
 is_armed left = true
 
+-- the fuse of a device in memory is this one
+abbrev pub HasFuse : Fuse → Memory → Type 0
+HasFuse fuse kept = kept.fuse ≡ Some fuse
+
+-- a device in memory is that device, but for its fuse, which is this one
+pub record IsArmed (old : Device) (fuse : Fuse) (kept : Memory) : Type 0 where
+  pub device_is : kept.device ≡ armed old
+  pub has_fuse : HasFuse fuse kept
+
 -- a store of this device is open, while it is on
 abbrev pub opened : Device → Point
 opened device = record { serving = device.on; device = device }
@@ -95,9 +106,15 @@ Powers false old Opened new = Opens (powered old) new.device × (new.serving ≡
 Powers false old Cut new = IsCutOpening (powered old) new.device × (new.serving ≡ false)
 Powers serving old answer new = ⊥
 
+-- A line arms its fuse: on the desk is a device in memory whose fuse is the line's, and a store is open on it if one was.
+pub record ArmsItsFuse (old : Point) (fuse : Fuse) (new : Point) : Type 0 where
+  pub kept : Memory
+  pub arms : IsArmed old.device fuse kept
+  pub new_is : new ≡ record old { device = kept.device }
+
 -- From this point the command is answered so, and the desk is at that one afterwards.
 abbrev pub Attends : Point → Command → Answer → Point → Type 0
-Attends old (Arm fuse) answer new = (answer ≡ Armed) × (new ≡ record old { device = armed old.device })
+Attends old (Arm fuse) answer new = (answer ≡ Armed) × ArmsItsFuse old fuse new
 Attends old PowerOn answer new = Powers old.serving old.device answer new
 Attends old command answer new = Asks old.serving old.device command answer new
 

@@ -1,12 +1,12 @@
 //! A device on the desk, with a store open on it or without: a cut is armed, and power comes back.
 ghost use Rattle.std.specs.Prelude.{◌≡◌, IfOk, true};
-ghost use Rattle.ee_flash.specs.Memory.{device_of};
+ghost use Rattle.ee_flash.specs.Memory.{device_of, memory_of};
 ghost use Rattle.ee_pages.specs.Legal.{IsLegal};
 ghost use Rattle.ee_script.specs.declared.command.Command.TheVariants.{Arm, PowerOn};
 ghost use Rattle.ee_store.specs.Runs.{Cleaned, DidRead, Forgot, Wrote};
 ghost use Rattle.ee_store.specs.State.{state_of};
 ghost use Rattle.ee_replay.specs.Desk.{Calls, IsLegalDesk, IsLegalSo, SaysTheSame, point_of};
-ghost use Rattle.ee_replay.specs.Serving.{Attends, IsSound};
+ghost use Rattle.ee_replay.specs.Serving.{Attends, IsArmed, IsSound, armed};
 
 use ee_codec::Address;
 use ee_flash::{Flash, Fuse, MemFlash};
@@ -108,6 +108,18 @@ impl<S: Opened<MemFlash<A>, A>, A: Allocator + Copy> Desk<S, A> {
         }
     }
 
+    /// The device, with this fuse. A store that was open on it is closed.
+    fn into_armed(self, fuse: Fuse) -> MemFlash<A>
+        requires { IsLegalDesk self }
+        ensures memory { IsArmed (point_of S.device self).device fuse (memory_of result) }
+        ensures device { device_of result ≡ armed (point_of S.device self).device }
+        ensures sound { IsSound (point_of S.device self) }
+    {
+        let mut flash = self.into_flash();
+        flash.arm(fuse);
+        flash
+    }
+
     /// Arms a cut. A store that is open gives its device back, and is opened again, which takes no
     /// step. An error says that memory ran out.
     pub(crate) fn arm(self, alloc: A, fuse: Fuse) -> (Desk<S, A>, Result<Answer, AllocError>)
@@ -118,8 +130,7 @@ impl<S: Opened<MemFlash<A>, A>, A: Allocator + Copy> Desk<S, A> {
         ensures same { SaysTheSame (point_of S.device self).device (point_of S.device result.0).device }
     {
         let open = self.is_open();
-        let mut flash = self.into_flash();
-        flash.arm(fuse);
+        let flash = self.into_armed(fuse);
         if !open {
             return (Desk::Bare(flash), Ok(Answer::Armed));
         }
