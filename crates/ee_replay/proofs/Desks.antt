@@ -76,7 +76,7 @@ whole old command answer new made serves follows uncut plain still most =
     }
 
 cut_change : (old : Device) (change : Change) (new : Device) → IsCutChange old change new → CutsChange old.size (state_of old) change (state_of new)
-cut_change old change new cut = record { accepted = cut.proceeds.accepted; free = cut.free; all_used = cut.all_used }
+cut_change old change new cut = record { accepted = cut.proceeds.accepted; within = cut.within; free = cut.free; all_used = cut.all_used }
 
 -- what is so of each cut in a call of an open store
 record IsCutHere (old : Device) (new : Point) : Type 0 where

@@ -8,8 +8,8 @@ use Rattle.ee_script.specs.declared.answer.Answer.TheVariants.{Appended, Moved, 
 use Rattle.ee_script.specs.declared.command.Command.{Command}
 use Rattle.ee_script.specs.declared.command.Command.TheVariants.{Write, Read, Forget, Clean, Arm, PowerOn}
 use Rattle.ee_image_store.specs.Machine.{is_cut_answer, was_cut}
-use Rattle.ee_replay.specs.Serving.{Attends, IsMade, Serves, serving_on}
-use Rattle.ee_replay.proofs.Runs.{machine_run, neither, whole_run}
+use Rattle.ee_replay.specs.Serving.{Attends, Serves, serving_on}
+use Rattle.ee_replay.proofs.Runs.{neither}
 
 -- a line that is served by a store that is open, and leaves it open
 pub record IsServedOpen (old : Device) (command : Command) (answer : Answer) (new : Point) : Type 0 where
@@ -58,10 +58,3 @@ run_open old new (command ∷ commands) (answer ∷ answers) plain run =
     let further = subst (λ (point : Point). Run Attends point commands answers new) (at_open run.0 here.still) run.2 in
     let rest = run_open run.0.device new commands answers parts.1 further in
     record { run = (run.0.device, here.serves, rest.run); still = rest.still }
-
-pub made_of : (old : Device) (new : Point) (commands : List Command) (answers : List Answer) → Run Attends (serving_on old) commands answers new → IsMade old commands answers new
-made_of old new commands answers run = record {
-  lines = run;
-  erases = λ plain. (machine_run old new.device commands answers (run_open old new commands answers plain run).run).erases;
-  calls = λ plain unarmed. whole_run old new.device commands answers unarmed (run_open old new commands answers plain run).run;
-}

@@ -8,7 +8,7 @@ use Rattle.ee_store.specs.Changes.{greatest_generation}
 use Rattle.ee_store.specs.Events.{Point, closed, powered}
 use Rattle.ee_store.specs.Finished.{IsStore}
 use Rattle.ee_store.specs.Openings.{IsCutOpening, Opens}
-use Rattle.ee_store.specs.Runs.{Call, Wrote, Forgot, DidRead, Follows, IsWholeRun}
+use Rattle.ee_store.specs.Runs.{Call, Wrote, Forgot, DidRead, Follows, IsWholeRun, WearsAtMost}
 use Rattle.ee_store.specs.Runs as call
 use Rattle.ee_store.specs.State.{state_of}
 use Rattle.ee_store.specs.declared.variables.ForgetFault.TheVariants as forgetting
@@ -114,11 +114,13 @@ abbrev pub is_armed_by : List Command → Bool
 is_armed_by commands = list_any is_arming commands
 
 -- What the lines made of a store that is open on a device on which no cut is to come: each made its call, or armed a cut, or
--- turned power on. Where no line was cut, each move left the pages of a set to be erased, and any other answer none; and
--- where none was armed either, it is a whole run of calls.
+-- turned power on. Where no line was cut, each move left the pages of a set to be erased, and any other answer none, and no
+-- page was erased more often than at every second move, by where it stood; and where no cut was armed either, it is a whole
+-- run of calls.
 pub record IsMade (old : Device) (commands : List Command) (answers : List Answer) (new : Point) : Type 0 where
   pub lines : Run Attends (serving_on old) commands answers new
   pub erases : was_cut answers ≡ false → ErasesRise (erases_of_all old.size answers) old new.device
+  pub wears : was_cut answers ≡ false → (page : ℕ) → WearsAtMost (moves answers) page old new.device
   pub calls : was_cut answers ≡ false → is_armed_by commands ≡ false → IsWholeRun (calls_of commands answers) old new.device
 
 -- ---- a store that is open, while power is not cut

@@ -3,7 +3,6 @@ ghost use Rattle.std.specs.Prelude.{◌≡◌, IfOk, true};
 ghost use Rattle.ee_flash.specs.Memory.{device_of};
 ghost use Rattle.ee_pages.specs.Legal.{IsLegal};
 ghost use Rattle.ee_script.specs.declared.command.Command.TheVariants.{Arm, PowerOn};
-ghost use Rattle.ee_store.specs.Finished.{IsStore};
 ghost use Rattle.ee_store.specs.Runs.{Cleaned, DidRead, Forgot, Wrote};
 ghost use Rattle.ee_store.specs.State.{state_of};
 ghost use Rattle.ee_replay.specs.Desk.{Calls, IsLegalDesk, IsLegalSo, SaysTheSame, point_of};
@@ -55,16 +54,10 @@ impl<S: Opened<MemFlash<A>, A>, A: Allocator + Copy> Desk<S, A> {
     pub(crate) fn write(&mut self, address: Address, value: u32) -> Result<Written, WriteFault>
         ensures calls { let old = point_of S.device self.old in Calls old.serving old.device
             (Wrote address value result) (point_of S.device self.new) }
-        ensures store { let old = point_of S.device self.old in
-            old.serving ≡ true → IsStore old.device }
         ensures legal { IsLegalSo self.old → IsLegalSo self.new }
     {
         match self {
-            Desk::Open(store) => {
-                // It says that the image is legal, which tells how many slots may be used.
-                let _ = store.is_on();
-                store.write(address, value)
-            }
+            Desk::Open(store) => store.write(address, value),
             Desk::Bare(_) | Desk::Gone => Err(WriteFault::Off),
         }
     }
@@ -73,16 +66,10 @@ impl<S: Opened<MemFlash<A>, A>, A: Allocator + Copy> Desk<S, A> {
     pub(crate) fn forget(&mut self, address: Address) -> Result<Written, ForgetFault>
         ensures calls { let old = point_of S.device self.old in Calls old.serving old.device
             (Forgot address result) (point_of S.device self.new) }
-        ensures store { let old = point_of S.device self.old in
-            old.serving ≡ true → IsStore old.device }
         ensures legal { IsLegalSo self.old → IsLegalSo self.new }
     {
         match self {
-            Desk::Open(store) => {
-                // It says that the image is legal, which tells how many slots may be used.
-                let _ = store.is_on();
-                store.forget(address)
-            }
+            Desk::Open(store) => store.forget(address),
             Desk::Bare(_) | Desk::Gone => Err(ForgetFault::Off),
         }
     }
