@@ -184,7 +184,7 @@ is_written settings old new name value written.Appended on set = record {
   setting = set.0;
   named = set.1;
   in_range = set.2;
-  written = inl (
+  served = inl (
     record {
       step = (set.3.proceeds.accepted, set.3.free, set.3.state_is);
       same_size = set.3.goes_on.same_size;
@@ -193,12 +193,14 @@ is_written settings old new name value written.Appended on set = record {
     set.3.no_wear,
   );
   stays_on = record { on = set.3.goes_on.same_power ∙ on.on; never_cut = set.3.goes_on.same_cuts_left ∙ on.never_cut };
+  answer = written.Appended;
+  written = set.3;
 }
 is_written settings old new name value written.Moved on set = record {
   setting = set.0;
   named = set.1;
   in_range = set.2;
-  written = inr (
+  served = inr (
     record {
       step = (set.3.proceeds.accepted, set.3.all_used, set.3.state_is);
       same_size = set.3.goes_on.same_size;
@@ -207,6 +209,8 @@ is_written settings old new name value written.Moved on set = record {
     set.3.wear,
   );
   stays_on = record { on = set.3.goes_on.same_power ∙ on.on; never_cut = set.3.goes_on.same_cuts_left ∙ on.never_cut };
+  answer = written.Moved;
+  written = set.3;
 }
 
 -- what was served by an opened store was served by what its text spells
@@ -234,14 +238,17 @@ size_kept old new address value (inr h) = h.0.same_size
 pub is_set : (image text name new_image line : List ℕ) (value : ℕ) (store new flash : Device) (settings : List Setting) → IsOpened image store → SpellsSettings text settings → IsWritten settings store name value new
     → IsStore new → flash ≡ new → Spells new_image flash → line ≡ line_of (codes "set") → IsSet image text name value new_image line
 is_set image text name new_image line value store new flash settings opened spelled done left same spells says =
-    let served = served_from_text image store new done.setting.numbers.address value opened done.written in
+    let served = served_from_text image store new done.setting.numbers.address value opened done.served in
     record {
       device = opened.device;
+      store = store;
+      last = new;
       old = opened.old;
+      opens = opened.opens;
       settings = settings;
       spelled = spelled;
-      last = new;
-      written = record { setting = done.setting; named = done.named; in_range = done.in_range; written = served; stays_on = done.stays_on };
+      written = done;
+      served = served;
       left = record {
         spelled = subst (Spells new_image) same spells;
         store = left;
@@ -322,7 +329,7 @@ written_good : (settings : List Setting) (old new : Device) (name : List ℕ) (v
 written_good settings old new name value cause rising some done (inl h) = h.0 done.setting done.named
 written_good settings old new name value cause rising some done (inr (inr h)) = some h
 written_good settings old new name value cause rising some done (inr (inl h)) =
-    accepted_value done.setting old.size (state_of old) value cause done.in_range (accepted_by old new done.setting.numbers.address value done.written)
+    accepted_value done.setting old.size (state_of old) value cause done.in_range (accepted_by old new done.setting.numbers.address value done.served)
     (subst (λ (s : Setting). IsValueRefusal s old.size (state_of old) value cause) (one_named settings name h.0 done.setting rising h.1 done.named) h.2)
 
 -- what refuses a value in the image refuses it in its store

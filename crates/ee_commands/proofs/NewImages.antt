@@ -10,6 +10,7 @@ pub is_formatted : (size : Size) (image : List ℕ) (store flash : Device) → I
 is_formatted size image store flash new left same spelled = record {
   device = store;
   left = record { spelled = subst (Spells image) same spelled; store = left; stays_on = new.stays_on; same_size = new.size_is };
+  formats = new.formats;
   state_is = new.state_is;
   no_wear = new.no_wear;
 }

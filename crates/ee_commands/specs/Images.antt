@@ -1,13 +1,15 @@
 -- What the commands without a script make of an image.
-use Rattle.std.specs.Prelude.{◌≡◌, ℕ, ◌+◌, List, [], ◌∷◌, ◌++◌, decimal, codes, replicate}
+use Rattle.std.specs.Prelude.{◌≡◌, ℕ, ◌+◌, List, [], ◌∷◌, ◌++◌, Ok, true, decimal, codes, replicate}
 use Rattle.ee_text.specs.Field.{joined}
 use Rattle.ee_text.specs.Line.{line_of}
-use Rattle.ee_flash.specs.Device.{Device}
+use Rattle.ee_flash.specs.Device.{Device, blank_device}
 use Rattle.ee_flash.specs.Size.{Size, page_count}
 use Rattle.ee_flash.specs.declared.word.Word.{Word}
 use Rattle.ee_pages.specs.Page.{state_of_words}
 use Rattle.ee_pages.specs.declared.state.State as page
 use Rattle.ee_pages.specs.declared.state.State.TheVariants.{Erased, Receive, Active, Valid, Erasing}
+use Rattle.ee_store.specs.Openings.{IsFormatted, Opens}
+use Rattle.ee_store.specs.Runs.{Cleaned, IsWholeRun}
 use Rattle.ee_store.specs.State.{Wears, formatted, pending_pages, state_of, with_pending}
 use Rattle.ee_image.specs.Fault.{IsImageFault}
 use Rattle.ee_image.specs.declared.fault.ImageFault.{ImageFault}
@@ -17,10 +19,12 @@ use Rattle.ee_words.specs.declared.fault.Fault.{Fault}
 use Rattle.ee_words.specs.declared.fault.File.TheVariants.{Image}
 use Rattle.ee_words.specs.declared.replay_fault.ReplayFault.{ReplayFault}
 
--- the text of a store with nothing in it, on a device of this size that no page of was erased
+-- the text of a store with nothing in it, as formatting leaves a device of this size that was never used: no page of it
+-- was erased
 pub record IsFormattedText (size : Size) (text : List ℕ) : Type 0 where
   pub device : Device
   pub left : IsStoreLeft size text device
+  pub formats : IsFormatted (blank_device size) device
   pub state_is : state_of device ≡ formatted
   pub no_wear : device.wear ≡ replicate (page_count size) 0
 
@@ -28,12 +32,16 @@ pub record IsFormattedText (size : Size) (text : List ℕ) : Type 0 where
 abbrev pub cleaned_text : ℕ → List ℕ
 cleaned_text pages = line_of (joined (codes "cleaned" ∷ decimal pages ∷ []))
 
--- The image is left with each value, as much used and of the same generation, and no page waits to be erased any more;
--- those that waited were erased, each once, and no other.
+-- The store of the image was opened, and took a clean step for each page that waited to be erased. So the image is left
+-- with each value, as much used and of the same generation, and no page waits any more; those that waited were erased, each
+-- once, and no other.
 pub record IsCleaned (old_image new_image text : List ℕ) : Type 0 where
   pub device : Device
+  pub store : Device
   pub last : Device
   pub old : IsStoreText old_image device
+  pub opens : Opens device store
+  pub cleans : IsWholeRun (replicate (state_of device).pending (Cleaned (Ok true))) store last
   pub left : IsStoreLeft device.size new_image last
   pub state_is : state_of last ≡ with_pending 0 (state_of device)
   pub wear : Wears (pending_pages device) device last

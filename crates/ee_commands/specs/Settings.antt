@@ -7,8 +7,11 @@ use Rattle.ee_text.specs.Field.{joined}
 use Rattle.ee_text.specs.Line.{line_of}
 use Rattle.ee_flash.specs.Device.{Device}
 use Rattle.ee_flash.specs.Size.{Size, slot_count}
+use Rattle.ee_store.specs.Calls.{Writes}
 use Rattle.ee_store.specs.Changes.{IsFull, IsSpent}
+use Rattle.ee_store.specs.Openings.{Opens}
 use Rattle.ee_store.specs.State.{State, Wears, pending_pages, state_of}
+use Rattle.ee_store.specs.declared.variables.Written.{Written}
 use Rattle.ee_settings.specs.Calls.{IsNamed, IsUnknown}
 use Rattle.ee_settings.specs.File.{GivesSchema}
 use Rattle.ee_settings.specs.Setting.{IsInRange, Setting, reading_in}
@@ -83,23 +86,29 @@ IsWriteServed old address value new =
     (Steps old (Write address value) Appended new × (new.wear ≡ old.wear))
     ⊎ (Steps old (Write address value) Moved new × Wears (pending_pages old) old new)
 
--- The value is in the range of the name's setting, and it was written at the setting's address, as the report machine
--- answers a write.
+-- The value is in the range of the name's setting, and one write of it at the setting's address was served, as the report
+-- machine answers a write.
 pub record IsWritten (settings : List Setting) (old : Device) (name : List ℕ) (value : ℕ) (new : Device) : Type 0 where
   pub setting : Setting
   pub named : IsNamed settings name setting
   pub in_range : IsInRange setting.numbers value
-  pub written : IsWriteServed old setting.numbers.address value new
+  pub served : IsWriteServed old setting.numbers.address value new
   pub stays_on : StaysOn new
+  pub answer : Written
+  pub written : Writes old setting.numbers.address value (Ok answer) new
 
--- The image is left with the value written for the name's setting.
+-- The store of the image was opened, and the value was written for the name's setting; so the write was served from the
+-- state that the image says.
 pub record IsSet (old_image settings_text name : List ℕ) (value : ℕ) (new_image line : List ℕ) : Type 0 where
   pub device : Device
+  pub store : Device
+  pub last : Device
   pub old : IsStoreText old_image device
+  pub opens : Opens device store
   pub settings : List Setting
   pub spelled : SpellsSettings settings_text settings
-  pub last : Device
-  pub written : IsWritten settings device name value last
+  pub written : IsWritten settings store name value last
+  pub served : IsWriteServed device written.setting.numbers.address value last
   pub left : IsStoreLeft device.size new_image last
   pub line_is : line ≡ line_of (codes "set")
 

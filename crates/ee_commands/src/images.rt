@@ -1,7 +1,8 @@
 //! The commands without a script.
-ghost use Rattle.std.specs.Prelude.{◌≡◌, ◌≢◌, ◌⊎◌, ◌<◌, ◌-◌, ◌++◌, IfOk, IfErr, MatchResult, OnOk};
+ghost use Rattle.std.specs.Prelude.{◌≡◌, ◌≢◌, ◌⊎◌, ◌<◌, ◌-◌, ◌++◌, IfOk, IfErr, MatchResult, Ok, OnOk, replicate, true};
 ghost use Rattle.ee_text.specs.Line.{line_of};
-ghost use Rattle.ee_store.specs.Calls.{ErasesLowest};
+ghost use Rattle.ee_store.specs.Calls.{Cleans, ErasesLowest};
+ghost use Rattle.ee_store.specs.Runs.{Cleaned, IsWholeRun};
 ghost use Rattle.ee_store.specs.State.{Wears, pending_pages, state_of, with_pending};
 ghost use Rattle.ee_commands.specs.Images.{AreStates, IsCleaned, IsFormattedText, IsOpeningFault, IsReadingFault, cleaned_text, state_lines, state_name, state_text};
 ghost use Rattle.ee_image_store.specs.Opening.{StaysOn};
@@ -87,12 +88,14 @@ pub fn states_text<A: Allocator + Copy>(alloc: A, image: &[u8]) -> Result<Vec<u8
 }
 
 /// Erases each page that waits for it, and gives their number.
-#[tactic(auto, using(crate::proofs::Fronts::front_none, crate::proofs::Fronts::front_more, crate::proofs::Fronts::front_all))]
+#[tactic(auto, using(crate::proofs::Fronts::front_none, crate::proofs::Fronts::front_more, crate::proofs::Fronts::front_all, crate::proofs::Cleaning::cleans_none, crate::proofs::Cleaning::cleans_more))]
 fn clean_all<V: Variables>(store: &mut V) -> usize
     requires { StaysOn (V.device store.old) }
     ensures count { result ≡ (state_of (V.device store.old)).pending }
     ensures stays_on { StaysOn (V.device store.new) }
     ensures same_size { (V.device store.new).size ≡ (V.device store.old).size }
+    ensures cleans { IsWholeRun (replicate result (Cleaned (Ok true)))
+        (V.device store.old) (V.device store.new) }
     ensures state { state_of (V.device store.new)
         ≡ with_pending 0 (state_of (V.device store.old)) }
     ensures wear { let old = V.device store.old in Wears (pending_pages old) old (V.device store.new) }
@@ -115,6 +118,7 @@ fn clean_one<V: Variables>(store: &mut V)
     ensures state { let old = state_of (V.device store.old) in
         state_of (V.device store.new) ≡ with_pending (old.pending - 1) old }
     ensures lowest { ErasesLowest (V.device store.old) (V.device store.new) }
+    ensures cleans { Cleans (V.device store.old) (Ok true) (V.device store.new) }
 {
     match store.clean_step() {
         Ok(true) => {}

@@ -23,6 +23,11 @@ impl<B: Allocator> Refusing<B> {
         }
     }
 
+    /// How many requests are still to come, with the one that is refused; 0 from then on.
+    pub fn left(&self) -> u64 {
+        self.left.get()
+    }
+
     /// Whether the request that is refused was made.
     pub fn has_refused(&self) -> bool {
         self.left.get() == 0

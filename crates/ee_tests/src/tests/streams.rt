@@ -60,6 +60,9 @@ fn each_failed_read_is_told(rt: HostRuntime) {
     // What is met first is told. No good line has more than 24 bytes, so the second is judged before its end.
     let cut_in_two = is_replayed(rt.alloc(), b"w 1 10\nw 1", 11, ErrorKind::Other);
     same(&rt, cut_in_two, Err(ReplayFault::Read));
+    // Its last line has no line feed, where no read fails.
+    let unended = is_replayed(rt.alloc(), b"w 1 10\nw 1", 0, ErrorKind::Other);
+    same(&rt, unended, Err(ReplayFault::Script(2)));
     let too_long = b"w 1 10\n9999999999999999999999999";
     let bad = is_replayed(rt.alloc(), too_long, 33, ErrorKind::Other);
     same(&rt, bad, Err(ReplayFault::Script(2)));

@@ -1,5 +1,7 @@
 use Rattle.std.proofs.Common.{◌≡◌, ◌+◌, ◌-◌, ◌≤◌}
+use Rattle.ee_store.specs.Runs.{IsWholeRun}
 use Rattle.ee_store.specs.State.{state_of, with_pending}
+use Rattle.ee_commands.proofs.Cleaning.{cleanings}
 use Rattle.ee_commands.proofs.Fronts.{ErasesFront}
 use Rattle.ee_image_store.specs.Opening.{StaysOn}
 use Rattle.ee_commands.proofs.images.clean_all.Given as goal
@@ -17,6 +19,7 @@ invariant-cleaning g l =
       count : (state_of now).pending + l.erased ≡ l.waiting;
       kept : state_of now ≡ with_pending (state_of now).pending (state_of first);
       erased : ErasesFront first now;
+      cleans : IsWholeRun (cleanings l.erased) first now;
     }
 
 abbrev pub decreases-cleaning : goal.decreases-cleaning

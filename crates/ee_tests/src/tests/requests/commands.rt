@@ -1,9 +1,11 @@
 //! The commands over bytes.
+use crate::Refusing;
 use crate::tests::images::{
     CERTIFICATE, CLEANED, FORMATTED, ONE_MOVE, REPORT, SCRIPT, TIDIED, TWO_MOVES, VOLUME,
 };
-use crate::tests::shape;
 use crate::tests::trial::with_each_refusal;
+use crate::tests::{same, shape};
+use ee_pages::ScanFault;
 use ee_shell::{
     Replayed, check_script, clean_image, format_image, get_setting, list_text, plan_script, replay,
     replay_indexed, replay_reader, set_setting, size_parts, stale_text, states_text, tidy_image,
@@ -63,6 +65,43 @@ fn scripts(rt: HostRuntime) -> Result<(), Fail> {
         moves_twice(try_script(alloc, shape, SCRIPT))
     });
     Ok(())
+}
+
+/// A replay by the store with an index takes memory for it.
+#[test]
+fn an_index_takes_memory(rt: HostRuntime) {
+    let plain = Refusing::new(rt.alloc(), u64::MAX);
+    let moves = moves_twice(replay(&plain, FORMATTED, SCRIPT));
+    same(&rt, moves, Some(true));
+    let indexed = Refusing::new(rt.alloc(), u64::MAX);
+    let moves = moves_twice(replay_indexed(&indexed, FORMATTED, SCRIPT));
+    same(&rt, moves, Some(true));
+    same(&rt, plain.left() > indexed.left(), true);
+}
+
+// Whether the fault is that the image is not formatted.
+fn finds_no_store<A: Allocator>(given: Result<Replayed<A>, ReplayFault>) -> Option<bool> {
+    match given {
+        Ok(_) => Some(false),
+        Err(ReplayFault::Memory) => None,
+        Err(fault) => Some(fault == ReplayFault::Open(ScanFault::Unformatted)),
+    }
+}
+
+/// An image that is not legal is told as that.
+#[test]
+fn blank_images(rt: HostRuntime) {
+    let blank = b"ee 1 6\n0 - - - - - -\n0 - - - - - -\n";
+    with_each_refusal(&rt, rt.alloc(), 1, |alloc| {
+        finds_no_store(replay(alloc, blank, SCRIPT))
+    });
+    with_each_refusal(&rt, rt.alloc(), 1, |alloc| {
+        finds_no_store(replay_indexed(alloc, blank, SCRIPT))
+    });
+    with_each_refusal(&rt, rt.alloc(), 1, |alloc| {
+        let mut reader = SCRIPT;
+        finds_no_store(replay_reader(alloc, blank, &mut reader))
+    });
 }
 
 #[test]
