@@ -1,5 +1,7 @@
 """What bench/test tries of the files that `ee` reads and writes: an image is written whole or not at
-all, links and modes stay, and inputs are read once, before anything is written."""
+all, and only while it is what was read, links and modes stay, and inputs are read before anything is written."""
+import errno
+import fcntl
 import os
 import re
 import resource
@@ -7,10 +9,11 @@ import shutil
 import signal
 import stat
 import subprocess
+import time
 
 from cases import worked
 
-SAVING = "image.ee-saving"
+SAVING = "image.ee-saving-0"
 # The worked example all-live, which begins with the image that two moves leave, and its tight certificate.
 ALL_LIVE = worked.example("all-live")
 MOVED = ALL_LIVE.files["image"]
@@ -46,6 +49,9 @@ REFUSED = {
     "no settings": ["tidy", "image", "script"],
 }
 CANNOT_WRITE_IMAGE = (3, b"", b"ee: cannot write image\n")
+IMAGE_CHANGED = (3, b"", b"ee: image changed\n")
+# How often two runs are started at once.
+ROUNDS = 100
 
 
 class Wrong(Exception):
@@ -133,13 +139,16 @@ def no_room(place, writer):
             ended = place.run(WRITERS[writer], preexec_fn=limited(size, ignored))
             what = f"after {size} bytes of {len(new)}"
             expect(MOVED, place.text(), "the image " + what)
-            if ignored or ended[0] != -signal.SIGXFSZ:
+            left = [SAVING] if not ignored and ended[0] == -signal.SIGXFSZ else []
+            if not left:
                 expect(CANNOT_WRITE_IMAGE, ended, "the end " + what)
-                expect(sorted(INPUTS), place.names(), "files " + what)
+            expect(sorted([*INPUTS, *left]), place.names(), "files " + what)
             expect(0, place.run(WRITERS[writer])[0], "status of the run behind it")
             expect(new, place.text(), "the image of the run behind it")
-            expect(sorted(INPUTS), place.names(), "files of the run behind it")
+            expect(sorted([*INPUTS, *left]), place.names(), "files of the run behind it")
             place.put("image", MOVED)
+            for name in left:
+                os.unlink(place.path(name))
     expect(0, place.run(WRITERS[writer], preexec_fn=limited(len(new), False))[0], "status where it just fits")
     expect(new, place.text(), "the image where it just fits")
 
@@ -178,15 +187,109 @@ def modes(place, writer):
 
 
 def leftover(place, writer):
-    """What a run that died left behind hinders no other."""
+    """What a run that died left behind hinders no other, and stays."""
     new = written_by(place, writer)
     for text in (b"", b"ee 1", 3 * new):
         place.put(SAVING, text, 0o600)
         expect(0, place.run(WRITERS[writer])[0], "status")
         expect(new, place.text(), "the image")
         expect(oct(0o644), place.mode(), "mode")
-        expect(sorted(INPUTS), place.names(), "files")
+        expect(text, place.text(SAVING), "what was left")
+        expect(sorted([*INPUTS, SAVING]), place.names(), "files")
         place.put("image", MOVED)
+
+
+def held(place, writer):
+    """Where another has the image's lock nothing is written; a lock is gone with who had it."""
+    new = written_by(place, writer)
+    with open(place.path("image"), "rb") as file:
+        fcntl.flock(file, fcntl.LOCK_EX)
+        expect(IMAGE_CHANGED, place.run(WRITERS[writer]), "the end")
+        expect(MOVED, place.text(), "the image")
+        expect(sorted(INPUTS), place.names(), "files")
+    expect(0, place.run(WRITERS[writer])[0], "status of the run behind it")
+    expect(new, place.text(), "the image of the run behind it")
+
+
+def start_run(place, command, address, value):
+    """Starts a run that writes a value at an address, by a script that comes through a pipe."""
+    script = f"script-{address}"
+    if not os.path.exists(place.path(script)):
+        os.mkfifo(place.path(script))
+    run = subprocess.Popen([place.program, *command, "image", script], cwd=place.folder, stdin=subprocess.DEVNULL,
+                           stdout=subprocess.PIPE, stderr=subprocess.PIPE)
+    return run, script, f"w {address} {value}\n".encode()
+
+
+def begin(place, script):
+    """Waits until a run opens its script, which comes behind its image, and gives the pipe to it."""
+    for _ in range(20000):
+        try:
+            return os.fdopen(os.open(place.path(script), os.O_WRONLY | os.O_NONBLOCK), "wb")
+        except OSError as error:
+            if error.errno != errno.ENXIO:
+                raise
+            time.sleep(0.001)
+    raise Wrong(f"nobody opens {script}")
+
+
+def end(run):
+    printed, told = run.communicate(timeout=60)
+    return run.returncode, printed, told
+
+
+def changed_meanwhile(place, writer):
+    """An image that another program changes while a run reads its script stays as that left it."""
+    run, script, line = start_run(place, WRITERS[writer][:-2], 1, 10)
+    with begin(place, script) as pipe:
+        place.put("image", MOVED.replace(b"0000000c", b"0000000d"))
+        pipe.write(line)
+    expect(IMAGE_CHANGED, end(run), "the end")
+    expect(MOVED.replace(b"0000000c", b"0000000d"), place.text(), "the image")
+    expect(sorted([*INPUTS, script]), place.names(), "files")
+
+
+def gone_meanwhile(place, writer):
+    """An image that is gone isn't made anew."""
+    run, script, line = start_run(place, WRITERS[writer][:-2], 1, 10)
+    with begin(place, script) as pipe:
+        os.unlink(place.path("image"))
+        pipe.write(line)
+    expect(IMAGE_CHANGED, end(run), "the end")
+    expect(sorted({*INPUTS, script} - {"image"}), place.names(), "files")
+
+
+def at_once(place, _):
+    """Two runs at once on one image, many times: what a run that ended with 0 wrote stands in the image, and each other
+    said that the image changed. In every second round both have read the image before either goes on: then it is
+    one of them that writes. In the others they go as they come."""
+    expect(0, place.run(["format", "2", "64", "image"])[0], "status")
+    wanted = {}
+    for number in range(ROUNDS):
+        runs = [start_run(place, command, address, number) for command, address in ((["run"], 1), (["run", "--indexed"], 2))]
+        if number % 2:
+            pipes = [begin(place, script) for _, script, _ in runs]
+            for pipe, (_, _, line) in zip(pipes, runs):
+                pipe.write(line)
+            for pipe in pipes:
+                pipe.close()
+        else:
+            for _, script, line in runs:
+                with begin(place, script) as pipe:
+                    pipe.write(line)
+        done = 0
+        for address, (run, _, _) in enumerate(runs, 1):
+            ended = end(run)
+            if ended[0] == 0:
+                wanted[address] = number
+                done += 1
+            else:
+                expect(IMAGE_CHANGED, ended, f"the end of a run of round {number}")
+        if done == 0 or done == 2 and number % 2:
+            raise Wrong(f"round {number}: {done} runs ended with 0")
+        found = dict(map(int, line.split()) for line in place.run(["list", "image"])[1].splitlines())
+        expect(wanted, found, f"the image behind round {number}")
+    expect(sorted([*INPUTS, "script-1", "script-2"]), place.names(), "files")
 
 
 def full_output(place, words, new):
@@ -294,11 +397,11 @@ def refused(place, cause):
 
 
 def calls_of(place, words):
-    """The system calls of a run that open, read, write beside standard output, or rename: each a
+    """The system calls of a run that open, lock, read, write beside standard output, or rename: each a
     kind and a path."""
     log = place.path("strace")
     place.run(words, prefix=["strace", "-f", "-y", "-o", log, "-e",
-                             "trace=open,openat,creat,read,pread64,readv,rename,renameat,renameat2,truncate"])
+                             "trace=open,openat,creat,flock,read,pread64,readv,rename,renameat,renameat2,truncate"])
     with open(log) as file:
         lines = file.read().splitlines()
     os.unlink(log)
@@ -309,9 +412,12 @@ def calls_of(place, words):
             continue
         name, operands = found[1], found[2]
         if name in ("open", "openat", "creat"):
-            writes = name == "creat" or re.search(r"O_WRONLY|O_RDWR|O_CREAT|O_TRUNC", operands)
-            kind = "write" if writes else "folder" if re.search("O_DIRECTORY|O_PATH", operands) else "open"
+            writes = name == "creat" or re.search(r"O_CREAT|O_TRUNC", operands)
+            holds = re.search(r"O_WRONLY|O_RDWR", operands)
+            kind = "write" if writes else "hold" if holds else "folder" if re.search("O_DIRECTORY|O_PATH", operands) else "open"
             calls.append((kind, re.search(r'"(.*?)"', operands)[1]))
+        elif name == "flock":
+            calls.append(("lock", re.search(r"<(.*?)>", operands)[1]))
         elif name in ("read", "pread64", "readv"):
             calls.append(("read", re.search(r"<(.*?)>", operands)[1]))
         else:
@@ -320,7 +426,8 @@ def calls_of(place, words):
 
 
 def system_calls(place, name):
-    """Each input is opened once, and nothing is opened for writing before the last of them is read."""
+    """Each input is opened once and read, then the image is opened for writing and locked, and read once more; and only
+    then is anything made."""
     words = {**WRITERS, **READERS, **REFUSED}[name]
     calls = calls_of(place, words)
     opened = [path for kind, path in calls if kind == "open"]
@@ -333,6 +440,12 @@ def system_calls(place, name):
     expect(name in WRITERS, bool(writes), "something is written")
     if reads and writes and writes[0] < reads[-1]:
         raise Wrong(f"{calls[writes[0]]} comes before the last read of an input")
+    holds = [number for number, (kind, _) in enumerate(calls) if kind == "hold"]
+    expect(int(name in WRITERS), len(holds), "how often a file is opened for writing that is there")
+    if holds:
+        image = place.path("image")
+        expect([("hold", image), ("lock", image)], calls[holds[0]:holds[0] + 2], "the lock")
+        expect([], [calls[number] for number in reads if number > holds[0] and calls[number][1] != image], "what is read behind it")
 
 
 def can_mount(folder):
@@ -343,7 +456,8 @@ def can_mount(folder):
 
 def usual_checks():
     """The checks that can be made everywhere: a function, and the names that it is given."""
-    return [(no_room, WRITERS), (links, WRITERS), (modes, WRITERS), (leftover, WRITERS),
+    return [(no_room, WRITERS), (links, WRITERS), (modes, WRITERS), (leftover, WRITERS), (held, WRITERS),
+            (changed_meanwhile, ["run", "run --indexed"]), (gone_meanwhile, ["run", "run --indexed"]), (at_once, ["runs"]),
             (full_output_writer, WRITERS), (full_output_reader, [name for name in READERS if name != "stale"]),
             (output_as_image, ["format"]), (new_image, ["format"]), (refused, REFUSED)]
 

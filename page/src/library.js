@@ -56,12 +56,11 @@ class Library {
   }
 
   /** Lends the module memory behind its own, and fills the mirror there with these cells.
-   *  @param {Cells} cells @returns {Loan} */
-  lend(cells) {
+   *  @param {Cells} cells @param {number} places of the list: as many as a call takes at the most @returns {Loan} */
+  lend(cells, places = slotsOf(cells) + 6 * cells.pages + 1) {
     const words = this.base + 64;
     const wears = words + 8 * cells.words.length;
     const list = wears + 8 * cells.wears.length;
-    const places = slotsOf(cells) + 6 * cells.pages + 1;
     const flags = list + 24 * places;
     this.reach(flags + cells.flags.length);
     const memory = this.memory.buffer;
@@ -86,9 +85,10 @@ class Library {
   }
 
   /** A call that takes steps: format, open, write, forget, clean. The cells stay as they are.
-   *  @param {string} name @param {Cells} cells @param {number[]} operands @returns {Done} */
-  change(name, cells, operands = []) {
-    const loan = this.lend(cells);
+   *  @param {string} name @param {Cells} cells @param {number[]} operands @param {number} [places] of the list
+   *  @returns {Done} */
+  change(name, cells, operands = [], places = undefined) {
+    const loan = this.lend(cells, places);
     this.exports["ee_" + name](...this.mirror(cells, loan), BigInt(loan.list), BigInt(loan.places), ...operands);
     const [status, listed, page, place] = this.numbers(loan, 4);
     const list = new BigUint64Array(this.memory.buffer, loan.list, 3 * listed);

@@ -46,7 +46,7 @@ function plotPoint(size, runsADay, scale, isShown) {
     const y = PLOT.height - PLOT.bottom - 5;
     return `<path class="misfit" d="M${x - 3} ${y - 3}l6 6m0 -6l-6 6">${title}</path>`;
   }
-  const y = scale(yearsOf(size, runsADay));
+  const y = scale(yearsOf(size.runs, runsADay));
   const ring = isShown ? `<circle class="shown" cx="${x}" cy="${y}" r="6.5"/>` : "";
   return `${ring}<circle class="point" cx="${x}" cy="${y}" r="2.6">${title}</circle>`;
 }
@@ -54,19 +54,31 @@ function plotPoint(size, runsADay, scale, isShown) {
 /** @param {Size} size @param {number} runsADay */
 function sizeText(size, runsADay) {
   if (size.misfit > 0) return `change ${size.misfit} does not fit`;
-  return size.runs === 0 ? "worn in the first run" : yearsText(yearsOf(size, runsADay));
+  return size.runs === 0 ? "worn in the first run" : yearsText(yearsOf(size.runs, runsADay));
+}
+
+/** A line through the most that any store bears. @param {Size[]} sizes @param {(size: Size) => number} runsOf
+ *  @param {number} runsADay @param {any} scale @param {string} style */
+function plotLine(sizes, runsOf, runsADay, scale, style) {
+  const points = sizes.filter((size) => runsOf(size) > 0).map((size) => `${plotX(size.pages)} ${scale(yearsOf(runsOf(size), runsADay))}`);
+  return points.length < 2 ? "" : `<path class="${style}" d="M${points.join("L")}"/>`;
 }
 
 /** @param {Size[]} sizes @param {number} runsADay @param {number} shown the pages of a set of the part on the page
  *  @returns {string} a drawing, or nothing where there is none to make */
 function plotText(sizes, runsADay, shown) {
-  const years = sizes.filter((size) => size.runs > 0).map((size) => yearsOf(size, runsADay));
+  const bears = sizes.filter((size) => size.runs > 0);
+  const years = bears.flatMap((size) => [size.runs, size.kind, size.any]).map((runs) => yearsOf(runs, runsADay));
   if (years.length === 0 || years.includes(Infinity)) return "";
   const scale = plotScale(years);
+  const lines =
+    plotLine(bears, (size) => size.any, runsADay, scale, "any-store") + plotLine(bears, (size) => size.kind, runsADay, scale, "kind");
   const points = sizes.map((size) => plotPoint(size, runsADay, scale, size.pages === shown)).join("");
   return (
     `<svg width="${PLOT.width}" height="${PLOT.height}" role="img" aria-label="Years until the first page is worn, for 1 to 64 ` +
-    `pages of a set; the table below has the numbers. A ring is this part, a cross a size that does not do.">${plotAxes(scale)}${points}</svg>`
+    `pages of a set; the table below has the numbers. A ring is this part, a cross a size that does not do. A line through the points ` +
+    `is the longest of any store of this kind, and a dashed one that of any that programs a word for each change.">` +
+    `${plotAxes(scale)}${lines}${points}</svg>`
   );
 }
 
@@ -78,9 +90,9 @@ function drawSizing(trace, cells) {
   const sizes = good && trace !== null ? sizesOf(trace, cells.pageWords, cycles) : [];
   PLOT.width = Math.max(300, Math.min(760, at("plot").clientWidth));
   at("plot").innerHTML = sizes.length === 0 ? "" : plotText(sizes, runsADay, cells.pages);
-  const runsOf = (/** @type {Size} */ size) => (size.runs === Infinity ? "\u2013" : size.runs);
-  const rows = sizes.map((size) => [size.pages, size.slots, runsOf(size), sizeText(size, runsADay)]);
-  drawTable(at("sizes"), "By pages of a set", ["pages", "slots", "runs", "lasts"], rows);
+  const told = (/** @type {number} */ runs) => (runs === Infinity ? "\u2013" : runs);
+  const rows = sizes.map((size) => [size.pages, size.slots, told(size.runs), sizeText(size, runsADay), told(size.kind), told(size.any)]);
+  drawTable(at("sizes"), "By pages of a set", ["pages", "slots", "runs", "lasts", "of its kind", "any store"], rows);
   at("sizing").textContent = sizingText(good, trace, sizes[cells.pages - 1], runsADay, cells);
 }
 

@@ -1,11 +1,14 @@
 // @ts-check
 // How long a part lasts, computed by the page: the count of moves that docs/SIZING.md explains, without the proofs.
 
-/** @typedef {{pages: number, slots: number, runs: number, misfit: number}} Size
- *  the runs of the script that it bears, and the first change that does not fit, 0 if all do */
+/** @typedef {{pages: number, slots: number, runs: number, kind: number, any: number, misfit: number}} Size
+ *  the runs of the script that it bears, the most that it bears with any store of this kind, and with any that programs a
+ *  word for each change; and the first change that does not fit, 0 if all do */
 
 const MOST_PAGES = 64;
 const DAYS_A_YEAR = 365;
+/** A new store has generations for so many moves. */
+const GENERATIONS = 4294967293;
 
 /** How many addresses have a value after each change of a run, and at its end which.
  *  @param {Command[]} trace @param {Set<number>} live those at its start */
@@ -54,7 +57,9 @@ function changeOfMove(rounds, slots, wanted) {
   return change;
 }
 
-/** A page is erased once in two moves, so a part bears twice as many moves as its pages bear erases.
+/** A page is erased once in two moves, so a part bears twice as many moves as its pages bear erases. Any store of this kind
+ *  erases some page once in two moves, rounded down; and any that programs a word for each change can program each word of
+ *  the part once, and once more for each erase.
  *  @param {Command[]} trace @param {number} pageWords @param {number} cycles
  *  @returns {Size[]} for 1 to 64 pages of a set */
 function sizesOf(trace, pageWords, cycles) {
@@ -63,14 +68,18 @@ function sizesOf(trace, pageWords, cycles) {
     const slots = (index + 1) * (pageWords - 4);
     const misfit = rounds.counts.findIndex((count) => count > slots) + 1;
     const fits = misfit === 0 && trace.length > 0;
-    const runs = fits ? Math.floor((changeOfMove(rounds, slots, 2 * cycles + 1) - 1) / trace.length) : Infinity;
-    return { pages: index + 1, slots, runs: misfit === 0 ? runs : 0, misfit };
+    /** @param {number} moves the runs that these are enough for */
+    const runsOf = (moves) => (fits ? Math.floor((changeOfMove(rounds, slots, moves + 1) - 1) / trace.length) : Infinity);
+    const runs = misfit === 0 ? runsOf(Math.min(2 * cycles, GENERATIONS)) : 0;
+    const kind = misfit === 0 ? runsOf(2 * cycles + 1) : 0;
+    const any = trace.length > 0 ? Math.floor((2 * (index + 1) * pageWords * (cycles + 1)) / trace.length) : Infinity;
+    return { pages: index + 1, slots, runs, kind, any, misfit };
   });
 }
 
-/** @param {Size} size @param {number} runsADay */
-function yearsOf(size, runsADay) {
-  return size.runs / runsADay / DAYS_A_YEAR;
+/** @param {number} runs @param {number} runsADay */
+function yearsOf(runs, runsADay) {
+  return runs / runsADay / DAYS_A_YEAR;
 }
 
 /** @param {number} years */

@@ -1,8 +1,9 @@
 //! A runtime with the files of another one, an input of known bytes, and outputs that are kept.
+use ee_program::FileLocks;
 use std::alloc::{Allocator, Global};
 use std::cell::RefCell;
 use std::fmt::Display;
-use std::fs::{Metadata, OpenOptions, Permissions};
+use std::fs::{Metadata, OpenOptions, Permissions, TryLockError};
 use std::io::{self, BufRead, ErrorKind, Lines};
 use std::path::PathBuf;
 use std::rt::Files;
@@ -148,5 +149,11 @@ impl<R: Files> Files for Desk<'_, R> {
 
     fn remove_dir_all<B: Allocator>(&self, alloc: B, path: &str) -> io::Result<()> {
         self.rt.remove_dir_all(alloc, path)
+    }
+}
+
+impl<R: FileLocks> FileLocks for Desk<'_, R> {
+    fn try_lock(&self, file: &R::File) -> Result<(), TryLockError> {
+        self.rt.try_lock(file)
     }
 }

@@ -6,6 +6,7 @@
 //! where that isn't 0. The commands are
 //!
 //!     $ ee WORD ..          the program; behind its words `< FILE` gives its input, `> FILE` takes its output
+//!     $ flock FILE ee ..    the program, while another opening of a file has its lock
 //!     $ cat FILE            what a file holds
 //!
 //! with one space between two words. What `ee run` does is done by `ee run --indexed` too, on a copy of
@@ -18,8 +19,9 @@
 mod desk;
 mod typing;
 
+use ee_program::FileLocks;
 use std::process::ExitCode;
-use std::rt::{Env, Files};
+use std::rt::Env;
 use std::{env, fs, io};
 use typing::typed;
 
@@ -32,7 +34,7 @@ struct Count {
 
 /// Types an example, and prints the first line in which it differs from its transcript. Gives whether
 /// none does.
-fn try_example<R: Files + Env + Print + AllocGlobal>(rt: &R, name: &str) -> io::Result<bool> {
+fn try_example<R: FileLocks + Env + Print + AllocGlobal>(rt: &R, name: &str) -> io::Result<bool> {
     env::set_current_dir(rt, name)?;
     let wanted = fs::read_to_string(rt, "transcript")?;
     let found = typed(rt, wanted.as_str())?;
@@ -52,7 +54,7 @@ fn try_example<R: Files + Env + Print + AllocGlobal>(rt: &R, name: &str) -> io::
 }
 
 /// Types each example that standard input names.
-fn try_all<R: Files + Env + Input + Print + AllocGlobal>(rt: &R) -> io::Result<Count> {
+fn try_all<R: FileLocks + Env + Input + Print + AllocGlobal>(rt: &R) -> io::Result<Count> {
     let mut count = Count {
         passed: 0,
         failed: 0,

@@ -1,14 +1,14 @@
 //! The commands of a transcript, as they go when they are typed.
 use super::desk::Desk;
-use ee_program::run;
-use std::rt::Files;
-use std::{fs, io};
+use ee_program::{FileLocks, run};
+use std::fs;
+use std::io::{self, ErrorKind};
 
 /// The file of the image that `ee run --indexed` works on.
 const COPY: &str = "image-by-index";
 
 /// The transcript of the commands that a transcript has, with what they print now.
-pub fn typed<R: Files + AllocGlobal>(rt: &R, transcript: &str) -> io::Result<String> {
+pub fn typed<R: FileLocks + AllocGlobal>(rt: &R, transcript: &str) -> io::Result<String> {
     let mut found = String::new(rt.alloc());
     for line in transcript.lines() {
         if let Some(command) = line.strip_prefix("$ ") {
@@ -22,9 +22,12 @@ pub fn typed<R: Files + AllocGlobal>(rt: &R, transcript: &str) -> io::Result<Str
 }
 
 /// What a command prints.
-fn printed_by<R: Files + AllocGlobal>(rt: &R, command: &str) -> io::Result<String> {
+fn printed_by<R: FileLocks + AllocGlobal>(rt: &R, command: &str) -> io::Result<String> {
     if let Some(path) = command.strip_prefix("cat ") {
         return fs::read_to_string(rt, path);
+    }
+    if let Some(held) = command.strip_prefix("flock ") {
+        return told_of_held(rt, held);
     }
     if let Some((typed, path)) = command.split_once(" < ") {
         let input = fs::read(rt, path)?;
@@ -42,9 +45,19 @@ fn printed_by<R: Files + AllocGlobal>(rt: &R, command: &str) -> io::Result<Strin
     }
 }
 
+/// What a command prints while a file is locked. The file and the command are given in one.
+fn told_of_held<R: FileLocks + AllocGlobal>(rt: &R, held: &str) -> io::Result<String> {
+    let Some((path, typed)) = held.split_once(" ") else {
+        return Err(io::Error::from(ErrorKind::InvalidInput));
+    };
+    let file = fs::open(rt, path)?;
+    rt.try_lock(&file)?;
+    told_of(rt, typed, b"")
+}
+
 /// What `ee run` prints, if it is what `ee run --indexed` prints, and both leave one image. Where there is
 /// no image to copy, what it prints.
-fn printed_by_both<R: Files + AllocGlobal>(
+fn printed_by_both<R: FileLocks + AllocGlobal>(
     rt: &R,
     command: &str,
     image: &str,
@@ -65,7 +78,7 @@ fn printed_by_both<R: Files + AllocGlobal>(
 }
 
 /// What the program prints on the words behind its name, and its status in brackets, if that isn't 0.
-fn told_of<R: Files + AllocGlobal>(rt: &R, command: &str, input: &[u8]) -> io::Result<String> {
+fn told_of<R: FileLocks + AllocGlobal>(rt: &R, command: &str, input: &[u8]) -> io::Result<String> {
     let mut words: Vec<String> = Vec::new(rt.alloc());
     for word in command.split(" ").skip(1) {
         words.push(String::from_str(rt.alloc(), word)?)?;

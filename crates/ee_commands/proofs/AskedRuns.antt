@@ -137,7 +137,7 @@ record IsTurn (start : Situation) (change : Change) (later : List Change) (moves
   proper : IsProper next
   appended : spent ≡ 0 → next.fill ≡ start.fill + 1
 
-carried_fits : (start : Situation) (change : Change) → IsAllowed start (Carry change) → IsProper start → length (changed start.live change) ≤ start.slots
+pub carried_fits : (start : Situation) (change : Change) → IsAllowed start (Carry change) → IsProper start → length (changed start.live change) ≤ start.slots
 carried_fits start (changes.Write address) allowed proper = allowed
 carried_fits start (changes.Forget address) allowed proper = forgetting_fits start address proper
 

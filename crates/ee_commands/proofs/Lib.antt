@@ -13,4 +13,6 @@ pub mod Listings
 pub mod Sizes
 pub mod MadeRuns
 pub mod AskedRuns
+pub mod SizeWears
+pub mod AllMade
 pub mod SizedRuns

@@ -1,26 +1,29 @@
--- A store that was just formatted lasts as the line of its size tells.
-use Rattle.std.proofs.Common.{◌≡◌, ◌∙◌, inl, inr, ℕ, ◌+◌, ◌<◌, ◌≤◌, Bool, None, List, [], ◌∷◌, ◌++◌, length, refl, sym, subst, ap, arith}
-use Rattle.std.proofs.lemmas.Bool.{cases_eq, leb-true}
+-- A store that was just formatted wears as the line of its size tells, and makes what it is asked for.
+use Rattle.std.proofs.Common.{◌≡◌, ◌∙◌, inl, inr, ℕ, ◌+◌, ◌<◌, ◌≤◌, Bool, false, None, leb, List, [], ◌∷◌, ◌++◌, length, refl, sym, subst, ap, arith}
+use Rattle.std.proofs.lemmas.Bool.{and_parts, cases_eq, leb-true, ltb-false}
 use Rattle.std.specs.List.Sorted.{IsStrictlySortedBy}
 use Rattle.std.specs.Ordering.{nat_cmp}
-use Rattle.ee_flash.specs.Device.{Device}
+use Rattle.std.specs.List.{All}
+use Rattle.ee_flash.specs.Device.{Device, IsOn}
 use Rattle.ee_flash.specs.Size.{size_of, slot_count}
 use Rattle.ee_store.proofs.PageWears.{no_page_wears_more_lem}
 use Rattle.ee_store.specs.Openings.{IsFormatted}
 use Rattle.ee_store.specs.Runs.{Call, IsWholeRun, transfers}
 use Rattle.ee_store.specs.State.{State, formatted, state_of}
-use Rattle.ee_check.proofs.Bounds.{late_stores_meet_it_lem}
+use Rattle.ee_store.specs.Changes.{greatest_generation}
+use Rattle.ee_check.proofs.Bounds.{late_moves, late_stores_meet_it_lem}
 use Rattle.ee_check.specs.declared.change.Change.{Change}
 use Rattle.ee_check.specs.Live.{KeepsWithin}
-use Rattle.ee_check.specs.Schedule.{IsProper, Situation}
+use Rattle.ee_check.specs.Schedule.{IsProper, Situation, cost}
 use Rattle.ee_plan.proofs.Fitting.{none_breaks}
 use Rattle.ee_plan.specs.Rounds.{IsDemand, fresh, repeated}
 use Rattle.ee_plan.specs.Start.{AreLive, IsStartOf}
 use Rattle.ee_plan.specs.declared.demand.Demand.{Demand}
 use Rattle.ee_plan.specs.declared.demand.Demand.TheVariants.{Transfers, NotFitting}
-use Rattle.ee_commands.specs.ToldSizes.{IsDemandOf, LastsAsTold, asked_by_calls, made_by_calls}
-use Rattle.ee_commands.specs.Sizing.{AreDemands, IsSized, erases_for}
+use Rattle.ee_commands.specs.ToldSizes.{ForgetsLive, IsDemandOf, WearsAsTold, asked_by_calls, made_by_calls, wants_memory}
+use Rattle.ee_commands.specs.Sizing.{AreDemands, IsSized, erases_for, is_spent_by, most_transfers}
 use Rattle.ee_image_store.proofs.Starts.{length_map}
+use Rattle.ee_commands.proofs.AllMade.{all_made}
 use Rattle.ee_commands.proofs.AskedRuns.{IsBelow, bounded}
 use Rattle.ee_commands.proofs.MadeRuns.{AreProper, IsLateOf, late_calls, repeated_proper, trace_proper}
 
@@ -75,6 +78,12 @@ demand_at words first trace (one ∷ smaller) larger demand are =
     let here : first + length (one ∷ smaller) ≡ first + 1 + length smaller = omega arith in
     subst (λ n. IsDemand (fresh (slot_count (size_of n words))) trace demand) (sym here) (demand_at words (first + 1) trace smaller larger demand are.1)
 
+demanded_there : (words pages : ℕ) (trace : List Change) (most : ℕ) (demands : List Demand) → IsDemandOf pages demands (Transfers most) → AreDemands words trace 1 demands
+    → IsDemand (fresh (slot_count (size_of pages words))) trace (Transfers most)
+demanded_there words pages trace most demands line are =
+    let there = demand_at words 1 trace line.smaller line.larger (Transfers most) (subst (AreDemands words trace 1) line.parts are) in
+    subst (λ n. IsDemand (fresh (slot_count (size_of n words))) trace (Transfers most)) (sym line.place) there
+
 -- what the changes demand is what the calls did
 did_so : (start : Situation) (trace : List Change) (demand : Demand) (calls : List Call) → IsProper start → IsLateOf start calls → made_by_calls calls ≡ trace
     → IsDemand start trace demand → demand ≡ Transfers (transfers calls)
@@ -121,15 +130,15 @@ both_begin device same = record {
 }
 
 -- where the calls moved the map no more often than a line tells
-lasts : (cycles most : ℕ) (calls : List Call) (blank old new : Device) → IsFormatted blank old → IsWholeRun calls old new → transfers calls ≤ most
-    → LastsAsTold cycles most calls old new
-lasts cycles most calls blank old new formats whole few =
+wears : (cycles most : ℕ) (calls : List Call) (blank old new : Device) → IsFormatted blank old → IsWholeRun calls old new → transfers calls ≤ most
+    → WearsAsTold cycles most calls old new
+wears cycles most calls blank old new formats whole few =
     let none_waits : (state_of old).pending ≡ 0 = ap (λ (s : State). s.pending) formats.state_is in
     record {
       moves = few;
       wear = λ page h. omega (arith, few, no_page_wears_more_lem calls old new page whole formats.store.legal none_waits h);
       enough = λ within page h.
-          omega (arith, few, leb-true (erases_for most) cycles within, no_page_wears_more_lem calls old new page whole formats.store.legal none_waits h);
+          omega (arith, few, leb-true (erases_for most) cycles (and_parts (leb most most_transfers) (leb (erases_for most) cycles) within).1, no_page_wears_more_lem calls old new page whole formats.store.legal none_waits h);
     }
 
 -- the addresses of the script that is made so many times
@@ -138,26 +147,24 @@ all_proper words cycles runs text told some_enough sized =
     let once = trace_proper sized.trace_is.commands sized.trace_is.is_script.proper in
     repeated_proper runs sized.trace (subst AreProper (sym sized.trace_is.trace_is) once)
 
-pub each_size_lasts_as_told_lem : (text told : List ℕ) (cycles runs most : ℕ) (some_enough : Bool) (calls : List Call) (blank old new : Device)
+pub each_size_wears_as_told_lem : (text told : List ℕ) (cycles runs most : ℕ) (some_enough : Bool) (calls : List Call) (blank old new : Device)
     → (sized : IsSized old.size.words text cycles runs told some_enough) → IsDemandOf old.size.pages sized.demands (Transfers most)
     → IsFormatted blank old → IsWholeRun calls old new
-    → asked_by_calls calls ≡ repeated runs sized.trace → LastsAsTold cycles most calls old new
-each_size_lasts_as_told_lem text told cycles runs most some_enough calls blank old new sized line formats whole asked =
+    → asked_by_calls calls ≡ repeated runs sized.trace → WearsAsTold cycles most calls old new
+each_size_wears_as_told_lem text told cycles runs most some_enough calls blank old new sized line formats whole asked =
     let words = old.size.words in
     let trace = repeated runs sized.trace in
     let are = subst AreProper (sym asked) (all_proper words cycles runs text told some_enough sized) in
-    let demands = subst (AreDemands words trace 1) line.parts sized.demanded in
-    let there = demand_at words 1 trace line.smaller line.larger (Transfers most) demands in
-    let demanded = subst (λ n. IsDemand (fresh (slot_count (size_of n words))) trace (Transfers most)) (sym line.place) there in
+    let demanded = demanded_there words old.size.pages trace most sized.demands line sized.demanded in
     let reached = demanded.1.reached in
     let few = bounded calls old new whole.run whole.without_cuts are (fresh (slot_count old.size)) reached.0 0 0 reached.1.allowed (reached.1.changes ∙ sym asked)
     (both_begin old formats.state_is) in
-    lasts cycles most calls blank old new formats whole (omega (arith, few, reached.2))
+    wears cycles most calls blank old new formats whole (omega (arith, few, reached.2))
 
 pub each_size_moves_as_told_lem : (text told : List ℕ) (cycles runs : ℕ) (some_enough : Bool) (calls : List Call) (blank old new : Device)
     → (sized : IsSized old.size.words text cycles runs told some_enough) → IsFormatted blank old → IsWholeRun calls old new
     → made_by_calls calls ≡ repeated runs sized.trace
-    → IsDemandOf old.size.pages sized.demands (Transfers (transfers calls)) × LastsAsTold cycles (transfers calls) calls old new
+    → IsDemandOf old.size.pages sized.demands (Transfers (transfers calls)) × WearsAsTold cycles (transfers calls) calls old new
 each_size_moves_as_told_lem text told cycles runs some_enough calls blank old new sized formats whole made =
     let words = old.size.words in
     let slots = slot_count old.size in
@@ -173,4 +180,35 @@ each_size_moves_as_told_lem text told cycles runs some_enough calls blank old ne
       parts = here.parts ∙ ap (λ d. here.smaller ++ d ∷ here.larger) did;
       place = here.place;
     } in
-    (line, lasts cycles (transfers calls) calls blank old new formats whole (omega arith))
+    (line, wears cycles (transfers calls) calls blank old new formats whole (omega arith))
+
+-- generations are left for so many transfers of a store that was just formatted
+generations_left : (most : ℕ) (device : Device) → state_of device ≡ formatted → is_spent_by most ≡ false → (state_of device).generation + most ≤ greatest_generation
+generations_left most device same left =
+    let first : (state_of device).generation ≡ 1 = ap (λ (s : State). s.generation) same in
+    omega (arith, first, ltb-false most_transfers most left)
+
+pub each_size_is_made_as_told_lem : (text told : List ℕ) (cycles runs most : ℕ) (some_enough : Bool) (calls : List Call) (blank old new : Device)
+    → (sized : IsSized old.size.words text cycles runs told some_enough) → IsDemandOf old.size.pages sized.demands (Transfers most)
+    → IsFormatted blank old → IsOn old → IsWholeRun calls old new → All (λ call. wants_memory call ≡ false) calls
+    → asked_by_calls calls ≡ repeated runs sized.trace → ForgetsLive [] (repeated runs sized.trace) → is_spent_by most ≡ false
+    → (made_by_calls calls ≡ repeated runs sized.trace) × (transfers calls ≡ most)
+each_size_is_made_as_told_lem text told cycles runs most some_enough calls blank old new sized line formats on whole given asked held left =
+    let words = old.size.words in
+    let start = fresh (slot_count old.size) in
+    let trace = repeated runs sized.trace in
+    let are = subst AreProper (sym asked) (all_proper words cycles runs text told some_enough sized) in
+    let demanded = demanded_there words old.size.pages trace most sized.demands line sized.demanded in
+    let late = late_moves start trace demanded.1.claim (empty_proper start.slots) demanded.1.tight in
+    let cost_is : cost late.moves ≡ most = late.cost_is ∙ sym demanded.1.stretches in
+    let all = all_made calls old new whole.run whole.without_cuts given are start late.moves (record {
+      on = on;
+      start = empty_start start.slots (state_of old) formats.state_is;
+      proper = empty_proper start.slots;
+      late = late.late;
+      changes_are = late.changes_are ∙ sym asked;
+      keeps = subst (λ l. KeepsWithin start.slots start.live l) (sym asked) demanded.0;
+      held = subst (λ l. ForgetsLive start.live l) (sym asked) held;
+      left = let a = generations_left most old formats.state_is left in omega (arith, a, cost_is);
+    }) in
+    (all.all ∙ asked, all.count ∙ cost_is)

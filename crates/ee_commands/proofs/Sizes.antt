@@ -25,14 +25,14 @@ demands_grow words trace pages next [] demand are is one =
 demands_grow words trace pages next (first ∷ demands) demand are is one =
     (are.0, demands_grow words trace (pages + 1) next demands demand are.1 (omega arith) one)
 
-lines_append : (words cycles pages next : ℕ) (demands : List Demand) (demand : Demand) → next ≡ pages + length demands
-    → size_lines words cycles pages (demands ++ demand ∷ []) ≡ size_lines words cycles pages demands ++ line_of (size_text words cycles next demand)
-lines_append words cycles pages next [] demand is =
+lines_append : (words cycles changes pages next : ℕ) (demands : List Demand) (demand : Demand) → next ≡ pages + length demands
+    → size_lines words cycles changes pages (demands ++ demand ∷ []) ≡ size_lines words cycles changes pages demands ++ line_of (size_text words cycles changes next demand)
+lines_append words cycles changes pages next [] demand is =
     let e : next ≡ pages = omega arith in
     rw e (simp append-nil)
-lines_append words cycles pages next (first ∷ demands) demand is =
-    ap (λ l. line_of (size_text words cycles pages first) ++ l) (lines_append words cycles (pages + 1) next demands demand (omega arith))
-    ∙ sym (append_assoc (line_of (size_text words cycles pages first)) (size_lines words cycles (pages + 1) demands) (line_of (size_text words cycles next demand)))
+lines_append words cycles changes pages next (first ∷ demands) demand is =
+    ap (λ l. line_of (size_text words cycles changes pages first) ++ l) (lines_append words cycles changes (pages + 1) next demands demand (omega arith))
+    ∙ sym (append_assoc (line_of (size_text words cycles changes pages first)) (size_lines words cycles changes (pages + 1) demands) (line_of (size_text words cycles changes next demand)))
 
 -- ---- why none is told
 
@@ -47,11 +47,11 @@ pub only_want_of_memory : (text : List ℕ) (trace : List Change) (cause : Fault
 only_want_of_memory text trace cause is some h = some (h.fault_is ∙ ap fault_of_script (trace_memory text trace h.cause is h.applies))
 
 -- the lines so far, and that of one size more
-pub sizes_grow : (words cycles pages n : ℕ) (demands : List Demand) (d : Demand) (old new : List ℕ) → n < length demands → pages ≡ n
-    → old ≡ size_lines words cycles 1 (take n demands)
-    → new ≡ old ++ line_of (size_text words cycles (pages + 1) (get_or demands n d)) → new ≡ size_lines words cycles 1 (take (n + 1) demands)
-sizes_grow words cycles pages n demands d old new within counted so_far written =
+pub sizes_grow : (words cycles changes pages n : ℕ) (demands : List Demand) (d : Demand) (old new : List ℕ) → n < length demands → pages ≡ n
+    → old ≡ size_lines words cycles changes 1 (take n demands)
+    → new ≡ old ++ line_of (size_text words cycles changes (pages + 1) (get_or demands n d)) → new ≡ size_lines words cycles changes 1 (take (n + 1) demands)
+sizes_grow words cycles changes pages n demands d old new within counted so_far written =
     let demand = get_or demands n d in
     let size = length-take-le n demands (omega arith) in
-    written ∙ ap (λ l. l ++ line_of (size_text words cycles (pages + 1) demand)) so_far
-    ∙ sym (ap (size_lines words cycles 1) (take_more demands n d within) ∙ lines_append words cycles 1 (pages + 1) (take n demands) demand (omega arith))
+    written ∙ ap (λ l. l ++ line_of (size_text words cycles changes (pages + 1) demand)) so_far
+    ∙ sym (ap (size_lines words cycles changes 1) (take_more demands n d within) ∙ lines_append words cycles changes 1 (pages + 1) (take n demands) demand (omega arith))

@@ -1,15 +1,18 @@
 -- What holds of every part for which sizes were told.
-use Rattle.std.specs.Prelude.{◌≡◌, ◌+◌, ◌<◌, ◌≤◌, ℕ, Bool, true, Ok, List, [], ◌∷◌, ◌++◌, length}
-use Rattle.ee_flash.specs.Device.{Device, wear_at}
+use Rattle.std.specs.Prelude.{◌≡◌, ◌+◌, ◌<◌, ◌≤◌, ℕ, Bool, true, false, Ok, Err, List, [], ◌∷◌, ◌++◌, length}
+use Rattle.std.specs.List.{All, Contains}
+use Rattle.ee_flash.specs.Device.{Device, IsOn, wear_at}
 use Rattle.ee_flash.specs.Size.{page_count}
 use Rattle.ee_store.specs.Openings.{IsFormatted}
 use Rattle.ee_store.specs.Runs.{Call, Wrote, Forgot, IsWholeRun, transfers}
+use Rattle.ee_store.specs.declared.variables.WriteFault.TheVariants as write
+use Rattle.ee_check.specs.Live.{changed}
 use Rattle.ee_check.specs.declared.change.Change.{Change}
 use Rattle.ee_check.specs.declared.change.Change.TheVariants as change
 use Rattle.ee_plan.specs.Rounds.{repeated}
 use Rattle.ee_plan.specs.declared.demand.Demand.{Demand}
 use Rattle.ee_plan.specs.declared.demand.Demand.TheVariants.{Transfers}
-use Rattle.ee_commands.specs.Sizing.{IsSized, erases_for, is_enough}
+use Rattle.ee_commands.specs.Sizing.{IsSized, erases_for, is_enough, is_spent_by}
 
 -- the changes that calls of a store asked for, as a trace, whatever they were answered
 abbrev pub asked_by_calls : List Call → List Change
@@ -25,6 +28,17 @@ made_by_calls (Wrote address value (Ok written) ∷ calls) = change.Write addres
 made_by_calls (Forgot address (Ok written) ∷ calls) = change.Forget address ∷ made_by_calls calls
 made_by_calls (call ∷ calls) = made_by_calls calls
 
+-- whether memory ran out in the call: a store without an index takes none
+abbrev pub wants_memory : Call → Bool
+wants_memory (Wrote address value (Err write.Memory)) = true
+wants_memory call = false
+
+-- each forgetting is of an address that is live then
+abbrev pub ForgetsLive : List ℕ → List Change → Type 0
+ForgetsLive live [] = Unit {0}
+ForgetsLive live (change.Write address ∷ trace) = ForgetsLive (changed live (change.Write address)) trace
+ForgetsLive live (change.Forget address ∷ trace) = Contains live address × ForgetsLive (changed live (change.Forget address)) trace
+
 -- among what is demanded of sets of 1 page and more, this is demanded of those of so many
 pub record IsDemandOf (pages : ℕ) (demands : List Demand) (demand : Demand) : Type 0 where
   pub smaller : List Demand
@@ -34,27 +48,37 @@ pub record IsDemandOf (pages : ℕ) (demands : List Demand) (demand : Demand) : 
 
 -- The calls moved the map no more often than so many transfers. No page was erased more often than the line of a size with
 -- so many says; nor more often than so many cycles, where it says that this is enough.
-pub record LastsAsTold (cycles most : ℕ) (calls : List Call) (old new : Device) : Type 0 where
+pub record WearsAsTold (cycles most : ℕ) (calls : List Call) (old new : Device) : Type 0 where
   pub moves : transfers calls ≤ most
   pub wear : (page : ℕ) → page < page_count old.size → wear_at new page ≤ wear_at old page + erases_for most
   pub enough : is_enough cycles (Transfers most) ≡ true
       → (page : ℕ) → page < page_count old.size → wear_at new page ≤ wear_at old page + cycles
 
 -- Sizes were told for a script that is made so many times. A device was formatted, and the line of its size tells so many
--- transfers. Calls of its store, in which power is not cut, asked for the changes of the script so many times. Then it lasts
+-- transfers. Calls of its store, in which power is not cut, asked for the changes of the script so many times. Then it wears
 -- as was told, whatever the calls were answered, and whatever else they read and cleaned.
-abbrev pub EachSizeLastsAsTold : Type 0
-EachSizeLastsAsTold =
+abbrev pub EachSizeWearsAsTold : Type 0
+EachSizeWearsAsTold =
     (text told : List ℕ) (cycles runs most : ℕ) (some_enough : Bool) (calls : List Call) (blank old new : Device)
     → (sized : IsSized old.size.words text cycles runs told some_enough) → IsDemandOf old.size.pages sized.demands (Transfers most)
     → IsFormatted blank old → IsWholeRun calls old new
-    → asked_by_calls calls ≡ repeated runs sized.trace → LastsAsTold cycles most calls old new
+    → asked_by_calls calls ≡ repeated runs sized.trace → WearsAsTold cycles most calls old new
 
 -- Where they made the changes of the script so many times, and no others, the line of its size tells just as many transfers
--- as they made; and it lasts as was told.
+-- as they made; and it wears as was told.
 abbrev pub EachSizeMovesAsTold : Type 0
 EachSizeMovesAsTold =
     (text told : List ℕ) (cycles runs : ℕ) (some_enough : Bool) (calls : List Call) (blank old new : Device)
     → (sized : IsSized old.size.words text cycles runs told some_enough) → IsFormatted blank old → IsWholeRun calls old new
     → made_by_calls calls ≡ repeated runs sized.trace
-    → IsDemandOf old.size.pages sized.demands (Transfers (transfers calls)) × LastsAsTold cycles (transfers calls) calls old new
+    → IsDemandOf old.size.pages sized.demands (Transfers (transfers calls)) × WearsAsTold cycles (transfers calls) calls old new
+
+-- It makes all of them, by as many transfers as that line tells: where the line doesn't say that the generations are used up,
+-- the device is on, each forgetting is of an address that has a value, and the store takes no memory, or is given it.
+abbrev pub EachSizeIsMadeAsTold : Type 0
+EachSizeIsMadeAsTold =
+    (text told : List ℕ) (cycles runs most : ℕ) (some_enough : Bool) (calls : List Call) (blank old new : Device)
+    → (sized : IsSized old.size.words text cycles runs told some_enough) → IsDemandOf old.size.pages sized.demands (Transfers most)
+    → IsFormatted blank old → IsOn old → IsWholeRun calls old new → All (λ call. wants_memory call ≡ false) calls
+    → asked_by_calls calls ≡ repeated runs sized.trace → ForgetsLive [] (repeated runs sized.trace) → is_spent_by most ≡ false
+    → (made_by_calls calls ≡ repeated runs sized.trace) × (transfers calls ≡ most)

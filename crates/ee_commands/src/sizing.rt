@@ -4,7 +4,7 @@ ghost use Rattle.std.specs.List.{list_any};
 ghost use Rattle.ee_flash.specs.Size.{size_of, slot_count};
 ghost use Rattle.ee_text.specs.Line.{line_of};
 ghost use Rattle.ee_plan.specs.Rounds.{repeated};
-ghost use Rattle.ee_commands.specs.Sizing.{AreDemands, IsSized, IsSizingFault, erases_for, fitting_text, is_enough, not_fitting_text, numbers_text, size_lines, size_text, verdict};
+ghost use Rattle.ee_commands.specs.Sizing.{AreDemands, EachWears, IsSized, IsSizingFault, erases_for, fitting_text, is_enough, least_for, limit_for, not_fitting_text, numbers_text, size_lines, size_text, verdict};
 
 use super::planning::read_trace;
 use ee_check::Change;
@@ -15,6 +15,9 @@ use std::alloc::{AllocError, Allocator, Global};
 
 /// The most pages of a set.
 const MOST_PAGES: u32 = 64;
+
+/// How often a store that was just formatted transfers until its generations are used up.
+const MOST_TRANSFERS: u64 = 4294967293;
 
 /// What is told of the sizes of a part.
 ///
@@ -29,10 +32,13 @@ pub struct PartSizes<A: Allocator = Global> {
 
 /// How large a part must be for a script that is made `runs` times, one after another, on a fresh image
 /// of so many words a page, where each page bears `cycles` erases. For each number of pages P that a set
-/// can have, 1 to 64, a line `pages P slots C transfers K erases E enough`, or `.. worn`: K is the fewest
-/// transfers of any store, E how often a page is erased at the most, and `enough` says that E is `cycles`
-/// or less; or `pages P slots C not fitting I`, I the first change that doesn't fit, counted through all
-/// rounds. Lines that read or clean count nothing. Memory is taken for two rounds, whatever `runs` is.
+/// can have, 1 to 64, a line `pages P slots C transfers K erases E least L limit M enough`: K is the fewest
+/// transfers of any store, E how often a page is erased at the most, L how often some page is by any store
+/// that transfers, at the least, and M by any that programs a word for each change. `enough` says that E
+/// is `cycles` or less; in its place stands `spent`, where the generations don't suffice, `worn for any`,
+/// where M is above `cycles`, `worn for all`, where L is, and else `worn`. Or the line is `pages P slots C
+/// not fitting I`, I the first change that doesn't fit, counted through all rounds. Lines that read or
+/// clean count nothing. Memory is taken for two rounds, whatever `runs` is.
 ///
 /// Source: ours.
 ///
@@ -58,7 +64,7 @@ pub fn size_parts<A: Allocator + Copy>(
     let trace = read_trace(alloc, script)?;
     let rounds = rounds_of(alloc, trace, runs)?;
     let demands = demands_of(alloc, &rounds, words)?;
-    let text = text_of_sizes(alloc, demands.as_slice(), words, cycles)?;
+    let text = text_of_sizes(alloc, demands.as_slice(), words, cycles, rounds.changes())?;
     let some_enough = is_some_enough(demands.as_slice(), cycles);
     Ok(PartSizes { text, some_enough })
 }
@@ -79,12 +85,14 @@ fn rounds_of<A: Allocator + Copy>(
 }
 
 /// What the rounds demand of sets of 1 to 64 pages.
+#[tactic(auto, using(crate::proofs::SizeWears::each_wears))]
 fn demands_of<A: Allocator + Copy>(
     alloc: A,
     rounds: &Rounds<A>,
     words: u16,
 ) -> Result<Vec<Demand, A>, AllocError>
     ensures demands { IfOk result (λ demands. AreDemands words rounds.now 1 demands.items) }
+    ensures wears { IfOk result (λ demands. EachWears words rounds.now 1 demands.items) }
     ensures each { IfOk result (λ demands. length demands.items ≡ 64) }
 {
     let mut demands = Vec::new(alloc);
@@ -108,15 +116,16 @@ fn text_of_sizes<A: Allocator + Copy>(
     demands: &[Demand],
     words: u16,
     cycles: u32,
+    changes: u64,
 ) -> Result<Vec<u8, A>, AllocError>
     requires { length demands.now ≡ 64 }
-    ensures { IfOk result (λ text. text.items ≡ size_lines words cycles 1 demands.now) }
+    ensures { IfOk result (λ text. text.items ≡ size_lines words cycles changes 1 demands.now) }
 {
     let mut text = Vec::new(alloc);
     let mut pages = 0;
     for demand in demands {
         pages += 1;
-        push_size(&mut text, *demand, pages, words, cycles)?;
+        push_size(&mut text, *demand, pages, words, cycles, changes)?;
     }
     Ok(text)
 }
@@ -128,14 +137,17 @@ fn push_size<A: Allocator>(
     pages: u32,
     words: u16,
     cycles: u32,
+    changes: u64,
 ) -> Result<(), AllocError>
     requires { pages ≤ 64 }
-    ensures { OnOk result (out.new.items ≡ out.old.items ++ line_of (size_text words cycles pages demand)) }
+    ensures { OnOk result (out.new.items
+        ≡ out.old.items ++ line_of (size_text words cycles changes pages demand)) }
 {
     let slots = slots_of(pages, words);
     match demand {
         Demand::Transfers(transfers) => {
-            push_fitting(out, pages, slots, transfers, is_enough_for(demand, cycles))
+            let limit = limit_of(pages, words, changes);
+            push_fitting(out, pages, slots, transfers, limit, cycles)
         }
         Demand::NotFitting(change) => push_not_fitting(out, pages, slots, change),
     }
@@ -147,15 +159,25 @@ fn push_fitting<A: Allocator>(
     pages: u32,
     slots: u32,
     transfers: u64,
-    enough: bool,
+    limit: u64,
+    cycles: u32,
 ) -> Result<(), AllocError>
     ensures { OnOk result (out.new.items
-        ≡ out.old.items ++ line_of (fitting_text pages slots transfers enough)) }
+        ≡ out.old.items ++ line_of (fitting_text cycles pages slots transfers limit)) }
 {
     let erases = erases_of(transfers);
-    push_numbers(out, pages as u64, slots as u64, transfers, erases)?;
+    let least = least_of(transfers);
+    push_numbers(
+        out,
+        pages as u64,
+        slots as u64,
+        transfers,
+        erases,
+        least,
+        limit,
+    )?;
     out.extend_from_slice(b" ")?;
-    push_verdict(out, enough)?;
+    push_verdict(out, transfers, limit, cycles)?;
     out.extend_from_slice(b"\n")
 }
 
@@ -166,23 +188,38 @@ fn push_numbers<A: Allocator>(
     slots: u64,
     transfers: u64,
     erases: u64,
+    least: u64,
+    limit: u64,
 ) -> Result<(), AllocError>
     ensures { OnOk result (out.new.items
-        ≡ out.old.items ++ numbers_text pages slots transfers erases) }
+        ≡ out.old.items ++ numbers_text pages slots transfers erases least limit) }
 {
     push_number_behind(out, b"pages ", pages)?;
     push_number_behind(out, b" slots ", slots)?;
     push_number_behind(out, b" transfers ", transfers)?;
     push_number_behind(out, b" erases ", erases)?;
+    push_number_behind(out, b" least ", least)?;
+    push_number_behind(out, b" limit ", limit)?;
     Ok(())
 }
 
-/// Writes whether a size is enough. After an error there may be a part of it.
-fn push_verdict<A: Allocator>(out: &mut Vec<u8, A>, enough: bool) -> Result<(), AllocError>
-    ensures { OnOk result (out.new.items ≡ out.old.items ++ verdict enough) }
+/// Writes whether a size is enough, or why it isn't. After an error there may be a part of it.
+fn push_verdict<A: Allocator>(
+    out: &mut Vec<u8, A>,
+    transfers: u64,
+    limit: u64,
+    cycles: u32,
+) -> Result<(), AllocError>
+    ensures { OnOk result (out.new.items ≡ out.old.items ++ verdict cycles transfers limit) }
 {
-    if enough {
+    if transfers > MOST_TRANSFERS {
+        out.extend_from_slice(b"spent")
+    } else if erases_of(transfers) <= cycles as u64 {
         out.extend_from_slice(b"enough")
+    } else if limit > cycles as u64 {
+        out.extend_from_slice(b"worn for any")
+    } else if least_of(transfers) > cycles as u64 {
+        out.extend_from_slice(b"worn for all")
     } else {
         out.extend_from_slice(b"worn")
     }
@@ -222,6 +259,25 @@ fn erases_of(transfers: u64) -> u64
     transfers - transfers / 2
 }
 
+/// How often some page is erased at the least, by any store that transfers.
+fn least_of(transfers: u64) -> u64
+    ensures { result ≡ least_for transfers }
+{
+    transfers / 2
+}
+
+/// How often some page is erased at the least, by any store that programs a word for each change.
+fn limit_of(pages: u32, words: u16, changes: u64) -> u64
+    requires { pages ≤ 64 }
+    ensures { result ≡ limit_for pages words changes }
+{
+    let both_sets = 2 * pages as u64 * words as u64;
+    if both_sets == 0 {
+        return 0;
+    }
+    changes.saturating_sub(1) / both_sets
+}
+
 /// Whether some demand is met within the cycles.
 fn is_some_enough(demands: &[Demand], cycles: u32) -> bool
     ensures { result ≡ list_any (is_enough cycles) demands.now }
@@ -234,7 +290,9 @@ fn is_enough_for(demand: Demand, cycles: u32) -> bool
     ensures { result ≡ is_enough cycles demand }
 {
     match demand {
-        Demand::Transfers(transfers) => erases_of(transfers) <= cycles as u64,
+        Demand::Transfers(transfers) => {
+            transfers <= MOST_TRANSFERS && erases_of(transfers) <= cycles as u64
+        }
         Demand::NotFitting(_) => false,
     }
 }

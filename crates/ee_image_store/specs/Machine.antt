@@ -1,5 +1,5 @@
 -- The report machine: what a script's commands are answered, and what they leave of a store's state.
-use Rattle.std.specs.Prelude.{◌≡◌, ◌≢◌, ◌⊎◌, ◌<◌, ◌-◌, Bool, true, false, List, Some, None}
+use Rattle.std.specs.Prelude.{◌≡◌, ◌≢◌, ◌⊎◌, ◌<◌, ◌≤◌, ◌-◌, Bool, true, false, List, Some, None}
 use Rattle.std.specs.List.{list_any}
 use Rattle.ee_flash.specs.Size.{Size, slot_count}
 use Rattle.ee_pages.specs.Meaning.{Change, Put}
@@ -58,6 +58,7 @@ desk_with state = record { state = state; serving = true; armed = false }
 -- erases.
 pub record CutsChange (size : Size) (old : State) (change : Change) (new : State) : Type 0 where
   pub accepted : IsAccepted (slot_count size) old change
+  pub within : old.fill ≤ slot_count size
   pub free : old.fill < slot_count size → IsCutAppend old change new
   pub all_used : old.fill ≡ slot_count size → IsCutMove size.pages old change new
 

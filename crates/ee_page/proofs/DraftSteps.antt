@@ -1,25 +1,30 @@
 -- What listing one more step does to a draft.
-use Rattle.std.proofs.Common.{subst, Option, suc, ◌==◌, min, drop, ◌*◌, Bool, true, false, ◌≡◌, inl, inr, ℕ, ◌+◌, ◌<◌, ◌≤◌, List, [], ◌∷◌, ◌++◌, length, get_or, set, map, take, replicate, refl, sym, ap, ◌∙◌, arith}
-use Rattle.std.proofs.lemmas.Bool.{cases_eq}
+use Rattle.std.proofs.Common.{subst, Option, zero, suc, ◌==◌, min, drop, ◌*◌, Bool, true, false, ◌≡◌, inl, inr, ℕ, ◌+◌, ◌<◌, ◌≤◌, List, [], ◌∷◌, ◌++◌, length, get_or, set, map, take, replicate, refl, sym, ap, ◌∙◌, arith}
+use mathlib.Core.List.{List-discrete}
+use mathlib.Core.HLevel.{⊥_prop}
+use mathlib.Core.Logic.{∥∥₁_elim}
+use Rattle.std.proofs.Math.Decide.{ℕ_discrete}
+use Rattle.std.proofs.lemmas.Bool.{cases_eq, cases_lt}
 use Rattle.std.proofs.Math.Seq.{take-suc}
 use Rattle.std.proofs.lemmas.List.{get_or-set_same, get_or-set_other, get_or-replicate, get_or-map, map-append, take_at, take_more_set, take-append-drop, take-take, length-set}
-use Rattle.std.specs.List.{refill, zip}
+use Rattle.std.specs.List.{All, refill, zip}
 use Rattle.std.proofs.lemmas.Slice.Zip.{get_or-zip, length-zip}
 use Rattle.std.proofs.lemmas.Nat.{mul-add-lt}
 use Rattle.std.proofs.lemmas.Bool.Decides.{nat_tests}
-use Rattle.std.proofs.lemmas.List.Elements.{All-get_or}
+use Rattle.std.proofs.lemmas.List.Elements.{All-append, All-cons, All-get_or, All-nil}
 use Rattle.ee_flash.specs.Device.{Device, IsBelowAllOnes, IsFormed, all_ones, page_at, word_at}
 use Rattle.ee_flash.specs.Laws.{CanTake, all_completed}
 use Rattle.ee_flash.specs.Size.{Size, page_count}
-use Rattle.ee_flash.specs.Step.{Step, Program, Erase, completed, erased, one_more, programmed}
+use Rattle.ee_flash.specs.Step.{Step, Program, Erase, completed, erased, one_more, programmed, worn}
 use Rattle.ee_flash.specs.Pages.{pages_of}
 use Rattle.ee_flash.proofs.Pages.{get_or-pages_of}
+use Rattle.ee_page.specs.Calls.{WearsOnceMore}
 use Rattle.ee_page.specs.Draft.{IsFresh, drafted}
 use Rattle.ee_page.specs.DraftLaws.{all_formed, one_more_step, one_more_taken, same_cuts, same_cuts_left, same_on, same_size}
 use Rattle.ee_page.specs.Mirror.{cells_of, decoded}
 use Rattle.ee_flash.specs.declared.word.Word.{Word}
 use Rattle.ee_flash.specs.declared.word.Word.TheVariants.{Erased, Held}
-use Rattle.ee_page.specs.Listing.{AllTaken, left_by, step_of, steps_of}
+use Rattle.ee_page.specs.Listing.{AllTaken, IsZeroIfErase, left_by, step_of, steps_of}
 use Rattle.ee_page.specs.declared.listing.ListedStep.{ListedStep}
 
 -- a word of a formed device is erased, torn or held below all ones
@@ -130,31 +135,31 @@ module _ (start : Device) (listed : List ListedStep) (count : ℕ) (room : count
       ∙ ap (λ (device : Device). device.wear) (one_more_step steps (Program page at value) start))
 
   -- with an erase listed
-  abbrev erase_listed : ℕ → List Step
-  erase_listed page = steps_of (count + 1) (set listed count (record { page = page; place = 18446744073709551615; value = 0 }))
+  abbrev erase_listed : ListedStep → List Step
+  erase_listed step = steps_of (count + 1) (set listed count step)
 
-  erase_is : (page : ℕ) → erase_listed page ≡ steps ++ Erase page ∷ []
-  erase_is page = more_listed listed count (record { page = page; place = 18446744073709551615; value = 0 }) room
+  erase_is : (page : ℕ) (step : ListedStep) → step_of step ≡ Erase page → erase_listed step ≡ steps ++ Erase page ∷ []
+  erase_is page step is = more_listed listed count step room ∙ ap (λ (s : Step). steps ++ s ∷ []) is
 
-  pub erase_done : (page : ℕ) (wear : List ℕ) (cuts : ℕ) (on : Bool) → drafted start (erase_listed page) (set wear page (one_more (get_or wear page 0))) cuts on ≡ erased page (drafted start steps wear cuts on)
-  erase_done page wear cuts on =
+  pub erase_done : (page : ℕ) (step : ListedStep) → step_of step ≡ Erase page → (wear : List ℕ) (cuts : ℕ) (on : Bool) → drafted start (erase_listed step) (set wear page (one_more (get_or wear page 0))) cuts on ≡ erased page (drafted start steps wear cuts on)
+  erase_done page step is wear cuts on =
       let worn_wear = set wear page (one_more (get_or wear page 0)) in
       let with_image : Device → Device = λ device. record (drafted start steps worn_wear cuts on) { image = device.image } in
       let with_size : Size → Device = λ size. record (drafted start steps worn_wear cuts on) { image = set (all_completed steps start).image page (replicate size.words Erased) } in
-      ap (λ (listed_steps : List Step). drafted start listed_steps worn_wear cuts on) (erase_is page)
+      ap (λ (listed_steps : List Step). drafted start listed_steps worn_wear cuts on) (erase_is page step is)
       ∙ ap with_image (one_more_step steps (Erase page) start)
       ∙ ap with_size (same_size steps start)
 
-  pub erase_taken : (page : ℕ) → page < page_count start.size → AllTaken steps start → AllTaken (erase_listed page) start
-  erase_taken page page_in taken =
+  pub erase_taken : (page : ℕ) (step : ListedStep) → step_of step ≡ Erase page → page < page_count start.size → AllTaken steps start → AllTaken (erase_listed step) start
+  erase_taken page step is page_in taken =
       let size = same_size steps start in
       let may : CanTake (Erase page) (all_completed steps start) = rw size page_in in
-      subst (λ (listed_steps : List Step). AllTaken listed_steps start) (sym (erase_is page)) (one_more_taken steps (Erase page) start taken may)
+      subst (λ (listed_steps : List Step). AllTaken listed_steps start) (sym (erase_is page step is)) (one_more_taken steps (Erase page) start taken may)
 
-  pub erase_wear : (page : ℕ) (wear : List ℕ) → wear ≡ (all_completed steps start).wear → set wear page (one_more (get_or wear page 0)) ≡ (all_completed (erase_listed page) start).wear
-  erase_wear page wear same =
+  pub erase_wear : (page : ℕ) (step : ListedStep) → step_of step ≡ Erase page → (wear : List ℕ) → wear ≡ (all_completed steps start).wear → set wear page (one_more (get_or wear page 0)) ≡ (all_completed (erase_listed step) start).wear
+  erase_wear page step is wear same =
       ap (λ (counts : List ℕ). set counts page (one_more (get_or counts page 0))) same
-      ∙ sym (ap (λ (listed_steps : List Step). (all_completed listed_steps start).wear) (erase_is page)
+      ∙ sym (ap (λ (listed_steps : List Step). (all_completed listed_steps start).wear) (erase_is page step is)
       ∙ ap (λ (device : Device). device.wear) (one_more_step steps (Erase page) start))
 
 -- the items of a wear after one was counted
@@ -193,6 +198,51 @@ word_next start listed count taken page at word next none fresh within below all
     ∙ sym (word_after step (all_completed steps start) page at formed (next_taken steps step start so_far) (rw size page_in) (rw size place_in))
     ∙ sym (ap (λ (device : Device). word_at device page at) (one_more_step steps step start))
     ∙ sym (ap (λ (listed_steps : List Step). word_at (all_completed listed_steps start) page at) more)
+
+-- one more is listed, which has the value 0 if it is an erase
+pub zeros_listed : (listed : List ListedStep) (count : ℕ) (step : ListedStep) → count < length listed → IsZeroIfErase step → All IsZeroIfErase (take count listed) → All IsZeroIfErase (take (count + 1) (set listed count step))
+zeros_listed listed count step room own zeros =
+    subst (All IsZeroIfErase) (sym (take_more_set listed count step room)) (All-append IsZeroIfErase (take count listed) (step ∷ []) zeros (All-cons IsZeroIfErase step [] own (All-nil IsZeroIfErase)))
+
+-- a program is no erase
+pub zero_of_program : (page at value words : ℕ) → at < words → words ≤ 512 → IsZeroIfErase (record { page = page; place = at; value = value })
+zero_of_program page at value words within few is = absurd (let ones : at ≡ all_ones = is in omega arith)
+
+-- ---- wears when a step was cut
+
+-- whether they are so: each page is tried
+one_page_more : (pages : ℕ) (device : Device) (wear : List ℕ) → Dec ((page : ℕ) × (page < pages) × (wear ≡ (worn page device).wear))
+one_page_more zero device wear = no (λ found. omega (arith, found.1))
+one_page_more (suc pages) device wear = elim (List-discrete ℕ_discrete wear (worn pages device).wear) [
+  | yes same ↦ yes (pages, omega arith, same)
+  | no other ↦ elim (one_page_more pages device wear) [
+    | yes found ↦ yes (found.0, omega (arith, found.1), found.2)
+    | no none ↦ no (λ found. elim (cases_lt found.0 pages) [
+      | inl lower ↦ none (found.0, lower, found.2)
+      | inr last ↦
+          let is_last : found.0 ≡ pages = omega (arith, found.1) in
+          other (subst (λ (page : ℕ). wear ≡ (worn page device).wear) is_last found.2)
+    ])
+  ]
+]
+
+pub wears_once_more : (device : Device) (wear : List ℕ) → ∥ WearsOnceMore device wear ∥₁ → WearsOnceMore device wear
+wears_once_more device wear some = elim (List-discrete ℕ_discrete wear device.wear) [
+  | yes same ↦ inl same
+  | no other ↦ elim (one_page_more (page_count device.size) device wear) [
+    | yes found ↦ inr found
+    | no none ↦ absurd (∥∥₁_elim some ⊥_prop (λ once. elim once [
+      | inl same ↦ other same
+      | inr found ↦ none found
+    ]))
+  ]
+]
+
+-- the erase of a page was cut
+pub cut_erase_wears : (start : Device) (taken : List Step) (page : ℕ) (wear new : List ℕ) → page < page_count start.size → wear ≡ (all_completed taken start).wear → new ≡ set wear page (one_more (get_or wear page 0)) → WearsOnceMore (all_completed taken start) new
+cut_erase_wears start taken page wear new page_in same is_new =
+    let size = same_size taken start in
+    inr (page, rw size page_in, is_new ∙ ap (λ (counts : List ℕ). set counts page (one_more (get_or counts page 0))) same)
 
 -- where the list has room, no step was cut
 pub none_cut : (cuts count : ℕ) (listed : List ListedStep) → count < length listed → ((cuts ≡ 0 → ⊥) → count ≡ length listed) → cuts ≡ 0

@@ -1,12 +1,13 @@
 -- What a call that was drafted leaves, by its answer.
-use Rattle.std.proofs.Common.{◌≡◌, ◌≢◌, inl, inr, ℕ, List, length, Bool, Result, Ok, Err, true, false, refl, subst, sym, ap, ◌∙◌, arith}
+use Rattle.std.proofs.Common.{◌≡◌, ◌≢◌, ◌≤◌, inl, inr, ℕ, List, length, take, Bool, Result, Ok, Err, true, false, refl, subst, sym, ap, ◌∙◌, arith}
+use Rattle.std.specs.List.{All}
+use Rattle.std.proofs.lemmas.List.{take_all}
 use Rattle.ee_flash.specs.Device.{Device}
 use Rattle.ee_flash.specs.Laws.{all_completed}
-use Rattle.ee_flash.specs.Power.{IsCut}
 use Rattle.ee_flash.specs.Step.{one_more}
 use Rattle.ee_pages.specs.Layout.{IsScanFault}
 use Rattle.ee_store.specs.Calls.{Cleans, Forgets, Writes}
-use Rattle.ee_store.specs.Openings.{IsCutOpening, IsFormatted, OpenFails, Opens}
+use Rattle.ee_store.specs.Openings.{IsCutFormat, IsCutOpening, IsFormatted, OpenFails, Opens}
 use Rattle.ee_store.specs.declared.opening.OpenFault.{OpenFault}
 use Rattle.ee_store.specs.declared.opening.OpenFault.TheVariants as opening
 use Rattle.ee_store.specs.declared.variables.Written.{Written}
@@ -16,9 +17,9 @@ use Rattle.ee_store.specs.declared.variables.WriteFault.TheVariants as write
 use Rattle.ee_store.specs.declared.variables.ForgetFault.{ForgetFault}
 use Rattle.ee_store.specs.declared.variables.ForgetFault.TheVariants as forget
 use Rattle.ee_page.specs.Answers.{answer_of_clean, answer_of_forget, answer_of_opening, answer_of_write}
-use Rattle.ee_page.specs.Calls.{CleansCells, Drafts, FillsList, ForgetsCells, FormatsCells, IsEnded, Lists, OpensCells, WritesCells}
+use Rattle.ee_page.specs.Calls.{CleansCells, Drafts, FillsList, ForgetsCells, FormatsCells, IsEnded, Lists, OpensCells, WearsOnceMore, WritesCells}
 use Rattle.ee_page.specs.Draft.{IsFresh}
-use Rattle.ee_page.specs.Listing.{AllTaken, steps_of}
+use Rattle.ee_page.specs.Listing.{AllTaken, IsZeroIfErase, steps_of}
 use Rattle.ee_page.specs.declared.answer.Answer.{Answer}
 use Rattle.ee_page.specs.declared.answer.Answer.TheVariants.{Done, Moved, Nothing, Full, Spent, Absent, NoStore, ListTooShort}
 use Rattle.ee_page.specs.declared.listing.ListedStep.{ListedStep}
@@ -32,6 +33,7 @@ module _ (start device : Device) (listed : List ListedStep) (count : ℕ) (fresh
   lists leaves never left = record {
     within = ended.within;
     taken = ended.taken;
+    zeros = ended.zeros;
     leads = subst leaves (ended.whole never) left;
   }
 
@@ -39,10 +41,14 @@ module _ (start device : Device) (listed : List ListedStep) (count : ℕ) (fresh
   pub fills : (leaves : Device → Type 0) → device.cuts ≡ one_more start.cuts → leaves device → FillsList start listed leaves
   fills leaves once left =
       let none = fresh.never_cut in
+      let refl_le : length listed ≤ length listed = omega arith in
       let full : count ≡ length listed = ended.full (λ never. let same : one_more start.cuts ≡ 0 = sym once ∙ never in omega arith) in
+      let is_once : device.cuts ≡ 1 = once ∙ ap one_more none in
       record {
         taken = subst (λ (n : ℕ). AllTaken (steps_of n listed) start) full ended.taken;
+        zeros = subst (All IsZeroIfErase) (take_all (length listed) listed refl_le) (subst (λ (n : ℕ). All IsZeroIfErase (take n listed)) full ended.zeros);
         cut = device;
+        wear = subst (λ (n : ℕ). WearsOnceMore (all_completed (steps_of n listed) start) device.wear) full (ended.further is_once);
         image = subst (λ (n : ℕ). device.image ≡ (all_completed (steps_of n listed) start).image) full ended.image;
         leads = left;
       }
@@ -120,8 +126,8 @@ module _ (start device : Device) (listed : List ListedStep) (count : ℕ) (fresh
   pub open_drafts : Opens start device → Drafts (OpensCells start) Done start listed count
   open_drafts opens = lists (OpensCells start Done) (opens.goes_on.same_cuts ∙ fresh.never_cut) opens
 
-  pub not_formatted : IsCut start device → Drafts (FormatsCells start) ListTooShort start listed count
-  not_formatted cut = fills (FormatsCells start ListTooShort) cut.one_more_cut cut
+  pub not_formatted : IsCutFormat start device → Drafts (FormatsCells start) ListTooShort start listed count
+  not_formatted left = fills (FormatsCells start ListTooShort) left.cut.one_more_cut left
 
   pub format_drafts : IsFormatted start device → Drafts (FormatsCells start) Done start listed count
   format_drafts formatted = lists (FormatsCells start Done) (formatted.goes_on.same_cuts ∙ fresh.never_cut) formatted

@@ -1,16 +1,18 @@
 -- What each call answers, and what it leaves of the device that its mirror means: one relation for each, by cases on the
 -- answer. A call opens the store first, which sets the marks that a cut left.
-use Rattle.std.specs.Prelude.{◌≡◌, ◌≤◌, ◌⊎◌, ℕ, Ok, Err, true, false, List, length}
+use Rattle.std.specs.Prelude.{◌≡◌, ◌<◌, ◌≤◌, ◌⊎◌, ℕ, Ok, Err, true, false, List, length, take}
+use Rattle.std.specs.List.{All}
 use Rattle.ee_flash.specs.Device.{Device}
 use Rattle.ee_flash.specs.Laws.{all_completed}
-use Rattle.ee_flash.specs.Power.{IsCut}
+use Rattle.ee_flash.specs.Size.{page_count}
+use Rattle.ee_flash.specs.Step.{worn}
 use Rattle.ee_pages.specs.Layout.{IsScanFault}
 use Rattle.ee_store.specs.Calls.{Cleans, Forgets, Writes}
-use Rattle.ee_store.specs.Openings.{IsCutOpening, IsFormatted, Opens}
+use Rattle.ee_store.specs.Openings.{IsCutFormat, IsCutOpening, IsFormatted, Opens}
 use Rattle.ee_store.specs.declared.variables.Written.TheVariants as written
 use Rattle.ee_store.specs.declared.variables.WriteFault.TheVariants as write
 use Rattle.ee_store.specs.declared.variables.ForgetFault.TheVariants as forget
-use Rattle.ee_page.specs.Listing.{AllTaken, steps_of}
+use Rattle.ee_page.specs.Listing.{AllTaken, IsZeroIfErase, steps_of}
 use Rattle.ee_page.specs.declared.answer.Answer.{Answer}
 use Rattle.ee_page.specs.declared.answer.Answer.TheVariants.{Done, Moved, Nothing, Full, Spent, Absent, NoStore, ListTooShort, WrongShape, ImproperAddress}
 use Rattle.ee_page.specs.declared.listing.ListedStep.{ListedStep}
@@ -78,7 +80,7 @@ OpensCells old ImproperAddress new = ⊥
 -- a new store with nothing in it
 abbrev pub FormatsCells : Device → Answer → Device → Type 0
 FormatsCells old Done new = IsFormatted old new
-FormatsCells old ListTooShort new = IsCut old new
+FormatsCells old ListTooShort new = IsCutFormat old new
 FormatsCells old (NoStore fault) new = ⊥
 FormatsCells old Moved new = ⊥
 FormatsCells old Nothing new = ⊥
@@ -94,13 +96,22 @@ FormatsCells old ImproperAddress new = ⊥
 pub record Lists (start : Device) (listed : List ListedStep) (count : ℕ) (leaves : Device → Type 0) : Type 0 where
   pub within : count ≤ length listed
   pub taken : AllTaken (steps_of count listed) start
+  pub zeros : All IsZeroIfErase (take count listed)
   pub leads : leaves (all_completed (steps_of count listed) start)
 
--- all places of the list are steps of the call, and power was cut in a further one
+-- The wears when power was cut in one more step: in a program, or in the erase of a page, which wears it.
+abbrev pub WearsOnceMore : Device → List ℕ → Type 0
+WearsOnceMore device wear =
+    (wear ≡ device.wear) ⊎ ((page : ℕ) × (page < page_count device.size) × (wear ≡ (worn page device).wear))
+
+-- Each place of the list is a step that can be taken, and power was cut in a further one, before it changed a word: what it
+-- left then is what the call leaves.
 pub record FillsList (start : Device) (listed : List ListedStep) (leaves : Device → Type 0) : Type 0 where
   pub taken : AllTaken (steps_of (length listed) listed) start
+  pub zeros : All IsZeroIfErase listed
   pub cut : Device
   pub image : cut.image ≡ (all_completed (steps_of (length listed) listed) start).image
+  pub wear : WearsOnceMore (all_completed (steps_of (length listed) listed) start) cut.wear
   pub leads : leaves cut
 
 -- what a call lists for what it leaves; where the words are no store its list is not played, and says nothing
@@ -120,6 +131,8 @@ Drafts leaves ImproperAddress start listed count = Lists start listed count (lea
 pub record IsEnded (start device : Device) (listed : List ListedStep) (count : ℕ) : Type 0 where
   pub within : count ≤ length listed
   pub taken : AllTaken (steps_of count listed) start
+  pub zeros : All IsZeroIfErase (take count listed)
   pub image : device.image ≡ (all_completed (steps_of count listed) start).image
   pub whole : device.cuts ≡ 0 → device ≡ all_completed (steps_of count listed) start
+  pub further : device.cuts ≡ 1 → WearsOnceMore (all_completed (steps_of count listed) start) device.wear
   pub full : (device.cuts ≡ 0 → ⊥) → count ≡ length listed

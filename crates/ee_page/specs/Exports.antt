@@ -1,11 +1,12 @@
 -- What a call of the library tells its caller, and what it leaves in the memory that is lent to it.
-use Rattle.std.specs.Prelude.{◌≡◌, ◌≤◌, ℕ, List, length}
+use Rattle.std.specs.Prelude.{◌≡◌, ◌≤◌, ℕ, List, length, take}
+use Rattle.std.specs.List.{All}
 use Rattle.ee_flash.specs.Device.{Device}
 use Rattle.ee_flash.specs.Laws.{all_completed}
 use Rattle.ee_flash.specs.Size.{Size}
 use Rattle.ee_page.specs.Answers.{result_of}
 use Rattle.ee_page.specs.Calls.{FillsList}
-use Rattle.ee_page.specs.Listing.{AllTaken, steps_of}
+use Rattle.ee_page.specs.Listing.{AllTaken, IsZeroIfErase, steps_of}
 use Rattle.ee_page.specs.Mirror.{Fits, Mirror, device_in}
 use Rattle.ee_page.specs.declared.answer.Answer.{Answer}
 use Rattle.ee_page.specs.declared.answer.Answer.TheVariants.{Done, Moved, Nothing, Full, Spent, Absent, NoStore, ListTooShort, WrongShape, ImproperAddress}
@@ -17,17 +18,18 @@ pub record IsRefused (old new : Mirror) (count : ℕ) : Type 0 where
   pub same : new ≡ old
   pub none_listed : count ≡ 0
 
--- The first so many of the listed steps can be taken, each when it comes; the mirror means what they lead to when they are
+-- The first so many of the listed steps can be taken, each when it comes, and an erase has the value 0; the mirror means what they lead to when they are
 -- played in order.
 pub record IsPlayed (size : Size) (old new : Mirror) (listed : List ListedStep) (count : ℕ) : Type 0 where
   pub fits : Fits size new
   pub within : count ≤ length listed
   pub taken : AllTaken (steps_of count listed) (device_in size old)
+  pub zeros : All IsZeroIfErase (take count listed)
   pub played : device_in size new ≡ all_completed (steps_of count listed) (device_in size old)
 
 -- What an answer of a call says, which leaves something of a device, and asks that its arguments are proper. Where the words
--- are no store nothing is written or listed. A list that is too short is filled by steps of the call, and nothing is written;
--- the call itself goes on behind them.
+-- are no store nothing is written or listed. A list that is too short is full of steps, such as the call may have taken
+-- when power is cut in it, and nothing is written.
 abbrev pub Ends : Size → (Device → Answer → Device → Type 0) → Type 0 → Answer → Mirror → Mirror → List ListedStep → ℕ → Type 0
 Ends size leaves proper WrongShape old new listed count = ¬ Fits size old × IsRefused old new count
 Ends size leaves proper ImproperAddress old new listed count = Fits size old × ¬ proper × IsRefused old new count

@@ -1,5 +1,5 @@
 -- Lists of steps: what they say, and what they leave when they are played in order.
-use Rattle.std.specs.Prelude.{ℕ, ◌==◌, ◌&&◌, if◌then◌else◌, List, [], ◌∷◌, map, take}
+use Rattle.std.specs.Prelude.{◌≡◌, ℕ, ◌==◌, ◌&&◌, if◌then◌else◌, List, [], ◌∷◌, map, take}
 use Rattle.ee_flash.specs.Device.{Device, all_ones}
 use Rattle.ee_flash.specs.Laws.{CanTake}
 use Rattle.ee_flash.specs.Step.{Step, Program, Erase, completed}
@@ -11,6 +11,10 @@ use Rattle.ee_page.specs.declared.listing.ListedStep.{ListedStep}
 abbrev pub step_of : ListedStep → Step
 step_of listed =
     if listed.place == all_ones then Erase listed.page else Program listed.page listed.place listed.value
+
+-- an erase is listed with the value 0
+abbrev pub IsZeroIfErase : ListedStep → Type 0
+IsZeroIfErase listed = listed.place ≡ all_ones → listed.value ≡ 0
 
 -- the first so many of the listed steps
 unfoldable pub steps_of : ℕ → List ListedStep → List Step

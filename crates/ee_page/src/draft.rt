@@ -1,12 +1,12 @@
-ghost use Rattle.std.specs.Prelude.{◌<◌, ◌≤◌, ◌≡◌, ◌⊎◌, ◌*◌, OnErr, OnOk, length, true};
+ghost use Rattle.std.specs.Prelude.{◌<◌, ◌≤◌, ◌≡◌, ◌⊎◌, ◌*◌, OnErr, OnOk, length, take, true};
 ghost use Rattle.std.specs.List.{All};
 ghost use Rattle.ee_flash.specs.Device.{IsBelowAllOnes, all_ones};
 ghost use Rattle.ee_flash.specs.Laws.{all_completed};
 ghost use Rattle.ee_flash.specs.Pages.{pages_of};
 ghost use Rattle.ee_flash.specs.Size.{page_count};
-ghost use Rattle.ee_page.specs.Calls.{IsEnded};
+ghost use Rattle.ee_page.specs.Calls.{IsEnded, WearsOnceMore};
 ghost use Rattle.ee_page.specs.Draft.{IsFresh};
-ghost use Rattle.ee_page.specs.Listing.{AllTaken, steps_of};
+ghost use Rattle.ee_page.specs.Listing.{AllTaken, IsZeroIfErase, steps_of};
 ghost use Rattle.ee_page.specs.ListingProps.{AllTaken-prop};
 ghost use Rattle.ee_page.specs.Mirror.{cells_of, decoded};
 
@@ -66,12 +66,15 @@ pub(crate) struct DraftFlash<'w, 'l, K: Lent> {
     ghost same_list: { listed.ghost_name ≡ K.list },
     ghost within: { count ≤ length listed.now },
     ghost taken: { AllTaken (steps_of count listed.now) K.start } by { AllTaken-prop _ _ },
+    ghost zeros: { All IsZeroIfErase (take count listed.now) },
     ghost wear_length: { length wear.items ≡ page_count shape },
     ghost wear_fits: { All (λ count. count ≤ all_ones) wear.items },
     ghost cuts_fit: { cuts ≤ all_ones },
     ghost full: { (cuts ≡ 0 → ⊥) → count ≡ length listed.now },
     ghost whole: { cuts ≡ 0
         → (wear.items ≡ (all_completed (steps_of count listed.now) K.start).wear) × (on ≡ true) },
+    ghost further: { cuts ≡ 1
+        → ∥ WearsOnceMore (all_completed (steps_of count listed.now) K.start) wear.items ∥₁ },
 }
 
 /// What a word's number and its flag mean.
@@ -160,11 +163,8 @@ impl<'w, 'l, K: Lent> Flash for DraftFlash<'w, 'l, K> {
             self.wear[page] = worn;
             return Err(Cut);
         }
-        self.listed[self.count] = ListedStep {
-            page,
-            place: usize::MAX,
-            value: 0,
-        };
+        let step = ListedStep::erase(page);
+        self.listed[self.count] = step;
         self.count += 1;
         self.wear[page] = worn;
         Ok(())

@@ -4,8 +4,9 @@
 //!
 //! Proved of a list, as a whole: each listed step can be taken when it comes, and all of them in
 //! order lead from what the mirror meant to what it means. Not proved: what a front of it leaves,
-//! as when power is cut between two of its steps; `page/test` compares that with the program. Of a
-//! cut at any step the contracts of `ee_store` speak, over a device that is asked step by step.
+//! as when power is cut between two of its steps, and that a list with a place for each step is
+//! never refused; `page/test` compares the first with the program, and tries the second. Of a cut at
+//! any step the contracts of `ee_store` speak, over a device that is asked step by step.
 //!
 //! A call works on a mirror of the flash, which the caller lends: its words, a flag for each, and the
 //! wears of its pages (`specs/Mirror.antt`). It makes a draft of the device that the mirror means: a

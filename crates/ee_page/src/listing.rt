@@ -1,4 +1,5 @@
 ghost use Rattle.std.specs.Prelude.{◌≡◌, ◌<◌};
+ghost use Rattle.ee_flash.specs.Step.{Erase};
 ghost use Rattle.ee_flash.specs.Device.{all_ones};
 
 use ee_flash::Word;
@@ -18,7 +19,19 @@ pub struct ListedStep {
 }
 
 impl ListedStep {
-    ghost use Rattle.ee_page.specs.Listing.{left_by, step_of};
+    ghost use Rattle.ee_page.specs.Listing.{IsZeroIfErase, left_by, step_of};
+
+    /// The erase of a page.
+    pub(crate) fn erase(page: usize) -> Self
+        ensures erases { step_of result ≡ Erase page }
+        ensures zero { IsZeroIfErase result }
+    {
+        ListedStep {
+            page,
+            place: usize::MAX,
+            value: 0,
+        }
+    }
 
     /// What it leaves of this word of a page.
     pub(crate) fn leaves(self, page: usize, at: usize, word: Word) -> Word

@@ -1,5 +1,6 @@
 ghost use Rattle.std.specs.Prelude.{◌≡◌};
 
+use super::locks::FileLocks;
 use super::saving::save;
 use ee_flash::Shape;
 use ee_shell::{
@@ -24,7 +25,7 @@ pub const OUT_OF_MEMORY: u8 = 5;
 ///
 /// Files are read whole, in the order in which they are named, before anything is decided. An image
 /// is written only after all work succeeded, and its file is closed before anything is printed.
-pub fn run<R: Files + Input + Print + Eprint + AllocGlobal>(rt: &R, words: &[String]) -> u8 {
+pub fn run<R: FileLocks + Input + Print + Eprint + AllocGlobal>(rt: &R, words: &[String]) -> u8 {
     let mut texts: Vec<&str> = Vec::new(rt.alloc());
     for word in words {
         if texts.push(word.as_str()).is_err() {
@@ -41,7 +42,7 @@ pub fn run<R: Files + Input + Print + Eprint + AllocGlobal>(rt: &R, words: &[Str
 }
 
 /// Does a job.
-fn work<R: Files + Input + Print + AllocGlobal>(rt: &R, job: &Job<'_>) -> Result<(), Fault> {
+fn work<R: FileLocks + Input + Print + AllocGlobal>(rt: &R, job: &Job<'_>) -> Result<(), Fault> {
     match *job {
         Job::Try { shape } => try_input(rt, shape),
         Job::Format { shape, image } => format_file(rt, shape, image),
@@ -95,7 +96,7 @@ fn try_input<R: Input + Print + AllocGlobal>(rt: &R, shape: Shape) -> Result<(),
 }
 
 /// Writes a new image.
-fn format_file<R: Files + Print + AllocGlobal>(
+fn format_file<R: FileLocks + Print + AllocGlobal>(
     rt: &R,
     shape: Shape,
     image: &str,
@@ -107,7 +108,7 @@ fn format_file<R: Files + Print + AllocGlobal>(
 
 /// Answers a script on an image, writes the image that this leaves in its place, and prints the
 /// report. `indexed` says whether the store keeps an index in memory.
-fn run_files<R: Files + Print + AllocGlobal>(
+fn run_files<R: FileLocks + Print + AllocGlobal>(
     rt: &R,
     indexed: bool,
     image: &str,
@@ -144,7 +145,7 @@ fn tell_setting<R: Files + Print + AllocGlobal>(
 }
 
 /// Gives a setting of an image a value, and writes the image in its place.
-fn set_file<R: Files + Print + AllocGlobal>(
+fn set_file<R: FileLocks + Print + AllocGlobal>(
     rt: &R,
     image: &str,
     settings: &str,
@@ -222,7 +223,7 @@ fn tell_states<R: Files + Print + AllocGlobal>(rt: &R, image: &str) -> Result<()
 
 /// Erases the pages of an image that wait for it, writes the image in its place, and prints their
 /// number.
-fn clean_file<R: Files + Print + AllocGlobal>(rt: &R, image: &str) -> Result<(), Fault> {
+fn clean_file<R: FileLocks + Print + AllocGlobal>(rt: &R, image: &str) -> Result<(), Fault> {
     let before = read_file(rt, File::Image, image)?;
     let (cleaned, text) = clean_image(rt.alloc(), before.as_slice())?;
     write_image(rt, image, Some(before.as_slice()), cleaned.as_slice())?;
@@ -244,7 +245,7 @@ fn tell_stale<R: Files + Print + AllocGlobal>(
 
 /// Forgets the addresses of an image that no setting has, writes the image in its place, and prints
 /// their number.
-fn tidy_file<R: Files + Print + AllocGlobal>(
+fn tidy_file<R: FileLocks + Print + AllocGlobal>(
     rt: &R,
     image: &str,
     settings: &str,
@@ -304,9 +305,9 @@ fn read_file<R: Files + AllocGlobal>(rt: &R, file: File, path: &str) -> Result<V
     }
 }
 
-/// Writes an image in the place of its file, of which `before` was read, if it was. Its file is
-/// closed afterwards.
-fn write_image<R: Files + AllocGlobal>(
+/// Writes an image in the place of its file, of which `before` was read, if it was: then only where the
+/// file still is that. Its file is closed afterwards.
+fn write_image<R: FileLocks + AllocGlobal>(
     rt: &R,
     path: &str,
     before: Option<&[u8]>,
@@ -314,7 +315,7 @@ fn write_image<R: Files + AllocGlobal>(
 ) -> Result<(), Fault> {
     match save(rt, path, before, image) {
         Ok(()) => Ok(()),
-        Err(_) => Err(Fault::CannotWriteImage),
+        Err(fault) => Err(fault.told()),
     }
 }
 

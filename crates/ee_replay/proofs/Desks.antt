@@ -22,7 +22,7 @@ use Rattle.ee_script.specs.declared.answer.Answer.TheVariants.{Appended, Moved, 
 use Rattle.ee_script.specs.Run.{Run}
 use Rattle.ee_image_store.specs.Machine.{CallStep, CutsChange, DeskStep, is_cut_answer}
 use Rattle.ee_replay.specs.Serving.{Asks, Attends, Powers, Serves, desk_of, is_armed, serving_on}
-use Rattle.ee_replay.proofs.Powering.{state_armed, state_powered}
+use Rattle.ee_replay.proofs.Powering.{now_armed, state_armed, state_powered}
 use Rattle.ee_replay.proofs.Runs.{machine_step}
 
 -- ---- how often a cut may come
@@ -76,7 +76,7 @@ whole old command answer new made serves follows uncut plain still most =
     }
 
 cut_change : (old : Device) (change : Change) (new : Device) → IsCutChange old change new → CutsChange old.size (state_of old) change (state_of new)
-cut_change old change new cut = record { accepted = cut.proceeds.accepted; free = cut.free; all_used = cut.all_used }
+cut_change old change new cut = record { accepted = cut.proceeds.accepted; within = cut.within; free = cut.free; all_used = cut.all_used }
 
 -- what is so of each cut in a call of an open store
 record IsCutHere (old : Device) (new : Point) : Type 0 where
@@ -164,11 +164,13 @@ power_made false old Cut new most powers =
 power_made serving old answer new most powers = absurd powers
 
 pub line_made : (old : Point) (command : Command) (answer : Answer) (new : Point) → AtMostOne old.device → Attends old command answer new → IsLineMade old command answer new
-line_made old (Arm fuse) answer new most attends = record {
-  step = (attends.0, ap desk_of attends.1 ∙ rw (state_armed old.device) refl);
-  same_size = ap (λ (point : Point). point.device.size) attends.1;
-  at_most = inr (ap (λ (point : Point). point.device.cuts_left) attends.1);
-}
+line_made old (Arm fuse) answer new most attends =
+    let here = now_armed old new fuse attends.1 in
+    record {
+      step = (attends.0, ap desk_of here ∙ rw (state_armed old.device) refl);
+      same_size = ap (λ (point : Point). point.device.size) here;
+      at_most = inr (ap (λ (point : Point). point.device.cuts_left) here);
+    }
 line_made old PowerOn answer new most attends = power_made old.serving old.device answer new most attends
 line_made old (Write address value) answer new most attends =
     let made = asked old.serving old.device (Write address value) answer new most attends in

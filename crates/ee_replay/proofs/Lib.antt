@@ -8,7 +8,9 @@ pub mod Late
 pub mod Given
 pub mod Desks
 pub mod Arming
+pub mod Kept
 pub mod UncutRuns
+pub mod ScriptWears
 pub mod LegalAlone
 pub mod Powering
 pub mod Calling

@@ -11,7 +11,6 @@ use Rattle.ee_store.specs.Changes.{Appends, IsAccepted, IsCutAppend, IsCutChange
 use Rattle.ee_store.specs.Finished.{IsStore}
 use Rattle.ee_store.specs.State.{State, appended, moved, state_of}
 use Rattle.std.proofs.lemmas.Bool.{cases_order}
-use Rattle.ee_store.proofs.CutMaps.{fill_within}
 use Rattle.ee_store.proofs.Making.{generation_proper}
 use Rattle.ee_store.proofs.MovingFacts.{few_slots}
 use Rattle.ee_store.proofs.States.{state_is}
@@ -483,37 +482,37 @@ cut_move_counted old new change notes sized used accepted (inr made) counted =
       changes = omega (arith, turn);
     }
 
-pub counted_cut : (old new : Device) (change : meaning.Change) (notes : Notes) → IsCutChange old change new → IsStore old → IsCounted old notes → IsCounted new (noted Cut 0 notes)
-counted_cut old new change notes cut store counted =
+pub counted_cut : (old new : Device) (change : meaning.Change) (notes : Notes) → IsCutChange old change new → IsCounted old notes → IsCounted new (noted Cut 0 notes)
+counted_cut old new change notes cut counted =
     let there : IsCounted new notes = elim (cases_order (state_of old).fill (slot_count old.size)) [
       | inl used ↦ cut_move_counted old new change notes cut.cut.same_size used cut.proceeds.accepted (cut.all_used used) counted
       | inr (inl free) ↦ cut_append_counted old new change notes cut.cut.same_size (cut.free free) counted
-      | inr (inr more) ↦ absurd (omega (arith, more, fill_within old store.legal.2.formed))
+      | inr (inr more) ↦ absurd (omega (arith, more, cut.within))
     ] in
     record { slots = there.slots; generation = there.generation; changes = there.changes }
 
 -- where a call at a desk is cut
 wrote_counted : (serving : Bool) (old : Device) (new : Point) (address value : ℕ) (notes : Notes) → Calls serving old (Wrote address value (Err fault.Cut)) new
-    → (serving ≡ true → IsStore old) → IsCounted old notes → IsCounted new.device (noted Cut 0 notes)
-wrote_counted true old new address value notes calls store counted = counted_cut old new.device (Put address value) notes calls.1 (store refl) counted
-wrote_counted false old new address value notes calls store counted = absurd calls.0
+    → IsCounted old notes → IsCounted new.device (noted Cut 0 notes)
+wrote_counted true old new address value notes calls counted = counted_cut old new.device (Put address value) notes calls.1 counted
+wrote_counted false old new address value notes calls counted = absurd calls.0
 
 pub wrote_cut_counted : (serving : Bool) (old : Device) (new : Point) (address value : ℕ) (notes kept : Notes) (answer : WriteFault) → answer ≡ fault.Cut
-    → Calls serving old (Wrote address value (Err answer)) new → (serving ≡ true → IsStore old) → IsCounted old notes → kept ≡ noted Cut 0 notes → IsCounted new.device kept
-wrote_cut_counted serving old new address value notes kept answer cut calls store counted is =
+    → Calls serving old (Wrote address value (Err answer)) new → IsCounted old notes → kept ≡ noted Cut 0 notes → IsCounted new.device kept
+wrote_cut_counted serving old new address value notes kept answer cut calls counted is =
     subst (IsCounted new.device) (sym is)
-    (wrote_counted serving old new address value notes (subst (λ (one : WriteFault). Calls serving old (Wrote address value (Err one)) new) cut calls) store counted)
+    (wrote_counted serving old new address value notes (subst (λ (one : WriteFault). Calls serving old (Wrote address value (Err one)) new) cut calls) counted)
 
 forgot_counted : (serving : Bool) (old : Device) (new : Point) (address : ℕ) (notes : Notes) → Calls serving old (Forgot address (Err forgetting.Cut)) new
-    → (serving ≡ true → IsStore old) → IsCounted old notes → IsCounted new.device (noted Cut 0 notes)
-forgot_counted true old new address notes calls store counted = counted_cut old new.device (meaning.Forget address) notes calls.1 (store refl) counted
-forgot_counted false old new address notes calls store counted = absurd calls.0
+    → IsCounted old notes → IsCounted new.device (noted Cut 0 notes)
+forgot_counted true old new address notes calls counted = counted_cut old new.device (meaning.Forget address) notes calls.1 counted
+forgot_counted false old new address notes calls counted = absurd calls.0
 
 pub forgot_cut_counted : (serving : Bool) (old : Device) (new : Point) (address : ℕ) (notes kept : Notes) (answer : ForgetFault) → answer ≡ forgetting.Cut
-    → Calls serving old (Forgot address (Err answer)) new → (serving ≡ true → IsStore old) → IsCounted old notes → kept ≡ noted Cut 0 notes → IsCounted new.device kept
-forgot_cut_counted serving old new address notes kept answer cut calls store counted is =
+    → Calls serving old (Forgot address (Err answer)) new → IsCounted old notes → kept ≡ noted Cut 0 notes → IsCounted new.device kept
+forgot_cut_counted serving old new address notes kept answer cut calls counted is =
     subst (IsCounted new.device) (sym is)
-    (forgot_counted serving old new address notes (subst (λ (one : ForgetFault). Calls serving old (Forgot address (Err one)) new) cut calls) store counted)
+    (forgot_counted serving old new address notes (subst (λ (one : ForgetFault). Calls serving old (Forgot address (Err one)) new) cut calls) counted)
 
 -- where the image says the same
 pub counted_same : (old new : Device) (notes kept : Notes) → SaysTheSame old new → kept.changes ≡ notes.changes → IsCounted old notes → IsCounted new kept

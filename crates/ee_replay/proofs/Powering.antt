@@ -1,5 +1,5 @@
 -- What a device's image says stays as power comes on and a cut is armed.
-use Rattle.std.proofs.Common.{◌≡◌, ◌∙◌, ◌≤◌, ℕ, arith, Option, Some, None, ap, refl, subst, sym, true}
+use Rattle.std.proofs.Common.{◌≡◌, ◌∙◌, ◌≤◌, ℕ, arith, Bool, Option, Some, None, ap, false, refl, subst, sym, true}
 use Rattle.ee_flash.specs.Device.{Device, IsFormed, IsOn, all_ones}
 use Rattle.ee_pages.proofs.ScanFaults.{legal_is_good}
 use Rattle.ee_pages.specs.Layout.{IsScanFault}
@@ -8,7 +8,7 @@ use Rattle.ee_pages.specs.Sets.{live_of}
 use Rattle.ee_pages.specs.declared.find.ScanFault.{ScanFault}
 use Rattle.ee_pages.specs.declared.side.Side.{Side}
 use Rattle.ee_pages.specs.declared.side.Side.TheVariants.{First, Second}
-use Rattle.ee_store.specs.Events.{powered}
+use Rattle.ee_store.specs.Events.{closed, powered}
 use Rattle.ee_store.specs.Finished.{IsFinished, IsMarked, IsStore}
 use Rattle.ee_store.specs.State.{state_in, state_of, state_with}
 use Rattle.ee_store.specs.Events.{Point}
@@ -19,7 +19,7 @@ use Rattle.ee_flash.specs.Memory.{Memory}
 use Rattle.ee_flash.specs.Memory as memory
 use Rattle.ee_flash.specs.declared.fuse.Fuse.{Fuse}
 use Rattle.ee_replay.specs.Desk.{SaysTheSame}
-use Rattle.ee_replay.specs.Serving.{IsSound, armed, opened}
+use Rattle.ee_replay.specs.Serving.{ArmsItsFuse, IsArmed, IsSound, armed, opened}
 
 state_with_armed : (device : Device) (side : Side) (generation : ℕ) → state_with (armed device) side generation ≡ state_with device side generation
 state_with_armed device First generation = refl
@@ -102,33 +102,46 @@ no_fault_powered device fault legal found = legal_is_good (powered device) fault
 
 -- ---- a device that is armed
 
--- what the fuse makes of the device
-pub now_armed : (fuse : Fuse) (old new : Memory) → new ≡ memory.armed fuse old → new.device ≡ armed old.device
-now_armed fuse old new is = ap (λ (kept : Memory). kept.device) is
+-- what a line that arms a cut makes of a point
+pub now_armed : (old new : Point) (fuse : Fuse) → ArmsItsFuse old fuse new → new ≡ record old { device = armed old.device }
+now_armed old new fuse line = line.new_is ∙ ap (λ (d : Device). record old { device = d }) line.arms.device_is
 
-pub arm_legal : (old flash new : Device) → flash ≡ old → new ≡ armed flash → IsLegal old → IsLegal new
-arm_legal old flash new same is legal = subst IsLegal (sym (is ∙ ap armed same)) (legal_armed old legal)
+-- what the fuse makes of a device in memory
+pub arms_memory : (old : Device) (fuse : Fuse) (flash new : Memory) → new ≡ memory.armed fuse flash → flash.device ≡ old → IsArmed old fuse new
+arms_memory old fuse flash new is same = record {
+  device_is = ap (λ (kept : Memory). kept.device) is ∙ ap armed same;
+  has_fuse = ap (λ (kept : Memory). kept.fuse) is;
+}
 
-pub arm_scan : (old flash new : Device) (fault : ScanFault) → flash ≡ old → new ≡ armed flash → IsLegal old → IsScanFault new fault → ⊥
-arm_scan old flash new fault same is legal found = no_fault_armed old fault legal (subst (λ (device : Device). IsScanFault device fault) (is ∙ ap armed same) found)
+pub arm_legal : (old new : Device) → new ≡ armed old → IsLegal old → IsLegal new
+arm_legal old new is legal = subst IsLegal (sym is) (legal_armed old legal)
 
-pub arm_cut : (old : Point) (flash new last : Device) → flash ≡ old.device → new ≡ armed flash → old.serving ≡ true → IsSound old → IsCutOpening new last → ⊥
-arm_cut old flash new last same is still sound cut =
-    let finished = finished_armed old.device (sound.store still) (sound.on still) in
-    cut.mark_left (subst IsFinished (sym (is ∙ ap armed same)) finished)
+pub arm_scan : (old new : Device) (fault : ScanFault) → new ≡ armed old → IsLegal old → IsScanFault new fault → ⊥
+arm_scan old new fault is legal found = no_fault_armed old fault legal (subst (λ (device : Device). IsScanFault device fault) is found)
 
-pub arm_failed : (old : Point) (flash new last : Device) (fault : IndexedFault) → fault ≡ indexed.Cut → flash ≡ old.device → new ≡ armed flash → old.serving ≡ true → IsSound old
+pub arm_failed : (old : Point) (new last : Device) (fault : IndexedFault) → fault ≡ indexed.Cut → new ≡ armed old.device → old.serving ≡ true → IsSound old
     → IndexedOpenFails new fault last → ⊥
-arm_failed old flash new last fault cut same is still sound fails =
-    arm_cut old flash new last same is still sound (subst (λ (one : IndexedFault). IndexedOpenFails new one last) cut fails)
-
-pub arm_opens : (old : Point) (flash new last : Device) → flash ≡ old.device → new ≡ armed flash → old.serving ≡ true → IsSound old → Opens new last
-    → opened last ≡ record old { device = armed old.device }
-arm_opens old flash new last same is still sound opens =
-    let here : new ≡ armed old.device = is ∙ ap armed same in
+arm_failed old new last fault cut is still sound fails =
     let finished = finished_armed old.device (sound.store still) (sound.on still) in
-    let there : last ≡ armed old.device = opens.no_step (subst IsFinished (sym here) finished) ∙ here in
-    ap opened there ∙ rw (sound.on still, still) refl
+    let failed : IsCutOpening new last = subst (λ (one : IndexedFault). IndexedOpenFails new one last) cut fails in
+    failed.mark_left (subst IsFinished (sym is) finished)
+
+-- where no store was open, the device alone is on the desk
+pub arm_bare : (old : Point) (fuse : Fuse) (kept : Memory) → IsArmed old.device fuse kept → old.serving ≡ false → ArmsItsFuse old fuse (closed kept.device)
+arm_bare old fuse kept is none = record {
+  kept = kept;
+  arms = is;
+  new_is = ap (λ (serving : Bool). record { serving = serving; device = kept.device }) (sym none);
+}
+
+-- a store that is opened on it takes no step
+pub arm_opens : (old : Point) (fuse : Fuse) (kept : Memory) (last : Device) → IsArmed old.device fuse kept → old.serving ≡ true → IsSound old → Opens kept.device last
+    → ArmsItsFuse old fuse (opened last)
+arm_opens old fuse kept last is still sound opens =
+    let finished = finished_armed old.device (sound.store still) (sound.on still) in
+    let there : last ≡ kept.device = opens.no_step (subst IsFinished (sym is.device_is) finished) in
+    let on : kept.device.on ≡ old.serving = ap (λ (device : Device). device.on) is.device_is ∙ sound.on still ∙ sym still in
+    record { kept = kept; arms = is; new_is = ap opened there ∙ ap (λ (serving : Bool). record { serving = serving; device = kept.device }) on }
 
 -- an open store is on, and no mark is left to set
 pub store_sound : (device : Device) → IsStore device → IsSound (opened device)
@@ -136,10 +149,8 @@ store_sound device store = record { legal = store.legal; on = λ on. on; store =
 
 -- ---- the image says the same
 
-pub same_armed : (old flash new : Device) → flash ≡ old → new ≡ armed flash → SaysTheSame old new
-same_armed old flash new same is =
-    let here : new ≡ armed old = is ∙ ap armed same in
-    record { same_size = ap (λ (device : Device). device.size) here; state_is = ap state_of here ∙ state_armed old }
+pub same_armed : (old new : Device) → new ≡ armed old → SaysTheSame old new
+same_armed old new is = record { same_size = ap (λ (device : Device). device.size) is; state_is = ap state_of is ∙ state_armed old }
 
 pub same_opened : (old new : Device) → Opens (powered old) new → SaysTheSame old new
 same_opened old new opens = record { same_size = opens.goes_on.same_size; state_is = opens.state_is ∙ state_powered old }

@@ -9,6 +9,7 @@ use Rattle.ee_image_store.specs.Opening.{IsNewStore, IsOpened, Spells}
 use Rattle.ee_replay.specs.Replaying.{IsReplayed, IsRun, IsRunOn, IsTried}
 use Rattle.ee_replay.specs.Serving.{IsMade, IsServed, IsSound}
 use Rattle.ee_image_store.proofs.Erasing.{both, wear_since}
+use Rattle.ee_replay.proofs.ScriptWears.{wears_since_opening}
 
 pub is_run_on : (old flash : Device) (new : Point) (text image reported : List ℕ) → IsServed old text new reported → IsSound new → flash ≡ new.device → Spells image flash
     → IsRunOn old text image reported
@@ -49,6 +50,7 @@ is_replayed old_image text image reported store opened on =
       erases = λ plain.
           let further = subst (λ (size : Size). ErasesRise (erases_of_all size answers) store there.0.last.device) opened.same_size (there.1.erases plain) in
           both opened.device store there.0.last.device 0 pages pages opened.erases further (omega arith);
+      wears = λ plain. wears_since_opening opened.device store there.0.last there.0.report.commands answers opened.opens plain there.1.lines;
     }
 
 -- a run from what was formatted

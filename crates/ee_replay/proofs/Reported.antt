@@ -16,11 +16,14 @@ use Rattle.ee_image_store.specs.Machine.{Desk, DeskStep, desk_with, was_cut}
 use Rattle.ee_replay.specs.Report.{IsReported, cut_report_text, desk_line, end_line}
 use Rattle.ee_replay.specs.Serving.{IsServed, IsTraced, Notes, claim_noted, desk_of, serving_on}
 use Rattle.ee_image_store.specs.Opening.{StaysOn}
-use Rattle.ee_image_store.specs.Trace.{moves}
+use Rattle.ee_image_store.specs.Trace.{accepted, moves, trace_of}
+use Rattle.ee_plan.proofs.Wearing.{fewest_transfers_wear_lem}
 use Rattle.ee_replay.proofs.Desks.{desk_run}
+use Rattle.ee_replay.proofs.Kept.{keeps_all}
 use Rattle.ee_replay.proofs.Late.{all_put, run_fewest, run_room, values_are}
 use Rattle.ee_replay.proofs.Runs.{machine_run}
-use Rattle.ee_replay.proofs.UncutRuns.{made_of, run_open}
+use Rattle.ee_replay.proofs.ScriptWears.{made_of}
+use Rattle.ee_replay.proofs.UncutRuns.{run_open}
 
 -- a name and a number written behind what was written before them
 further : (old mid new before name number : List ℕ) → mid ≡ old ++ before → new ≡ mid ++ (name ++ number) → new ≡ old ++ (before ++ name ++ number)
@@ -75,6 +78,7 @@ module _ (old : Device) (new : Point) (text lines : List ℕ) (notes : Notes) (r
         let machine = machine_run old new.device commands answers whole.run in
         let tight = run.tight plain start is proper in
         let line = line_is ended machine.same_size end in
+        let fewest = run_fewest old.size commands answers (state_of old) (state_of new.device) start claim are is proper machine.run tight in
         let standing : ended ≡ lines ++ end_line (slot_count old.size) (state_of new.device) (moves answers) =
         line ∙ ap (λ serving. lines ++ desk_line (slot_count old.size) serving (state_of new.device) (moves answers)) whole.still in
         record {
@@ -82,7 +86,8 @@ module _ (old : Device) (new : Point) (text lines : List ℕ) (notes : Notes) (r
           claim = claim;
           run = machine.run;
           start_is = is;
-          fewest = run_fewest old.size commands answers (state_of old) (state_of new.device) start claim are is proper machine.run tight;
+          fewest = fewest;
+          lasts = fewest_transfers_wear_lem start (trace_of (accepted commands answers)) (moves answers) fewest.fewest;
           room = run_room old.size commands answers (state_of old) (state_of new.device) start claim are is proper machine.run tight;
           values = values_are old.size commands answers (state_of old) (state_of new.device) machine.run;
           all_accepted = all_put old.size commands answers (state_of old) (state_of new.device) start are is machine.run;
@@ -103,12 +108,14 @@ is_served old new text lines notes start run is proper stays ended reported end 
     let commands = run.answered.commands in
     let answers = run.answered.answers in
     let desk = desk_run (serving_on old) new commands answers (inl stays.never_cut) run.answered.run in
+    let machine = subst (λ (state : Desk). Run (DeskStep old.size) state commands answers (desk_of new)) (unarmed old stays) desk.run in
     record {
       report = record {
         commands = commands;
         answers = answers;
         is_script = run.answered.is_script;
-        run = subst (λ (state : Desk). Run (DeskStep old.size) state commands answers (desk_of new)) (unarmed old stays) desk.run;
+        run = machine;
+        kept = keeps_all old.size commands answers (desk_with (state_of old)) (desk_of new) machine;
         uncut = λ e. uncut_report old new text lines notes run start is proper e ended reported end (plain (run.cut ∙ e));
         cut = λ e. cut_report old new text lines notes run ended reported desk.same_size end (cut (run.cut ∙ e));
       };

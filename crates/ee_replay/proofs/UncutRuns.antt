@@ -8,8 +8,9 @@ use Rattle.ee_script.specs.declared.answer.Answer.TheVariants.{Appended, Moved, 
 use Rattle.ee_script.specs.declared.command.Command.{Command}
 use Rattle.ee_script.specs.declared.command.Command.TheVariants.{Write, Read, Forget, Clean, Arm, PowerOn}
 use Rattle.ee_image_store.specs.Machine.{is_cut_answer, was_cut}
-use Rattle.ee_replay.specs.Serving.{Attends, IsMade, Serves, serving_on}
-use Rattle.ee_replay.proofs.Runs.{machine_run, neither, whole_run}
+use Rattle.ee_replay.specs.Serving.{Attends, Serves, serving_on}
+use Rattle.ee_replay.proofs.Powering.{now_armed}
+use Rattle.ee_replay.proofs.Runs.{neither}
 
 -- a line that is served by a store that is open, and leaves it open
 pub record IsServedOpen (old : Device) (command : Command) (answer : Answer) (new : Point) : Type 0 where
@@ -18,7 +19,9 @@ pub record IsServedOpen (old : Device) (command : Command) (answer : Answer) (ne
 
 pub served_open : (old : Device) (command : Command) (answer : Answer) (new : Point) → is_cut_answer answer ≡ false → Attends (serving_on old) command answer new
     → IsServedOpen old command answer new
-served_open old (Arm fuse) Armed new plain attends = record { serves = ap (λ (point : Point). point.device) attends.1; still = ap (λ (point : Point). point.serving) attends.1 }
+served_open old (Arm fuse) Armed new plain attends =
+    let here = now_armed (serving_on old) new fuse attends.1 in
+    record { serves = ap (λ (point : Point). point.device) here; still = ap (λ (point : Point). point.serving) here }
 served_open old (Arm fuse) answer new plain attends = absurd (cc (attends.0))
 served_open old PowerOn Opened new plain attends = record { serves = ap (λ (point : Point). point.device) attends; still = ap (λ (point : Point). point.serving) attends }
 served_open old (Write address value) Appended new plain attends = record { serves = attends.0; still = attends.1 }
@@ -58,10 +61,3 @@ run_open old new (command ∷ commands) (answer ∷ answers) plain run =
     let further = subst (λ (point : Point). Run Attends point commands answers new) (at_open run.0 here.still) run.2 in
     let rest = run_open run.0.device new commands answers parts.1 further in
     record { run = (run.0.device, here.serves, rest.run); still = rest.still }
-
-pub made_of : (old : Device) (new : Point) (commands : List Command) (answers : List Answer) → Run Attends (serving_on old) commands answers new → IsMade old commands answers new
-made_of old new commands answers run = record {
-  lines = run;
-  erases = λ plain. (machine_run old new.device commands answers (run_open old new commands answers plain run).run).erases;
-  calls = λ plain unarmed. whole_run old new.device commands answers unarmed (run_open old new commands answers plain run).run;
-}

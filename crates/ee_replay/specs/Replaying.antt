@@ -4,6 +4,7 @@ use Rattle.ee_flash.specs.Device.{Device, blank_device}
 use Rattle.ee_flash.specs.Size.{Size}
 use Rattle.ee_store.specs.Events.{Point}
 use Rattle.ee_store.specs.Openings.{IsFormatted, Opens}
+use Rattle.ee_store.specs.Runs.{WearsAtMost}
 use Rattle.ee_store.specs.State.{State, WearRises, formatted, state_of}
 use Rattle.ee_script.specs.Script.{IsFirstBadLine}
 use Rattle.ee_words.specs.declared.replay_fault.ReplayFault.{ReplayFault}
@@ -11,6 +12,7 @@ use Rattle.ee_words.specs.declared.replay_fault.ReplayFault.TheVariants.{Image, 
 use Rattle.ee_image_store.specs.Erases.{ErasesRise, erases_of_all}
 use Rattle.ee_image_store.specs.Opening.{IsOpenFault, IsStoreText, Spells}
 use Rattle.ee_image_store.specs.Machine.{was_cut}
+use Rattle.ee_image_store.specs.Trace.{moves}
 use Rattle.ee_replay.specs.Report.{IsDeskReported}
 use Rattle.ee_replay.specs.Serving.{IsMade, IsSound, desk_of}
 
@@ -35,7 +37,7 @@ pub record IsRunOn (store : Device) (text new_image reported : List ℕ) : Type 
 
 -- The script was run on the store that was opened of the device whose image the first text spells, line by line. So the new
 -- image is, word for word and erase for erase, what the lines leave. Where none was cut, each move left the pages of a set
--- to be erased, and nothing else did.
+-- to be erased, and nothing else did; and no page was erased more often than at every second move, by where it stood.
 pub record IsReplayed (old_image text new_image reported : List ℕ) : Type 0 where
   pub device : Device
   pub old : IsStoreText old_image device
@@ -44,6 +46,7 @@ pub record IsReplayed (old_image text new_image reported : List ℕ) : Type 0 wh
   pub opens : Opens device opened
   pub made : IsMade opened run.report.commands run.report.answers run.last
   pub erases : was_cut run.report.answers ≡ false → ErasesRise (erases_of_all device.size run.report.answers) device run.last.device
+  pub wears : was_cut run.report.answers ≡ false → (page : ℕ) → WearsAtMost (moves run.report.answers) page device run.last.device
 
 -- how often pages of a fresh device were erased, or wait to be: those of a set for each move
 pub record IsWornBy (size : Size) (pages : ℕ) (last : Device) : Type 0 where

@@ -7,12 +7,14 @@ use Rattle.ee_check.specs.Certificate.{Claim}
 use Rattle.ee_check.specs.Schedule.{Situation}
 use Rattle.ee_check.specs.Text.{text_of}
 use Rattle.ee_plan.specs.Start.{IsStartOf}
+use Rattle.ee_plan.specs.Wearing.{NoneWearsLess}
 use Rattle.ee_script.specs.Answer.{report}
 use Rattle.ee_script.specs.Run.{Run}
 use Rattle.ee_script.specs.Script.{IsScript}
 use Rattle.ee_script.specs.declared.answer.Answer.{Answer}
 use Rattle.ee_script.specs.declared.command.Command.{Command}
 use Rattle.ee_image_store.specs.Machine.{Desk, DeskStep, Step, desk_with, was_cut}
+use Rattle.ee_replay.specs.Kept.{Keeps}
 use Rattle.ee_image_store.specs.Trace.{AreFewest, Fits, NoneEndsWithMoreRoom, accepted, moves, map_changes, trace_of}
 
 -- how a store of so many slots stands, and how many answers were `moved`
@@ -27,7 +29,8 @@ report_text slots answers state claim = report answers ++ (end_line slots state 
 
 -- Power was not cut: from the old state, on a device of this size, these commands got these answers as the report machine
 -- gives them, and the new state is what it came to. The moves are the fewest for the changes that were accepted, no store
--- that makes as few has more room at the end, and the report prints the certificate. Every address reads the value last
+-- that makes as few has more room at the end, none erases the first pages of its sets less often than so many moves ask,
+-- and the report prints the certificate. Every address reads the value last
 -- written to it by them, or as before, and has none where it was forgotten since; and where all changes fit, what was
 -- accepted is each write and each forgetting of the script, with its address and its value.
 pub record IsReported (size : Size) (old : State) (commands : List Command) (answers : List Answer) (new : State) (reported : List ℕ) : Type 0 where
@@ -37,6 +40,7 @@ pub record IsReported (size : Size) (old : State) (commands : List Command) (ans
   pub start_is : IsStartOf (slot_count size) old start
   pub fewest : AreFewest start (trace_of (accepted commands answers)) answers claim
   pub room : NoneEndsWithMoreRoom start (trace_of (accepted commands answers)) (moves answers) new.fill
+  pub lasts : NoneWearsLess start (trace_of (accepted commands answers)) (moves answers)
   pub values : new.map ≡ changed_by (map_changes (accepted commands answers)) old.map
   pub all_accepted : Fits start old commands → map_changes (accepted commands answers) ≡ map_changes commands
   pub report_is : reported ≡ report_text (slot_count size) answers new claim
@@ -53,12 +57,14 @@ abbrev pub cut_report_text : ℕ → List Answer → Desk → List ℕ
 cut_report_text slots answers desk = report answers ++ (desk_line slots desk.serving desk.state (moves answers) ++ codes "no certificate\n")
 
 -- From a store that is open with the old state, on a device of this size, the script was answered as the machine's desk
--- answers it, and the new desk is what it came to. Where no line was answered `cut`, all is said that there is to say of a
--- store whose power stays on; else there is no certificate.
+-- answers it, and the new desk is what it came to. Whatever was cut, each change that was answered is kept, and each read is
+-- the map at its point. Where no line was answered `cut`, all is said that there is to say of a store whose power stays on;
+-- else there is no certificate.
 pub record IsDeskReported (size : Size) (old : State) (text : List ℕ) (new : Desk) (reported : List ℕ) : Type 0 where
   pub commands : List Command
   pub answers : List Answer
   pub is_script : IsScript text commands
   pub run : Run (DeskStep size) (desk_with old) commands answers new
+  pub kept : Run Keeps old.map commands answers new.state.map
   pub uncut : was_cut answers ≡ false → IsReported size old commands answers new.state reported
   pub cut : was_cut answers ≡ true → reported ≡ cut_report_text (slot_count size) answers new

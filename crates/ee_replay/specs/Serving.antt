@@ -2,13 +2,15 @@
 use Rattle.std.specs.Prelude.{◌≡◌, ◌≤◌, ◌+◌, ◌*◌, zero, ℕ, Bool, List, [], ◌∷◌, ◌++◌, length, Option, Some, None, Ok, Err, true, false, IsSomeAnd}
 use Rattle.std.specs.List.{list_any}
 use Rattle.ee_flash.specs.Device.{Device, IsOn}
+use Rattle.ee_flash.specs.Memory.{Memory}
 use Rattle.ee_flash.specs.Size.{slot_count}
+use Rattle.ee_flash.specs.declared.fuse.Fuse.{Fuse}
 use Rattle.ee_pages.specs.Legal.{IsLegal}
 use Rattle.ee_store.specs.Changes.{greatest_generation}
 use Rattle.ee_store.specs.Events.{Point, closed, powered}
 use Rattle.ee_store.specs.Finished.{IsStore}
 use Rattle.ee_store.specs.Openings.{IsCutOpening, Opens}
-use Rattle.ee_store.specs.Runs.{Call, Wrote, Forgot, DidRead, Follows, IsWholeRun}
+use Rattle.ee_store.specs.Runs.{Call, Wrote, Forgot, DidRead, Follows, IsWholeRun, WearsAtMost}
 use Rattle.ee_store.specs.Runs as call
 use Rattle.ee_store.specs.State.{state_of}
 use Rattle.ee_store.specs.declared.variables.ForgetFault.TheVariants as forgetting
@@ -76,6 +78,15 @@ abbrev pub is_armed : Option ℕ → Bool
 is_armed (Some zero) = false
 is_armed left = true
 
+-- the fuse of a device in memory is this one
+abbrev pub HasFuse : Fuse → Memory → Type 0
+HasFuse fuse kept = kept.fuse ≡ Some fuse
+
+-- a device in memory is that device, but for its fuse, which is this one
+pub record IsArmed (old : Device) (fuse : Fuse) (kept : Memory) : Type 0 where
+  pub device_is : kept.device ≡ armed old
+  pub has_fuse : HasFuse fuse kept
+
 -- a store of this device is open, while it is on
 abbrev pub opened : Device → Point
 opened device = record { serving = device.on; device = device }
@@ -95,9 +106,15 @@ Powers false old Opened new = Opens (powered old) new.device × (new.serving ≡
 Powers false old Cut new = IsCutOpening (powered old) new.device × (new.serving ≡ false)
 Powers serving old answer new = ⊥
 
+-- A line arms its fuse: on the desk is a device in memory whose fuse is the line's, and a store is open on it if one was.
+pub record ArmsItsFuse (old : Point) (fuse : Fuse) (new : Point) : Type 0 where
+  pub kept : Memory
+  pub arms : IsArmed old.device fuse kept
+  pub new_is : new ≡ record old { device = kept.device }
+
 -- From this point the command is answered so, and the desk is at that one afterwards.
 abbrev pub Attends : Point → Command → Answer → Point → Type 0
-Attends old (Arm fuse) answer new = (answer ≡ Armed) × (new ≡ record old { device = armed old.device })
+Attends old (Arm fuse) answer new = (answer ≡ Armed) × ArmsItsFuse old fuse new
 Attends old PowerOn answer new = Powers old.serving old.device answer new
 Attends old command answer new = Asks old.serving old.device command answer new
 
@@ -114,11 +131,13 @@ abbrev pub is_armed_by : List Command → Bool
 is_armed_by commands = list_any is_arming commands
 
 -- What the lines made of a store that is open on a device on which no cut is to come: each made its call, or armed a cut, or
--- turned power on. Where no line was cut, each move left the pages of a set to be erased, and any other answer none; and
--- where none was armed either, it is a whole run of calls.
+-- turned power on. Where no line was cut, each move left the pages of a set to be erased, and any other answer none, and no
+-- page was erased more often than at every second move, by where it stood; and where no cut was armed either, it is a whole
+-- run of calls.
 pub record IsMade (old : Device) (commands : List Command) (answers : List Answer) (new : Point) : Type 0 where
   pub lines : Run Attends (serving_on old) commands answers new
   pub erases : was_cut answers ≡ false → ErasesRise (erases_of_all old.size answers) old new.device
+  pub wears : was_cut answers ≡ false → (page : ℕ) → WearsAtMost (moves answers) page old new.device
   pub calls : was_cut answers ≡ false → is_armed_by commands ≡ false → IsWholeRun (calls_of commands answers) old new.device
 
 -- ---- a store that is open, while power is not cut

@@ -1,13 +1,12 @@
 //! A device on the desk, with a store open on it or without: a cut is armed, and power comes back.
 ghost use Rattle.std.specs.Prelude.{◌≡◌, IfOk, true};
-ghost use Rattle.ee_flash.specs.Memory.{device_of};
+ghost use Rattle.ee_flash.specs.Memory.{device_of, memory_of};
 ghost use Rattle.ee_pages.specs.Legal.{IsLegal};
 ghost use Rattle.ee_script.specs.declared.command.Command.TheVariants.{Arm, PowerOn};
-ghost use Rattle.ee_store.specs.Finished.{IsStore};
 ghost use Rattle.ee_store.specs.Runs.{Cleaned, DidRead, Forgot, Wrote};
 ghost use Rattle.ee_store.specs.State.{state_of};
 ghost use Rattle.ee_replay.specs.Desk.{Calls, IsLegalDesk, IsLegalSo, SaysTheSame, point_of};
-ghost use Rattle.ee_replay.specs.Serving.{Attends, IsSound};
+ghost use Rattle.ee_replay.specs.Serving.{Attends, IsArmed, IsSound, armed};
 
 use ee_codec::Address;
 use ee_flash::{Flash, Fuse, MemFlash};
@@ -55,16 +54,10 @@ impl<S: Opened<MemFlash<A>, A>, A: Allocator + Copy> Desk<S, A> {
     pub(crate) fn write(&mut self, address: Address, value: u32) -> Result<Written, WriteFault>
         ensures calls { let old = point_of S.device self.old in Calls old.serving old.device
             (Wrote address value result) (point_of S.device self.new) }
-        ensures store { let old = point_of S.device self.old in
-            old.serving ≡ true → IsStore old.device }
         ensures legal { IsLegalSo self.old → IsLegalSo self.new }
     {
         match self {
-            Desk::Open(store) => {
-                // It says that the image is legal, which tells how many slots may be used.
-                let _ = store.is_on();
-                store.write(address, value)
-            }
+            Desk::Open(store) => store.write(address, value),
             Desk::Bare(_) | Desk::Gone => Err(WriteFault::Off),
         }
     }
@@ -73,16 +66,10 @@ impl<S: Opened<MemFlash<A>, A>, A: Allocator + Copy> Desk<S, A> {
     pub(crate) fn forget(&mut self, address: Address) -> Result<Written, ForgetFault>
         ensures calls { let old = point_of S.device self.old in Calls old.serving old.device
             (Forgot address result) (point_of S.device self.new) }
-        ensures store { let old = point_of S.device self.old in
-            old.serving ≡ true → IsStore old.device }
         ensures legal { IsLegalSo self.old → IsLegalSo self.new }
     {
         match self {
-            Desk::Open(store) => {
-                // It says that the image is legal, which tells how many slots may be used.
-                let _ = store.is_on();
-                store.forget(address)
-            }
+            Desk::Open(store) => store.forget(address),
             Desk::Bare(_) | Desk::Gone => Err(ForgetFault::Off),
         }
     }
@@ -121,6 +108,18 @@ impl<S: Opened<MemFlash<A>, A>, A: Allocator + Copy> Desk<S, A> {
         }
     }
 
+    /// The device, with this fuse. A store that was open on it is closed.
+    fn into_armed(self, fuse: Fuse) -> MemFlash<A>
+        requires { IsLegalDesk self }
+        ensures memory { IsArmed (point_of S.device self).device fuse (memory_of result) }
+        ensures device { device_of result ≡ armed (point_of S.device self).device }
+        ensures sound { IsSound (point_of S.device self) }
+    {
+        let mut flash = self.into_flash();
+        flash.arm(fuse);
+        flash
+    }
+
     /// Arms a cut. A store that is open gives its device back, and is opened again, which takes no
     /// step. An error says that memory ran out.
     pub(crate) fn arm(self, alloc: A, fuse: Fuse) -> (Desk<S, A>, Result<Answer, AllocError>)
@@ -131,8 +130,7 @@ impl<S: Opened<MemFlash<A>, A>, A: Allocator + Copy> Desk<S, A> {
         ensures same { SaysTheSame (point_of S.device self).device (point_of S.device result.0).device }
     {
         let open = self.is_open();
-        let mut flash = self.into_flash();
-        flash.arm(fuse);
+        let flash = self.into_armed(fuse);
         if !open {
             return (Desk::Bare(flash), Ok(Answer::Armed));
         }

@@ -4,6 +4,7 @@ pub mod Addresses
 pub mod Proper
 pub mod Stored
 pub mod Listings
+pub mod ExactListings
 pub mod Outdated
 pub mod Forgetting
 pub mod Unnamed

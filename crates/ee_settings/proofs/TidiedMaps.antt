@@ -1,19 +1,16 @@
 -- What tidying leaves of the map, and when the store is spent in it.
-use Rattle.std.proofs.Common.{◌≡◌, ◌⊎◌, ◌∙◌, ◌+◌, ◌-◌, ◌<◌, ◌≤◌, ℕ, Bool, true, false, cond, not, is_some, Option, Some, None, List, [], ◌∷◌, ◌++◌, length, map, inl, inr, refl, sym, ap, subst, append_assoc, arith, suc, zero, Result, Ok, Err}
+use Rattle.std.proofs.Common.{◌≡◌, ◌⊎◌, ◌∙◌, ◌-◌, ◌<◌, ◌≤◌, ℕ, Bool, true, false, cond, not, is_some, Option, Some, None, List, [], ◌∷◌, ◌++◌, length, map, inl, inr, refl, sym, ap, subst, append_assoc, arith, suc, zero, Result, Ok, Err}
 use Rattle.std.specs.Prelude.{◌&&◌}
 use Rattle.std.specs.List.{All, Contains, flat_map}
 use Rattle.std.proofs.lemmas.Bool.{cases_eq, eq-eqb, ne_eqb}
 use Rattle.std.proofs.lemmas.List.Elements.{All-append, All-cons, All-head, All-nil, All-tail}
 use Rattle.ee_flash.specs.Device.{Device, IsFormed}
 use Rattle.ee_flash.specs.Size.{slot_count}
-use Rattle.ee_pages.specs.Meaning.{Forget, Map, changed, live_in}
-use Rattle.ee_pages.specs.Sets.{live_of, set_of, slots_of}
-use Rattle.ee_pages.specs.declared.side.Side.{Side}
-use Rattle.ee_pages.proofs.LiveCounts.{live_within_fill}
-use Rattle.ee_store.proofs.CopiedMaps.{IsWithin, forget-at, forget-other, live_in-nothing, live_to-within}
+use Rattle.ee_pages.specs.Meaning.{Forget, Map, changed}
+use Rattle.ee_store.proofs.CopiedMaps.{forget-at, forget-other}
 use Rattle.ee_store.specs.Calls.{Forgets}
 use Rattle.ee_store.specs.Runs.{Call, Forgot, IsWholeRun, changes_of, is_cut}
-use Rattle.ee_store.specs.State.{State, appended, capacity, empty_state, moved, state_in, state_of}
+use Rattle.ee_store.specs.State.{appended, moved, state_of}
 use Rattle.ee_store.specs.declared.variables.ForgetFault.TheVariants as forget
 use Rattle.ee_store.specs.declared.variables.Written.{Written}
 use Rattle.ee_store.specs.declared.variables.Written.TheVariants.{Appended, Moved}
@@ -21,44 +18,13 @@ use Rattle.ee_store.specs.Changes.{IsSpent}
 use Rattle.ee_settings.proofs.Addresses.{found_taken}
 use Rattle.ee_settings.proofs.Forgetting.{map_without}
 use Rattle.ee_settings.proofs.Proper.{none_outside, proper_or_not}
-use Rattle.ee_store.proofs.CutMaps.{cut_map_within, fill_within}
+use Rattle.ee_store.proofs.CutMaps.{cut_map}
 use Rattle.ee_settings.proofs.Unnamed.{begins_with, unnamed_to-suc, unnamed_to-zero}
 use Rattle.ee_settings.specs.Laws.{KeepsAll}
 use Rattle.ee_settings.specs.Setting.{Setting, has_address, reading_of}
 use Rattle.ee_settings.specs.Tidying.{ForgetsEach, IsSpentAmong, StopsAt, Tidies, after_forgetting, after_forgettings, is_unnamed, kept, unnamed_in, unnamed_to}
 use Rattle.ee_settings.specs.declared.fault.TidyFault.{TidyFault}
 use Rattle.ee_settings.specs.declared.fault.TidyFault.TheVariants as tidy
-
--- ---- as many slots are used as there are, or fewer
-
-live_few_in : (device : Device) (live : Option (Side × ℕ)) → live_in (state_in device live).map ≤ (state_in device live).fill
-live_few_in device None = let none = live_in-nothing empty_state.map (λ address. refl) in omega arith
-live_few_in device (Some live) = live_within_fill (slots_of (set_of live.0 device))
-
-without_within : (values : Map) (named : ℕ) → IsWithin (changed (Forget named) values) values
-without_within values named address h = elim (cases_eq named address) [
-  | inl same ↦
-      let gone : changed (Forget named) values address ≡ None = forget-at values named address (sym same) in
-      let none : false ≡ true = sym (ap is_some gone) ∙ h in cc
-  | inr other ↦ sym (ap is_some (forget-other values named address (λ e. other (sym e)))) ∙ h
-]
-
-within_after : (old new : Device) (address : ℕ) (written : Written) → Forgets old address (Ok written) new → (state_of old).fill ≤ capacity old → (state_of new).fill ≤ capacity new
-within_after old new address Appended done within =
-    let size : capacity new ≡ capacity old = ap slot_count done.goes_on.same_size in
-    let fill : (state_of new).fill ≡ (state_of old).fill + 1 = ap (λ (state : State). state.fill) done.state_is in
-    let free = done.free in
-    omega arith
-within_after old new address Moved done within =
-    let size : capacity new ≡ capacity old = ap slot_count done.goes_on.same_size in
-    let fill : (state_of new).fill ≡ live_in (changed (Forget address) (state_of old).map) = ap (λ (state : State). state.fill) done.state_is in
-    let fewer = live_to-within 65534 (changed (Forget address) (state_of old).map) (state_of old).map (without_within (state_of old).map address) in
-    let live = live_few_in old (live_of old) in
-    omega arith
-
-each_within : (addresses : List ℕ) (old new : Device) → ForgetsEach addresses old new → (state_of old).fill ≤ capacity old → (state_of new).fill ≤ capacity new
-each_within [] old new done within = subst (λ (device : Device). (state_of device).fill ≤ capacity device) (sym done) within
-each_within (address ∷ addresses) old new done within = each_within addresses done.1 new done.3 (within_after old done.1 address done.0 done.2 within)
 
 -- ---- the addresses that no setting has
 
@@ -127,10 +93,9 @@ cut_takes : (settings : List Setting) (old new : Device) → IsFormed old → St
 cut_takes settings old new formed stops =
     let free = subst (All (λ a. has_address settings a ≡ false)) stops.addresses_are (unnamed_free settings (state_of old).map 65534) in
     let last = stops.last in
-    let within = each_within stops.front old last stops.forgotten (fill_within old formed) in
     takes_both settings (state_of old).map (state_of last).map (state_of new).map
     (each_takes settings stops.front old last (free_front settings stops.front (stops.address ∷ stops.rest) free) stops.forgotten)
-    (elim (cut_map_within last new (Forget stops.address) within stops.stopped) [
+    (elim (cut_map last new (Forget stops.address) stops.stopped) [
       | inl same ↦ takes_none settings (state_of last).map (state_of new).map same
       | inr gone ↦ takes_one settings (state_of last).map (state_of new).map stops.address (free_one settings stops.front stops.rest stops.address free) gone
     ])

@@ -9,8 +9,10 @@ use Rattle.ee_store.specs.Runs.{Call, IsWholeRun, changes_of}
 use Rattle.ee_store.specs.State.{state_of}
 use Rattle.ee_store.specs.declared.variables.Written.{Written}
 use Rattle.ee_store.specs.declared.variables.WriteFault.TheVariants as write
+use Rattle.ee_settings.specs.Listing.{IsSaid, IsToldOf, listed_in}
 use Rattle.ee_settings.specs.Setting.{IsSchema, Setting, has_address, reading_in}
 use Rattle.ee_settings.specs.Stale.{IsStale, stale_in}
+use Rattle.ee_settings.specs.declared.listing.Listed.{Listed}
 use Rattle.ee_settings.specs.declared.stale.Stale.{Stale}
 use Rattle.ee_settings.specs.Tidying.{IsSpentAmong, Tidies, after_forgettings, kept, unnamed_in}
 use Rattle.toml.specs.Data.{Members}
@@ -92,6 +94,19 @@ pub record IsStaleExact (settings : List Setting) (stored : Map) : Type 0 where
 
 abbrev pub StaleIsExact : Type 0
 StaleIsExact = (settings : List Setting) (stored : Map) → IsStaleExact settings stored
+
+-- ---- what is listed
+
+-- What is listed rises by address, so each is listed once; what is said of each is so; and each that has a value or a
+-- setting is listed.
+pub record IsListedExact (settings : List Setting) (stored : Map) : Type 0 where
+  pub rising : IsStrictlySortedBy nat_cmp (map (λ (listed : Listed). listed.address) (listed_in settings stored))
+  pub each : All (IsSaid settings stored) (listed_in settings stored)
+  pub all : (address : ℕ) → IsToldOf settings stored address
+      → (listed : Listed) × (listed.address ≡ address) × Contains (listed_in settings stored) listed
+
+abbrev pub ListedIsExact : Type 0
+ListedIsExact = (settings : List Setting) (stored : Map) → IsListedExact settings stored
 
 -- ---- a store that was tidied
 

@@ -1,8 +1,10 @@
 -- What a store holds, address by address, as a schema names it.
-use Rattle.std.specs.Prelude.{◌+◌, ◌==◌, ℕ, zero, suc, List, [], ◌∷◌, ◌++◌, if◌then◌else◌, Option, Some, None}
+use Rattle.std.specs.Prelude.{◌≡◌, ◌≢◌, ◌⊎◌, ◌+◌, ◌==◌, ℕ, zero, suc, List, [], ◌∷◌, ◌++◌, if◌then◌else◌, Option, Some, None, false, true}
+use Rattle.ee_codec.specs.Words.{IsAddress}
 use Rattle.ee_flash.specs.Device.{Device, IsOff, IsOn}
 use Rattle.ee_pages.specs.Meaning.{Map}
-use Rattle.ee_settings.specs.Setting.{Setting, is_in_range}
+use Rattle.ee_settings.specs.Setting.{IsInRange, Setting, has_address, is_in_range}
+use Rattle.ee_settings.specs.Stale.{entry_of}
 use Rattle.ee_settings.specs.declared.fault.ListFault.{ListFault}
 use Rattle.ee_settings.specs.declared.fault.ListFault.TheVariants as fault
 use Rattle.ee_settings.specs.declared.listing.Held.{Held}
@@ -40,6 +42,30 @@ listed_to settings map (suc address) =
 -- of all addresses
 abbrev pub listed_in : List Setting → Map → List Listed
 listed_in settings map = listed_to settings map 65534
+
+-- the address has a value or a setting
+abbrev pub IsToldOf : List Setting → Map → ℕ → Type 0
+IsToldOf settings stored address =
+    IsAddress address × ((stored address ≢ None) ⊎ (has_address settings address ≡ true))
+
+-- what the address of a setting with these numbers holds: a value in the range, one that is not, or none
+abbrev pub IsHeld : Numbers → Option ℕ → Held → Type 0
+IsHeld numbers stored (Value value) = (stored ≡ Some value) × IsInRange numbers value
+IsHeld numbers stored (Stale value) = (stored ≡ Some value) × ¬ IsInRange numbers value
+IsHeld numbers stored (Default value) = (stored ≡ None) × (value ≡ numbers.default)
+
+-- What is said of an address is so: by no entry, where no setting has the address, and it has a value; or by the entry of
+-- the setting that has it.
+abbrev pub IsSaidOf : List Setting → Map → ℕ → Option ℕ → Held → Type 0
+IsSaidOf settings stored address None held =
+    (has_address settings address ≡ false) × (value : ℕ) × (stored address ≡ Some value) × (held ≡ Value value)
+IsSaidOf settings stored address (Some entry) held =
+    (setting : Setting) × (entry_of settings entry ≡ Some setting) × (setting.numbers.address ≡ address)
+    × IsHeld setting.numbers (stored address) held
+
+abbrev pub IsSaid : List Setting → Map → Listed → Type 0
+IsSaid settings stored listed =
+    IsAddress listed.address × IsSaidOf settings stored listed.address listed.entry listed.held
 
 -- why nothing is listed: the device is off; or memory ran out
 abbrev pub IsListFault : Device → ListFault → Type 0

@@ -1,6 +1,6 @@
 //! What holds of every schema and every store. Each function does nothing: its contract is the law.
 ghost use Rattle.ee_settings.specs.Laws.{SetIsRead, CutKeepsOthers, RefusalsChangeNothing};
-ghost use Rattle.ee_settings.specs.Laws.{EachTableIsJudged, NamesAreApart, TablesHaveOneFault, TablesSpellOnce};
+ghost use Rattle.ee_settings.specs.Laws.{EachTableIsJudged, ListedIsExact, NamesAreApart, TablesHaveOneFault, TablesSpellOnce};
 ghost use Rattle.ee_settings.specs.Laws.{SchemasAreAccepted, StaleIsExact, TidyIsARun, TidyIsSpent, TidyKeepsReadings};
 ghost use Rattle.ee_settings.specs.Laws.{TidyLeavesTheNamed, TidyLeavesThisState, TidyTakesTheUnnamed};
 
@@ -50,6 +50,12 @@ pub fn each_table_is_judged()
 /// their range.
 pub fn stale_is_exact()
     ensures { StaleIsExact }
+{}
+
+/// What is listed rises by address; what is said of each address is so, with its setting's entry, if
+/// it has one; and each address that has a value or a setting is listed.
+pub fn listed_is_exact()
+    ensures { ListedIsExact }
 {}
 
 /// Each setting reads as before, whatever tidying a store answers.

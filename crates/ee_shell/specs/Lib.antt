@@ -3,6 +3,7 @@ pub use Rattle.ee_image_store.specs.Erases
 pub use Rattle.ee_image_store.specs.Steps
 pub use Rattle.ee_image_store.specs.Trace
 pub use Rattle.ee_image_store.specs.Opening
+pub use Rattle.ee_replay.specs.Kept
 pub use Rattle.ee_replay.specs.Report
 pub use Rattle.ee_replay.specs.Serving
 pub use Rattle.ee_replay.specs.Desk

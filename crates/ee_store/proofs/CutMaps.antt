@@ -24,12 +24,12 @@ fill_in device (Some live) formed =
 pub fill_within : (device : Device) → IsFormed device → (state_of device).fill ≤ capacity device
 fill_within device formed = fill_in device (live_of device) formed
 
-cut_cases : (old new : Device) (change : Change) → (state_of old).fill ≤ capacity old → IsCutChange old change new
+cut_cases : (old new : Device) (change : Change) → IsCutChange old change new
     → IsCutAppend (state_of old) change (state_of new) ⊎ IsCutMove old.size.pages (state_of old) change (state_of new)
-cut_cases old new change within cut =
+cut_cases old new change cut =
     elim (cases_lt (state_of old).fill (capacity old)) [
       | inl h ↦ inl (cut.free h)
-      | inr h ↦ (let e : (state_of old).fill ≡ capacity old = omega arith in inr (cut.all_used e))
+      | inr h ↦ (let e : (state_of old).fill ≡ capacity old = omega (arith, cut.within) in inr (cut.all_used e))
     ]
 
 cut_state : (old new : State) (pages : ℕ) (change : Change) → IsCutAppend old change new ⊎ IsCutMove pages old change new → (new.map ≡ old.map) ⊎ (new.map ≡ changed change old.map)
@@ -40,10 +40,6 @@ cut_state old new pages change (inr (inl e)) = inl (ap (λ (s : State). s.map) e
 cut_state old new pages change (inr (inr e)) = inr (ap (λ (s : State). s.map) e)
 
 -- after a cut the map is as it was or has the change
-pub cut_map_within : (old new : Device) (change : Change) → (state_of old).fill ≤ capacity old → IsCutChange old change new
+pub cut_map : (old new : Device) (change : Change) → IsCutChange old change new
     → ((state_of new).map ≡ (state_of old).map) ⊎ ((state_of new).map ≡ changed change (state_of old).map)
-cut_map_within old new change within cut = cut_state (state_of old) (state_of new) old.size.pages change (cut_cases old new change within cut)
-
-pub cut_map : (old new : Device) (change : Change) → IsFormed old → IsCutChange old change new
-    → ((state_of new).map ≡ (state_of old).map) ⊎ ((state_of new).map ≡ changed change (state_of old).map)
-cut_map old new change formed cut = cut_map_within old new change (fill_within old formed) cut
+cut_map old new change cut = cut_state (state_of old) (state_of new) old.size.pages change (cut_cases old new change cut)

@@ -1,8 +1,8 @@
 -- What is drawn where power was cut in setting marks, and in an append.
-use Rattle.std.proofs.Common.{◌≡◌, inl, inr, ℕ, ◌+◌, ◌-◌, ◌<◌, ◌≤◌, Bool, true, false, List, get_or, refl, sym, subst, ap, ◌∙◌, arith}
+use Rattle.std.proofs.Common.{◌≡◌, inl, inr, ℕ, ◌+◌, ◌<◌, ◌≤◌, Bool, true, List, get_or, refl, sym, subst, ap, ◌∙◌, arith}
 use Rattle.std.specs.Prelude.{◌&&◌, not, nat_lt}
 use Rattle.std.proofs.lemmas.Bool.{cases_eq, cases_lt, eq-eqb, le-ltb, lt-ltb, ne_eqb}
-use Rattle.ee_flash.specs.Device.{Device, IsFormed, page_at}
+use Rattle.ee_flash.specs.Device.{Device, IsFormed}
 use Rattle.ee_flash.specs.Size.{Size}
 use Rattle.ee_flash.specs.declared.word.Word.{Word}
 use Rattle.ee_flash.specs.declared.word.Word.TheVariants.{Erased, Held}
@@ -18,7 +18,7 @@ use Rattle.ee_store.specs.Cuts.{IsDrawnPartly, IsPartlyDone, PutsPartly, SetsPar
 use Rattle.ee_store.specs.Finished.{last_used}
 use Rattle.ee_store.specs.Openings.{ShowsCutMarks}
 use Rattle.ee_store.specs.Parts.{IsSameSet, SetsMark}
-use Rattle.ee_store.specs.Picture.{IsDrawn, Picture, marked, marked_to, picture_of, retired, with_change}
+use Rattle.ee_store.specs.Picture.{IsDrawn, Picture, marked_to, picture_of, retired, with_change}
 
 -- ---- the marks that are set so far are on the way
 

@@ -1,7 +1,7 @@
 -- What is drawn where power was cut in filling a set, and in committing it.
-use Rattle.std.proofs.Common.{◌≡◌, ◌≢◌, Some, suc, zero, append-nil, ◌⊎◌, inl, inr, ℕ, ◌+◌, ◌-◌, ◌<◌, ◌≤◌, ◌/◌, true, List, [], ◌∷◌, ◌++◌, length, get_or, refl, sym, subst, ap, ◌∙◌, arith, append_assoc, length-append}
+use Rattle.std.proofs.Common.{◌≡◌, ◌≢◌, Some, suc, zero, append-nil, inl, inr, ℕ, ◌+◌, ◌-◌, ◌<◌, ◌≤◌, ◌/◌, true, List, [], ◌∷◌, ◌++◌, length, refl, sym, subst, ap, ◌∙◌, arith, append_assoc, length-append}
 use Rattle.std.proofs.Math.Nat.{div-mul-le_self}
-use Rattle.std.proofs.lemmas.Bool.{cases_eq, cases_lt, eq-eqb, le-leb, le-ltb, lt-leb, lt-ltb, ne_eqb}
+use Rattle.std.proofs.lemmas.Bool.{cases_eq, cases_lt, le-leb, le-ltb, lt-leb, lt-ltb, ne_eqb}
 use Rattle.std.proofs.lemmas.List.{get_or_append_left, get_or_past}
 use Rattle.std.proofs.lemmas.Nat.{le-div}
 use Rattle.ee_flash.specs.Device.{Device, IsFormed}
@@ -19,7 +19,7 @@ use Rattle.std.specs.List.{All}
 use Rattle.std.proofs.lemmas.List.Elements.{All-drop, All-take}
 use Rattle.ee_store.specs.Openings.{ShowsCutFormat}
 use Rattle.ee_pages.specs.declared.state.Mark.TheVariants.{Active, Receive}
-use Rattle.ee_store.proofs.Cuts.{IsOnTheWay, drawn_before, drawn_between, mark_drawn_partly, put_apart_partly, put_partly}
+use Rattle.ee_store.proofs.Cuts.{IsOnTheWay, drawn_between, mark_drawn_partly, put_apart_partly, put_partly}
 use Rattle.ee_store.proofs.Drawings.{drawn_both, page_of_its_set, put_apart, with_mark}
 use Rattle.ee_store.proofs.FilledSets.{OpensForSlot, near, one_word_more, opens_further}
 use Rattle.ee_store.proofs.MovedSets.{all_marked, all_waiting, blank_drawn, committed, first_opened, opens_blank}

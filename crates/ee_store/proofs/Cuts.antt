@@ -3,8 +3,8 @@ use Rattle.std.proofs.Common.{◌≡◌, ◌≢◌, ◌⊎◌, inl, inr, ℕ, �
 use Rattle.std.proofs.lemmas.Bool.{cases_Bool, cases_eq}
 use Rattle.std.proofs.lemmas.List.{get_or-set_other, get_or-set_same}
 use Rattle.ee_flash.specs.Device.{Device, IsFormed, page_at, word_at}
-use Rattle.ee_flash.specs.Size.{Size, page_count}
-use Rattle.ee_flash.specs.Step.{Step, Program, Erase, IsCutIn, IsPartlyErased, IsUntouched, MayLeave}
+use Rattle.ee_flash.specs.Size.{page_count}
+use Rattle.ee_flash.specs.Step.{Step, Program, Erase, IsCutIn, IsPartlyErased, IsUntouched}
 use Rattle.ee_flash.specs.declared.word.Word.{Word}
 use Rattle.ee_flash.specs.declared.word.Word.TheVariants.{Erased, Held, Torn}
 use Rattle.ee_pages.specs.Page.{is_blank, is_marked, marking, number_of_mark, place_of_mark}
@@ -13,7 +13,7 @@ use Rattle.ee_pages.specs.declared.side.Side.{Side}
 use Rattle.ee_pages.specs.declared.state.Mark.{Mark}
 use Rattle.ee_pages.proofs.Slots.{length-page_at}
 use Rattle.ee_pages.specs.Laws.{IsPageOf}
-use Rattle.ee_store.proofs.Drawings.{marked-erased, marked-written, place_below, put_apart, put_drawn, with_mark, with_word-elsewhere, with_word-there}
+use Rattle.ee_store.proofs.Drawings.{marked-erased, place_below, put_apart, put_drawn, with_mark, with_word-elsewhere, with_word-there}
 use Rattle.ee_store.proofs.Marks.{erased_from}
 use Rattle.ee_store.specs.Cuts.{ErasesPartly, IsDrawnPartly, IsPartlyDone, PutsPartly, SetsPartly}
 use Rattle.ee_store.specs.Parts.{IsSameBut, PutsWord}

@@ -98,16 +98,16 @@ whole call event answer found old new is_whole called looked same not_cut good v
 put_kept : (address value : ℕ) (held : Bool) (old new : Device) → IsLegal old → IsCutChange old (meaning.Put address value) new
     → (held ≡ true → (state_of new).map address ≡ Some value) → ((state_of new).map address ≡ Some value → held ≡ true)
     → (state_of new).map ≡ changed_by (kept_by (Put address value) (Refused write.Cut) (Some held)) (state_of old).map
-put_kept address value true old new legal cut there found = put_found (state_of old).map (state_of new).map address value (cut_map old new (meaning.Put address value) legal.2.formed cut) (there refl)
+put_kept address value true old new legal cut there found = put_found (state_of old).map (state_of new).map address value (cut_map old new (meaning.Put address value) cut) (there refl)
 put_kept address value false old new legal cut there found =
-    put_lost (state_of old).map (state_of new).map address value (cut_map old new (meaning.Put address value) legal.2.formed cut) (λ e. let wrong = found e in absurd (cc wrong))
+    put_lost (state_of old).map (state_of new).map address value (cut_map old new (meaning.Put address value) cut) (λ e. let wrong = found e in absurd (cc wrong))
 
 forget_kept : (address : ℕ) (held : Bool) (old new : Device) → IsLegal old → IsCutChange old (meaning.Forget address) new
     → (held ≡ true → (state_of new).map address ≡ None) → ((state_of new).map address ≡ None → held ≡ true)
     → (state_of new).map ≡ changed_by (kept_by (Forget address) (NotForgotten forget.Cut) (Some held)) (state_of old).map
-forget_kept address true old new legal cut gone found = forget_found (state_of old).map (state_of new).map address (cut_map old new (meaning.Forget address) legal.2.formed cut) (gone refl)
+forget_kept address true old new legal cut gone found = forget_found (state_of old).map (state_of new).map address (cut_map old new (meaning.Forget address) cut) (gone refl)
 forget_kept address false old new legal cut gone found =
-    forget_lost (state_of old).map (state_of new).map address (cut_map old new (meaning.Forget address) legal.2.formed cut) (λ e. let wrong = found e in absurd (cc wrong))
+    forget_lost (state_of old).map (state_of new).map address (cut_map old new (meaning.Forget address) cut) (λ e. let wrong = found e in absurd (cc wrong))
 
 put_done : (address value : ℕ) (held : Bool) (old new : Device) → IsOn old × IsCutChange old (meaning.Put address value) new × IsStore new
     → (held ≡ true → (state_of new).map address ≡ Some value) → ((state_of new).map address ≡ Some value → held ≡ true)

@@ -128,6 +128,7 @@ module _ (old new : Device) (side : Side) (generation : ℕ) (live : IsLive old 
     used_words = λ all. absurd (omega (arith, fill_was));
     proceeds = proceeds;
     cut = cut;
+    within = omega (arith, fill_was);
     free = λ _. cut_append change same left;
     all_used = λ all. absurd (omega (arith, fill_was));
     no_wear = λ _. wear;
@@ -156,6 +157,7 @@ module _ (old new : Device) (side : Side) (generation : ℕ) (live : IsLive old 
     free_words = λ less. absurd (omega (arith, fill_was));
     proceeds = proceeds;
     cut = cut;
+    within = omega (arith, fill_was);
     free = λ less. absurd (omega (arith, fill_was));
     all_used = λ _. cut_move change few left;
     no_wear = λ less. absurd (omega (arith, fill_was));

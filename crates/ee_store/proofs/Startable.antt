@@ -1,5 +1,5 @@
 -- What steps leave of a device that can be started: from a first start on, until its set is committed.
-use Rattle.std.proofs.Common.{◌≡◌, ◌≢◌, ◌⊎◌, inl, inr, ℕ, ◌+◌, ◌<◌, ◌≤◌, true, false, Some, None, Option, List, [], length, take, drop, get_or, set, refl, sym, subst, ap, ◌∙◌, arith, suc, zero}
+use Rattle.std.proofs.Common.{◌≡◌, ◌≢◌, ◌⊎◌, inl, inr, ℕ, ◌+◌, ◌<◌, ◌≤◌, true, Some, None, Option, List, [], length, take, drop, get_or, set, refl, sym, subst, ap, ◌∙◌, arith, suc, zero}
 use Rattle.std.specs.List.{All}
 use Rattle.std.proofs.lemmas.Bool.{cases_eq}
 use Rattle.std.proofs.lemmas.Option.{same_Some}
@@ -10,17 +10,17 @@ use Rattle.ee_flash.specs.Device.{Device, IsFormed, IsOn, page_at, word_at}
 use Rattle.ee_flash.specs.Laws.{DiffersInPage, IsStep}
 use Rattle.ee_flash.specs.Power.{IsCut}
 use Rattle.ee_flash.specs.Size.{page_count}
-use Rattle.ee_flash.specs.Step.{Step, Program, Erase, IsCutIn, IsDone, IsUntouched, MayFollow, MayLeave, completed, with_word}
+use Rattle.ee_flash.specs.Step.{Step, Program, Erase, MayFollow, completed, with_word}
 use Rattle.ee_flash.specs.declared.word.Word.{Word}
 use Rattle.ee_flash.specs.declared.word.Word.TheVariants.{Erased, Held, Torn}
 use Rattle.ee_flash.proofs.Outcomes.{step_changes_one_page, step_keeps_formed, step_leaves_pages}
-use Rattle.ee_pages.specs.Filling.{IsCommitted, IsFilling}
+use Rattle.ee_pages.specs.Filling.{IsCommitted}
 use Rattle.ee_pages.specs.Layout.{IsScanFault, IsUnformatted}
 use Rattle.ee_pages.specs.Legal.{IsLegal}
 use Rattle.ee_pages.specs.Laws.{CannotCommit, IsPageOf}
 use Rattle.ee_pages.specs.Meaning.{meaning}
 use Rattle.ee_pages.specs.Page.{is_blank, marking, word_in}
-use Rattle.ee_pages.specs.Sets.{committed, fill_of, first_page, greater, live_of, other, set_of, slots_of}
+use Rattle.ee_pages.specs.Sets.{committed, fill_of, first_page, greater, live_of, other, set_of}
 use Rattle.ee_pages.specs.declared.find.ScanFault.{ScanFault}
 use Rattle.ee_pages.specs.declared.find.ScanFault.TheVariants.{Unformatted, NoLiveSet, TwoLive, Foreign}
 use Rattle.ee_pages.specs.declared.side.Side.{Side}
@@ -35,7 +35,7 @@ use Rattle.ee_store.proofs.KeptChanges.{legal_on, state_in_on}
 use Rattle.ee_store.proofs.States.{same_states, state_is}
 use Rattle.ee_pages.proofs.ScanFaults.{legal_is_good}
 use Rattle.ee_store.specs.Events.{powered}
-use Rattle.ee_store.specs.Openings.{IsCutOpening, IsFormatted, OpenFails, Opens}
+use Rattle.ee_store.specs.Openings.{IsFormatted, OpenFails}
 use Rattle.ee_store.specs.Starts.{AreCutStarts, HoldsNone, IsCutStart, IsNew, IsStartable, IsStarting, StartFails, Starts, StartsEmpty}
 use Rattle.ee_store.specs.State.{formatted, state_of}
 use Rattle.ee_store.specs.declared.opening.OpenFault.{OpenFault}

@@ -93,10 +93,12 @@ ShowsCutMove old change new side generation =
     let first = first_page old.size (other side) in
     ErasesPartly first (first + old.size.pages) old new ⊎ MovesPartly old new side generation (moved_words change (state_of old).map)
 
--- Power was cut in a change. With a slot free no page was erased; with none free, a front of those that waited.
+-- Power was cut in a change. With a slot free no page was erased; with none free, a front of those that waited. No more
+-- slots were used than there are, so it is the one or the other.
 pub record IsCutChange (old : Device) (change : Change) (new : Device) : Type 0 where
   pub proceeds : Proceeds old change
   pub cut : IsCut old new
+  pub within : (state_of old).fill ≤ capacity old
   pub free : (state_of old).fill < capacity old → IsCutAppend (state_of old) change (state_of new)
   pub all_used : (state_of old).fill ≡ capacity old → IsCutMove old.size.pages (state_of old) change (state_of new)
   pub no_wear : (state_of old).fill < capacity old → new.wear ≡ old.wear

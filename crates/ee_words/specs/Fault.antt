@@ -4,7 +4,7 @@ use Rattle.ee_text.specs.Line.{line_of}
 use Rattle.ee_words.specs.declared.fault.File.{File}
 use Rattle.ee_words.specs.declared.fault.File.TheVariants.{Image, Before, Script, Certificate, Settings}
 use Rattle.ee_words.specs.declared.fault.Fault.{Fault}
-use Rattle.ee_words.specs.declared.fault.Fault.TheVariants.{CannotRead, TooLong, CannotWriteImage, CannotWriteOutput, BadLine, BadShape, Unformatted, NoLiveSet, TwoLive, Foreign, SettingsText, BadName, BadField, BadRange, SameAddress, UnknownName, OutOfRange, Full, Spent, NotFitting, WrongStart, NotRising, WrongFrom, NotForced, OtherShape, Backwards, NoSizeEnough, Memory}
+use Rattle.ee_words.specs.declared.fault.Fault.TheVariants.{CannotRead, TooLong, CannotWriteImage, ImageChanged, CannotWriteOutput, BadLine, BadShape, Unformatted, NoLiveSet, TwoLive, Foreign, SettingsText, BadName, BadField, BadRange, SameAddress, UnknownName, OutOfRange, Full, Spent, NotFitting, WrongStart, NotRising, WrongFrom, NotForced, OtherShape, Backwards, NoSizeEnough, Memory}
 use Rattle.ee_image.specs.declared.fault.ImageFault.{ImageFault}
 use Rattle.ee_image.specs.declared.fault.ImageFault.TheVariants as image
 use Rattle.ee_pages.specs.declared.find.ScanFault.{ScanFault}
@@ -38,6 +38,7 @@ abbrev pub cause : Fault → List ℕ
 cause (CannotRead file) = codes "cannot read " ++ file_name file
 cause (TooLong file) = file_name file ++ codes " too long"
 cause CannotWriteImage = codes "cannot write image"
+cause ImageChanged = codes "image changed"
 cause CannotWriteOutput = codes "cannot write output"
 cause (BadLine file line) = file_name file ++ codes " line " ++ decimal line
 cause (BadShape file) = file_name file ++ codes " shape"

@@ -54,6 +54,9 @@ pub enum Fault {
     /// Opening or writing the image's file failed.
     #[error("cannot write image")]
     CannotWriteImage,
+    /// The image's file is not the one that was read, or another run is writing it.
+    #[error("image changed")]
+    ImageChanged,
     /// Writing to standard output failed.
     #[error("cannot write output")]
     CannotWriteOutput,
@@ -316,6 +319,7 @@ fn cause_text<A: Allocator + Copy>(alloc: A, fault: &Fault) -> Result<String<A>,
         Fault::CannotRead(file) => format!(in alloc; "cannot read {file}"),
         Fault::TooLong(file) => format!(in alloc; "{file} too long"),
         Fault::CannotWriteImage => format!(in alloc; "cannot write image"),
+        Fault::ImageChanged => format!(in alloc; "image changed"),
         Fault::CannotWriteOutput => format!(in alloc; "cannot write output"),
         Fault::BadLine { file, line } => format!(in alloc; "{file} line {line}"),
         Fault::BadShape(file) => format!(in alloc; "{file} shape"),
@@ -353,6 +357,7 @@ pub fn status_of(fault: &Fault) -> u8
         Fault::CannotRead(_)
         | Fault::TooLong(_)
         | Fault::CannotWriteImage
+        | Fault::ImageChanged
         | Fault::CannotWriteOutput
         | Fault::BadLine { .. }
         | Fault::BadShape(_)

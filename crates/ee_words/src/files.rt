@@ -1,6 +1,6 @@
 //! Whole inputs and whole outputs: what is read to its end, what is written to its last byte.
-ghost use Rattle.std.specs.Prelude.{◌≡◌, ◌<◌, ◌≤◌, length, take, vec_len, IfOk, OnOk, IfErr, IfSome, IsErrOf};
-ghost use Rattle.std.specs.Io.KnownBytes.{Appends, IsAtEnd};
+ghost use Rattle.std.specs.Prelude.{◌≡◌, ◌<◌, ◌≤◌, ℕ, List, length, take, vec_len, IfOk, OnOk, IfErr, IfSome, IsErrOf};
+ghost use Rattle.std.specs.Io.KnownBytes.{Appends, Consumes, IsAtEnd};
 
 use std::alloc::{AllocError, Allocator};
 use std::io::{ErrorKind, Read, Write};
@@ -57,6 +57,10 @@ pub fn read_whole<A: Allocator + Copy, R: Read>(
     ensures short { IfOk result (λ bytes. vec_len bytes ≤ MOST_BYTES) }
     ensures too_long { IsErrOf result ReadFault.TooLong
         → IfSome (R.remaining reader.old) (λ all. MOST_BYTES < length all) }
+    // What was read by then is not too long.
+    ensures failed { IsErrOf result ReadFault.Read
+        → (bs : List ℕ) × Consumes (R.remaining reader.old) (R.remaining reader.new) bs
+        × (length bs ≤ MOST_BYTES) }
 {
     let mut bytes = Vec::new(alloc);
     let mut chunk = [0u8; CHUNK];

@@ -2,3 +2,5 @@
 mod commands;
 mod desk;
 mod files;
+mod saving;
+mod trail;

@@ -189,13 +189,18 @@ impl Read for Interrupted {
     }
 }
 
-// Moments in a compiled test, minutes in an interpreter: `rt try --test` gives up on it unless it is given `--seconds`.
+// Moments in a compiled test, minutes in an interpreter: `rt try --test` gives up on these two unless it is given
+// `--seconds`.
 #[test]
 fn a_reader_that_never_gives_is_left(rt: HostRuntime) {
     let mut reader = Interrupted { calls: 0 };
     let read = read_whole(rt.alloc(), &mut reader).map(|bytes| bytes.len());
     same(&rt, read, Err(ReadFault::Read));
     same(&rt, reader.calls, u64::from(MOST_READS));
+}
+
+#[test]
+fn a_script_that_never_comes_is_left(rt: HostRuntime) {
     let mut reader = Interrupted { calls: 0 };
     let replayed = replay_reader(rt.alloc(), FORMATTED, &mut reader).map(|_| ());
     same(&rt, replayed, Err(ReplayFault::Read));

@@ -16,7 +16,7 @@ returns-in-Err-clause-drafts g c =
     let device = drafted start (steps_of draft.count draft.listed.now) draft.wear.items draft.cuts draft.on in
     let left = subst (λ (old : Device). IsCutFormat old device) c.of.ensures c.in-Err.ensures.cut in
     subst (λ (answer : Answer). Drafts (FormatsCells start) answer start ended.result.listed.now ended.result.count) (sym ended.ensures.answer)
-    (not_formatted start device ended.result.listed.now ended.result.count ended.ensures.fresh ended.ensures.ended left.cut)
+    (not_formatted start device ended.result.listed.now ended.result.count ended.ensures.fresh ended.ensures.ended left)
 
 pub returns-in-Ok-clause-drafts : goal.returns-in-Ok-clause-drafts
 returns-in-Ok-clause-drafts g c =

@@ -1,4 +1,4 @@
-use Rattle.std.proofs.Common.{◌≡◌, ◌-◌, ◌+◌, ℕ, arith, rules, drop, nat_cmp, length}
+use Rattle.std.proofs.Common.{◌≡◌, ◌-◌, ◌+◌, arith, rules, drop, nat_cmp}
 use Rattle.std.specs.BTreeMap.{get}
 use Rattle.ee_settings.proofs.Listings.{named_before}
 use Rattle.ee_settings.specs.Listing.{named_from}

@@ -8,7 +8,6 @@ use Rattle.ee_store.specs.Parts.{meant}
 use Rattle.ee_store.proofs.Appending.{cut_push_leaves, cut_push_marks, cut_push_other, cut_push_partly, free_slot_erased, on_err, push_is_taken, push_marks, push_other}
 use Rattle.ee_store.proofs.Making.{always_on_err}
 use Rattle.ee_store.specs.Cuts.{PutsPartly}
-use Rattle.ee_store.specs.Parts.{number_of}
 use Rattle.ee_flash.specs.declared.word.Word.TheVariants.{Held}
 use Rattle.ee_store.proofs.writing.push.Goals as goal
 

@@ -1,9 +1,9 @@
 //! A runtime for tests: the host's files, an empty input, and outputs that are kept.
-use ee_program::run;
+use ee_program::{FileLocks, run};
 use std::alloc::{AllocError, Allocator, Global};
 use std::cell::{Cell, RefCell};
 use std::fmt::Display;
-use std::fs::{Metadata, OpenFile, OpenOptions, Permissions};
+use std::fs::{Metadata, OpenFile, OpenOptions, Permissions, TryLockError};
 use std::io::{self, BufRead, ErrorKind, Lines, Read, Seek, SeekFrom, Write};
 use std::path::PathBuf;
 use std::rt::Files;
@@ -24,7 +24,7 @@ pub struct Desk<'a, R> {
     told: RefCell<Vec<u8>>,
 }
 
-impl<'a, R: Files + AllocGlobal + Input> Desk<'a, R> {
+impl<'a, R: FileLocks + AllocGlobal + Input> Desk<'a, R> {
     /// A desk on the host's disk.
     pub fn new(rt: &'a R) -> Desk<'a, R> {
         Desk::on(rt, None, false)
@@ -240,5 +240,11 @@ impl<'a, R: Files> Files for Desk<'a, R> {
 
     fn remove_dir_all<B: Allocator>(&self, alloc: B, path: &str) -> io::Result<()> {
         self.rt.remove_dir_all(alloc, path)
+    }
+}
+
+impl<R: FileLocks> FileLocks for Desk<'_, R> {
+    fn try_lock(&self, file: &Self::File) -> Result<(), TryLockError> {
+        self.rt.try_lock(&file.file)
     }
 }

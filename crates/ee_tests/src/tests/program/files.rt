@@ -3,6 +3,7 @@
 use super::desk::Desk;
 use crate::tests::images::{CLEANED, ONE_MOVE};
 use crate::tests::{same, same_at};
+use ee_program::FileLocks;
 use std::cell::Cell;
 use std::fs::{self, Permissions};
 use std::os::unix::fs::{PermissionsExt, symlink};
@@ -32,7 +33,7 @@ fn a_closed_output_is_told_after_the_image(rt: HostRuntime) -> Result<(), Fail> 
 }
 
 // Cleans an image on a disk that is full after so many bytes: the old image stands, and nothing beside it.
-fn keeps_the_image<R: Files + AllocGlobal + Input + Abort>(
+fn keeps_the_image<R: FileLocks + AllocGlobal + Input + Abort>(
     rt: &R,
     bytes: usize,
     bare: bool,
@@ -43,7 +44,7 @@ fn keeps_the_image<R: Files + AllocGlobal + Input + Abort>(
     let told = desk.written().1;
     same(rt, told.as_slice(), b"ee: cannot write image\n".as_slice());
     holds(rt, "full", ONE_MOVE)?;
-    same_at(rt, bytes, fs::exists(rt, "full.ee-saving")?, false);
+    same_at(rt, bytes, fs::exists(rt, "full.ee-saving-0")?, false);
     Ok(())
 }
 
@@ -60,14 +61,16 @@ fn a_full_disk_leaves_the_old_image(rt: HostRuntime) -> Result<(), Fail> {
 #[test]
 fn a_link_and_a_mode_stay(rt: HostRuntime) -> Result<(), Fail> {
     fs::write(&rt, "linked", ONE_MOVE)?;
-    // What a broken run left doesn't hinder.
-    fs::write(&rt, "linked.ee-saving", b"".as_slice())?;
+    // What a broken run left doesn't hinder, and stays.
+    fs::write(&rt, "linked.ee-saving-0", b"".as_slice())?;
     fs::set_permissions(&rt, "linked", Permissions::from_mode(0o640))?;
     symlink(&rt, "linked", "link")?;
     let desk = Desk::new(&rt);
     same(&rt, desk.run(&["clean", "link"])?, 0);
     same(&rt, desk.written().0.as_slice(), b"cleaned 1\n".as_slice());
     holds(&rt, "linked", CLEANED)?;
+    holds(&rt, "linked.ee-saving-0", b"")?;
+    same(&rt, fs::exists(&rt, "linked.ee-saving-1")?, false);
     same(&rt, fs::symlink_metadata(&rt, "link")?.is_symlink(), true);
     let mode = fs::metadata(&rt, "linked")?.permissions().mode();
     same(&rt, mode & 0o777, 0o640);

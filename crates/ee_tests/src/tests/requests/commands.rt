@@ -100,8 +100,8 @@ fn traces(rt: HostRuntime) {
     });
     // Ten writes of two addresses in all.
     with_each_refusal(&rt, rt.alloc(), 6, |alloc| {
-        let front = b"pages 1 slots 2 transfers 8 erases 4 worn
-pages 2 slots 4 transfers 2 erases 1 enough\n";
+        let front = b"pages 1 slots 2 transfers 8 erases 4 least 4 limit 0 worn for all
+pages 2 slots 4 transfers 2 erases 1 least 1 limit 0 enough\n";
         match size_parts(alloc, 6, b"w 1 1\nw 2 2\nr 1\n", 3, 5) {
             Ok(sizes) => Some(sizes.some_enough && sizes.text.as_slice().starts_with(front)),
             Err(Fault::Memory) => None,

@@ -43,7 +43,7 @@ pub fn open<F: Flash>(flash: F) -> Result<Store<F>, (F, OpenFault)> {
 ///
 /// # Errors
 ///
-/// The device, off: power failed. What it holds is not said, until a `format` ends.
+/// The device, off: power failed. What it held is gone in part, until a `format` ends.
 pub fn format<F: Flash>(flash: F) -> Result<Store<F>, (F, Cut)> {
     let mut flash = flash;
     match write_format(&mut flash) {

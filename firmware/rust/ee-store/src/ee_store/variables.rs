@@ -30,7 +30,7 @@ pub enum WriteFault {
     Full,
     /// Every slot is used, and the generation is the greatest, 4294967294.
     Spent,
-    /// Memory ran out, in a store that keeps an index.
+    /// Memory ran out, in a store that keeps an index, for an address that has no value.
     Memory,
     /// Power failed in this call. The device is off; the change is held or not, and nothing else
     /// changed for any reader.

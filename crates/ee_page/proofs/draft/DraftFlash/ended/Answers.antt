@@ -1,6 +1,7 @@
 use Rattle.std.proofs.Common.{refl}
+use Rattle.ee_flash.specs.Laws.{all_completed}
 use Rattle.ee_page.specs.Listing.{steps_of}
-use Rattle.ee_page.proofs.DraftSteps.{drafted_whole}
+use Rattle.ee_page.proofs.DraftSteps.{drafted_whole, wears_once_more}
 use Rattle.ee_page.proofs.draft.DraftFlash.ended.Goals as goal
 
 pub returns-clause-ended : goal.returns-clause-ended
@@ -11,5 +12,7 @@ returns-clause-ended g c =
       taken = draft.taken;
       image = refl;
       whole = drafted_whole g.K.Lent.start (steps_of draft.count draft.listed.now) draft.wear.items draft.cuts draft.on draft.fresh draft.whole;
+      zeros = draft.zeros;
+      further = λ once. wears_once_more (all_completed (steps_of draft.count draft.listed.now) g.K.Lent.start) draft.wear.items (draft.further once);
       full = draft.full;
     }

@@ -1,10 +1,11 @@
-use Rattle.std.proofs.Common.{◌∙◌, ◌≤◌, ℕ, true, List, [], length, refl, subst, sym, ap, arith}
+use Rattle.std.proofs.Common.{◌∙◌, ◌≡◌, ◌≤◌, ℕ, true, List, [], length, refl, subst, sym, ap, arith}
 use Rattle.std.specs.List.{All}
+use Rattle.std.proofs.lemmas.List.Elements.{All-nil}
 use Rattle.ee_flash.specs.Device.{Device, all_ones}
 use Rattle.ee_flash.specs.Laws.{all_completed}
 use Rattle.ee_flash.specs.Step.{Step}
 use Rattle.ee_page.specs.Draft.{IsFresh, drafted}
-use Rattle.ee_page.specs.Listing.{AllTaken}
+use Rattle.ee_page.specs.Listing.{AllTaken, IsZeroIfErase}
 use Rattle.ee_page.proofs.DraftSteps.{none_listed}
 use Rattle.ee_page.proofs.Mirrors.{fresh_device}
 use Rattle.ee_page.proofs.draft.DraftFlash.of.Goals as goal
@@ -28,7 +29,9 @@ invariant_of-result g c =
       wear_length = ap length wear ∙ mirror.wears_length;
       wear_fits = subst (λ (counts : List ℕ). All (λ count. count ≤ all_ones) counts) (sym wear) fresh.formed.wear_fits;
       cuts_fit = omega arith;
+      zeros = All-nil IsZeroIfErase;
       full = λ cut. absurd (cut refl);
+      further = λ once. absurd (let never : 0 ≡ 1 = once in omega arith);
       whole = λ _. (wear ∙ sym (ap (λ (device : Device). device.wear) is_start) ∙ sym (ap (λ (steps : List Step). (all_completed steps g.K.Lent.start).wear) none), refl);
     }
 

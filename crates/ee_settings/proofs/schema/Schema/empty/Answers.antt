@@ -1,7 +1,6 @@
-use Rattle.std.proofs.Common.{◌≡◌, ◌<◌, ◌∙◌, [], List, sym, arith, subst, length}
-use Rattle.std.specs.List.{Contains}
+use Rattle.std.proofs.Common.{◌<◌, [], sym, arith, subst}
 use Rattle.std.specs.List.Sorted.{IsStrictlySortedBy}
-use Rattle.ee_settings.specs.Setting.{IsSchema, Setting}
+use Rattle.ee_settings.specs.Setting.{IsSchema}
 use Rattle.ee_settings.proofs.schema.Schema.empty.Goals as goal
 
 none_is_schema : IsSchema []

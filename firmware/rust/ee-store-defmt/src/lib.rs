@@ -1,0 +1,114 @@
+#![doc = include_str!("../README.md")]
+#![no_std]
+#![forbid(unsafe_code)]
+
+use defmt::{Format, Formatter};
+use ee_store::{
+    Address, CleanFault, Driver, Failed, ForgetFault, Off, OpenFault, ScanFault, WriteFault,
+    Written,
+};
+
+/// An answer of the store, as it stands in a log.
+#[derive(Clone, Copy, Debug, PartialEq, Eq)]
+pub struct Show<'a, T>(pub &'a T);
+
+// What several answers say.
+fn off(f: Formatter<'_>) {
+    defmt::write!(f, "the store is off, since its driver failed");
+}
+
+fn spent(f: Formatter<'_>) {
+    defmt::write!(f, "every slot is used, and no generation is left");
+}
+
+fn driver<E: Format>(f: Formatter<'_>, error: &E) {
+    defmt::write!(f, "the driver failed: {}", error);
+}
+
+impl Format for Show<'_, Address> {
+    fn format(&self, f: Formatter<'_>) {
+        defmt::write!(f, "{=u16}", self.0.get());
+    }
+}
+
+impl Format for Show<'_, Written> {
+    fn format(&self, f: Formatter<'_>) {
+        match self.0 {
+            Written::Appended => defmt::write!(f, "appended"),
+            Written::Moved => defmt::write!(f, "moved"),
+        }
+    }
+}
+
+impl Format for Show<'_, Off> {
+    fn format(&self, f: Formatter<'_>) {
+        off(f);
+    }
+}
+
+impl Format for Show<'_, ScanFault> {
+    fn format(&self, f: Formatter<'_>) {
+        match *self.0 {
+            ScanFault::Unformatted => defmt::write!(f, "the flash is not formatted"),
+            ScanFault::NoLiveSet => defmt::write!(f, "no set of the flash is live"),
+            ScanFault::TwoLive => defmt::write!(f, "both sets of the flash are live"),
+            ScanFault::Foreign { page, at } => defmt::write!(
+                f,
+                "word {=usize} of page {=usize} is not the store's",
+                at,
+                page
+            ),
+        }
+    }
+}
+
+impl<E: Format> Format for Show<'_, OpenFault<E>> {
+    fn format(&self, f: Formatter<'_>) {
+        match self.0 {
+            OpenFault::Scan(fault) => defmt::write!(f, "{}", Show(fault)),
+            OpenFault::Driver(error) => driver(f, error),
+        }
+    }
+}
+
+impl<D: Driver> Format for Show<'_, Failed<D>>
+where
+    D::Error: Format,
+{
+    fn format(&self, f: Formatter<'_>) {
+        defmt::write!(f, "{}", Show(&self.0.fault));
+    }
+}
+
+impl<E: Format> Format for Show<'_, WriteFault<E>> {
+    fn format(&self, f: Formatter<'_>) {
+        match self.0 {
+            WriteFault::Off => off(f),
+            WriteFault::Full => {
+                defmt::write!(f, "as many addresses have a value as there are slots")
+            }
+            WriteFault::Spent => spent(f),
+            WriteFault::Driver(error) => driver(f, error),
+        }
+    }
+}
+
+impl<E: Format> Format for Show<'_, ForgetFault<E>> {
+    fn format(&self, f: Formatter<'_>) {
+        match self.0 {
+            ForgetFault::Off => off(f),
+            ForgetFault::Absent => defmt::write!(f, "the address has no value"),
+            ForgetFault::Spent => spent(f),
+            ForgetFault::Driver(error) => driver(f, error),
+        }
+    }
+}
+
+impl<E: Format> Format for Show<'_, CleanFault<E>> {
+    fn format(&self, f: Formatter<'_>) {
+        match self.0 {
+            CleanFault::Off => off(f),
+            CleanFault::Driver(error) => driver(f, error),
+        }
+    }
+}

@@ -1,0 +1,92 @@
+//! What the log shows of each answer, over the stub of `defmt`, is what `Display` says.
+
+use defmt::{shown, Format, Formatter};
+use ee_store::{
+    Address, CleanFault, Driver, Failed, ForgetFault, Off, OpenFault, ScanFault, Word, WriteFault,
+    Written,
+};
+use ee_store_defmt::Show;
+use std::fmt::{self, Display};
+
+/// A driver's own error.
+struct Locked;
+
+impl Format for Locked {
+    fn format(&self, f: Formatter<'_>) {
+        defmt::write!(f, "locked");
+    }
+}
+
+impl Display for Locked {
+    fn fmt(&self, f: &mut fmt::Formatter<'_>) -> fmt::Result {
+        f.write_str("locked")
+    }
+}
+
+struct Part;
+
+impl Driver for Part {
+    type Error = Locked;
+
+    fn word(&self, _page: usize, _at: usize) -> Word {
+        Word::Erased
+    }
+
+    fn program(&mut self, _page: usize, _at: usize, _value: u64) -> Result<(), Locked> {
+        Err(Locked)
+    }
+
+    fn erase(&mut self, _page: usize) -> Result<(), Locked> {
+        Err(Locked)
+    }
+}
+
+fn same<T: Display>(fault: T)
+where
+    for<'a> Show<'a, T>: Format,
+{
+    assert_eq!(shown(&Show(&fault)), fault.to_string());
+}
+
+const SCAN_FAULTS: [ScanFault; 4] = [
+    ScanFault::Unformatted,
+    ScanFault::NoLiveSet,
+    ScanFault::TwoLive,
+    ScanFault::Foreign { page: 3, at: 17 },
+];
+
+#[test]
+fn faults_of_an_opening_are_shown() {
+    for fault in SCAN_FAULTS {
+        same(fault);
+        same(OpenFault::<Locked>::Scan(fault));
+        same(Failed {
+            driver: Part,
+            fault: OpenFault::Scan(fault),
+        });
+    }
+    same(OpenFault::Driver(Locked));
+}
+
+#[test]
+fn faults_of_changes_are_shown() {
+    same(Off);
+    for fault in [WriteFault::Off, WriteFault::Full, WriteFault::Spent] {
+        same::<WriteFault<Locked>>(fault);
+    }
+    same(WriteFault::Driver(Locked));
+    for fault in [ForgetFault::Off, ForgetFault::Absent, ForgetFault::Spent] {
+        same::<ForgetFault<Locked>>(fault);
+    }
+    same(ForgetFault::Driver(Locked));
+    same::<CleanFault<Locked>>(CleanFault::Off);
+    same(CleanFault::Driver(Locked));
+}
+
+#[test]
+fn answers_are_shown() {
+    assert_eq!(shown(&Show(&Written::Appended)), "appended");
+    assert_eq!(shown(&Show(&Written::Moved)), "moved");
+    let address = Address::new(65534).unwrap();
+    assert_eq!(shown(&Show(&address)), "65534");
+}
