@@ -104,7 +104,9 @@ def variables(place):
     by_each_store(place, PAGES, WORDS, script, report)
     shutil.copy(os.path.join(place.folder, "image"), os.path.join(place.folder, "before"))
     place.expect("list image", "".join(f"{address} {value}\n" for address, value in store.values.items()))
-    place.expect("states image", "".join(f"page {page} {'VALID' if page < PAGES else 'ERASING'}\n" for page in range(2 * PAGES)))
+    # The last page of the set that takes the writes is the one in use, however full it is.
+    states = ["VALID"] * (PAGES - 1) + ["ACTIVE"] + ["ERASING"] * PAGES
+    place.expect("states image", "".join(f"page {page} {state}\n" for page, state in enumerate(states)))
     worn = [1] * PAGES + [0] * PAGES
     place.expect("wear image", ledger(worn))
     place.expect("wear image before", ledger([0] * 2 * PAGES))

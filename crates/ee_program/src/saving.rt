@@ -303,10 +303,10 @@ fn fill_and_move<R: Files>(
 }
 
 /// Writes a text into a new file, down to the medium.
-fn fill<F: Write + OpenFile>(file: &mut F, text: &[u8]) -> Result<(), SaveFault>
-    ensures { OnOk result (Appends (F.contents file.old) (F.contents file.new) text.now) }
+fn fill<F: Write + OpenFile>(file: &mut F, whole: &[u8]) -> Result<(), SaveFault>
+    ensures { OnOk result (Appends (F.contents file.old) (F.contents file.new) whole.now) }
 {
-    write_whole(file, text)?;
+    write_whole(file, whole)?;
     file.sync_all()?;
     Ok(())
 }
