@@ -229,6 +229,49 @@ fn a_start_formats_over_no_word() {
 }
 
 #[test]
+fn a_start_formats_over_no_value_wherever_it_stands() {
+    let value = full().into_driver().words[0][4];
+    for (page, at) in [(0, 4), (0, 5), (1, 4), (1, 5)] {
+        let mut part = Part::new();
+        part.words[page][at] = value;
+        let words = part.words;
+        let failed = start(part, shape()).err().unwrap();
+        assert_eq!(failed.fault, OpenFault::Scan(ScanFault::NoLiveSet));
+        assert_eq!(failed.driver.words, words);
+    }
+}
+
+#[test]
+fn a_start_formats_over_headers() {
+    let header = full().into_driver().words[0][0];
+    for at in 0..4 {
+        let mut part = Part::new();
+        part.words[1][at] = if at == 1 { Word::Torn } else { header };
+        let store = start(part, shape()).unwrap();
+        assert_eq!(store.live_count(), Ok(0));
+    }
+}
+
+#[test]
+fn a_start_chooses_no_set_and_takes_no_foreign_word() {
+    let mut part = full().into_driver();
+    part.words[1] = part.words[0];
+    let words = part.words;
+    let failed = start(part, shape()).err().unwrap();
+    assert_eq!(failed.fault, OpenFault::Scan(ScanFault::TwoLive));
+    assert_eq!(failed.driver.words, words);
+    let mut part = full().into_driver();
+    part.words[0][4] = Word::Held(0);
+    let words = part.words;
+    let failed = start(part, shape()).err().unwrap();
+    assert_eq!(
+        failed.fault,
+        OpenFault::Scan(ScanFault::Foreign { page: 0, at: 4 })
+    );
+    assert_eq!(failed.driver.words, words);
+}
+
+#[test]
 fn torn_slots_are_counted() {
     let mut store = failing(format(Part::new(), shape()).unwrap(), 1);
     assert!(store.write(address(1), 10).is_err());
