@@ -244,6 +244,7 @@ fn a_start_formats_over_no_value_wherever_it_stands() {
 #[test]
 fn a_start_formats_over_headers() {
     let header = full().into_driver().words[0][0];
+    assert_eq!(header, Word::Held(0xaaaa_aaaa_0000_0001));
     for at in 0..4 {
         let mut part = Part::new();
         part.words[1][at] = if at == 1 { Word::Torn } else { header };
