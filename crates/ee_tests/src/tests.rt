@@ -3,7 +3,6 @@ mod counted;
 mod cuts;
 mod formats;
 mod images;
-mod limits;
 mod outside;
 mod program;
 mod requests;
