@@ -4,7 +4,7 @@ use Rattle.std.proofs.Common.{◌≡◌, ℕ, ◌+◌, ◌-◌, ◌<◌, ◌≤�
 use Rattle.std.proofs.lemmas.Bool.{cases_lt}
 use Rattle.ee_check.specs.declared.change.Change.{Change}
 use Rattle.ee_check.specs.declared.certificate.Stretch.{Stretch}
-use Rattle.ee_check.specs.Live.{changed, live_count}
+use Rattle.ee_check.specs.Live.{live_after_one, live_count}
 use Rattle.ee_check.specs.Schedule.{Situation, Move, Copy, Append, Carry, IsAllowed, after_move, after_moves, EachMove, changes_of, cost}
 use Rattle.ee_check.specs.Certificate.{Place, place_at, last_place, IsForced, EachStretch}
 use Rattle.ee_check.proofs.Sizes.{changed-le}
@@ -47,8 +47,8 @@ Dominated k total used fill = (k < total) ⊎ ((total ≡ k) × (used ≤ fill))
 
 -- one change more is made
 pub at_next : (start : Situation) (trace : List Change) (s : Situation) (n fill : ℕ) (change : Change) (changes : List Change)
-    → IsAt start trace s n (change ∷ changes) → length (changed s.live change) ≤ fill
-    → IsAt start trace (record s { fill = fill; live = changed s.live change }) (n + 1) changes
+    → IsAt start trace s n (change ∷ changes) → length (live_after_one s.live change) ≤ fill
+    → IsAt start trace (record s { fill = fill; live = live_after_one s.live change }) (n + 1) changes
 at_next start trace s n fill change changes at held = record {
   slots = at.slots;
   rest = omega (arith, at.rest);
@@ -184,6 +184,6 @@ dominance start trace k used (Append change ∷ moves) s n spent total at bound 
 dominance start trace k used (Carry change ∷ moves) s n spent total at bound allowed e =
     let t : Situation = after_move s (Carry change) in
     let here : IsAt start trace t (n + 1) (changes_of moves) =
-    at_next start trace s n (length (changed s.live change)) change (changes_of moves) at (omega arith) in
+    at_next start trace s n (length (live_after_one s.live change)) change (changes_of moves) at (omega arith) in
     dominance start trace k used moves t (n + 1) (spent + 1) total here
     (next_bound start trace k used s t n spent (spent + 1) (changes_of moves) here (inr refl) bound) allowed.1 (omega (arith, e))

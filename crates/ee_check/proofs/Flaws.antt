@@ -8,7 +8,7 @@ use Rattle.ee_check.specs.declared.checking.CheckFault.{CheckFault}
 use Rattle.ee_check.specs.declared.checking.CheckFault.TheVariants.{WrongStart, NotRising, WrongFrom, NotForced, Memory}
 use Rattle.ee_check.specs.Live.{live_after}
 use Rattle.ee_check.specs.Schedule.{Situation, IsProper, Move, IsSchedule, cost}
-use Rattle.ee_check.specs.Certificate.{Claim, Place, first_place, place_at, last_place, IsForced, EachStretch, IsHeader, IsCertificate}
+use Rattle.ee_check.specs.Certificate.{Claim, Place, first_place, place_at, last_place, IsForced, EachStretch, IsCertificateHeader, IsCertificate}
 use Rattle.ee_check.specs.Fault.{IsFlaw, IsFirstFlaw, IsCause}
 use Rattle.ee_check.specs.Walk.{Walked, IsInTrace}
 use Rattle.ee_check.proofs.Stretches.{EachStretch-append, last_place-append}
@@ -145,7 +145,7 @@ one_flawed start trace place n (stretch ∷ stretches) fault other (inr h) (inr 
 -- ---- what the checker answers, where the header is right
 
 -- the stretches of a claim whose header is right have this flaw
-flaw_of_cause : (start : Situation) (trace : List Change) (claim : Claim) (cause : CheckFault) → IsHeader start trace claim → IsCause start trace claim cause
+flaw_of_cause : (start : Situation) (trace : List Change) (claim : Claim) (cause : CheckFault) → IsCertificateHeader start trace claim → IsCause start trace claim cause
     → IsFirstFlaw start trace claim.stretches cause
 flaw_of_cause start trace claim WrongStart header cause = absurd (cause header)
 flaw_of_cause start trace claim (NotRising n) header cause = cause.1
@@ -166,7 +166,7 @@ answers_for start trace claim stretches r e ok err = (
   subst (λ l. IfErr r (λ fault. IsFirstFlaw start trace l fault ⊎ (fault ≡ Memory))) e err,
 )
 
-pub bound_answered : (start : Situation) (trace : List Change) (claim : Claim) (r : Result ℕ CheckFault) → IsProper start → IsHeader start trace claim
+pub bound_answered : (start : Situation) (trace : List Change) (claim : Claim) (r : Result ℕ CheckFault) → IsProper start → IsCertificateHeader start trace claim
     → Answers start trace claim r → IfOk r (λ k. (moves : List Move) → IsSchedule start trace moves → k ≤ cost moves)
 bound_answered start trace claim (Ok k) proper header answers =
     λ moves schedule. let h = certificates_bound_schedules_lem start trace claim moves proper record { header = header; stretches = answers.0.0 } schedule in omega (arith, answers.0.1)
@@ -181,7 +181,7 @@ certificate_answered start trace claim (Err fault) answers certificate =
       | inr memory ↦ memory
     ]
 
-pub cause_answered : (start : Situation) (trace : List Change) (claim : Claim) (r : Result ℕ CheckFault) → IsHeader start trace claim → Answers start trace claim r
+pub cause_answered : (start : Situation) (trace : List Change) (claim : Claim) (r : Result ℕ CheckFault) → IsCertificateHeader start trace claim → Answers start trace claim r
     → (cause : CheckFault) → IsCause start trace claim cause → MatchResult r (λ _. ⊥) (λ fault. (fault ≡ cause) ⊎ (fault ≡ Memory))
 cause_answered start trace claim (Ok k) header answers cause why =
     none_flawed start trace (first_place start) 1 claim.stretches cause answers.0.0

@@ -6,7 +6,7 @@ use Rattle.ee_text.specs.Line.{IsLine, line_of}
 use Rattle.ee_text.proofs.Lacking.{Lacks-append, Lacks-decimal}
 use Rattle.ee_text.proofs.LineFeeds as feeds
 use Rattle.ee_check.specs.declared.certificate.Stretch.{Stretch}
-use Rattle.ee_check.specs.Text.{heading, spelling, ending, IsNumber, IsStretch, NoFirstLine, NoStretch}
+use Rattle.ee_check.specs.Text.{heading, stretch_text, ending, IsNumber, IsStretch, NoFirstLine, NoStretch}
 
 number_lacks : (n : ℕ) → IsNumber n → Lacks 10 (decimal n)
 number_lacks n fits = Lacks-decimal 10 n (inl (omega arith)) fits
@@ -21,7 +21,7 @@ heading_is_line slots fill live writes a b c d =
     (Lacks-append 10 (decimal live) (codes " writes " ++ decimal writes) (number_lacks live c)
     (Lacks-append 10 (codes " writes ") (decimal writes) refl (number_lacks writes d)))))))
 
-pub spelling_is_line : (stretch : Stretch) → IsStretch stretch → IsLine (spelling stretch)
+pub spelling_is_line : (stretch : Stretch) → IsStretch stretch → IsLine (stretch_text stretch)
 spelling_is_line stretch proper =
     Lacks-append 10 (codes "to ") (decimal stretch.to ++ (codes " from " ++ decimal stretch.from)) refl
     (Lacks-append 10 (decimal stretch.to) (codes " from " ++ decimal stretch.from) (number_lacks stretch.to proper.to)
@@ -40,9 +40,9 @@ other_heading text line rest parts is_line other claim more proper e =
 
 -- a first line that is no stretch's
 pub other_stretch : (text line rest : List ℕ) → text ≡ line_of line ++ rest → IsLine line
-    → ((stretch : Stretch) → IsStretch stretch → line ≢ spelling stretch) → NoStretch text
+    → ((stretch : Stretch) → IsStretch stretch → line ≢ stretch_text stretch) → NoStretch text
 other_stretch text line rest parts is_line other stretch more proper e =
-    other stretch proper (feeds.first_line line (spelling stretch) rest more is_line (spelling_is_line stretch proper) (sym parts ∙ e)).0
+    other stretch proper (feeds.first_line line (stretch_text stretch) rest more is_line (spelling_is_line stretch proper) (sym parts ∙ e)).0
 
 -- a first line that isn't the last one of a certificate
 pub other_ending : (text line rest : List ℕ) (count : ℕ) → text ≡ line_of line ++ rest → IsLine line → IsNumber count → line ≢ ending count

@@ -8,7 +8,7 @@ use Rattle.std.specs.BTreeSet.{insert_key}
 use Rattle.std.specs.Set.{remove_key}
 use Rattle.ee_check.specs.declared.change.Change.{Change}
 use Rattle.ee_check.specs.declared.change.Change.TheVariants.{Write, Forget}
-use Rattle.ee_check.specs.Live.{changed}
+use Rattle.ee_check.specs.Live.{live_after_one}
 
 at_most_one_more : (o : Ordering) (k x : ℕ) (xs more : List ℕ) → length more ≤ length xs + 1
     → length (match_ordering o (k ∷ x ∷ xs) (x ∷ xs) (x ∷ more)) ≤ length (x ∷ xs) + 1
@@ -29,6 +29,6 @@ remove_key-le test [] = omega arith
 remove_key-le test (x ∷ xs) = no_more (test x) x xs (remove_key test xs) (remove_key-le test xs)
 
 -- one more at most
-pub changed-le : (live : List ℕ) (change : Change) → length (changed live change) ≤ length live + 1
+pub changed-le : (live : List ℕ) (change : Change) → length (live_after_one live change) ≤ length live + 1
 changed-le live (Write address) = insert_key-le live address
 changed-le live (Forget address) = let h = remove_key-le (is_at (nat_cmp address)) live in omega arith

@@ -3,14 +3,14 @@ use Rattle.std.proofs.Common.{◌≡◌, ◌≢◌, ◌⊎◌, ℕ, ◌+◌, ◌
 use Rattle.std.specs.Fmt.{decimal}
 use Rattle.std.proofs.lemmas.Fmt.{decimal_injective}
 use Rattle.std.proofs.lemmas.List.{append-nil, append_cancel_left}
-use Rattle.ee_text.specs.Line.{IsLine, line_of}
+use Rattle.ee_text.specs.Line.{IsLine, line_of, IsLonger}
 use Rattle.ee_text.proofs.Lacking.{first_place, Lacks-decimal}
 use Rattle.ee_text.proofs.LineFeeds as feeds
 use Rattle.ee_check.specs.declared.certificate.Stretch.{Stretch}
 use Rattle.ee_check.specs.declared.reading.TextFault.{TextFault}
 use Rattle.ee_check.specs.declared.reading.TextFault.TheVariants.{BadText, Memory}
 use Rattle.ee_check.specs.Certificate.{Claim}
-use Rattle.ee_check.specs.Text.{heading, spelling, ending, first_line, stretch_lines, last_line, text_of, IsNumber, IsStretch, AreStretches, IsClaim, IsText, NoFirstLine, NoStretch, BreaksOff, GoesOn, IsFirstBadLine, IsTextFault, IsEndingFault, IsLonger}
+use Rattle.ee_check.specs.Text.{heading, stretch_text, ending, first_line, stretch_lines, last_line, text_of, IsNumber, IsStretch, AreStretches, IsClaim, IsText, NoFirstLine, NoStretch, BreaksOff, TextGoesOn, IsFirstBadCertificateLine, IsCertificateTextFault, IsEndingFault}
 use Rattle.ee_check.proofs.Lines.{heading_is_line, spelling_is_line}
 use Rattle.ee_check.proofs.Bounds.{same_claim}
 use Rattle.ee_check.proofs.Tight.{same_stretch}
@@ -23,7 +23,7 @@ number_before m n x y fits suits e =
     let parts = first_place 32 (decimal m) (decimal n) x y (Lacks-decimal 32 m (inl (omega arith)) fits) (Lacks-decimal 32 n (inl (omega arith)) suits) e in
     (decimal_injective m n fits suits parts.0, parts.1)
 
-spelling_injective : (s t : Stretch) → IsStretch s → IsStretch t → spelling s ≡ spelling t → s ≡ t
+spelling_injective : (s t : Stretch) → IsStretch s → IsStretch t → stretch_text s ≡ stretch_text t → s ≡ t
 spelling_injective s t proper other e =
     let to = number_before s.to t.to (codes "from " ++ decimal s.from) (codes "from " ++ decimal t.from) proper.to other.to (append_cancel_left (codes "to ") _ _ e) in
     let from : s.from ≡ t.from = decimal_injective s.from t.from proper.from other.from (append_cancel_left (codes "from ") _ _ to.1) in
@@ -63,21 +63,21 @@ same_stretches : (s t : List Stretch) (x y : List ℕ) → AreStretches s → Ar
     → stretch_lines s ++ x ≡ stretch_lines t ++ y → (s ≡ t) × (x ≡ y)
 same_stretches [] [] x y proper other no_x no_y e = (refl, e)
 same_stretches [] (b ∷ t) x y proper other no_x no_y e =
-    absurd (no_x b (stretch_lines t ++ y) other.0 (e ∙ append_assoc (line_of (spelling b)) (stretch_lines t) y))
+    absurd (no_x b (stretch_lines t ++ y) other.0 (e ∙ append_assoc (line_of (stretch_text b)) (stretch_lines t) y))
 same_stretches (a ∷ s) [] x y proper other no_x no_y e =
-    absurd (no_y a (stretch_lines s ++ x) proper.0 (sym e ∙ append_assoc (line_of (spelling a)) (stretch_lines s) x))
+    absurd (no_y a (stretch_lines s ++ x) proper.0 (sym e ∙ append_assoc (line_of (stretch_text a)) (stretch_lines s) x))
 same_stretches (a ∷ s) (b ∷ t) x y proper other no_x no_y e =
-    let lines : line_of (spelling a) ++ (stretch_lines s ++ x) ≡ line_of (spelling b) ++ (stretch_lines t ++ y) =
-    sym (append_assoc (line_of (spelling a)) (stretch_lines s) x) ∙ e ∙ append_assoc (line_of (spelling b)) (stretch_lines t) y in
-    let first = feeds.first_line (spelling a) (spelling b) (stretch_lines s ++ x) (stretch_lines t ++ y) (spelling_is_line a proper.0) (spelling_is_line b other.0) lines in
+    let lines : line_of (stretch_text a) ++ (stretch_lines s ++ x) ≡ line_of (stretch_text b) ++ (stretch_lines t ++ y) =
+    sym (append_assoc (line_of (stretch_text a)) (stretch_lines s) x) ∙ e ∙ append_assoc (line_of (stretch_text b)) (stretch_lines t) y in
+    let first = feeds.first_line (stretch_text a) (stretch_text b) (stretch_lines s ++ x) (stretch_lines t ++ y) (spelling_is_line a proper.0) (spelling_is_line b other.0) lines in
     let stretch : a ≡ b = spelling_injective a b proper.0 other.0 first.0 in
     let rest = same_stretches s t x y proper.1 other.1 no_x no_y first.1 in
     (ap (λ z. z ∷ s) stretch ∙ ap (λ l. b ∷ l) rest.0, rest.1)
 
-stretch_lines-append : (s : List Stretch) (stretch : Stretch) → stretch_lines (s ++ stretch ∷ []) ≡ stretch_lines s ++ line_of (spelling stretch)
-stretch_lines-append [] stretch = append-nil (line_of (spelling stretch))
+stretch_lines-append : (s : List Stretch) (stretch : Stretch) → stretch_lines (s ++ stretch ∷ []) ≡ stretch_lines s ++ line_of (stretch_text stretch)
+stretch_lines-append [] stretch = append-nil (line_of (stretch_text stretch))
 stretch_lines-append (a ∷ s) stretch =
-    ap (λ l. line_of (spelling a) ++ l) (stretch_lines-append s stretch) ∙ sym (append_assoc (line_of (spelling a)) (stretch_lines s) (line_of (spelling stretch)))
+    ap (λ l. line_of (stretch_text a) ++ l) (stretch_lines-append s stretch) ∙ sym (append_assoc (line_of (stretch_text a)) (stretch_lines s) (line_of (stretch_text stretch)))
 
 AreStretches-append : (s : List Stretch) (stretch : Stretch) → AreStretches s → IsStretch stretch → AreStretches (s ++ stretch ∷ [])
 AreStretches-append [] stretch proper one = (one, tt)
@@ -85,9 +85,9 @@ AreStretches-append (a ∷ s) stretch proper one = (proper.0, AreStretches-appen
 
 -- one stretch more is read
 pub one_read : (text : List ℕ) (old new : List Stretch) (stretch : Stretch) (rest more : List ℕ) → text ≡ stretch_lines old ++ rest → AreStretches old
-    → IsStretch stretch × (rest ≡ line_of (spelling stretch) ++ more) → new ≡ old ++ stretch ∷ [] → (text ≡ stretch_lines new ++ more) × AreStretches new
+    → IsStretch stretch × (rest ≡ line_of (stretch_text stretch) ++ more) → new ≡ old ++ stretch ∷ [] → (text ≡ stretch_lines new ++ more) × AreStretches new
 one_read text old new stretch rest more lines proper found pushed =
-    let line : List ℕ = line_of (spelling stretch) in
+    let line : List ℕ = line_of (stretch_text stretch) in
     let all : stretch_lines old ++ (line ++ more) ≡ stretch_lines new ++ more =
     sym (append_assoc (stretch_lines old) line more) ∙ ap (λ l. l ++ more) (sym (stretch_lines-append old stretch) ∙ ap stretch_lines (sym pushed)) in
     (lines ∙ ap (λ l. stretch_lines old ++ l) found.1 ∙ all, subst AreStretches (sym pushed) (AreStretches-append old stretch proper found.0))
@@ -123,7 +123,7 @@ text_and_more claim rest =
     append_assoc (first_line claim) (stretch_lines claim.stretches ++ last_line claim.stretches) rest
     ∙ ap (λ l. first_line claim ++ l) (append_assoc (stretch_lines claim.stretches) (last_line claim.stretches) rest)
 
-front_of_more : (text : List ℕ) (n : ℕ) (more : GoesOn text n) → IsFront text more.claim (last_line more.claim.stretches ++ more.rest)
+front_of_more : (text : List ℕ) (n : ℕ) (more : TextGoesOn text n) → IsFront text more.claim (last_line more.claim.stretches ++ more.rest)
 front_of_more text n more = record {
   proper = more.proper;
   text_is = more.text_is ∙ text_and_more more.claim more.rest;
@@ -136,7 +136,7 @@ pub one_text_lem : (text : List ℕ) (claim other : Claim) → IsText text claim
 one_text_lem text claim other is too =
     (one_front text claim other (last_line claim.stretches) (last_line other.stretches) (front_of_text text claim is) (front_of_text text other too)).0
 
-pub texts_are_good_lem : (text : List ℕ) (claim : Claim) (n : ℕ) → IsText text claim → IsFirstBadLine text n → ⊥
+pub texts_are_good_lem : (text : List ℕ) (claim : Claim) (n : ℕ) → IsText text claim → IsFirstBadCertificateLine text n → ⊥
 texts_are_good_lem text claim n is (inl none) = front_has_first text claim (last_line claim.stretches) (front_of_text text claim is) none.0
 texts_are_good_lem text claim n is (inr (inl breaks)) =
     let same = one_front text claim breaks.claim (last_line claim.stretches) breaks.rest (front_of_text text claim is) (front_of_break text n breaks) in
@@ -146,12 +146,12 @@ texts_are_good_lem text claim n is (inr (inr more)) =
     more.goes_on (append_cancel_left (last_line more.claim.stretches) more.rest []
     (sym same.1 ∙ ap (λ c. last_line c.stretches) same.0 ∙ sym (append-nil (last_line more.claim.stretches))))
 
-breaks_or_goes : (text : List ℕ) (m n : ℕ) → BreaksOff text m → GoesOn text n → ⊥
+breaks_or_goes : (text : List ℕ) (m n : ℕ) → BreaksOff text m → TextGoesOn text n → ⊥
 breaks_or_goes text m n breaks more =
     let same = one_front text breaks.claim more.claim breaks.rest (last_line more.claim.stretches ++ more.rest) (front_of_break text m breaks) (front_of_more text n more) in
     breaks.not_last more.rest (same.1 ∙ ap (λ c. last_line c.stretches ++ more.rest) (sym same.0))
 
-pub one_first_bad_line_lem : (text : List ℕ) (m n : ℕ) → IsFirstBadLine text m → IsFirstBadLine text n → m ≡ n
+pub one_first_bad_line_lem : (text : List ℕ) (m n : ℕ) → IsFirstBadCertificateLine text m → IsFirstBadCertificateLine text n → m ≡ n
 one_first_bad_line_lem text m n (inl none) (inl too) = none.1 ∙ sym too.1
 one_first_bad_line_lem text m n (inl none) (inr (inl breaks)) = absurd (front_has_first text breaks.claim breaks.rest (front_of_break text n breaks) none.0)
 one_first_bad_line_lem text m n (inl none) (inr (inr more)) =
@@ -181,7 +181,7 @@ text_read text tail claim front last =
 
 -- what is wrong behind the front
 pub fault_behind : (text : List ℕ) (claim : Claim) (tail : List ℕ) (count : ℕ) (fault : TextFault) → IsFront text claim tail → count ≡ length claim.stretches
-    → IsEndingFault tail count fault → IsTextFault text fault
+    → IsEndingFault tail count fault → IsCertificateTextFault text fault
 fault_behind text claim tail count (BadText n) front e (inl other) = inr (inl record {
   claim = claim;
   rest = tail;
@@ -202,12 +202,12 @@ fault_behind text claim tail count (BadText n) front e (inr more) = inr (inr rec
 fault_behind text claim tail count Memory front e wrong = absurd wrong
 
 -- every text is read
-pub text_answered : (text : List ℕ) (fault : TextFault) (claim : Claim) → IsTextFault text fault → IsText text claim → fault ≡ Memory
+pub text_answered : (text : List ℕ) (fault : TextFault) (claim : Claim) → IsCertificateTextFault text fault → IsText text claim → fault ≡ Memory
 text_answered text (BadText n) claim bad is = absurd (texts_are_good_lem text claim n is bad)
 text_answered text Memory claim bad is = refl
 
 -- and every bad line is named
-pub bad_line_answered : (text : List ℕ) (fault : TextFault) (n : ℕ) → IsTextFault text fault → IsFirstBadLine text n → (fault ≡ BadText n) ⊎ (fault ≡ Memory)
+pub bad_line_answered : (text : List ℕ) (fault : TextFault) (n : ℕ) → IsCertificateTextFault text fault → IsFirstBadCertificateLine text n → (fault ≡ BadText n) ⊎ (fault ≡ Memory)
 bad_line_answered text (BadText m) n bad line = inl (ap BadText (one_first_bad_line_lem text m n bad line))
 bad_line_answered text Memory n bad line = inr refl
 

@@ -7,7 +7,7 @@ use Rattle.std.specs.BTreeMap.{is_at}
 use Rattle.ee_check.specs.declared.change.Change.{Change}
 use Rattle.ee_check.specs.declared.change.Change.TheVariants.{Write, Forget}
 use Rattle.ee_check.specs.declared.certificate.Stretch.{Stretch}
-use Rattle.ee_check.specs.Live.{changed, KeepsWithin}
+use Rattle.ee_check.specs.Live.{live_after_one, KeepsWithin}
 use Rattle.ee_check.specs.Schedule.{Situation, Move, Copy, Append, Carry, IsAllowed, IsLate, after_move, after_moves, EachMove, changes_of, carried_at, cost}
 use Rattle.ee_check.specs.Certificate.{Place, place_at, IsTightStretch, EachStretch}
 use Rattle.ee_check.proofs.Sizes.{changed-le, remove_key-le}
@@ -38,7 +38,7 @@ late_append start trace s n change changes place late = record {
 pub late_carry : (start : Situation) (trace : List Change) (s : Situation) (n to : ℕ) (change : Change) (changes : List Change) (place : Place) → to ≡ n + 1
     → IsLateAt start trace s n (change ∷ changes) place → IsLateAt start trace (after_move s (Carry change)) (n + 1) changes (place_at start trace to)
 late_carry start trace s n to change changes place e late =
-    let here : IsAt start trace (after_move s (Carry change)) (n + 1) changes = at_next start trace s n (length (changed s.live change)) change changes late.at (omega arith) in
+    let here : IsAt start trace (after_move s (Carry change)) (n + 1) changes = at_next start trace s n (length (live_after_one s.live change)) change changes late.at (omega arith) in
     record {
       at = here;
       behind = omega arith;
@@ -47,7 +47,7 @@ late_carry start trace s n to change changes place e late =
 
 -- what is live after a change has room, where the trace keeps within the slots
 pub change_fits : (s : Situation) (change : Change) (changes : List Change) → length s.live ≤ s.slots → KeepsWithin s.slots s.live (change ∷ changes)
-    → (length (changed s.live change) ≤ s.slots) × KeepsWithin s.slots (changed s.live change) changes
+    → (length (live_after_one s.live change) ≤ s.slots) × KeepsWithin s.slots (live_after_one s.live change) changes
 change_fits s (Write address) changes h keeps = (keeps.0, keeps.1)
 change_fits s (Forget address) changes h keeps = (let g = remove_key-le (is_at (nat_cmp address)) s.live in omega arith, keeps)
 
@@ -118,7 +118,7 @@ one_is_left start trace s n change changes place late fits full =
 -- what it carries has room
 carry_fits : (start : Situation) (trace : List Change) (s : Situation) (n : ℕ) (change : Change) (changes : List Change) (place : Place) (stretch : Stretch) (stretches : List Stretch)
     → IsLateAt start trace s n (change ∷ changes) place → stretch.to ≡ n + 1 → EachStretch start trace IsTightStretch (place_at start trace stretch.to) stretches
-    → end_from start trace (place_at start trace stretch.to) stretches ≤ start.slots → length (changed s.live change) ≤ s.slots
+    → end_from start trace (place_at start trace stretch.to) stretches ≤ start.slots → length (live_after_one s.live change) ≤ s.slots
 carry_fits start trace s n change changes place stretch stretches late e each fits =
     let here = late_carry start trace s n stretch.to change changes place e late in
     let a = here.fill in
@@ -126,7 +126,7 @@ carry_fits start trace s n change changes place stretch stretches late e each fi
     let c = late.at.slots in
     omega arith
 
-carry_is_allowed : (s : Situation) (change : Change) → length (changed s.live change) ≤ s.slots → IsAllowed s (Carry change)
+carry_is_allowed : (s : Situation) (change : Change) → length (live_after_one s.live change) ≤ s.slots → IsAllowed s (Carry change)
 carry_is_allowed s (Write address) h = h
 carry_is_allowed s (Forget address) h = tt
 
@@ -150,7 +150,7 @@ late_meets start trace (Carry change ∷ moves) s n place [] late bounded is_lat
     absurd (one_is_left start trace s n change (changes_of moves) place late fits is_late.0)
 late_meets start trace (Carry change ∷ moves) s n place (stretch ∷ stretches) late bounded is_late each fits =
     let e : stretch.to ≡ n + 1 = ends_now start trace s n (change ∷ changes_of moves) place stretch late each.0 is_late.0 in
-    let room : length (changed s.live change) ≤ s.slots = carry_fits start trace s n change (changes_of moves) place stretch stretches late e each.1 fits in
+    let room : length (live_after_one s.live change) ≤ s.slots = carry_fits start trace s n change (changes_of moves) place stretch stretches late e each.1 fits in
     let next = late_carry start trace s n stretch.to change (changes_of moves) place e late in
     let more = late_meets start trace moves (after_move s (Carry change)) (n + 1) (place_at start trace stretch.to) stretches next room is_late.1 each.1 fits in
     (ap (λ m. m ∷ carried_at (n + 1) moves) (sym e) ∙ ap (λ l. stretch.to ∷ l) more.0, more.1, omega (arith, more.2), (carry_is_allowed s change room, more.3))
@@ -176,7 +176,7 @@ late_goes start trace (change ∷ changes) s n place (stretch ∷ stretches) lat
       | inr used ↦
           let full : s.fill ≡ s.slots = omega arith in
           let e : stretch.to ≡ n + 1 = ends_now start trace s n (change ∷ changes) place stretch late each.0 full in
-          let room : length (changed s.live change) ≤ s.slots = carry_fits start trace s n change changes place stretch stretches late e each.1 fits in
+          let room : length (live_after_one s.live change) ≤ s.slots = carry_fits start trace s n change changes place stretch stretches late e each.1 fits in
           let next = late_carry start trace s n stretch.to change changes place e late in
           let more = late_goes start trace changes (after_move s (Carry change)) (n + 1) (place_at start trace stretch.to) stretches next room each.1 fits in
           (Carry change ∷ more.0, ap (λ l. change ∷ l) more.1, (full, more.2))

@@ -8,7 +8,7 @@ use Rattle.std.specs.List.{AllByRecursion}
 use Rattle.std.specs.List.Sorted.{IsStrictlySortedBy}
 use Rattle.std.specs.BTreeSet.{insert_key}
 use Rattle.ee_check.specs.declared.change.Change.{Change}
-use Rattle.ee_check.specs.Live.{changed, live_after}
+use Rattle.ee_check.specs.Live.{live_after_one, live_after}
 
 -- ---- addresses in ascending order
 
@@ -37,14 +37,14 @@ one_copied copy rest more live k e h =
 
 pub live_after-append : (live : List ℕ) (changes more : List Change) → live_after live (changes ++ more) ≡ live_after (live_after live changes) more
 live_after-append live [] more = refl
-live_after-append live (change ∷ changes) more = live_after-append (changed live change) changes more
+live_after-append live (change ∷ changes) more = live_after-append (live_after_one live change) changes more
 
 pub live_after_more : (live : List ℕ) (changes : List Change) (i : ℕ) (d : Change) → i < length changes
-    → live_after live (take (i + 1) changes) ≡ changed (live_after live (take i changes)) (get_or changes i d)
+    → live_after live (take (i + 1) changes) ≡ live_after_one (live_after live (take i changes)) (get_or changes i d)
 live_after_more live changes i d h = ap (live_after live) (take_more changes i d h) ∙ live_after-append live (take i changes) (get_or changes i d ∷ [])
 
 -- one change more is made
 pub one_made : (start live new : List ℕ) (changes : List Change) (i : ℕ) (change : Change) → i < length changes → live ≡ live_after start (take i changes)
-    → change ≡ get_or changes i change → new ≡ changed live change → new ≡ live_after start (take (i + 1) changes)
+    → change ≡ get_or changes i change → new ≡ live_after_one live change → new ≡ live_after start (take (i + 1) changes)
 one_made start live new changes i change h before is made =
-    made ∙ ap (λ l. changed l change) before ∙ ap (λ c. changed (live_after start (take i changes)) c) is ∙ sym (live_after_more start changes i change h)
+    made ∙ ap (λ l. live_after_one l change) before ∙ ap (λ c. live_after_one (live_after start (take i changes)) c) is ∙ sym (live_after_more start changes i change h)

@@ -52,7 +52,7 @@ EachStretch start trace is place [] = Unit {0}
 EachStretch start trace is place (stretch ∷ stretches) = is start trace place stretch × EachStretch start trace is (place_at start trace stretch.to) stretches
 
 -- the header is the start's and the trace's
-pub record IsHeader (start : Situation) (trace : List Change) (claim : Claim) : Type 0 where
+pub record IsCertificateHeader (start : Situation) (trace : List Change) (claim : Claim) : Type 0 where
   pub slots : claim.slots ≡ start.slots
   pub fill : claim.fill ≡ start.fill
   pub live : claim.live ≡ length start.live
@@ -60,7 +60,7 @@ pub record IsHeader (start : Situation) (trace : List Change) (claim : Claim) : 
 
 -- a certificate of a start and a trace
 pub record IsCertificate (start : Situation) (trace : List Change) (claim : Claim) : Type 0 where
-  pub header : IsHeader start trace claim
+  pub header : IsCertificateHeader start trace claim
   pub stretches : EachStretch start trace IsForced (first_place start) claim.stretches
 
 -- how many slots are used at the end at least, where no transfer more is made than the stretches force
@@ -69,7 +69,7 @@ used_at_end start trace stretches = let last = last_place start trace (first_pla
 
 -- a tight certificate: no stretch is longer than it must be, and after the last one all changes find a free slot
 pub record IsTight (start : Situation) (trace : List Change) (claim : Claim) : Type 0 where
-  pub header : IsHeader start trace claim
+  pub header : IsCertificateHeader start trace claim
   pub stretches : EachStretch start trace IsTightStretch (first_place start) claim.stretches
   pub fits : used_at_end start trace claim.stretches ≤ start.slots
 

@@ -5,7 +5,7 @@ use Rattle.ee_check.specs.declared.certificate.Stretch.{Stretch}
 use Rattle.ee_check.specs.declared.checking.CheckFault.{CheckFault}
 use Rattle.ee_check.specs.declared.checking.CheckFault.TheVariants.{WrongStart, NotRising, WrongFrom, NotForced}
 use Rattle.ee_check.specs.Schedule.{Situation}
-use Rattle.ee_check.specs.Certificate.{Claim, Place, first_place, last_place, IsForced, EachStretch, IsHeader}
+use Rattle.ee_check.specs.Certificate.{Claim, Place, first_place, last_place, IsForced, EachStretch, IsCertificateHeader}
 
 -- a stretch that begins here goes on to a later change of the trace
 abbrev pub Rises : List Change → Place → Stretch → Type 0
@@ -42,5 +42,5 @@ pub record IsFirstFlaw (start : Situation) (trace : List Change) (stretches : Li
 
 -- the cause of a fault; want of memory has none that a certificate shows
 abbrev pub IsCause : Situation → List Change → Claim → CheckFault → Type 0
-IsCause start trace claim WrongStart = ¬ IsHeader start trace claim
-IsCause start trace claim fault = IsHeader start trace claim × IsFirstFlaw start trace claim.stretches fault
+IsCause start trace claim WrongStart = ¬ IsCertificateHeader start trace claim
+IsCause start trace claim fault = IsCertificateHeader start trace claim × IsFirstFlaw start trace claim.stretches fault

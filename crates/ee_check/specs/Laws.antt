@@ -4,7 +4,7 @@ use Rattle.ee_check.specs.declared.change.Change.{Change}
 use Rattle.ee_check.specs.Live.{KeepsWithin}
 use Rattle.ee_check.specs.Schedule.{Situation, IsProper, Move, IsSchedule, EachMove, IsLate, after_moves, changes_of, carried_at, cost}
 use Rattle.ee_check.specs.Certificate.{Claim, IsCertificate, IsTight, used_at_end}
-use Rattle.ee_check.specs.Text.{IsText, IsFirstBadLine}
+use Rattle.ee_check.specs.Text.{IsText, IsFirstBadCertificateLine}
 
 -- every schedule costs at least as much as a certificate has stretches
 abbrev pub CertificatesBoundSchedules : Type 0
@@ -56,8 +56,8 @@ OneText = (text : List ℕ) (claim other : Claim) → IsText text claim → IsTe
 
 -- no other line is the first bad one
 abbrev pub OneFirstBadLine : Type 0
-OneFirstBadLine = (text : List ℕ) (m n : ℕ) → IsFirstBadLine text m → IsFirstBadLine text n → m ≡ n
+OneFirstBadLine = (text : List ℕ) (m n : ℕ) → IsFirstBadCertificateLine text m → IsFirstBadCertificateLine text n → m ≡ n
 
 -- a claim's text has no bad line
 abbrev pub TextsAreGood : Type 0
-TextsAreGood = (text : List ℕ) (claim : Claim) (n : ℕ) → IsText text claim → IsFirstBadLine text n → ⊥
+TextsAreGood = (text : List ℕ) (claim : Claim) (n : ℕ) → IsText text claim → IsFirstBadCertificateLine text n → ⊥

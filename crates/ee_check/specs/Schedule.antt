@@ -3,7 +3,7 @@
 use Rattle.std.specs.Prelude.{◌≡◌, ℕ, ◌+◌, ◌<◌, ◌≤◌, List, [], ◌∷◌, length}
 use Rattle.ee_check.specs.declared.change.Change.{Change}
 use Rattle.ee_check.specs.declared.change.Change.TheVariants.{Write, Forget}
-use Rattle.ee_check.specs.Live.{changed}
+use Rattle.ee_check.specs.Live.{live_after_one}
 
 -- all that matters of a store: how many slots a set has, how many of the live set's are used, and the live addresses
 pub record Situation : Type 0 where
@@ -26,14 +26,14 @@ pub data Move : Type 0 where
 abbrev pub IsAllowed : Situation → Move → Type 0
 IsAllowed s Copy = Unit {0}
 IsAllowed s (Append change) = s.fill < s.slots
-IsAllowed s (Carry (Write address)) = length (changed s.live (Write address)) ≤ s.slots
+IsAllowed s (Carry (Write address)) = length (live_after_one s.live (Write address)) ≤ s.slots
 IsAllowed s (Carry (Forget address)) = Unit {0}
 
 -- after a copy the live addresses alone take slots, one each
 abbrev pub after_move : Situation → Move → Situation
 after_move s Copy = record s { fill = length s.live }
-after_move s (Append change) = record s { fill = s.fill + 1; live = changed s.live change }
-after_move s (Carry change) = record s { fill = length (changed s.live change); live = changed s.live change }
+after_move s (Append change) = record s { fill = s.fill + 1; live = live_after_one s.live change }
+after_move s (Carry change) = record s { fill = length (live_after_one s.live change); live = live_after_one s.live change }
 
 -- after all of these moves
 abbrev pub after_moves : Situation → List Move → Situation

@@ -1,5 +1,5 @@
 ghost use Rattle.std.specs.Prelude.{◌≡◌, OnOk, OnErr};
-ghost use Rattle.ee_check.specs.Live.{changed, live_after};
+ghost use Rattle.ee_check.specs.Live.{live_after_one, live_after};
 
 use ee_codec::Address;
 use std::alloc::{AllocError, Allocator};
@@ -21,7 +21,7 @@ impl Change {
         self,
         live: &mut BTreeSet<Address, A>,
     ) -> Result<(), AllocError>
-        ensures ok { OnOk result (live.new.keys ≡ changed live.old.keys self) }
+        ensures ok { OnOk result (live.new.keys ≡ live_after_one live.old.keys self) }
         ensures err { OnErr result (live.new.keys ≡ live.old.keys) }
     {
         match self {

@@ -1,7 +1,7 @@
 ghost use Rattle.std.specs.Prelude.{◌≡◌, ◌⊎◌, ◌≤◌, List, IsTrue, ◌↔◌, IfOk, IfErr, MatchResult, length};
 ghost use Rattle.ee_check.specs.Schedule.{Move, IsSchedule, cost};
 ghost use Rattle.ee_check.specs.Start.{IsStart};
-ghost use Rattle.ee_check.specs.Certificate.{first_place, IsHeader, IsForced, EachStretch, IsCertificate, claim_of};
+ghost use Rattle.ee_check.specs.Certificate.{first_place, IsCertificateHeader, IsForced, EachStretch, IsCertificate, claim_of};
 ghost use Rattle.ee_check.specs.Fault.{IsCause, IsFirstFlaw};
 
 use super::certificate::{Certificate, Stretch};
@@ -78,7 +78,7 @@ fn has_header<B: Allocator, C: Allocator>(
     trace: &[Change],
     certificate: &Certificate<C>,
 ) -> bool
-    ensures header { IsTrue result ↔ IsHeader start.now trace.now (claim_of certificate.now) }
+    ensures header { IsTrue result ↔ IsCertificateHeader start.now trace.now (claim_of certificate.now) }
     ensures start { IsStart start.now }
 {
     certificate.slots == start.slots()

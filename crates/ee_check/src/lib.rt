@@ -14,6 +14,18 @@
 //! the store that transfers exactly when each slot is used meets it. `specs/Live.antt`,
 //! `Schedule.antt` and `Certificate.antt` are the definitions, `Fault.antt` the causes of a
 //! refusal, `Text.antt` the text.
+//!
+//! # What is proved
+//!
+//! A yes of `check` with k means that every schedule of the trace costs at least k transfers,
+//! whoever wrote the certificate (`accepted`, `bound`): a lower bound, and not that k is the
+//! fewest. For a trace that no store can run there is no schedule, and the bound is empty. It
+//! accepts every certificate, want of memory aside, and each refusal has its cause, the first that
+//! applies (`accepts`, `refused`, `names`). `read_certificate` and `write_certificate` are exact
+//! both ways. `laws`: each schedule costs more than a certificate has stretches, or as much and
+//! ends with no more room; a start and a trace that keeps within the slots have one tight
+//! certificate, which is met, by the store that transfers exactly when each slot is used.
+//! docs/PROMISES.md explains it.
 #![tactic(auto)]
 
 mod certificate;

@@ -3,7 +3,7 @@ ghost use Rattle.std.specs.Prelude.{◌≡◌, ◌≢◌, ◌⊎◌, ℕ, ◌+�
 ghost use Rattle.ee_text.specs.Line.{line_of};
 ghost use Rattle.ee_check.specs.declared.certificate.Stretch.{Stretch};
 ghost use Rattle.ee_check.specs.Certificate.{Claim, claim_of};
-ghost use Rattle.ee_check.specs.Text.{heading, spelling, ending, stretch_lines, IsNumber, IsStretch, AreStretches, NoStretch, NoFirstLine, IsText, IsTextFault, IsEndingFault, IsFirstBadLine};
+ghost use Rattle.ee_check.specs.Text.{heading, stretch_text, ending, stretch_lines, IsNumber, IsStretch, AreStretches, NoStretch, NoFirstLine, IsText, IsCertificateTextFault, IsEndingFault, IsFirstBadCertificateLine};
 
 use super::certificate::{Certificate, Stretch};
 use ee_text::{next_field, next_line, number};
@@ -39,13 +39,13 @@ pub fn read_certificate<A: Allocator + Copy>(
     text: &[u8],
 ) -> Result<Certificate<A>, TextFault>
     ensures found { IfOk result (λ certificate. IsText text.now (claim_of certificate)) }
-    ensures fault { IfErr result (IsTextFault text.now) }
+    ensures fault { IfErr result (IsCertificateTextFault text.now) }
     // Every text of a claim is read, and every bad line is named.
     ensures only { (claim : Claim) → IsText text.now claim
         → MatchResult result
         (λ certificate. claim_of certificate ≡ claim)
         (λ fault. fault ≡ TextFault.Memory) }
-    ensures bad { (n : ℕ) → IsFirstBadLine text.now n
+    ensures bad { (n : ℕ) → IsFirstBadCertificateLine text.now n
         → MatchResult result (λ _. ⊥) (λ fault. (fault ≡ TextFault.BadText n) ⊎ (fault ≡ TextFault.Memory)) }
 {
     let Some((heading, rest)) = next_heading(text) else {
@@ -102,7 +102,7 @@ fn read_stretches<A: Allocator + Copy>(
 /// The stretch whose line stands at the front of the text, and what stands behind it.
 fn next_stretch(text: &[u8]) -> Option<(Stretch, &[u8])>
     ensures found { IfSome result (λ parts.
-        IsStretch parts.0 × (text.now ≡ line_of (spelling parts.0) ++ parts.1.now)) }
+        IsStretch parts.0 × (text.now ≡ line_of (stretch_text parts.0) ++ parts.1.now)) }
     ensures none { IfNone result (NoStretch text.now) }
 {
     let (line, rest) = next_line(text)?;
@@ -149,8 +149,8 @@ fn read_heading(line: &[u8]) -> Option<Heading>
 
 /// The stretch that a line says.
 fn read_stretch(line: &[u8]) -> Option<Stretch>
-    ensures found { IfSome result (λ stretch. IsStretch stretch × (line.now ≡ spelling stretch)) }
-    ensures only { (stretch : Stretch) → IsStretch stretch → line.now ≡ spelling stretch
+    ensures found { IfSome result (λ stretch. IsStretch stretch × (line.now ≡ stretch_text stretch)) }
+    ensures only { (stretch : Stretch) → IsStretch stretch → line.now ≡ stretch_text stretch
         → result ≡ Some stretch }
 {
     let (to, rest) = first_number(b"to ", line)?;

@@ -1,11 +1,11 @@
 //! Writing the text of a certificate.
-ghost use Rattle.std.specs.Prelude.{◌≡◌, ◌++◌, ◌∷◌, [], OnOk, OnErr, decimal};
-ghost use Rattle.ee_text.specs.Line.{line_of};
+ghost use Rattle.std.specs.Prelude.{◌≡◌, ◌++◌, ◌∷◌, [], OnOk, OnErr};
+ghost use Rattle.ee_text.specs.Line.{line_of, IsLonger};
 ghost use Rattle.ee_check.specs.Certificate.{claim_of};
-ghost use Rattle.ee_check.specs.Text.{first_line, stretch_lines, last_line, spelling, text_of, IsLonger};
+ghost use Rattle.ee_check.specs.Text.{first_line, stretch_lines, last_line, stretch_text, text_of};
 
 use super::certificate::{Certificate, Stretch};
-use ee_text::push_number;
+use ee_text::push_number_behind;
 use std::alloc::{AllocError, Allocator};
 
 /// Writes the certificate's text at the end. An `Err` leaves `out` as it was.
@@ -34,7 +34,7 @@ fn push_lines<A: Allocator, B: Allocator>(
 {
     push_first_line(certificate, out)?;
     push_stretches(&certificate.stretches, out)?;
-    push_number_behind(b"transfers ", certificate.stretches.len() as u64, out)?;
+    push_number_behind(out, b"transfers ", certificate.stretches.len() as u64)?;
     out.extend_from_slice(b"\n")
 }
 
@@ -46,10 +46,10 @@ fn push_first_line<A: Allocator, B: Allocator>(
     ensures ok { OnOk result (out.new.items ≡ out.old.items ++ first_line (claim_of certificate.now)) }
     ensures err { OnErr result (IsLonger out.old.items out.new.items) }
 {
-    push_number_behind(b"slots ", certificate.slots, out)?;
-    push_number_behind(b" fill ", certificate.fill, out)?;
-    push_number_behind(b" live ", certificate.live, out)?;
-    push_number_behind(b" writes ", certificate.writes, out)?;
+    push_number_behind(out, b"slots ", certificate.slots)?;
+    push_number_behind(out, b" fill ", certificate.fill)?;
+    push_number_behind(out, b" live ", certificate.live)?;
+    push_number_behind(out, b" writes ", certificate.writes)?;
     out.extend_from_slice(b"\n")
 }
 
@@ -69,23 +69,10 @@ fn push_stretches<B: Allocator>(
 
 /// Writes a stretch's line. After an error there may be a part of it.
 fn push_stretch<B: Allocator>(stretch: Stretch, out: &mut Vec<u8, B>) -> Result<(), AllocError>
-    ensures ok { OnOk result (out.new.items ≡ out.old.items ++ line_of (spelling stretch)) }
+    ensures ok { OnOk result (out.new.items ≡ out.old.items ++ line_of (stretch_text stretch)) }
     ensures err { OnErr result (IsLonger out.old.items out.new.items) }
 {
-    push_number_behind(b"to ", stretch.to, out)?;
-    push_number_behind(b" from ", stretch.from, out)?;
+    push_number_behind(out, b"to ", stretch.to)?;
+    push_number_behind(out, b" from ", stretch.from)?;
     out.extend_from_slice(b"\n")
-}
-
-/// Writes the name and the number. After an error there may be a part of them.
-fn push_number_behind<B: Allocator>(
-    name: &[u8],
-    n: u64,
-    out: &mut Vec<u8, B>,
-) -> Result<(), AllocError>
-    ensures ok { OnOk result (out.new.items ≡ out.old.items ++ (name.now ++ decimal n)) }
-    ensures err { OnErr result (IsLonger out.old.items out.new.items) }
-{
-    out.extend_from_slice(name)?;
-    push_number(out, n)
 }

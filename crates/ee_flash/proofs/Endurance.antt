@@ -8,7 +8,7 @@ use Rattle.std.proofs.lemmas.List.Sums.{count_by-le-length, sum_by-cons, sum_by-
 use Rattle.std.proofs.Math.Nat.{div-mul-le_self, mul-le-mul_left, zero-div}
 use Rattle.ee_flash.specs.Size.{page_count}
 use Rattle.ee_flash.specs.Device.{Device, IsFormed, IsOn, page_at, word_at}
-use Rattle.ee_flash.specs.Step.{Step, Program, Erase, completed}
+use Rattle.ee_flash.specs.Step.{Step, Program, Erase, device_after}
 use Rattle.ee_flash.specs.Laws.{CanTake}
 use Rattle.ee_flash.specs.Endurance.{AreTaken, erased_words, erases, erases_of, is_erase, is_erase_of, is_erased, is_program, least_wear, programs, word_count}
 use Rattle.ee_flash.specs.declared.word.Word.{Word}
@@ -18,15 +18,15 @@ use Rattle.ee_flash.proofs.Outcomes.{step_keeps_formed}
 -- ---- one step
 
 -- a step that is taken whole leaves the device formed and on
-still_formed : (step : Step) (device : Device) → IsFormed device → IsOn device → CanTake step device → IsFormed (completed step device)
+still_formed : (step : Step) (device : Device) → IsFormed device → IsOn device → CanTake step device → IsFormed (device_after step device)
 still_formed step device formed on can =
-    step_keeps_formed step device (completed step device) (record { formed = formed; may = can; follows = inl (record { was_on = on; done = refl }) })
+    step_keeps_formed step device (device_after step device) (record { formed = formed; may = can; follows = inl (record { was_on = on; done = refl }) })
 
-still_on : (step : Step) (device : Device) → IsOn device → IsOn (completed step device)
+still_on : (step : Step) (device : Device) → IsOn device → IsOn (device_after step device)
 still_on (Program page at value) device on = on
 still_on (Erase page) device on = on
 
-pub behind : (step : Step) (steps : List Step) (device : Device) → AreTaken (step ∷ steps) device → AreTaken steps (completed step device)
+pub behind : (step : Step) (steps : List Step) (device : Device) → AreTaken (step ∷ steps) device → AreTaken steps (device_after step device)
 behind step steps device taken = record {
   formed = still_formed step device taken.formed taken.on taken.can.0;
   on = still_on step device taken.on;
@@ -40,7 +40,7 @@ word_less page at value h erased =
     omega (arith, sum_by-set (λ word. cond {A = ℕ} (is_erased word) 1 0) page at (Held value) Erased h, was)
 
 after_program : (page at value : ℕ) (device : Device) → IsFormed device → page < page_count device.size → at < device.size.words → word_at device page at ≡ Erased
-    → erased_words (completed (Program page at value) device) + 1 ≡ erased_words device
+    → erased_words (device_after (Program page at value) device) + 1 ≡ erased_words device
 after_program page at value device formed in_device in_page erased =
     let here : page < length device.image = omega (arith, in_device, formed.image_length) in
     let long : length (page_at device page) ≡ device.size.words = All-get_or (λ (words : List Word). length words ≡ device.size.words) device.image page [] here formed.page_lengths in
@@ -48,7 +48,7 @@ after_program page at value device formed in_device in_page erased =
     omega (arith, less, sum_by-set (λ (words : List Word). count_by is_erased words) device.image page (set (page_at device page) at (Held value)) [] here)
 
 after_erase : (page : ℕ) (device : Device) → IsFormed device → page < page_count device.size
-    → erased_words (completed (Erase page) device) ≤ erased_words device + device.size.words
+    → erased_words (device_after (Erase page) device) ≤ erased_words device + device.size.words
 after_erase page device formed in_device =
     let here : page < length device.image = omega (arith, in_device, formed.image_length) in
     let blank = replicate device.size.words Erased in
@@ -78,13 +78,13 @@ programs_need_erases_lem [] device taken = omega arith
 programs_need_erases_lem (Program page at value ∷ steps) device taken =
     let can = taken.can.0 in
     let step = Program page at value in
-    let later = programs_need_erases_lem steps (completed step device) (behind step steps device taken) in
+    let later = programs_need_erases_lem steps (device_after step device) (behind step steps device taken) in
     let same : erases (step ∷ steps) ≡ erases steps = omega (arith, more_erases step steps) in
     let now = after_program page at value device taken.formed can.0 can.1 can.2 in
     rw same (omega (arith, later, now, more_programs step steps))
 programs_need_erases_lem (Erase page ∷ steps) device taken =
     let step = Erase page in
-    let later = programs_need_erases_lem steps (completed step device) (behind step steps device taken) in
+    let later = programs_need_erases_lem steps (device_after step device) (behind step steps device taken) in
     let now = after_erase page device taken.formed taken.can.0 in
     rw (more_erases step steps) (omega (arith, later, now, more_programs step steps, words_of_more device.size.words (erases steps)))
 
@@ -123,12 +123,12 @@ erases_together : (steps : List Step) (device : Device) → AreTaken steps devic
 erases_together [] device taken = omega arith
 erases_together (Program page at value ∷ steps) device taken =
     let step = Program page at value in
-    let later = erases_together steps (completed step device) (behind step steps device taken) in
+    let later = erases_together steps (device_after step device) (behind step steps device taken) in
     let more = together_grows (λ k. erases_of k steps) (λ k. erases_of k (step ∷ steps)) (page_count device.size) (λ k. erased_elsewhere k step steps) in
     omega (arith, later, more, more_erases step steps)
 erases_together (Erase page ∷ steps) device taken =
     let step = Erase page in
-    let later = erases_together steps (completed step device) (behind step steps device taken) in
+    let later = erases_together steps (device_after step device) (behind step steps device taken) in
     let more = one_more (λ k. erases_of k steps) (λ k. erases_of k (step ∷ steps)) page (page_count device.size) (λ k. erased_elsewhere k step steps) (erased_here page steps) taken.can.0 in
     omega (arith, later, more, more_erases step steps)
 

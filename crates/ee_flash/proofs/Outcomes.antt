@@ -6,7 +6,7 @@ use Rattle.std.proofs.lemmas.Option.{same_Some}
 use Rattle.std.proofs.lemmas.List.{get_or-replicate, get_or-set_same, length-set, length-replicate, set-get_or, get_or_past}
 use Rattle.std.proofs.lemmas.List.Elements.{All-from_get_or, All-get_or, All-set}
 use Rattle.ee_flash.specs.Device.{Device, IsBelowAllOnes, IsFormed, IsOn, all_ones, page_at, wear_at}
-use Rattle.ee_flash.specs.Step.{Step, Program, Erase, IsPartlyErased, MayFollow, MayLeave, completed, one_more, erased}
+use Rattle.ee_flash.specs.Step.{Step, Program, Erase, IsPartlyErased, MayFollow, MayLeave, device_after, one_more, with_page_erased}
 use Rattle.ee_flash.specs.Power.{GoesOn, IsCut}
 use Rattle.ee_flash.specs.Laws.{CanTake, page_of, IsStep, DiffersInPage}
 use Rattle.ee_flash.specs.declared.word.Word.{Word}
@@ -55,17 +55,17 @@ one_page (Program page at value) old new formed may (inr (inl held)) = own_eleme
 one_page (Program page at value) old new formed may (inr (inr torn)) = own_element old.image new.image page _ [] (omega (arith, formed.image_length, may.0)) torn
 one_page (Erase page) old new formed may left = left.1
 
-wear_is : (step : Step) (old new : Device) → MayFollow step old new → (new.wear ≡ old.wear) ⊎ (new.wear ≡ (completed step old).wear)
+wear_is : (step : Step) (old new : Device) → MayFollow step old new → (new.wear ≡ old.wear) ⊎ (new.wear ≡ (device_after step old).wear)
 wear_is step old new (inl done) = inr (ap (λ (device : Device). device.wear) done.done)
 wear_is step old new (inr (inl cut)) = inr cut.wear
 wear_is step old new (inr (inr untouched)) = inl (ap (λ (device : Device). device.wear) untouched.same)
 
-one_wear : (step : Step) (old new : Device) → IsFormed old → CanTake step old → (new.wear ≡ old.wear) ⊎ (new.wear ≡ (completed step old).wear) → new.wear ≡ set old.wear (page_of step) (wear_at new (page_of step))
+one_wear : (step : Step) (old new : Device) → IsFormed old → CanTake step old → (new.wear ≡ old.wear) ⊎ (new.wear ≡ (device_after step old).wear) → new.wear ≡ set old.wear (page_of step) (wear_at new (page_of step))
 one_wear step old new formed may (inl same) = same_element old.wear new.wear (page_of step) 0 same
 one_wear (Program page at value) old new formed may (inr same) = same_element old.wear new.wear page 0 same
 one_wear (Erase page) old new formed may (inr more) = own_element old.wear new.wear page _ 0 (omega (arith, formed.wear_length)) more
 
-completed_size : (step : Step) (old : Device) → (completed step old).size ≡ old.size
+completed_size : (step : Step) (old : Device) → (device_after step old).size ≡ old.size
 completed_size (Program page at value) old = refl
 completed_size (Erase page) old = refl
 
@@ -118,19 +118,19 @@ page_below (Erase page) old new formed may left =
     let as_long = left.0.as_long in
     elim (left.0.each at) [
       | inl same ↦ All-get_or IsBelowAllOnes (page_at old page) at Erased (omega arith) (formed.below_all_ones page [] in_range) value (sym same ∙ held)
-      | inr (inl erased) ↦ cc
+      | inr (inl with_page_erased) ↦ cc
       | inr (inr torn) ↦ cc
     ])
 
-wear_fits : (step : Step) (old : Device) → IsFormed old → All (λ count. count ≤ all_ones) (completed step old).wear
+wear_fits : (step : Step) (old : Device) → IsFormed old → All (λ count. count ≤ all_ones) (device_after step old).wear
 wear_fits (Program page at value) old formed = formed.wear_fits
 wear_fits (Erase page) old formed = All-set (λ count. count ≤ all_ones) old.wear page _ (omega arith) formed.wear_fits
 
-wear_stays : (step : Step) (old new : Device) → IsFormed old → (new.wear ≡ old.wear) ⊎ (new.wear ≡ (completed step old).wear) → All (λ count. count ≤ all_ones) new.wear
+wear_stays : (step : Step) (old new : Device) → IsFormed old → (new.wear ≡ old.wear) ⊎ (new.wear ≡ (device_after step old).wear) → All (λ count. count ≤ all_ones) new.wear
 wear_stays step old new formed (inl same) = rw same formed.wear_fits
 wear_stays step old new formed (inr more) = rw more (wear_fits step old formed)
 
-completed_cuts : (step : Step) (old : Device) → ((completed step old).cuts ≡ old.cuts) × ((completed step old).cuts_left ≡ old.cuts_left)
+completed_cuts : (step : Step) (old : Device) → ((device_after step old).cuts ≡ old.cuts) × ((device_after step old).cuts_left ≡ old.cuts_left)
 completed_cuts (Program page at value) old = (refl, refl)
 completed_cuts (Erase page) old = (refl, refl)
 
@@ -166,7 +166,7 @@ step_keeps_formed step old new taken =
       cuts_left_fit = cuts_left_fit step old new formed taken.follows;
     }
 
-completed_power : (step : Step) (old : Device) → IsOn old → GoesOn old (completed step old)
+completed_power : (step : Step) (old : Device) → IsOn old → GoesOn old (device_after step old)
 completed_power (Program page at value) old on = record { same_size = refl; same_power = refl; same_cuts = refl; same_cuts_left = refl; same_while_off = λ off. absurd (true≢false (sym on ∙ off)) }
 completed_power (Erase page) old on = record { same_size = refl; same_power = refl; same_cuts = refl; same_cuts_left = refl; same_while_off = λ off. absurd (true≢false (sym on ∙ off)) }
 

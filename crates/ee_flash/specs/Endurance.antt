@@ -4,7 +4,7 @@ use Rattle.std.specs.Prelude.{◌<◌, ◌≤◌, ℕ, ◌+◌, ◌*◌, ◌-◌
 use Rattle.std.specs.List.{count_by, sum_by}
 use Rattle.ee_flash.specs.Size.{Size, page_count}
 use Rattle.ee_flash.specs.Device.{Device, IsFormed, IsOn}
-use Rattle.ee_flash.specs.Step.{Step, Program, Erase, completed}
+use Rattle.ee_flash.specs.Step.{Step, Program, Erase, device_after}
 use Rattle.ee_flash.specs.Laws.{CanTake}
 use Rattle.ee_flash.specs.declared.word.Word.{Word}
 use Rattle.ee_flash.specs.declared.word.Word.TheVariants.{Erased, Held, Torn}
@@ -14,7 +14,7 @@ use Rattle.ee_flash.specs.declared.word.Word.TheVariants.{Erased, Held, Torn}
 -- each step can be taken when it comes, and is taken whole
 abbrev pub CanTakeAll : List Step → Device → Type 0
 CanTakeAll [] device = Unit {0}
-CanTakeAll (step ∷ steps) device = CanTake step device × CanTakeAll steps (completed step device)
+CanTakeAll (step ∷ steps) device = CanTake step device × CanTakeAll steps (device_after step device)
 
 -- a device that is on takes these steps, one after another
 pub record AreTaken (steps : List Step) (device : Device) : Type 0 where

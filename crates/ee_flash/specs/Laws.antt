@@ -3,9 +3,9 @@ use Rattle.std.specs.Prelude.{◌≡◌, ◌<◌, ◌≤◌, ◌⊎◌, ℕ, ◌
 use Rattle.std.specs.List.{All, flat_map}
 use Rattle.ee_flash.specs.Size.{Size, page_count}
 use Rattle.ee_flash.specs.Device.{Device, IsFormed, IsOn, all_ones, page_at, wear_at, word_at}
-use Rattle.ee_flash.specs.Step.{Step, Program, Erase, MayFollow, MayLeave, completed}
+use Rattle.ee_flash.specs.Step.{Step, Program, Erase, MayFollow, MayLeave, device_after}
 use Rattle.ee_flash.specs.Power.{GoesOn, IsCut}
-use Rattle.ee_flash.specs.Memory.{Memory, after_step, stepped}
+use Rattle.ee_flash.specs.Memory.{Memory, after_step, device_after_tear}
 use Rattle.ee_flash.specs.Pages.{pages_of}
 use Rattle.ee_flash.specs.declared.fuse.Fuse.{Fuse}
 use Rattle.ee_flash.specs.declared.word.Word.{Word}
@@ -62,7 +62,7 @@ NoCutLeft = (old new : Device) → old.cuts_left ≡ Some 0 → IsCut old new �
 -- a device after these steps, all of them whole
 abbrev pub all_completed : List Step → Device → Device
 all_completed [] device = device
-all_completed (step ∷ steps) device = all_completed steps (completed step device)
+all_completed (step ∷ steps) device = all_completed steps (device_after step device)
 
 -- a device in memory after these steps
 abbrev pub after_steps : List Step → Memory → Memory
@@ -82,7 +82,7 @@ FuseWaits =
 -- the next step is cut as the fuse's tear says, and the fuse is gone
 abbrev pub FuseCuts : Type 0
 FuseCuts =
-    (steps : List Step) (step : Step) (memory : Memory) (fuse : Fuse) → IsOn memory.device → memory.fuse ≡ Some fuse → length steps ≡ fuse.after → let last : Memory = after_step step (after_steps steps memory) in (last.device ≡ stepped step (Some fuse.tear) (all_completed steps memory.device)) × (last.fuse ≡ None)
+    (steps : List Step) (step : Step) (memory : Memory) (fuse : Fuse) → IsOn memory.device → memory.fuse ≡ Some fuse → length steps ≡ fuse.after → let last : Memory = after_step step (after_steps steps memory) in (last.device ≡ device_after_tear step (Some fuse.tear) (all_completed steps memory.device)) × (last.fuse ≡ None)
 
 -- the pages of a list of words, joined, are the list
 abbrev pub PagesJoin : Type 0

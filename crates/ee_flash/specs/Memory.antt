@@ -1,7 +1,7 @@
 -- A device in memory, with its fuse.
 use Rattle.std.specs.Prelude.{◌≡◌, ℕ, Option, Some, None, false, is_some, if◌then◌else◌}
 use Rattle.ee_flash.specs.Device.{Device, IsOn, page_at}
-use Rattle.ee_flash.specs.Step.{Step, Program, Erase, completed, one_more, with_page, with_word, worn}
+use Rattle.ee_flash.specs.Step.{Step, Program, Erase, device_after, one_more, with_page, with_word, with_page_worn}
 use Rattle.ee_flash.specs.Fuse.{cuts_left_of, left_page, left_word, next_fuse, next_tear}
 use Rattle.ee_flash.specs.Pages.{pages_of}
 use Rattle.ee_flash.specs.declared.fuse.Fuse.{Fuse}
@@ -34,12 +34,12 @@ abbrev pub with_device : Device → Memory → Memory
 with_device device memory = record memory { device = device }
 
 -- a device that no step has met
-abbrev pub unused : Device → Memory
-unused device = record { device = device; steps = 0; fuse = None }
+abbrev pub unused_memory : Device → Memory
+unused_memory device = record { device = device; steps = 0; fuse = None }
 
 -- with this fuse
-abbrev pub armed : Fuse → Memory → Memory
-armed fuse memory =
+abbrev pub with_fuse : Fuse → Memory → Memory
+with_fuse fuse memory =
     record memory { device = record memory.device { cuts_left = cuts_left_of (Some fuse) }; fuse = Some fuse }
 
 -- the device once power is cut, and no cut is left
@@ -55,18 +55,18 @@ begun memory = record {
 }
 
 -- the device after a step that is torn so, or that is whole
-abbrev pub stepped : Step → Option Tear → Device → Device
-stepped step None device = completed step device
-stepped (Program page at value) (Some tear) device = with_power_cut (with_word page at (left_word tear value) device)
-stepped (Erase page) (Some tear) device =
-    with_power_cut (worn page (with_page page (left_page tear (page_at device page)) device))
+abbrev pub device_after_tear : Step → Option Tear → Device → Device
+device_after_tear step None device = device_after step device
+device_after_tear (Program page at value) (Some tear) device = with_power_cut (with_word page at (left_word tear value) device)
+device_after_tear (Erase page) (Some tear) device =
+    with_power_cut (with_page_worn page (with_page page (left_page tear (page_at device page)) device))
 
 -- what a step leaves: nothing changes while power is off; else the step is counted, the fuse burns down by one, and the
 -- step is whole, or cut by the fuse
 abbrev pub after_step : Step → Memory → Memory
 after_step step memory =
     if memory.device.on then record {
-      device = stepped step (next_tear memory.fuse) memory.device;
+      device = device_after_tear step (next_tear memory.fuse) memory.device;
       steps = one_more memory.steps;
       fuse = next_fuse memory.fuse;
     } else memory

@@ -17,16 +17,16 @@ abbrev pub with_word : ℕ → ℕ → Word → Device → Device
 with_word page at word device = with_page page (slice_set (page_at device page) at word) device
 
 -- with the page's wear one more
-abbrev pub worn : ℕ → Device → Device
-worn page device = record device { wear = slice_set device.wear page (one_more (slice_index device.wear page)) }
+abbrev pub with_page_worn : ℕ → Device → Device
+with_page_worn page device = record device { wear = slice_set device.wear page (one_more (slice_index device.wear page)) }
 
 -- with a word programmed
-abbrev pub programmed : ℕ → ℕ → ℕ → Device → Device
-programmed page at value device = with_word page at (Held value) device
+abbrev pub with_word_programmed : ℕ → ℕ → ℕ → Device → Device
+with_word_programmed page at value device = with_word page at (Held value) device
 
 -- with a page erased
-abbrev pub erased : ℕ → Device → Device
-erased page device = worn page (with_page page (replicate device.size.words Erased) device)
+abbrev pub with_page_erased : ℕ → Device → Device
+with_page_erased page device = with_page_worn page (with_page page (replicate device.size.words Erased) device)
 
 -- a step of a device: a word programmed or a page erased
 pub data Step : Type 0 where
@@ -34,9 +34,9 @@ pub data Step : Type 0 where
   Erase : (page : ℕ) → Step
 
 -- the device after the whole step
-abbrev pub completed : Step → Device → Device
-completed (Program page at value) device = programmed page at value device
-completed (Erase page) device = erased page device
+abbrev pub device_after : Step → Device → Device
+device_after (Program page at value) device = with_word_programmed page at value device
+device_after (Erase page) device = with_page_erased page device
 
 -- a page in which each word is as before, erased or torn, in any mix
 pub record IsPartlyErased (old new : List Word) : Type 0 where
@@ -47,7 +47,7 @@ pub record IsPartlyErased (old new : List Word) : Type 0 where
 -- of its page old, erased or torn. All else stays.
 abbrev pub MayLeave : Step → Device → Device → Type 0
 MayLeave (Program page at value) old new =
-    (new.image ≡ old.image) ⊎ (new.image ≡ (programmed page at value old).image) ⊎ (new.image ≡ (with_word page at Torn old).image)
+    (new.image ≡ old.image) ⊎ (new.image ≡ (with_word_programmed page at value old).image) ⊎ (new.image ≡ (with_word page at Torn old).image)
 MayLeave (Erase page) old new =
     IsPartlyErased (page_at old page) (page_at new page) × (new.image ≡ (with_page page (page_at new page) old).image)
 
@@ -57,7 +57,7 @@ pub record IsCutIn (step : Step) (old new : Device) : Type 0 where
   pub is_off : IsOff new
   pub same_size : new.size ≡ old.size
   pub image : MayLeave step old new
-  pub wear : new.wear ≡ (completed step old).wear
+  pub wear : new.wear ≡ (device_after step old).wear
   pub cuts : new.cuts ≡ one_more old.cuts
   -- where the cuts left are a number, there was one more
   pub cuts_left : old.cuts_left ≡ option_map (λ left. left + 1) new.cuts_left
@@ -70,7 +70,7 @@ pub record IsUntouched (old new : Device) : Type 0 where
 -- the step was done, with the power on
 pub record IsDone (step : Step) (old new : Device) : Type 0 where
   pub was_on : IsOn old
-  pub done : new ≡ completed step old
+  pub done : new ≡ device_after step old
 
 -- each device that a step may leave
 abbrev pub MayFollow : Step → Device → Device → Type 0

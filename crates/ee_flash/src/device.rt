@@ -1,7 +1,7 @@
 ghost use Rattle.std.specs.Prelude.{◌<◌, ◌≡◌, ◌⊎◌, OnErr, OnOk, true};
 ghost use Rattle.ee_flash.specs.Device.{Device, IsBelowAllOnes, IsFormed, IsOn, all_ones, wear_at, word_at};
 ghost use Rattle.ee_flash.specs.Size.{page_count};
-ghost use Rattle.ee_flash.specs.Step.{Erase, IsCutIn, IsUntouched, Program, erased, programmed};
+ghost use Rattle.ee_flash.specs.Step.{Erase, IsCutIn, IsUntouched, Program, with_page_erased, with_word_programmed};
 
 use crate::{Shape, Word};
 
@@ -54,7 +54,7 @@ pub trait Flash {
         requires erased { word_at (device self.old) page at ≡ Word.Erased }
         requires below_all_ones { value < all_ones }
         ensures on { OnOk result (IsOn (device self.old)) }
-        ensures done { OnOk result (device self.new ≡ programmed page at value (device self.old)) }
+        ensures done { OnOk result (device self.new ≡ with_word_programmed page at value (device self.old)) }
         ensures cut { OnErr result
             (IsCutIn (Program page at value) (device self.old) (device self.new)
             ⊎ IsUntouched (device self.old) (device self.new)) };
@@ -68,7 +68,7 @@ pub trait Flash {
     fn erase(&mut self, page: usize) -> Result<(), Cut>
         requires { page < page_count (device self.old).size }
         ensures on { OnOk result (IsOn (device self.old)) }
-        ensures done { OnOk result (device self.new ≡ erased page (device self.old)) }
+        ensures done { OnOk result (device self.new ≡ with_page_erased page (device self.old)) }
         ensures cut { OnErr result
             (IsCutIn (Erase page) (device self.old) (device self.new)
             ⊎ IsUntouched (device self.old) (device self.new)) };

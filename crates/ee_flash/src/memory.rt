@@ -42,7 +42,7 @@ pub struct MemFlash<A: Allocator = Global> {
 }
 
 impl<A: Allocator + Copy> MemFlash<A> {
-    ghost use Rattle.ee_flash.specs.Memory.{memory_of, unused};
+    ghost use Rattle.ee_flash.specs.Memory.{memory_of, unused_memory};
     ghost use Rattle.ee_flash.specs.Device.{blank_device};
 
     /// A device that is on, with every word erased, no wear, no cuts, no steps and no fuse.
@@ -51,7 +51,7 @@ impl<A: Allocator + Copy> MemFlash<A> {
     ///
     /// `AllocError`: memory was refused.
     pub fn blank(alloc: A, shape: Shape) -> Result<Self, AllocError>
-        ensures { IfOk result (λ flash. memory_of flash ≡ unused (blank_device shape)) }
+        ensures { IfOk result (λ flash. memory_of flash ≡ unused_memory (blank_device shape)) }
     {
         let pages = 2 * shape.pages();
         let cells = vec![in alloc; Word::Erased; pages * shape.words()]?;
@@ -69,10 +69,10 @@ impl<A: Allocator + Copy> MemFlash<A> {
 }
 
 impl<A: Allocator> MemFlash<A> {
-    ghost use Rattle.ee_flash.specs.Memory.{armed, begun, device_of, memory_of, unused, with_device};
+    ghost use Rattle.ee_flash.specs.Memory.{with_fuse, begun, device_of, memory_of, unused_memory, with_device};
     ghost use Rattle.ee_flash.specs.Cells.{HasLengths, IsCellFault, device_from};
     ghost use Rattle.ee_flash.specs.Device.{IsOff, IsOn};
-    ghost use Rattle.ee_flash.specs.Step.{IsPartlyErased, with_page, with_word, worn};
+    ghost use Rattle.ee_flash.specs.Step.{IsPartlyErased, with_page, with_word, with_page_worn};
     ghost use Rattle.ee_flash.specs.Fuse.{left_page, next_tear};
 
     /// The device of these words, page after page, and these wears of its pages. It is on, with no
@@ -88,7 +88,7 @@ impl<A: Allocator> MemFlash<A> {
         wear: Vec<u64, A>,
     ) -> Result<Self, CellFault>
         ensures device { IfOk result
-            (λ flash. memory_of flash ≡ unused (device_from shape cells.items wear.items)) }
+            (λ flash. memory_of flash ≡ unused_memory (device_from shape cells.items wear.items)) }
         ensures lengths { OnOk result (HasLengths shape cells.items wear.items) }
         ensures below_all_ones { OnOk result (All IsBelowAllOnes cells.items) }
         ensures fault { IfErr result (IsCellFault shape cells.items wear.items) }
@@ -114,7 +114,7 @@ impl<A: Allocator> MemFlash<A> {
     /// Sets the fuse: `after` further steps pass and the next one is cut. A new fuse replaces an
     /// old one.
     pub fn arm(&mut self, fuse: Fuse)
-        ensures { memory_of self.new ≡ armed fuse (memory_of self.old) }
+        ensures { memory_of self.new ≡ with_fuse fuse (memory_of self.old) }
     {
         self.fuse = Some(fuse);
     }
@@ -180,7 +180,7 @@ impl<A: Allocator> MemFlash<A> {
     fn wear_out(&mut self, page: usize)
         requires { page < page_count self.old.shape }
         ensures { memory_of self.new
-            ≡ with_device (worn page (device_of self.old)) (memory_of self.old) }
+            ≡ with_device (with_page_worn page (device_of self.old)) (memory_of self.old) }
     {
         self.wear[page] = self.wear[page].saturating_add(1);
     }
@@ -191,9 +191,9 @@ impl<A: Allocator> MemFlash<A> {
         ensures left { let left = left_page tear (page_at (device_of self.old) page) in
             memory_of self.new
             ≡ with_device (with_page page left (device_of self.old)) (memory_of self.old) }
-        ensures whole { let erased = replicate self.old.shape.words Word.Erased in
+        ensures whole { let erased_words = replicate self.old.shape.words Word.Erased in
             tear ≡ Tear.Done → memory_of self.new
-            ≡ with_device (with_page page erased (device_of self.old)) (memory_of self.old) }
+            ≡ with_device (with_page page erased_words (device_of self.old)) (memory_of self.old) }
         ensures partly { IsPartlyErased
             (page_at (device_of self.old) page) (page_at (device_of self.new) page) }
         ensures own_page { let left = page_at (device_of self.new) page in
@@ -228,7 +228,7 @@ fn first_all_ones(words: &[Word]) -> Option<usize>
 impl<A: Allocator> Flash for MemFlash<A> {
     ghost use Rattle.ee_flash.specs.Memory.{Passes, after_step, device_of, memory_of, with_device};
     ghost use Rattle.ee_flash.specs.Device.{IsOn, word_at};
-    ghost use Rattle.ee_flash.specs.Step.{Erase, IsCutIn, IsUntouched, Program, erased, programmed};
+    ghost use Rattle.ee_flash.specs.Step.{Erase, IsCutIn, IsUntouched, Program, with_page_erased, with_word_programmed};
     ghost use Rattle.ee_flash.specs.Formed.{IsFormed-pages_of};
     ghost use Rattle.std.proofs.Common.{sym, ◌∙◌};
 
@@ -263,7 +263,7 @@ impl<A: Allocator> Flash for MemFlash<A> {
         requires below_all_ones { value < all_ones }
         ensures on { OnOk result (IsOn (device_of self.old)) }
         ensures done { OnOk result
-            (device_of self.new ≡ programmed page at value (device_of self.old)) }
+            (device_of self.new ≡ with_word_programmed page at value (device_of self.old)) }
         ensures cut { OnErr result
             (IsCutIn (Program page at value) (device_of self.old) (device_of self.new)
             ⊎ IsUntouched (device_of self.old) (device_of self.new)) }
@@ -284,7 +284,7 @@ impl<A: Allocator> Flash for MemFlash<A> {
     fn erase(&mut self, page: usize) -> Result<(), Cut>
         requires { page < page_count (device_of self.old).size }
         ensures on { OnOk result (IsOn (device_of self.old)) }
-        ensures done { OnOk result (device_of self.new ≡ erased page (device_of self.old)) }
+        ensures done { OnOk result (device_of self.new ≡ with_page_erased page (device_of self.old)) }
         ensures cut { OnErr result
             (IsCutIn (Erase page) (device_of self.old) (device_of self.new)
             ⊎ IsUntouched (device_of self.old) (device_of self.new)) }

@@ -3,6 +3,11 @@ ghost use Rattle.ee_flash.specs.Size.{IsWithinLimits, size_of, slot_count};
 
 use std::marker::Model;
 
+/// The words of a page's header, below its slots.
+///
+/// Source: ours.
+pub const HEADER_WORDS: usize = 4;
+
 /// How large a device is: the pages of each of its two sets, 1 to 64, and the words of a page, 5 to
 /// 512.
 ///
@@ -61,6 +66,6 @@ impl Shape {
         ensures some { 1 ≤ result }
         ensures few { result ≤ 32512 }
     {
-        self.pages * (self.words - 4)
+        self.pages * (self.words - HEADER_WORDS)
     }
 }

@@ -11,13 +11,13 @@ use Rattle.ee_flash.specs.declared.memory.CellFault.{CellFault}
 use Rattle.ee_flash.specs.declared.memory.CellFault.TheVariants.{AllOnes, WrongLength}
 use Rattle.ee_flash.specs.declared.word.Word.TheVariants.{Erased}
 use Rattle.ee_flash.specs.Formed.{IsFormed-pages_of}
-use Rattle.ee_flash.specs.Memory.{Memory as Kept, unused}
+use Rattle.ee_flash.specs.Memory.{Memory as Kept, unused_memory}
 use Rattle.ee_flash.specs.Pages.{pages_of}
 use Rattle.ee_flash.proofs.Joined.{joined_pages}
 use Rattle.ee_flash.specs.declared.word.Word.{Word}
 use Rattle.ee_text.specs.Line.{line_of}
 use Rattle.ee_image.specs.Text.{image_text, page_lines, size_text, at_rest, ArePages}
-use Rattle.ee_image.specs.Fault.{BeginsWithSize, IsImageFault, IsTextFault}
+use Rattle.ee_image.specs.Fault.{BeginsWithSize, IsImageFault, IsImageTextFault}
 use Rattle.ee_image.specs.Reading.{ArePagesRead, IsPagesFault}
 use Rattle.ee_image.specs.declared.fault.ImageFault.{ImageFault}
 use Rattle.ee_image.specs.declared.fault.ImageFault.TheVariants.{TooLong, BadLine, BadShape, Memory}
@@ -100,24 +100,24 @@ device_read text rest size cells wears begins limits read =
     }
 
 -- the device in memory is that one
-pub kept_device : (text : List ℕ) (kept : Kept) (device : Device) → IsDevice text device → kept ≡ unused device → IsDevice text kept.device
+pub kept_device : (text : List ℕ) (kept : Kept) (device : Device) → IsDevice text device → kept ≡ unused_memory device → IsDevice text kept.device
 kept_device text kept device is same = subst (λ (memory : Kept). IsDevice text memory.device) (sym same) is
 
 pub same_device : (text : List ℕ) (device other : Device) → IsDevice text device → IsFormed other → text ≡ image_text other → device ≡ at_rest other
 same_device text device other is formed spelled = is.rests ∙ one_device_lem device other is.formed formed (sym is.text_is ∙ spelled)
 
-pub no_fault : (text : List ℕ) (device : Device) (fault : ImageFault) → IsDevice text device → IsTextFault text fault → ⊥
-no_fault text device fault is bad = texts_are_good_lem device fault is.formed (subst (λ l. IsTextFault l fault) is.text_is bad)
+pub no_fault : (text : List ℕ) (device : Device) (fault : ImageFault) → IsDevice text device → IsImageTextFault text fault → ⊥
+no_fault text device fault is bad = texts_are_good_lem device fault is.formed (subst (λ l. IsImageTextFault l fault) is.text_is bad)
 
 -- ---- a text that was refused
 
 -- a device's text is refused for want of memory alone
 pub only_memory : (text : List ℕ) (fault : ImageFault) (device : Device) → IsImageFault text fault → IsFormed device → text ≡ image_text device → fault ≡ Memory
-only_memory text fault device (inl bad) formed spelled = absurd (texts_are_good_lem device fault formed (subst (λ l. IsTextFault l fault) spelled bad))
+only_memory text fault device (inl bad) formed spelled = absurd (texts_are_good_lem device fault formed (subst (λ l. IsImageTextFault l fault) spelled bad))
 only_memory text fault device (inr lack) formed spelled = lack.1
 
 -- and each fault is named
-pub is_named : (text : List ℕ) (given fault : ImageFault) → IsImageFault text given → IsTextFault text fault → (given ≡ fault) ⊎ (given ≡ Memory)
+pub is_named : (text : List ℕ) (given fault : ImageFault) → IsImageFault text given → IsImageTextFault text fault → (given ≡ fault) ⊎ (given ≡ Memory)
 is_named text given fault (inl bad) other = inl (one_fault_lem text given fault bad other)
 is_named text given fault (inr lack) other = inr lack.1
 

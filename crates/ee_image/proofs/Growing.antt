@@ -3,15 +3,14 @@ use Rattle.std.proofs.Common.{◌≡◌, ℕ, zero, suc, ◌+◌, ◌<◌, List,
 use Rattle.std.specs.Fmt.{decimal}
 use Rattle.std.proofs.lemmas.List.{append-nil, map-append, take_more}
 use Rattle.std.proofs.lemmas.List.Elements.{All-get_or}
-use Rattle.ee_text.specs.Field.{joined}
-use Rattle.ee_text.specs.Line.{line_of}
+use Rattle.ee_text.specs.Field.{joined_fields}
+use Rattle.ee_text.specs.Line.{line_of, IsLonger}
 use Rattle.ee_text.proofs.Joining.{joined-append}
 use Rattle.ee_flash.specs.Size.{page_count}
 use Rattle.ee_flash.specs.Device.{Device, IsFormed, page_at, wear_at, word_at}
 use Rattle.ee_flash.specs.declared.word.Word.{Word}
 use Rattle.ee_flash.specs.declared.word.Word.TheVariants.{Erased}
 use Rattle.ee_image.specs.Text.{word_text, page_text, page_lines, size_text}
-use Rattle.ee_image.specs.Reading.{IsLonger}
 
 -- what holds anyway
 pub on_err_anyway : {T E : Type 0} (r : Result T E) (P : Type 0) → P → OnErr r P
@@ -28,7 +27,7 @@ longer_still old now new written so_far more = (written ++ more.0, more.1 ∙ ap
 -- one word more
 page_text-push : (wear : ℕ) (words : List Word) (word : Word) → page_text wear (words ++ word ∷ []) ≡ page_text wear words ++ 32 ∷ word_text word
 page_text-push wear words word =
-    ap (λ l. joined (decimal wear ∷ l)) (map-append word_text words (word ∷ [])) ∙ joined-append (decimal wear) (map word_text words) (word_text word) []
+    ap (λ l. joined_fields (decimal wear ∷ l)) (map-append word_text words (word ∷ [])) ∙ joined-append (decimal wear) (map word_text words) (word_text word) []
 
 pub length-page_at : (device : Device) (page : ℕ) → IsFormed device → page < page_count device.size → length (page_at device page) ≡ device.size.words
 length-page_at device page formed in_range =

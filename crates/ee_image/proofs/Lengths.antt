@@ -1,7 +1,7 @@
 -- How long the text of a device is at most.
 use Rattle.std.proofs.Common.{ℕ, ◌+◌, ◌*◌, ◌≤◌, List, [], ◌∷◌, ◌++◌, length, map, arith, length-append}
 use Rattle.std.specs.Fmt.{decimal}
-use Rattle.ee_text.specs.Field.{joined}
+use Rattle.ee_text.specs.Field.{joined_fields}
 use Rattle.ee_text.specs.Line.{line_of}
 use Rattle.ee_text.proofs.NumberText.{length-decimal-u64}
 use Rattle.ee_flash.specs.Size.{Size}
@@ -15,10 +15,10 @@ length-word_text Erased = omega arith
 length-word_text Torn = omega arith
 length-word_text (Held value) = omega (arith, length-digits value)
 
-length-fields : (first : List ℕ) (words : List Word) → length (joined (first ∷ map word_text words)) ≤ length first + 17 * length words
+length-fields : (first : List ℕ) (words : List Word) → length (joined_fields (first ∷ map word_text words)) ≤ length first + 17 * length words
 length-fields first [] = omega arith
 length-fields first (word ∷ words) =
-    omega (arith, length-append first (32 ∷ joined (word_text word ∷ map word_text words)), length-fields (word_text word) words, length-word_text word)
+    omega (arith, length-append first (32 ∷ joined_fields (word_text word ∷ map word_text words)), length-fields (word_text word) words, length-word_text word)
 
 length-page : (words wear : ℕ) (page : List Word) → IsPage words wear page → words ≤ 512 → length (line_of (page_text wear page)) ≤ 8725
 length-page words wear page proper few =

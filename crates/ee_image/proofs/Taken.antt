@@ -3,7 +3,7 @@ use Rattle.std.proofs.Common.{◌≡◌, ℕ, ◌+◌, ◌<◌, List, [], ◌∷
 use Rattle.std.specs.Result.{IsErrAnd}
 use Rattle.std.specs.Fmt.{decimal}
 use Rattle.std.specs.List.{All, AllByRecursion, flat_map}
-use Rattle.ee_text.specs.Field.{IsField, joined}
+use Rattle.ee_text.specs.Field.{IsField, joined_fields}
 use Rattle.ee_text.specs.Line.{IsLine, line_of}
 use Rattle.std.proofs.lemmas.List.{append-nil, map-append}
 use Rattle.std.proofs.lemmas.List.Elements.{All-head, All-nil, All-push, All-tail}
@@ -82,7 +82,7 @@ error_passed_on (Err given) fault O P e h = subst P (sym e) h
 -- ---- the line of a page
 
 -- what is to be shown of a line that is no page's
-pub other_line : (words : ℕ) (line : List ℕ) (row : List (List ℕ)) → ((first : List ℕ) (others : List (List ℕ)) → AllByRecursion IsField (first ∷ others) → line ≡ joined (first ∷ others) → row ≡ first ∷ others)
+pub other_line : (words : ℕ) (line : List ℕ) (row : List (List ℕ)) → ((first : List ℕ) (others : List (List ℕ)) → AllByRecursion IsField (first ∷ others) → line ≡ joined_fields (first ∷ others) → row ≡ first ∷ others)
     → ((wear : ℕ) (page : List Word) → IsPage words wear page → row ≡ decimal wear ∷ map word_text page → ⊥) → IsOtherLine words line
 other_line words line row only none wear page proper e = none wear page proper (only (decimal wear) (map word_text page) (page_fields words wear page proper) e)
 
@@ -92,7 +92,7 @@ BehindWear words row rest = (wear : ℕ) (page : List Word) → IsPage words wea
 
 -- what was wrong with the words is wrong with the line
 pub words_wrong : (words : ℕ) (line : List ℕ) (row rest : List (List ℕ)) (fault : PageFault)
-    → ((first : List ℕ) (others : List (List ℕ)) → AllByRecursion IsField (first ∷ others) → line ≡ joined (first ∷ others) → row ≡ first ∷ others)
+    → ((first : List ℕ) (others : List (List ℕ)) → AllByRecursion IsField (first ∷ others) → line ≡ joined_fields (first ∷ others) → row ≡ first ∷ others)
     → BehindWear words row rest → IsWordsFault words rest fault → IsLineFault words line fault
 words_wrong words line row rest Bad only behind none =
     other_line words line row only (λ wear page proper e.
@@ -101,7 +101,7 @@ words_wrong words line row rest NoMemory only behind none = tt
 
 -- a field behind the words
 pub too_many_words : (words : ℕ) (line : List ℕ) (row rest after : List (List ℕ)) (old new : List Word)
-    → ((first : List ℕ) (others : List (List ℕ)) → AllByRecursion IsField (first ∷ others) → line ≡ joined (first ∷ others) → row ≡ first ∷ others)
+    → ((first : List ℕ) (others : List (List ℕ)) → AllByRecursion IsField (first ∷ others) → line ≡ joined_fields (first ∷ others) → row ≡ first ∷ others)
     → BehindWear words row rest → AreWordsRead words rest after old new → (after ≡ [] → ⊥) → IsOtherLine words line
 too_many_words words line row rest after old new only behind read more =
     other_line words line row only (λ wear page proper e.

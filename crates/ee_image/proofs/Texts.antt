@@ -8,7 +8,7 @@ use Rattle.ee_flash.specs.Size.{Size, IsWithinLimits, page_count}
 use Rattle.ee_flash.specs.Device.{Device, IsBelowAllOnes, IsFormed, all_ones}
 use Rattle.ee_flash.specs.declared.word.Word.{Word}
 use Rattle.ee_image.specs.Text.{image_text, page_lines, at_rest, ArePages, IsNumbered}
-use Rattle.ee_image.specs.Fault.{BeginsWithSize, NoPage, IsBadPage, IsFirstBadLine, HasBadShape, IsTextFault}
+use Rattle.ee_image.specs.Fault.{BeginsWithSize, NoPage, IsBadPage, IsFirstBadImageLine, HasBadShape, IsImageTextFault}
 use Rattle.ee_image.specs.declared.fault.ImageFault.TheVariants.{TooLong, BadLine, BadShape, Memory}
 use Rattle.ee_image.proofs.Fronts.{GoesOn, compare_fronts}
 use Rattle.ee_image.proofs.Lengths.{length-image}
@@ -96,7 +96,7 @@ bad_page_at size other rest more n p q bad = subst (λ s. IsBadPage s more n) p 
 
 -- ---- the laws
 
-good_line : (device : Device) (n : ℕ) → IsFormed device → IsFirstBadLine (image_text device) n → ⊥
+good_line : (device : Device) (n : ℕ) → IsFormed device → IsFirstBadImageLine (image_text device) n → ⊥
 good_line device n formed (inl none) = none.0 device.size (page_lines device.image device.wear) (begins device formed)
 good_line device n formed (inr later) =
     let same = one_size (image_text device) later.size device.size later.rest (page_lines device.image device.wear) later.begins (begins device formed) in
@@ -108,13 +108,13 @@ good_shape device formed bad =
     let same = one_size (image_text device) bad.size device.size bad.rest (page_lines device.image device.wear) bad.begins (begins device formed) in
     bad.outside (subst IsWithinLimits (sym same.0) formed.within_limits)
 
-pub texts_are_good_lem : (device : Device) (fault : ImageFault) → IsFormed device → IsTextFault (image_text device) fault → ⊥
+pub texts_are_good_lem : (device : Device) (fault : ImageFault) → IsFormed device → IsImageTextFault (image_text device) fault → ⊥
 texts_are_good_lem device TooLong formed long = omega (arith, short device formed)
 texts_are_good_lem device (BadLine n) formed bad = good_line device n formed bad.1
 texts_are_good_lem device BadShape formed bad = good_shape device formed bad.1
 texts_are_good_lem device Memory formed wrong = wrong
 
-one_line : (text : List ℕ) (m n : ℕ) → IsFirstBadLine text m → IsFirstBadLine text n → m ≡ n
+one_line : (text : List ℕ) (m n : ℕ) → IsFirstBadImageLine text m → IsFirstBadImageLine text n → m ≡ n
 one_line text m n (inl none) (inl none_either) = none.1 ∙ sym none_either.1
 one_line text m n (inl none) (inr later) = absurd (none.0 later.size later.rest later.begins)
 one_line text m n (inr later) (inl none) = absurd (none.0 later.size later.rest later.begins)
@@ -122,13 +122,13 @@ one_line text m n (inr later) (inr other) =
     let same = one_size text later.size other.size later.rest other.rest later.begins other.begins in
     one_bad_page other.size other.rest m n (bad_page_at later.size other.size later.rest other.rest m same.0 same.1 later.bad) other.bad
 
-line_or_shape : (text : List ℕ) (n : ℕ) → IsFirstBadLine text n → HasBadShape text → ⊥
+line_or_shape : (text : List ℕ) (n : ℕ) → IsFirstBadImageLine text n → HasBadShape text → ⊥
 line_or_shape text n (inl none) bad = none.0 bad.size bad.rest bad.begins
 line_or_shape text n (inr later) bad =
     let same = one_size text bad.size later.size bad.rest later.rest bad.begins later.begins in
     bad.outside (subst IsWithinLimits (sym same.0) later.within_limits)
 
-pub one_fault_lem : (text : List ℕ) (fault other : ImageFault) → IsTextFault text fault → IsTextFault text other → fault ≡ other
+pub one_fault_lem : (text : List ℕ) (fault other : ImageFault) → IsImageTextFault text fault → IsImageTextFault text other → fault ≡ other
 one_fault_lem text TooLong TooLong bad other = refl
 one_fault_lem text TooLong (BadLine n) bad other = absurd (let h = other.0 in omega arith)
 one_fault_lem text TooLong BadShape bad other = absurd (let h = other.0 in omega arith)

@@ -4,7 +4,7 @@ use Rattle.std.specs.List.{All, flat_map}
 use Rattle.std.proofs.lemmas.Bool.{cases_lt}
 use Rattle.std.proofs.lemmas.List.{append-nil}
 use Rattle.std.proofs.lemmas.List.Elements.{All-cons, All-head, All-nil, All-tail}
-use Rattle.ee_text.specs.Field.{joined, space}
+use Rattle.ee_text.specs.Field.{joined_fields, space}
 use Rattle.ee_text.specs.Line.{line_feed, line_of}
 use Rattle.ee_text.proofs.Deciding.{begins_and, begins_so, some_below}
 use Rattle.ee_flash.specs.Device.{Device, IsBelowAllOnes, IsFormed, all_ones}
@@ -13,7 +13,7 @@ use Rattle.ee_flash.specs.Size.{Size, IsWithinLimits, page_count, size_of}
 use Rattle.ee_flash.specs.declared.word.Word.{Word}
 use Rattle.ee_flash.specs.declared.word.Word.TheVariants.{Erased, Held, Torn}
 use Rattle.ee_image.specs.Text.{ArePages, IsPage, image_text, page_lines, page_text, size_text, word_text}
-use Rattle.ee_image.specs.Fault.{BeginsWithSize, IsBadPage, IsTextFault, NoPage, NoSize, longest}
+use Rattle.ee_image.specs.Fault.{BeginsWithSize, IsBadPage, IsImageTextFault, NoPage, NoSize, longest}
 use Rattle.ee_image.specs.Reading.{ArePagesRead}
 use Rattle.ee_image.specs.declared.fault.ImageFault.{ImageFault}
 use Rattle.ee_image.specs.declared.fault.ImageFault.TheVariants.{TooLong, BadLine, BadShape}
@@ -27,7 +27,7 @@ abbrev spaced : List Word → List ℕ
 spaced [] = []
 spaced (word ∷ words) = space ∷ (word_text word ++ spaced words)
 
-joined-spaced : (field : List ℕ) (words : List Word) → joined (field ∷ map word_text words) ≡ field ++ spaced words
+joined-spaced : (field : List ℕ) (words : List Word) → joined_fields (field ∷ map word_text words) ≡ field ++ spaced words
 joined-spaced field [] = sym (append-nil field)
 joined-spaced field (word ∷ words) = ap (λ l. field ++ space ∷ l) (joined-spaced (word_text word) words)
 
@@ -267,7 +267,7 @@ told_limits size =
 -- ---- the law
 
 abbrev TextOrFault : List ℕ → Type 0
-TextOrFault text = ((device : Device) × IsFormed device × (text ≡ image_text device)) ⊎ ((fault : ImageFault) × IsTextFault text fault)
+TextOrFault text = ((device : Device) × IsFormed device × (text ≡ image_text device)) ⊎ ((fault : ImageFault) × IsImageTextFault text fault)
 
 behind_size : (text : List ℕ) (size : Size) (rest : List ℕ) → length text ≤ longest → BeginsWithSize text size rest → IsWithinLimits size → TextOrFault text
 behind_size text size rest short begins limits =
@@ -278,7 +278,7 @@ behind_size text size rest short begins limits =
       | inr bad ↦ inr (BadLine bad.0, (short, inr record { size = size; rest = rest; begins = begins; within_limits = limits; bad = bad.1 }))
     ]
 
-pub each_text_is_judged_lem : (text : List ℕ) → ((device : Device) × IsFormed device × (text ≡ image_text device)) ⊎ ((fault : ImageFault) × IsTextFault text fault)
+pub each_text_is_judged_lem : (text : List ℕ) → ((device : Device) × IsFormed device × (text ≡ image_text device)) ⊎ ((fault : ImageFault) × IsImageTextFault text fault)
 each_text_is_judged_lem text =
     elim (cases_lt longest (length text)) [
       | inl long ↦ inr (TooLong, long)

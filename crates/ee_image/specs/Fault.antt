@@ -44,8 +44,8 @@ pub record IsBadLater (text : List ℕ) (n : ℕ) : Type 0 where
   pub bad : IsBadPage size rest n
 
 -- line n is the first bad one
-abbrev pub IsFirstBadLine : List ℕ → ℕ → Type 0
-IsFirstBadLine text n = (NoSize text × (n ≡ 1)) ⊎ IsBadLater text n
+abbrev pub IsFirstBadImageLine : List ℕ → ℕ → Type 0
+IsFirstBadImageLine text n = (NoSize text × (n ≡ 1)) ⊎ IsBadLater text n
 
 -- the first line is good, and says a size outside the limits
 pub record HasBadShape (text : List ℕ) : Type 0 where
@@ -55,12 +55,12 @@ pub record HasBadShape (text : List ℕ) : Type 0 where
   pub outside : ¬ IsWithinLimits size
 
 -- why a text is no device's, the first fault that applies
-abbrev pub IsTextFault : List ℕ → ImageFault → Type 0
-IsTextFault text TooLong = longest < length text
-IsTextFault text (BadLine n) = (length text ≤ longest) × IsFirstBadLine text n
-IsTextFault text BadShape = (length text ≤ longest) × HasBadShape text
-IsTextFault text Memory = ⊥
+abbrev pub IsImageTextFault : List ℕ → ImageFault → Type 0
+IsImageTextFault text TooLong = longest < length text
+IsImageTextFault text (BadLine n) = (length text ≤ longest) × IsFirstBadImageLine text n
+IsImageTextFault text BadShape = (length text ≤ longest) × HasBadShape text
+IsImageTextFault text Memory = ⊥
 
 -- why a text isn't read: it has that fault, or memory ran out while it was read
 abbrev pub IsImageFault : List ℕ → ImageFault → Type 0
-IsImageFault text fault = IsTextFault text fault ⊎ ((length text ≤ longest) × (fault ≡ Memory))
+IsImageFault text fault = IsImageTextFault text fault ⊎ ((length text ≤ longest) × (fault ≡ Memory))

@@ -68,7 +68,3 @@ IsPagesFault size text TooLong = ⊥
 IsPagesFault size text (BadLine n) = IsBadPage size text n
 IsPagesFault size text BadShape = ⊥
 IsPagesFault size text Memory = Unit {0}
-
--- a text that goes on as the old one, and perhaps further
-abbrev pub IsLonger : List ℕ → List ℕ → Type 0
-IsLonger old new = (more : List ℕ) × (new ≡ old ++ more)

@@ -3,7 +3,7 @@ use Rattle.std.specs.Prelude.{◌≡◌, ◌≤◌, ◌^◌, ◌<◌, ℕ, Some,
 use Rattle.std.specs.Int.{to_be_bytes, w64}
 use Rattle.std.specs.List.{All}
 use Rattle.hex.specs.Hex.{encode_lower}
-use Rattle.ee_text.specs.Field.{joined}
+use Rattle.ee_text.specs.Field.{joined_fields}
 use Rattle.ee_text.specs.Line.{line_of}
 use Rattle.ee_flash.specs.Size.{Size}
 use Rattle.ee_flash.specs.Device.{Device, IsBelowAllOnes, all_ones}
@@ -22,7 +22,7 @@ word_text (Held value) = digits value
 
 -- what a page's line says: its wear, and its words
 abbrev pub page_text : ℕ → List Word → List ℕ
-page_text wear page = joined (decimal wear ∷ map word_text page)
+page_text wear page = joined_fields (decimal wear ∷ map word_text page)
 
 -- the lines of pages, each with its wear
 abbrev pub page_lines : List (List Word) → List ℕ → List ℕ
@@ -32,7 +32,7 @@ page_lines (page ∷ pages) (wear ∷ wears) = line_of (page_text wear page) ++ 
 
 -- what the first line says: the pages of each set, and the words of a page
 abbrev pub size_text : Size → List ℕ
-size_text size = joined (codes "ee" ∷ decimal size.pages ∷ decimal size.words ∷ [])
+size_text size = joined_fields (codes "ee" ∷ decimal size.pages ∷ decimal size.words ∷ [])
 
 -- the text of a device
 abbrev pub image_text : Device → List ℕ

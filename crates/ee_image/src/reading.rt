@@ -3,9 +3,9 @@ ghost use Rattle.std.specs.Prelude.{◌≡◌, ◌⊎◌, ℕ, ◌<◌, ◌^◌,
 ghost use Rattle.ee_text.specs.Fields.{fields_left};
 ghost use Rattle.ee_flash.specs.Size.{Size, IsWithinLimits, page_count, size_of};
 ghost use Rattle.ee_flash.specs.Device.{Device, IsFormed};
-ghost use Rattle.ee_flash.specs.Memory.{device_of, memory_of, unused};
+ghost use Rattle.ee_flash.specs.Memory.{device_of, memory_of, unused_memory};
 ghost use Rattle.ee_image.specs.Text.{size_text, image_text, at_rest, IsNumbered};
-ghost use Rattle.ee_image.specs.Fault.{BeginsWithSize, NoSize, IsImageFault, IsTextFault};
+ghost use Rattle.ee_image.specs.Fault.{BeginsWithSize, NoSize, IsImageFault, IsImageTextFault};
 ghost use Rattle.ee_image.specs.Reading.{AreWordsRead, IsWordsFault, IsPageRead, IsLineFault, IsNextPage, IsPageFault, ArePagesRead, IsPagesFault};
 
 use crate::ImageFault;
@@ -29,14 +29,14 @@ const LONGEST: usize = 4_194_304;
 /// Source: ours.
 pub fn read_image<A: Allocator + Copy>(alloc: A, bytes: &[u8]) -> Result<MemFlash<A>, ImageFault>
     ensures found { IfOk result (λ flash. bytes.now ≡ image_text (device_of flash)) }
-    ensures at_rest { IfOk result (λ flash. memory_of flash ≡ unused (at_rest (device_of flash))) }
+    ensures at_rest { IfOk result (λ flash. memory_of flash ≡ unused_memory (at_rest (device_of flash))) }
     ensures fault { IfErr result (IsImageFault bytes.now) }
     // Every device's text is read, and every fault is named.
     ensures only { (device : Device) → IsFormed device → bytes.now ≡ image_text device
         → MatchResult result
         (λ flash. device_of flash ≡ at_rest device)
         (λ fault. fault ≡ ImageFault.Memory) }
-    ensures names { (fault : ImageFault) → IsTextFault bytes.now fault
+    ensures names { (fault : ImageFault) → IsImageTextFault bytes.now fault
         → MatchResult result (λ _. ⊥) (λ given. (given ≡ fault) ⊎ (given ≡ ImageFault.Memory)) }
 {
     if bytes.len() > LONGEST {

@@ -1,10 +1,9 @@
 //! Writing the text of an image.
 ghost use Rattle.std.specs.Prelude.{◌≡◌, ◌++◌, ◌<◌, OnOk, OnErr};
-ghost use Rattle.ee_text.specs.Line.{line_of};
+ghost use Rattle.ee_text.specs.Line.{line_of, IsLonger};
 ghost use Rattle.ee_flash.specs.Size.{page_count};
 ghost use Rattle.ee_flash.specs.Device.{page_at, wear_at};
 ghost use Rattle.ee_image.specs.Text.{size_text, page_text, image_text};
-ghost use Rattle.ee_image.specs.Reading.{IsLonger};
 
 use crate::word::push_word;
 use ee_flash::{Flash, Shape};

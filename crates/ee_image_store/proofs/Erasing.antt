@@ -3,11 +3,11 @@ use Rattle.std.proofs.Common.{◌≡◌, ◌∙◌, ◌+◌, ◌-◌, ◌<◌, �
 use Rattle.std.specs.List.{All}
 use Rattle.ee_flash.specs.Device.{Device}
 use Rattle.ee_pages.specs.Meaning.{Change}
-use Rattle.ee_store.specs.Calls.{ErasesOne}
-use Rattle.ee_store.specs.Changes.{Appends, Moves}
-use Rattle.ee_store.specs.State.{State, WearRises, Wears, pending_pages, state_of, worn_by}
-use Rattle.ee_store.proofs.PendingPages.{length-pending_pages}
-use Rattle.ee_store.proofs.Wears.{no_wear, wear_adds, wears_rise}
+use Rattle.ee_core.specs.Calls.{ErasesOne}
+use Rattle.ee_core.specs.Changes.{Appends, Moves}
+use Rattle.ee_core.specs.State.{State, WearRises, Wears, pending_pages, state_of, worn_by}
+use Rattle.ee_core.proofs.PendingPages.{length-pending_pages}
+use Rattle.ee_core.proofs.Wears.{no_wear, wear_adds, wears_rise}
 use Rattle.ee_image_store.specs.Erases.{ErasesRise}
 
 pub by_wear : (old new : Device) → state_of new ≡ state_of old → WearRises 0 old new → ErasesRise 0 old new

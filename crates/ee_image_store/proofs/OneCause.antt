@@ -9,12 +9,12 @@ use Rattle.ee_pages.specs.declared.find.ScanFault.TheVariants.{Unformatted, NoLi
 use Rattle.ee_pages.specs.declared.side.Side.{Side}
 use Rattle.ee_pages.specs.declared.side.Side.TheVariants.{First, Second}
 use Rattle.ee_image.specs.Text.{at_rest}
-use Rattle.ee_image.specs.Fault.{IsTextFault}
+use Rattle.ee_image.specs.Fault.{IsImageTextFault}
 use Rattle.ee_image.specs.declared.fault.ImageFault.{ImageFault}
 use Rattle.ee_image.proofs.Texts.{one_device_lem, one_fault_lem, texts_are_good_lem}
-use Rattle.ee_words.specs.declared.replay_fault.ReplayFault.{ReplayFault}
-use Rattle.ee_words.specs.declared.replay_fault.ReplayFault.TheVariants.{Image, Open, Script, Memory, Read}
-use Rattle.ee_image_store.specs.Opening.{IsOpenFault, IsStoreText, Spells}
+use Rattle.ee_faults.specs.declared.replay_fault.ReplayFault.{ReplayFault}
+use Rattle.ee_faults.specs.declared.replay_fault.ReplayFault.TheVariants.{Image, Open, Script, Memory, Read}
+use Rattle.ee_image_store.specs.Opening.{IsOpenFault, IsStoreText, SpellsDevice}
 
 same_set : (side : Side) (device : Device) → set_of side (at_rest device) ≡ set_of side device
 same_set First device = refl
@@ -39,13 +39,13 @@ unrested device (Foreign page at) h =
     (h.0, (found.0, found.1, found.2, found.3, subst (λ pages. IsFirstForeign device.size found.1 pages place at) (same_set found.0 device) found.4))
 
 -- two devices with one text have the same faults
-moved_fault : (text : List ℕ) (device other : Device) (fault : ScanFault) → Spells text device → Spells text other → IsScanFault device fault → IsScanFault other fault
+moved_fault : (text : List ℕ) (device other : Device) (fault : ScanFault) → SpellsDevice text device → SpellsDevice text other → IsScanFault device fault → IsScanFault other fault
 moved_fault text device other fault spelled again h =
     let same : at_rest device ≡ at_rest other = one_device_lem device other spelled.formed again.formed (sym spelled.text_is ∙ again.text_is) in
     unrested other fault (subst (λ d. IsScanFault d fault) same (rested device fault h))
 
-pub is_no_text : (text : List ℕ) (device : Device) (fault : ImageFault) → Spells text device → IsTextFault text fault → ⊥
-is_no_text text device fault spelled bad = texts_are_good_lem device fault spelled.formed (subst (λ t. IsTextFault t fault) spelled.text_is bad)
+pub is_no_text : (text : List ℕ) (device : Device) (fault : ImageFault) → SpellsDevice text device → IsImageTextFault text fault → ⊥
+is_no_text text device fault spelled bad = texts_are_good_lem device fault spelled.formed (subst (λ t. IsImageTextFault t fault) spelled.text_is bad)
 
 -- a text from which a store is opened has no cause against it
 pub store_is_good : (text : List ℕ) (device : Device) (cause : ReplayFault) → IsStoreText text device → cause ≢ Memory → IsOpenFault text cause → ⊥

@@ -9,14 +9,14 @@ use Rattle.ee_flash.specs.declared.memory.MemFlash.{MemFlash}
 use Rattle.ee_flash.specs.declared.word.Word.TheVariants.{Erased}
 use Rattle.ee_pages.specs.Page.{is_written}
 use Rattle.ee_pages.specs.Sets.{pending_of}
-use Rattle.ee_store.proofs.NotBlank.{length-not_blank}
-use Rattle.ee_store.proofs.Wears.{no_wear, wears_rise}
-use Rattle.ee_store.specs.Openings.{IsFormatted, Opens}
-use Rattle.ee_store.specs.State.{not_blank_pages}
+use Rattle.ee_core.proofs.NotBlank.{length-not_blank}
+use Rattle.ee_core.proofs.Wears.{no_wear, wears_rise}
+use Rattle.ee_core.specs.Openings.{IsFormatted, Opens}
+use Rattle.ee_core.specs.State.{not_blank_pages}
 use Rattle.ee_image.specs.Text.{at_rest, image_text}
-use Rattle.ee_words.specs.declared.replay_fault.ReplayFault.{ReplayFault}
-use Rattle.ee_words.specs.declared.replay_fault.ReplayFault.TheVariants as replay
-use Rattle.ee_image_store.specs.Opening.{IsNewStore, IsOpenFault, IsOpened, IsStillFault, Spells, StaysOn}
+use Rattle.ee_faults.specs.declared.replay_fault.ReplayFault.{ReplayFault}
+use Rattle.ee_faults.specs.declared.replay_fault.ReplayFault.TheVariants as replay
+use Rattle.ee_image_store.specs.Opening.{IsNewStore, IsOpenFault, IsOpened, IsStillFault, SpellsDevice, StaysOn}
 use Rattle.ee_image_store.proofs.Erasing.{by_wear, unworn}
 
 -- a device in memory is formed
@@ -45,7 +45,7 @@ is_opened text old new rest spelled opens =
     }
 
 -- why it is not opened, as a cause of its text
-pub still_fault : (text : List ℕ) (device : Device) (fault : ReplayFault) → Spells text device → IsStillFault device fault → IsOpenFault text fault
+pub still_fault : (text : List ℕ) (device : Device) (fault : ReplayFault) → SpellsDevice text device → IsStillFault device fault → IsOpenFault text fault
 still_fault text device (replay.Image fault) spelled still = absurd still
 still_fault text device (replay.Open fault) spelled still = (device, spelled, still)
 still_fault text device (replay.Script n) spelled still = absurd still

@@ -3,3 +3,4 @@ pub mod Erases
 pub mod Steps
 pub mod Trace
 pub mod Opening
+pub mod FileFaults

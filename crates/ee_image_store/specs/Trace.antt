@@ -1,8 +1,8 @@
 -- The changes that a script makes, as a trace, and what is shown of the moves among them: none of them could be spared.
 use Rattle.std.specs.Prelude.{◌≡◌, ◌≢◌, ◌⊎◌, ◌+◌, ◌<◌, ◌≤◌, ℕ, List, [], ◌∷◌, None, length, map}
 use Rattle.ee_pages.specs.Meaning as meaning
-use Rattle.ee_store.specs.Changes.{greatest_generation}
-use Rattle.ee_store.specs.State.{State}
+use Rattle.ee_core.specs.Changes.{greatest_generation}
+use Rattle.ee_core.specs.State.{State}
 use Rattle.ee_check.specs.declared.change.Change.{Change}
 use Rattle.ee_check.specs.declared.change.Change.TheVariants as change
 use Rattle.ee_check.specs.Certificate.{Claim, IsCertificate, IsTight}
@@ -21,11 +21,11 @@ trace_of (Forget address ∷ commands) = change.Forget address ∷ trace_of comm
 trace_of (command ∷ commands) = trace_of commands
 
 -- the commands that changed the map: those answered `ok` or `moved`
-abbrev pub accepted : List Command → List Answer → List Command
-accepted (command ∷ commands) (Appended ∷ answers) = command ∷ accepted commands answers
-accepted (command ∷ commands) (Moved ∷ answers) = command ∷ accepted commands answers
-accepted (command ∷ commands) (answer ∷ answers) = accepted commands answers
-accepted commands answers = []
+abbrev pub accepted_commands : List Command → List Answer → List Command
+accepted_commands (command ∷ commands) (Appended ∷ answers) = command ∷ accepted_commands commands answers
+accepted_commands (command ∷ commands) (Moved ∷ answers) = command ∷ accepted_commands commands answers
+accepted_commands (command ∷ commands) (answer ∷ answers) = accepted_commands commands answers
+accepted_commands commands answers = []
 
 -- which of these were answered `moved`, counted from 1, where n come before them
 abbrev pub moved_at : ℕ → List Answer → List ℕ
@@ -48,13 +48,13 @@ map_changes (command ∷ commands) = map_changes commands
 -- each forgetting is of an address that has a value: in this map of values, changed by what stands before it
 abbrev pub ForgetsWhatIsHeld : meaning.Map → List Command → Type 0
 ForgetsWhatIsHeld values [] = Unit {0}
-ForgetsWhatIsHeld values (Write address value ∷ commands) = ForgetsWhatIsHeld (meaning.changed (meaning.Put address value) values) commands
-ForgetsWhatIsHeld values (Forget address ∷ commands) = (values address ≢ None) × ForgetsWhatIsHeld (meaning.changed (meaning.Forget address) values) commands
+ForgetsWhatIsHeld values (Write address value ∷ commands) = ForgetsWhatIsHeld (meaning.map_after (meaning.Put address value) values) commands
+ForgetsWhatIsHeld values (Forget address ∷ commands) = (values address ≢ None) × ForgetsWhatIsHeld (meaning.map_after (meaning.Forget address) values) commands
 ForgetsWhatIsHeld values (command ∷ commands) = ForgetsWhatIsHeld values commands
 
 -- Each change of the script is made: never are more addresses live than there are slots, each forgetting is of an address
 -- that has a value, and a generation is left for each change, were it to move.
-pub record Fits (start : Situation) (state : State) (commands : List Command) : Type 0 where
+pub record TraceFits (start : Situation) (state : State) (commands : List Command) : Type 0 where
   pub keeps : KeepsWithin start.slots start.live (trace_of commands)
   pub held : ForgetsWhatIsHeld state.map commands
   pub generations : state.generation + length (trace_of commands) ≤ greatest_generation

@@ -1,15 +1,17 @@
 //! Stores of images, and images of devices, as text.
 ghost use Rattle.std.specs.Prelude.{◌≡◌, IfOk, IfErr};
 ghost use Rattle.ee_flash.specs.Memory.{device_of};
-ghost use Rattle.ee_store.specs.Finished.{IsStore};
+ghost use Rattle.ee_core.specs.Finished.{IsStore};
 ghost use Rattle.ee_flash.specs.Device.{Device, IsOn};
-ghost use Rattle.ee_store.specs.Openings.{IndexedOpenFails, IsFormatted, OpenFails, Opens};
-ghost use Rattle.ee_image_store.specs.Opening.{IsNewStore, IsOpenFault, IsOpened, IsStillFault, Spells, StaysOn};
+ghost use Rattle.ee_core.specs.Openings.{IsFormatted, OpenFails, Opens};
+ghost use Rattle.ee_index.specs.Index.{IndexedOpenFails};
+ghost use Rattle.ee_image_store.specs.Opening.{IsNewStore, IsOpenFault, IsOpened, IsStillFault, SpellsDevice, StaysOn};
 
+use ee_core::{OpenFault, Store, Variables, format, open};
+use ee_faults::ReplayFault;
 use ee_flash::{Flash, MemFlash, Shape};
 use ee_image::{read_image, write_image};
-use ee_store::{IndexedFault, IndexedStore, OpenFault, Store, Variables, format, open};
-use ee_words::ReplayFault;
+use ee_index::{IndexedFault, IndexedStore};
 use std::alloc::{AllocError, Allocator};
 
 /// A store that the commands open on a device, and close.
@@ -143,7 +145,7 @@ fn format_still<F: Flash + Drop>(flash: F) -> Store<F>
 
 /// The text of a device.
 pub fn text_of<A: Allocator, F: Flash>(alloc: A, flash: &F) -> Result<Vec<u8, A>, AllocError>
-    ensures { IfOk result (λ text. Spells text.items (F.device flash.now)) }
+    ensures { IfOk result (λ text. SpellsDevice text.items (F.device flash.now)) }
 {
     let mut text = Vec::new(alloc);
     write_image(flash, &mut text)?;

@@ -15,16 +15,17 @@ use Rattle.std.proofs.lemmas.List.Elements.{All-append, All-cons, All-get_or, Al
 use Rattle.ee_flash.specs.Device.{Device, IsBelowAllOnes, IsFormed, all_ones, page_at, word_at}
 use Rattle.ee_flash.specs.Laws.{CanTake, all_completed}
 use Rattle.ee_flash.specs.Size.{Size, page_count}
-use Rattle.ee_flash.specs.Step.{Step, Program, Erase, completed, erased, one_more, programmed, worn}
+use Rattle.ee_flash.specs.Step.{Step, Program, Erase, device_after, with_page_erased, one_more, with_word_programmed, with_page_worn}
 use Rattle.ee_flash.specs.Pages.{pages_of}
 use Rattle.ee_flash.proofs.Pages.{get_or-pages_of}
+use Rattle.ee_flash.specs.Endurance.{CanTakeAll}
 use Rattle.ee_page.specs.Calls.{WearsOnceMore}
-use Rattle.ee_page.specs.Draft.{IsFresh, drafted}
+use Rattle.ee_page.specs.Draft.{IsFresh, drafted_device}
 use Rattle.ee_page.specs.DraftLaws.{all_formed, one_more_step, one_more_taken, same_cuts, same_cuts_left, same_on, same_size}
-use Rattle.ee_page.specs.Mirror.{cells_of, decoded}
+use Rattle.ee_page.specs.Mirror.{cells_of, word_of_number}
 use Rattle.ee_flash.specs.declared.word.Word.{Word}
 use Rattle.ee_flash.specs.declared.word.Word.TheVariants.{Erased, Held}
-use Rattle.ee_page.specs.Listing.{AllTaken, IsZeroIfErase, left_by, step_of, steps_of}
+use Rattle.ee_page.specs.Listing.{IsZeroIfErase, left_by, step_listed_so, steps_of}
 use Rattle.ee_page.specs.declared.listing.ListedStep.{ListedStep}
 
 -- a word of a formed device is erased, torn or held below all ones
@@ -34,7 +35,7 @@ word_below device page at formed page_in place_in =
     All-get_or IsBelowAllOnes (page_at device page) at Erased (omega (arith, formed.page_lengths page [] in_image)) (formed.below_all_ones page [] in_image)
 
 -- what a whole step leaves of a word
-pub word_after : (step : Step) (device : Device) (page at : ℕ) → IsFormed device → CanTake step device → page < page_count device.size → at < device.size.words → word_at (completed step device) page at ≡ left_by step page at (word_at device page at)
+pub word_after : (step : Step) (device : Device) (page at : ℕ) → IsFormed device → CanTake step device → page < page_count device.size → at < device.size.words → word_at (device_after step device) page at ≡ left_by step page at (word_at device page at)
 word_after (Program changed place value) device page at formed may page_in place_in =
     let in_image : changed < length device.image = omega (arith, formed.image_length, may.0) in
     let words = page_at device changed in
@@ -42,7 +43,7 @@ word_after (Program changed place value) device page at formed may page_in place
     elim (cases_eq changed page) [
       | inl same ↦
           let page_test : (changed == page) ≡ true = grind (arith, nat_tests) in
-          let changed_page : page_at (completed (Program changed place value) device) page ≡ set words place (Held value) = rw (sym same) (get_or-set_same device.image changed (set words place (Held value)) [] in_image) in
+          let changed_page : page_at (device_after (Program changed place value) device) page ≡ set words place (Held value) = rw (sym same) (get_or-set_same device.image changed (set words place (Held value)) [] in_image) in
           let own : words ≡ page_at device page = ap (page_at device) same in
           elim (cases_eq place at) [
             | inl there ↦
@@ -62,7 +63,7 @@ word_after (Erase changed) device page at formed may page_in place_in =
     elim (cases_eq changed page) [
       | inl same ↦
           let page_test : (changed == page) ≡ true = grind (arith, nat_tests) in
-          let changed_page : page_at (completed (Erase changed) device) page ≡ blank = rw (sym same) (get_or-set_same device.image changed blank [] in_image) in
+          let changed_page : page_at (device_after (Erase changed) device) page ≡ blank = rw (sym same) (get_or-set_same device.image changed blank [] in_image) in
           rw (page_test, changed_page) (get_or-replicate device.size.words at Erased Erased place_in)
       | inr other ↦
           let page_test : (changed == page) ≡ false = grind (arith, nat_tests) in
@@ -70,33 +71,33 @@ word_after (Erase changed) device page at formed may page_in place_in =
     ]
 
 -- a list of steps of which a front is taken
-pub front_taken : (steps more : List Step) (device : Device) → AllTaken (steps ++ more) device → AllTaken steps device
+pub front_taken : (steps more : List Step) (device : Device) → CanTakeAll (steps ++ more) device → CanTakeAll steps device
 front_taken [] more device taken = tt
-front_taken (step ∷ steps) more device taken = (taken.0, front_taken steps more (completed step device) taken.1)
+front_taken (step ∷ steps) more device taken = (taken.0, front_taken steps more (device_after step device) taken.1)
 
 -- a front of the listed steps is taken
-pub part_taken : (listed : List ListedStep) (count part : ℕ) (start : Device) → count ≤ length listed → part ≤ count → AllTaken (steps_of count listed) start → AllTaken (steps_of part listed) start
+pub part_taken : (listed : List ListedStep) (count part : ℕ) (start : Device) → count ≤ length listed → part ≤ count → CanTakeAll (steps_of count listed) start → CanTakeAll (steps_of part listed) start
 unfolding steps_of
 part_taken listed count part start within fewer taken =
     let split : take count listed ≡ take part listed ++ drop part (take count listed) = sym (take-append-drop part (take count listed)) ∙ ap (λ (front : List ListedStep). front ++ drop part (take count listed)) (take-take part count listed fewer) in
-    front_taken (map step_of (take part listed)) (map step_of (drop part (take count listed))) start (subst (λ (steps : List Step). AllTaken steps start) (ap (map step_of) split ∙ map-append step_of (take part listed) (drop part (take count listed))) taken)
+    front_taken (map step_listed_so (take part listed)) (map step_listed_so (drop part (take count listed))) start (subst (λ (steps : List Step). CanTakeAll steps start) (ap (map step_listed_so) split ∙ map-append step_listed_so (take part listed) (drop part (take count listed))) taken)
 
 -- one more step is listed
-pub more_listed : (listed : List ListedStep) (count : ℕ) (step : ListedStep) → count < length listed → steps_of (count + 1) (set listed count step) ≡ steps_of count listed ++ step_of step ∷ []
+pub more_listed : (listed : List ListedStep) (count : ℕ) (step : ListedStep) → count < length listed → steps_of (count + 1) (set listed count step) ≡ steps_of count listed ++ step_listed_so step ∷ []
 unfolding steps_of
 more_listed listed count step room =
-    ap (map step_of) (take_more_set listed count step room) ∙ map-append step_of (take count listed) (step ∷ [])
+    ap (map step_listed_so) (take_more_set listed count step room) ∙ map-append step_listed_so (take count listed) (step ∷ [])
 
 -- the steps up to the one of this number, and that one
-pub next_listed : (listed : List ListedStep) (count : ℕ) (none : ListedStep) → count < length listed → steps_of (count + 1) listed ≡ steps_of count listed ++ step_of (get_or listed count none) ∷ []
+pub next_listed : (listed : List ListedStep) (count : ℕ) (none : ListedStep) → count < length listed → steps_of (count + 1) listed ≡ steps_of count listed ++ step_listed_so (get_or listed count none) ∷ []
 unfolding steps_of
 next_listed listed count none room =
     let next : count + 1 ≡ suc count = omega arith in
-    ap (λ (n : ℕ). map step_of (take n listed)) next ∙ ap (map step_of) (take-suc listed count none room) ∙ map-append step_of (take count listed) (get_or listed count none ∷ [])
+    ap (λ (n : ℕ). map step_listed_so (take n listed)) next ∙ ap (map step_listed_so) (take-suc listed count none room) ∙ map-append step_listed_so (take count listed) (get_or listed count none ∷ [])
 
-pub next_taken : (steps : List Step) (step : Step) (device : Device) → AllTaken (steps ++ step ∷ []) device → CanTake step (all_completed steps device)
+pub next_taken : (steps : List Step) (step : Step) (device : Device) → CanTakeAll (steps ++ step ∷ []) device → CanTake step (all_completed steps device)
 next_taken [] step device taken = taken.0
-next_taken (first ∷ steps) step device taken = next_taken steps step (completed first device) taken.1
+next_taken (first ∷ steps) step device taken = next_taken steps step (device_after first device) taken.1
 
 pub none_listed : (listed : List ListedStep) → steps_of 0 listed ≡ []
 unfolding steps_of
@@ -114,20 +115,20 @@ module _ (start : Device) (listed : List ListedStep) (count : ℕ) (room : count
   program_is page at value within =
       let few = fresh.formed.within_limits.few_words in
       let other : (at == all_ones) ≡ false = grind (arith, nat_tests) in
-      let step : step_of (record { page = page; place = at; value = value }) ≡ Program page at value = rw other refl in
+      let step : step_listed_so (record { page = page; place = at; value = value }) ≡ Program page at value = rw other refl in
       more_listed listed count (record { page = page; place = at; value = value }) room ∙ ap (λ (step : Step). steps ++ step ∷ []) step
 
-  pub program_done : (page at value : ℕ) → at < start.size.words → (wear : List ℕ) (cuts : ℕ) (on : Bool) → drafted start (program_listed page at value) wear cuts on ≡ programmed page at value (drafted start steps wear cuts on)
+  pub program_done : (page at value : ℕ) → at < start.size.words → (wear : List ℕ) (cuts : ℕ) (on : Bool) → drafted_device start (program_listed page at value) wear cuts on ≡ with_word_programmed page at value (drafted_device start steps wear cuts on)
   program_done page at value within wear cuts on =
-      let with_image : Device → Device = λ device. record (drafted start steps wear cuts on) { image = device.image } in
-      ap (λ (listed_steps : List Step). drafted start listed_steps wear cuts on) (program_is page at value within)
+      let with_image : Device → Device = λ device. record (drafted_device start steps wear cuts on) { image = device.image } in
+      ap (λ (listed_steps : List Step). drafted_device start listed_steps wear cuts on) (program_is page at value within)
       ∙ ap with_image (one_more_step steps (Program page at value) start)
 
-  pub program_taken : (page at value : ℕ) (wear : List ℕ) (cuts : ℕ) (on : Bool) → page < page_count start.size → at < start.size.words → word_at (drafted start steps wear cuts on) page at ≡ Erased → value < all_ones → AllTaken steps start → AllTaken (program_listed page at value) start
+  pub program_taken : (page at value : ℕ) (wear : List ℕ) (cuts : ℕ) (on : Bool) → page < page_count start.size → at < start.size.words → word_at (drafted_device start steps wear cuts on) page at ≡ Erased → value < all_ones → CanTakeAll steps start → CanTakeAll (program_listed page at value) start
   program_taken page at value wear cuts on page_in place_in erased_there below taken =
       let size = same_size steps start in
       let may : CanTake (Program page at value) (all_completed steps start) = (rw size page_in, rw size place_in, erased_there, below) in
-      subst (λ (listed_steps : List Step). AllTaken listed_steps start) (sym (program_is page at value place_in)) (one_more_taken steps (Program page at value) start taken may)
+      subst (λ (listed_steps : List Step). CanTakeAll listed_steps start) (sym (program_is page at value place_in)) (one_more_taken steps (Program page at value) start taken may)
 
   pub program_wear : (page at value : ℕ) → at < start.size.words → (all_completed steps start).wear ≡ (all_completed (program_listed page at value) start).wear
   program_wear page at value within =
@@ -138,45 +139,45 @@ module _ (start : Device) (listed : List ListedStep) (count : ℕ) (room : count
   abbrev erase_listed : ListedStep → List Step
   erase_listed step = steps_of (count + 1) (set listed count step)
 
-  erase_is : (page : ℕ) (step : ListedStep) → step_of step ≡ Erase page → erase_listed step ≡ steps ++ Erase page ∷ []
+  erase_is : (page : ℕ) (step : ListedStep) → step_listed_so step ≡ Erase page → erase_listed step ≡ steps ++ Erase page ∷ []
   erase_is page step is = more_listed listed count step room ∙ ap (λ (s : Step). steps ++ s ∷ []) is
 
-  pub erase_done : (page : ℕ) (step : ListedStep) → step_of step ≡ Erase page → (wear : List ℕ) (cuts : ℕ) (on : Bool) → drafted start (erase_listed step) (set wear page (one_more (get_or wear page 0))) cuts on ≡ erased page (drafted start steps wear cuts on)
+  pub erase_done : (page : ℕ) (step : ListedStep) → step_listed_so step ≡ Erase page → (wear : List ℕ) (cuts : ℕ) (on : Bool) → drafted_device start (erase_listed step) (set wear page (one_more (get_or wear page 0))) cuts on ≡ with_page_erased page (drafted_device start steps wear cuts on)
   erase_done page step is wear cuts on =
       let worn_wear = set wear page (one_more (get_or wear page 0)) in
-      let with_image : Device → Device = λ device. record (drafted start steps worn_wear cuts on) { image = device.image } in
-      let with_size : Size → Device = λ size. record (drafted start steps worn_wear cuts on) { image = set (all_completed steps start).image page (replicate size.words Erased) } in
-      ap (λ (listed_steps : List Step). drafted start listed_steps worn_wear cuts on) (erase_is page step is)
+      let with_image : Device → Device = λ device. record (drafted_device start steps worn_wear cuts on) { image = device.image } in
+      let with_size : Size → Device = λ size. record (drafted_device start steps worn_wear cuts on) { image = set (all_completed steps start).image page (replicate size.words Erased) } in
+      ap (λ (listed_steps : List Step). drafted_device start listed_steps worn_wear cuts on) (erase_is page step is)
       ∙ ap with_image (one_more_step steps (Erase page) start)
       ∙ ap with_size (same_size steps start)
 
-  pub erase_taken : (page : ℕ) (step : ListedStep) → step_of step ≡ Erase page → page < page_count start.size → AllTaken steps start → AllTaken (erase_listed step) start
+  pub erase_taken : (page : ℕ) (step : ListedStep) → step_listed_so step ≡ Erase page → page < page_count start.size → CanTakeAll steps start → CanTakeAll (erase_listed step) start
   erase_taken page step is page_in taken =
       let size = same_size steps start in
       let may : CanTake (Erase page) (all_completed steps start) = rw size page_in in
-      subst (λ (listed_steps : List Step). AllTaken listed_steps start) (sym (erase_is page step is)) (one_more_taken steps (Erase page) start taken may)
+      subst (λ (listed_steps : List Step). CanTakeAll listed_steps start) (sym (erase_is page step is)) (one_more_taken steps (Erase page) start taken may)
 
-  pub erase_wear : (page : ℕ) (step : ListedStep) → step_of step ≡ Erase page → (wear : List ℕ) → wear ≡ (all_completed steps start).wear → set wear page (one_more (get_or wear page 0)) ≡ (all_completed (erase_listed step) start).wear
+  pub erase_wear : (page : ℕ) (step : ListedStep) → step_listed_so step ≡ Erase page → (wear : List ℕ) → wear ≡ (all_completed steps start).wear → set wear page (one_more (get_or wear page 0)) ≡ (all_completed (erase_listed step) start).wear
   erase_wear page step is wear same =
       ap (λ (counts : List ℕ). set counts page (one_more (get_or counts page 0))) same
       ∙ sym (ap (λ (listed_steps : List Step). (all_completed listed_steps start).wear) (erase_is page step is)
       ∙ ap (λ (device : Device). device.wear) (one_more_step steps (Erase page) start))
 
 -- the items of a wear after one was counted
-pub worn_items : (items seen read : List ℕ) (page worn : ℕ) → seen ≡ items → read ≡ items → worn ≡ min (get_or read page 0 + 1) all_ones → refill (length items) items (set seen page worn) ≡ set items page (one_more (get_or items page 0))
-worn_items items seen read page worn is_seen is_read is_worn =
-    let same : set seen page worn ≡ set items page (one_more (get_or items page 0)) = rw (is_worn, is_seen, is_read) refl in
+pub worn_items : (items seen read : List ℕ) (page with_page_worn : ℕ) → seen ≡ items → read ≡ items → with_page_worn ≡ min (get_or read page 0 + 1) all_ones → refill (length items) items (set seen page with_page_worn) ≡ set items page (one_more (get_or items page 0))
+worn_items items seen read page with_page_worn is_seen is_read is_worn =
+    let same : set seen page with_page_worn ≡ set items page (one_more (get_or items page 0)) = rw (is_worn, is_seen, is_read) refl in
     let new = set items page (one_more (get_or items page 0)) in
     ap (refill (length items) items) same ∙ take_at new (drop (length new) items) (length items) (length-set items page _)
 
 -- the word that a number with its flag means
-pub decoded_at : (words flags : List ℕ) (place : ℕ) → place < length words → place < length flags → get_or (cells_of words flags) place Erased ≡ decoded (get_or words place 0) (get_or flags place 0)
+pub decoded_at : (words flags : List ℕ) (place : ℕ) → place < length words → place < length flags → get_or (cells_of words flags) place Erased ≡ word_of_number (get_or words place 0) (get_or flags place 0)
 unfolding cells_of
 decoded_at words flags place in_words in_flags =
-    get_or-map (λ (cell : ℕ × ℕ). decoded cell.0 cell.1) (zip words flags) place (0, 0) Erased (omega (arith, length-zip words flags))
-    ∙ ap (λ (cell : ℕ × ℕ). decoded cell.0 cell.1) (get_or-zip words flags place (0, 0) in_words in_flags)
+    get_or-map (λ (cell : ℕ × ℕ). word_of_number cell.0 cell.1) (zip words flags) place (0, 0) Erased (omega (arith, length-zip words flags))
+    ∙ ap (λ (cell : ℕ × ℕ). word_of_number cell.0 cell.1) (get_or-zip words flags place (0, 0) in_words in_flags)
 
-pub word_start : (start : Device) (size : Size) (words flags : List ℕ) (page at : ℕ) → start.size ≡ size → start.image ≡ pages_of size (cells_of words flags) → length words ≡ page_count size * size.words → length flags ≡ page_count size * size.words → page < page_count start.size → at < start.size.words → word_at start page at ≡ decoded (get_or words (page * size.words + at) 0) (get_or flags (page * size.words + at) 0)
+pub word_start : (start : Device) (size : Size) (words flags : List ℕ) (page at : ℕ) → start.size ≡ size → start.image ≡ pages_of size (cells_of words flags) → length words ≡ page_count size * size.words → length flags ≡ page_count size * size.words → page < page_count start.size → at < start.size.words → word_at start page at ≡ word_of_number (get_or words (page * size.words + at) 0) (get_or flags (page * size.words + at) 0)
 word_start start size words flags page at same_size_ image as_many flagged page_in place_in =
     let page_below : page < page_count size = rw (sym same_size_) page_in in
     let place_below : at < size.words = rw (sym same_size_) place_in in
@@ -186,12 +187,12 @@ word_start start size words flags page at same_size_ image as_many flagged page_
     ∙ decoded_at words flags (page * size.words + at) (omega arith) (omega arith)
 
 -- a word after one more of the steps
-pub word_next : (start : Device) (listed : List ListedStep) (count taken page at : ℕ) (word next : Word) (none : ListedStep) → IsFresh start → count ≤ length listed → taken < count → AllTaken (steps_of count listed) start → page < page_count start.size → at < start.size.words → word ≡ word_at (all_completed (steps_of taken listed) start) page at → next ≡ left_by (step_of (get_or listed taken none)) page at word → next ≡ word_at (all_completed (steps_of (taken + 1) listed) start) page at
+pub word_next : (start : Device) (listed : List ListedStep) (count taken page at : ℕ) (word next : Word) (none : ListedStep) → IsFresh start → count ≤ length listed → taken < count → CanTakeAll (steps_of count listed) start → page < page_count start.size → at < start.size.words → word ≡ word_at (all_completed (steps_of taken listed) start) page at → next ≡ left_by (step_listed_so (get_or listed taken none)) page at word → next ≡ word_at (all_completed (steps_of (taken + 1) listed) start) page at
 word_next start listed count taken page at word next none fresh within below all_taken page_in place_in is_word is_next =
     let steps = steps_of taken listed in
-    let step = step_of (get_or listed taken none) in
+    let step = step_listed_so (get_or listed taken none) in
     let more : steps_of (taken + 1) listed ≡ steps ++ step ∷ [] = next_listed listed taken none (omega arith) in
-    let so_far : AllTaken (steps ++ step ∷ []) start = subst (λ (listed_steps : List Step). AllTaken listed_steps start) more (part_taken listed count (taken + 1) start within (omega arith) all_taken) in
+    let so_far : CanTakeAll (steps ++ step ∷ []) start = subst (λ (listed_steps : List Step). CanTakeAll listed_steps start) more (part_taken listed count (taken + 1) start within (omega arith) all_taken) in
     let formed = all_formed steps start fresh.formed fresh.on (front_taken steps (step ∷ []) start so_far) in
     let size = same_size steps start in
     is_next ∙ ap (left_by step page at) is_word
@@ -211,9 +212,9 @@ zero_of_program page at value words within few is = absurd (let ones : at ≡ al
 -- ---- wears when a step was cut
 
 -- whether they are so: each page is tried
-one_page_more : (pages : ℕ) (device : Device) (wear : List ℕ) → Dec ((page : ℕ) × (page < pages) × (wear ≡ (worn page device).wear))
+one_page_more : (pages : ℕ) (device : Device) (wear : List ℕ) → Dec ((page : ℕ) × (page < pages) × (wear ≡ (with_page_worn page device).wear))
 one_page_more zero device wear = no (λ found. omega (arith, found.1))
-one_page_more (suc pages) device wear = elim (List-discrete ℕ_discrete wear (worn pages device).wear) [
+one_page_more (suc pages) device wear = elim (List-discrete ℕ_discrete wear (with_page_worn pages device).wear) [
   | yes same ↦ yes (pages, omega arith, same)
   | no other ↦ elim (one_page_more pages device wear) [
     | yes found ↦ yes (found.0, omega (arith, found.1), found.2)
@@ -221,7 +222,7 @@ one_page_more (suc pages) device wear = elim (List-discrete ℕ_discrete wear (w
       | inl lower ↦ none (found.0, lower, found.2)
       | inr last ↦
           let is_last : found.0 ≡ pages = omega (arith, found.1) in
-          other (subst (λ (page : ℕ). wear ≡ (worn page device).wear) is_last found.2)
+          other (subst (λ (page : ℕ). wear ≡ (with_page_worn page device).wear) is_last found.2)
     ])
   ]
 ]
@@ -252,12 +253,12 @@ none_cut cuts count listed room full = elim (cases_eq cuts 0) [
 ]
 
 -- a draft that was never cut is the device after its steps
-pub drafted_whole : (start : Device) (steps : List Step) (wear : List ℕ) (cuts : ℕ) (on : Bool) → IsFresh start → (cuts ≡ 0 → (wear ≡ (all_completed steps start).wear) × (on ≡ true)) → cuts ≡ 0 → drafted start steps wear cuts on ≡ all_completed steps start
+pub drafted_whole : (start : Device) (steps : List Step) (wear : List ℕ) (cuts : ℕ) (on : Bool) → IsFresh start → (cuts ≡ 0 → (wear ≡ (all_completed steps start).wear) × (on ≡ true)) → cuts ≡ 0 → drafted_device start steps wear cuts on ≡ all_completed steps start
 drafted_whole start steps wear cuts on fresh whole none =
     let last = all_completed steps start in
     let same = whole none in
-    ap (λ (size : Size). record (drafted start steps wear cuts on) { size = size }) (sym (same_size steps start))
-    ∙ ap (λ (counts : List ℕ). record (drafted start steps wear cuts on) { size = last.size; wear = counts }) same.0
-    ∙ ap (λ (n : ℕ). record (drafted start steps last.wear cuts on) { size = last.size; cuts = n }) (none ∙ sym (same_cuts steps start ∙ fresh.never_cut))
-    ∙ ap (λ (left : Option ℕ). record (drafted start steps last.wear last.cuts on) { size = last.size; cuts_left = left }) (sym (same_cuts_left steps start ∙ fresh.any_cuts))
-    ∙ ap (λ (power : Bool). record (drafted start steps last.wear last.cuts power) { size = last.size; cuts_left = last.cuts_left }) (same.1 ∙ sym (same_on steps start ∙ fresh.on))
+    ap (λ (size : Size). record (drafted_device start steps wear cuts on) { size = size }) (sym (same_size steps start))
+    ∙ ap (λ (counts : List ℕ). record (drafted_device start steps wear cuts on) { size = last.size; wear = counts }) same.0
+    ∙ ap (λ (n : ℕ). record (drafted_device start steps last.wear cuts on) { size = last.size; cuts = n }) (none ∙ sym (same_cuts steps start ∙ fresh.never_cut))
+    ∙ ap (λ (left : Option ℕ). record (drafted_device start steps last.wear last.cuts on) { size = last.size; cuts_left = left }) (sym (same_cuts_left steps start ∙ fresh.any_cuts))
+    ∙ ap (λ (power : Bool). record (drafted_device start steps last.wear last.cuts power) { size = last.size; cuts_left = last.cuts_left }) (same.1 ∙ sym (same_on steps start ∙ fresh.on))

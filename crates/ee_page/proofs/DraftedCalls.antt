@@ -3,23 +3,24 @@ use Rattle.std.proofs.Common.{◌≡◌, ◌≢◌, ◌≤◌, inl, inr, ℕ, Li
 use Rattle.std.specs.List.{All}
 use Rattle.std.proofs.lemmas.List.{take_all}
 use Rattle.ee_flash.specs.Device.{Device}
+use Rattle.ee_flash.specs.Endurance.{CanTakeAll}
 use Rattle.ee_flash.specs.Laws.{all_completed}
 use Rattle.ee_flash.specs.Step.{one_more}
 use Rattle.ee_pages.specs.Layout.{IsScanFault}
-use Rattle.ee_store.specs.Calls.{Cleans, Forgets, Writes}
-use Rattle.ee_store.specs.Openings.{IsCutFormat, IsCutOpening, IsFormatted, OpenFails, Opens}
-use Rattle.ee_store.specs.declared.opening.OpenFault.{OpenFault}
-use Rattle.ee_store.specs.declared.opening.OpenFault.TheVariants as opening
-use Rattle.ee_store.specs.declared.variables.Written.{Written}
-use Rattle.ee_store.specs.declared.variables.Written.TheVariants as written
-use Rattle.ee_store.specs.declared.variables.WriteFault.{WriteFault}
-use Rattle.ee_store.specs.declared.variables.WriteFault.TheVariants as write
-use Rattle.ee_store.specs.declared.variables.ForgetFault.{ForgetFault}
-use Rattle.ee_store.specs.declared.variables.ForgetFault.TheVariants as forget
+use Rattle.ee_core.specs.Calls.{Cleans, Forgets, Writes}
+use Rattle.ee_core.specs.Openings.{IsCutFormat, IsCutOpening, IsFormatted, OpenFails, Opens}
+use Rattle.ee_core.specs.declared.opening.OpenFault.{OpenFault}
+use Rattle.ee_core.specs.declared.opening.OpenFault.TheVariants as opening
+use Rattle.ee_core.specs.declared.variables.Written.{Written}
+use Rattle.ee_core.specs.declared.variables.Written.TheVariants as written
+use Rattle.ee_core.specs.declared.variables.WriteFault.{WriteFault}
+use Rattle.ee_core.specs.declared.variables.WriteFault.TheVariants as write
+use Rattle.ee_core.specs.declared.variables.ForgetFault.{ForgetFault}
+use Rattle.ee_core.specs.declared.variables.ForgetFault.TheVariants as forget
 use Rattle.ee_page.specs.Answers.{answer_of_clean, answer_of_forget, answer_of_opening, answer_of_write}
 use Rattle.ee_page.specs.Calls.{CleansCells, Drafts, FillsList, ForgetsCells, FormatsCells, IsEnded, Lists, OpensCells, WearsOnceMore, WritesCells}
 use Rattle.ee_page.specs.Draft.{IsFresh}
-use Rattle.ee_page.specs.Listing.{AllTaken, IsZeroIfErase, steps_of}
+use Rattle.ee_page.specs.Listing.{IsZeroIfErase, steps_of}
 use Rattle.ee_page.specs.declared.answer.Answer.{Answer}
 use Rattle.ee_page.specs.declared.answer.Answer.TheVariants.{Done, Moved, Nothing, Full, Spent, Absent, NoStore, ListTooShort}
 use Rattle.ee_page.specs.declared.listing.ListedStep.{ListedStep}
@@ -45,7 +46,7 @@ module _ (start device : Device) (listed : List ListedStep) (count : ℕ) (fresh
       let full : count ≡ length listed = ended.full (λ never. let same : one_more start.cuts ≡ 0 = sym once ∙ never in omega arith) in
       let is_once : device.cuts ≡ 1 = once ∙ ap one_more none in
       record {
-        taken = subst (λ (n : ℕ). AllTaken (steps_of n listed) start) full ended.taken;
+        taken = subst (λ (n : ℕ). CanTakeAll (steps_of n listed) start) full ended.taken;
         zeros = subst (All IsZeroIfErase) (take_all (length listed) listed refl_le) (subst (λ (n : ℕ). All IsZeroIfErase (take n listed)) full ended.zeros);
         cut = device;
         wear = subst (λ (n : ℕ). WearsOnceMore (all_completed (steps_of n listed) start) device.wear) full (ended.further is_once);

@@ -10,28 +10,28 @@ use Rattle.ee_flash.specs.Formed.{below_all_ones, length-pages_of, page_lengths}
 use Rattle.ee_flash.specs.Size.{Size, page_count}
 use Rattle.ee_flash.specs.declared.word.Word.TheVariants.{Erased, Held, Torn}
 use Rattle.ee_page.specs.Draft.{IsFresh}
-use Rattle.ee_page.specs.Mirror.{IsMirror, cells_of, decoded, device_of}
+use Rattle.ee_page.specs.Mirror.{IsMirror, cells_of, word_of_number, mirrored_device}
 use Rattle.ee_page.proofs.DraftSteps.{decoded_at}
 use Rattle.ee_page.proofs.PlayedSteps.{length-cells_of}
 
-decoded_below : (number flag : ℕ) → number < 18446744073709551616 → IsBelowAllOnes (decoded number flag)
+decoded_below : (number flag : ℕ) → number < 18446744073709551616 → IsBelowAllOnes (word_of_number number flag)
 decoded_below number flag fits value is = elim (cases_eq flag 0) [
   | inl whole ↦
       let flag_test : (flag == 0) ≡ true = grind (arith, nat_tests) in
       elim (cases_eq number all_ones) [
         | inl ones ↦
             let test : (number == all_ones) ≡ true = grind (arith, nat_tests) in
-            let erased : decoded number flag ≡ Erased = rw (flag_test, test) refl in
+            let erased : word_of_number number flag ≡ Erased = rw (flag_test, test) refl in
             cc
         | inr other ↦
             let test : (number == all_ones) ≡ false = grind (arith, nat_tests) in
-            let held : decoded number flag ≡ Held number = rw (flag_test, test) refl in
+            let held : word_of_number number flag ≡ Held number = rw (flag_test, test) refl in
             let same : number ≡ value = cc in
             omega arith
       ]
   | inr torn ↦
       let flag_test : (flag == 0) ≡ false = grind (arith, nat_tests) in
-      let torn_there : decoded number flag ≡ Torn = rw flag_test refl in
+      let torn_there : word_of_number number flag ≡ Torn = rw flag_test refl in
       cc
 ]
 
@@ -40,7 +40,7 @@ cells_below words flags as_many fits k none h =
     let below : k < length words = omega (arith, length-cells_of words flags as_many) in
     rw (get_or_default (cells_of words flags) k none Erased h, decoded_at words flags k below (omega arith)) (decoded_below (get_or words k 0) (get_or flags k 0) (fits k))
 
-pub fresh_device : (size : Size) (words flags wears : List ℕ) → IsMirror size words flags wears → ((i : ℕ) → get_or words i 0 < 18446744073709551616) → ((i : ℕ) → get_or wears i 0 < 18446744073709551616) → IsFresh (device_of size words flags wears)
+pub fresh_device : (size : Size) (words flags wears : List ℕ) → IsMirror size words flags wears → ((i : ℕ) → get_or words i 0 < 18446744073709551616) → ((i : ℕ) → get_or wears i 0 < 18446744073709551616) → IsFresh (mirrored_device size words flags wears)
 fresh_device size words flags wears mirror words_fit wears_fit =
     let as_many : length flags ≡ length words = mirror.flags_length ∙ sym mirror.words_length in
     let filled : length (cells_of words flags) ≡ page_count size * size.words = length-cells_of words flags as_many ∙ mirror.words_length in

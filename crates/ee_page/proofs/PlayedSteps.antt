@@ -11,24 +11,25 @@ use Rattle.ee_flash.specs.Device.{Device, all_ones}
 use Rattle.ee_flash.specs.Laws.{CanTake, all_completed}
 use Rattle.ee_flash.specs.Pages.{pages_of}
 use Rattle.ee_flash.specs.Size.{Size, page_count}
-use Rattle.ee_flash.specs.Step.{Step, Program, completed}
+use Rattle.ee_flash.specs.Step.{Step, Program, device_after}
 use Rattle.ee_flash.specs.declared.word.Word.{Word}
 use Rattle.ee_flash.specs.declared.word.Word.TheVariants.{Erased, Held}
 use Rattle.ee_flash.proofs.Pages.{pages_of-rewritten, pages_of-set}
+use Rattle.ee_flash.specs.Endurance.{CanTakeAll}
 use Rattle.ee_page.specs.DraftLaws.{one_more_step}
-use Rattle.ee_page.specs.Listing.{AllTaken, step_of, steps_of}
-use Rattle.ee_page.specs.Mirror.{cells_of, decoded, device_of}
+use Rattle.ee_page.specs.Listing.{step_listed_so, steps_of}
+use Rattle.ee_page.specs.Mirror.{cells_of, word_of_number, mirrored_device}
 use Rattle.ee_page.specs.declared.listing.ListedStep.{ListedStep}
 use Rattle.ee_page.proofs.DraftSteps.{decoded_at, next_listed, next_taken, part_taken}
 
 pub length-cells_of : (words flags : List ℕ) → length flags ≡ length words → length (cells_of words flags) ≡ length words
 unfolding cells_of
 length-cells_of words flags as_many =
-    let cells : length (map (λ (cell : ℕ × ℕ). decoded cell.0 cell.1) (zip words flags)) ≡ length (zip words flags) = length-map _ _ in
+    let cells : length (map (λ (cell : ℕ × ℕ). word_of_number cell.0 cell.1) (zip words flags)) ≡ length (zip words flags) = length-map _ _ in
     cells ∙ omega (arith, length-zip words flags)
 
 -- a word programmed
-cells_of-set : (words flags : List ℕ) (place value : ℕ) → length flags ≡ length words → place < length words → cells_of (set words place value) (set flags place 0) ≡ set (cells_of words flags) place (decoded value 0)
+cells_of-set : (words flags : List ℕ) (place value : ℕ) → length flags ≡ length words → place < length words → cells_of (set words place value) (set flags place 0) ≡ set (cells_of words flags) place (word_of_number value 0)
 cells_of-set words flags place value as_many within =
     let new_words = set words place value in
     let new_flags = set flags place 0 in
@@ -36,23 +37,23 @@ cells_of-set words flags place value as_many within =
     let flags_length = length-set flags place 0 in
     let new_length = length-cells_of new_words new_flags (flags_length ∙ as_many ∙ sym words_length) in
     let old_length = length-cells_of words flags as_many in
-    let changed_length = length-set (cells_of words flags) place (decoded value 0) in
+    let changed_length = length-set (cells_of words flags) place (word_of_number value 0) in
     ext_get_or Erased _ _ (new_length ∙ words_length ∙ sym (changed_length ∙ old_length)) (λ i h.
     let below : i < length words = omega (arith, new_length, words_length) in
     decoded_at new_words new_flags i (omega (arith, words_length)) (omega (arith, flags_length)) ∙ elim (cases_eq i place) [
-      | inl same ↦ rw (same, get_or-set_same words place value 0 within, get_or-set_same flags place 0 0 (omega arith)) (sym (get_or-set_same (cells_of words flags) place (decoded value 0) Erased (omega (arith, old_length))))
-      | inr other ↦ rw (get_or-set_other words place i value 0 other, get_or-set_other flags place i 0 0 other) (sym (get_or-set_other (cells_of words flags) place i (decoded value 0) Erased other ∙ decoded_at words flags i below (omega arith)))
+      | inl same ↦ rw (same, get_or-set_same words place value 0 within, get_or-set_same flags place 0 0 (omega arith)) (sym (get_or-set_same (cells_of words flags) place (word_of_number value 0) Erased (omega (arith, old_length))))
+      | inr other ↦ rw (get_or-set_other words place i value 0 other, get_or-set_other flags place i 0 0 other) (sym (get_or-set_other (cells_of words flags) place i (word_of_number value 0) Erased other ∙ decoded_at words flags i below (omega arith)))
     ])
 
-pub word_programmed : (size : Size) (words flags wears : List ℕ) (page at value width : ℕ) → length words ≡ page_count size * size.words → length flags ≡ page_count size * size.words → page < page_count size → at < size.words → value < all_ones → width ≡ size.words → device_of size (set words (page * width + at) value) (set flags (page * width + at) 0) wears ≡ completed (Program page at value) (device_of size words flags wears)
+pub word_programmed : (size : Size) (words flags wears : List ℕ) (page at value width : ℕ) → length words ≡ page_count size * size.words → length flags ≡ page_count size * size.words → page < page_count size → at < size.words → value < all_ones → width ≡ size.words → mirrored_device size (set words (page * width + at) value) (set flags (page * width + at) 0) wears ≡ device_after (Program page at value) (mirrored_device size words flags wears)
 word_programmed size words flags wears page at value width as_many flagged page_in place_in below is_width =
     let place = page * size.words + at in
     let within = mul-add-lt page size.words at (page_count size) page_in place_in in
     let same_length : length flags ≡ length words = flagged ∙ sym as_many in
     let test : (value == all_ones) ≡ false = grind (arith, nat_tests) in
-    let held : decoded value 0 ≡ Held value = rw test refl in
-    let with_pages : List (List Word) → Device = λ pages. record (device_of size words flags wears) { image = pages } in
-    ap (λ (w : ℕ). device_of size (set words (page * w + at) value) (set flags (page * w + at) 0) wears) is_width
+    let held : word_of_number value 0 ≡ Held value = rw test refl in
+    let with_pages : List (List Word) → Device = λ pages. record (mirrored_device size words flags wears) { image = pages } in
+    ap (λ (w : ℕ). mirrored_device size (set words (page * w + at) value) (set flags (page * w + at) 0) wears) is_width
     ∙ ap (λ (cells : List Word). with_pages (pages_of size cells)) (cells_of-set words flags place value same_length (omega arith) ∙ ap (set (cells_of words flags) place) held)
     ∙ ap with_pages (pages_of-set size (cells_of words flags) page at (Held value) (length-cells_of words flags same_length ∙ as_many) page_in place_in)
 
@@ -110,22 +111,22 @@ pub part_length : (xs : List ℕ) (start width : ℕ) → start + width ≤ leng
 part_length xs start width within = search (rules, places)
 
 -- a step whose place is not all ones is a program
-pub is_program : (step : ListedStep) → (step.place ≡ all_ones → ⊥) → step_of step ≡ Program step.page step.place step.value
+pub is_program : (step : ListedStep) → (step.place ≡ all_ones → ⊥) → step_listed_so step ≡ Program step.page step.place step.value
 is_program step other =
     let test : (step.place == all_ones) ≡ false = grind (arith, nat_tests) in
     rw test refl
 
 -- the step that comes can be taken
-pub step_may : (start now : Device) (listed : List ListedStep) (count taken : ℕ) (none : ListedStep) → count ≤ length listed → taken < count → AllTaken (steps_of count listed) start → now ≡ all_completed (steps_of taken listed) start → CanTake (step_of (get_or listed taken none)) now
+pub step_may : (start now : Device) (listed : List ListedStep) (count taken : ℕ) (none : ListedStep) → count ≤ length listed → taken < count → CanTakeAll (steps_of count listed) start → now ≡ all_completed (steps_of taken listed) start → CanTake (step_listed_so (get_or listed taken none)) now
 step_may start now listed count taken none within below all_taken is_now =
-    let step = step_of (get_or listed taken none) in
+    let step = step_listed_so (get_or listed taken none) in
     let more : steps_of (taken + 1) listed ≡ steps_of taken listed ++ step ∷ [] = next_listed listed taken none (omega arith) in
-    let so_far : AllTaken (steps_of taken listed ++ step ∷ []) start = subst (λ (steps : List Step). AllTaken steps start) more (part_taken listed count (taken + 1) start within (omega arith) all_taken) in
+    let so_far : CanTakeAll (steps_of taken listed ++ step ∷ []) start = subst (λ (steps : List Step). CanTakeAll steps start) more (part_taken listed count (taken + 1) start within (omega arith) all_taken) in
     subst (CanTake step) (sym is_now) (next_taken (steps_of taken listed) step start so_far)
 
 -- and leaves what one step more leaves
-pub step_done : (start now next : Device) (listed : List ListedStep) (taken : ℕ) (none : ListedStep) → taken < length listed → now ≡ all_completed (steps_of taken listed) start → next ≡ completed (step_of (get_or listed taken none)) now → next ≡ all_completed (steps_of (taken + 1) listed) start
+pub step_done : (start now next : Device) (listed : List ListedStep) (taken : ℕ) (none : ListedStep) → taken < length listed → now ≡ all_completed (steps_of taken listed) start → next ≡ device_after (step_listed_so (get_or listed taken none)) now → next ≡ all_completed (steps_of (taken + 1) listed) start
 step_done start now next listed taken none within is_now is_next =
-    let step = step_of (get_or listed taken none) in
-    is_next ∙ ap (completed step) is_now
+    let step = step_listed_so (get_or listed taken none) in
+    is_next ∙ ap (device_after step) is_now
     ∙ sym (ap (λ (steps : List Step). all_completed steps start) (next_listed listed taken none within) ∙ one_more_step (steps_of taken listed) step start)

@@ -1,14 +1,14 @@
 -- What calls answer, and the numbers that stand for it.
 use Rattle.std.specs.Prelude.{ℕ, Bool, true, false, Result, Ok, Err}
 use Rattle.ee_pages.specs.declared.find.ScanFault.TheVariants.{Unformatted, NoLiveSet, TwoLive, Foreign}
-use Rattle.ee_store.specs.declared.opening.OpenFault.{OpenFault}
-use Rattle.ee_store.specs.declared.opening.OpenFault.TheVariants as opening
-use Rattle.ee_store.specs.declared.variables.Written.{Written}
-use Rattle.ee_store.specs.declared.variables.Written.TheVariants as written
-use Rattle.ee_store.specs.declared.variables.WriteFault.{WriteFault}
-use Rattle.ee_store.specs.declared.variables.WriteFault.TheVariants as write
-use Rattle.ee_store.specs.declared.variables.ForgetFault.{ForgetFault}
-use Rattle.ee_store.specs.declared.variables.ForgetFault.TheVariants as forget
+use Rattle.ee_core.specs.declared.opening.OpenFault.{OpenFault}
+use Rattle.ee_core.specs.declared.opening.OpenFault.TheVariants as opening
+use Rattle.ee_core.specs.declared.variables.Written.{Written}
+use Rattle.ee_core.specs.declared.variables.Written.TheVariants as written
+use Rattle.ee_core.specs.declared.variables.WriteFault.{WriteFault}
+use Rattle.ee_core.specs.declared.variables.WriteFault.TheVariants as write
+use Rattle.ee_core.specs.declared.variables.ForgetFault.{ForgetFault}
+use Rattle.ee_core.specs.declared.variables.ForgetFault.TheVariants as forget
 use Rattle.ee_page.specs.declared.answer.Answer.{Answer}
 use Rattle.ee_page.specs.declared.answer.Answer.TheVariants.{Done, Moved, Nothing, Full, Spent, Absent, NoStore, ListTooShort, WrongShape, ImproperAddress}
 use Rattle.ee_page.specs.declared.answer.CallResult.{CallResult}

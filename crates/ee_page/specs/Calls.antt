@@ -3,16 +3,17 @@
 use Rattle.std.specs.Prelude.{◌≡◌, ◌<◌, ◌≤◌, ◌⊎◌, ℕ, Ok, Err, true, false, List, length, take}
 use Rattle.std.specs.List.{All}
 use Rattle.ee_flash.specs.Device.{Device}
+use Rattle.ee_flash.specs.Endurance.{CanTakeAll}
 use Rattle.ee_flash.specs.Laws.{all_completed}
 use Rattle.ee_flash.specs.Size.{page_count}
-use Rattle.ee_flash.specs.Step.{worn}
+use Rattle.ee_flash.specs.Step.{with_page_worn}
 use Rattle.ee_pages.specs.Layout.{IsScanFault}
-use Rattle.ee_store.specs.Calls.{Cleans, Forgets, Writes}
-use Rattle.ee_store.specs.Openings.{IsCutFormat, IsCutOpening, IsFormatted, Opens}
-use Rattle.ee_store.specs.declared.variables.Written.TheVariants as written
-use Rattle.ee_store.specs.declared.variables.WriteFault.TheVariants as write
-use Rattle.ee_store.specs.declared.variables.ForgetFault.TheVariants as forget
-use Rattle.ee_page.specs.Listing.{AllTaken, IsZeroIfErase, steps_of}
+use Rattle.ee_core.specs.Calls.{Cleans, Forgets, Writes}
+use Rattle.ee_core.specs.Openings.{IsCutFormat, IsCutOpening, IsFormatted, Opens}
+use Rattle.ee_core.specs.declared.variables.Written.TheVariants as written
+use Rattle.ee_core.specs.declared.variables.WriteFault.TheVariants as write
+use Rattle.ee_core.specs.declared.variables.ForgetFault.TheVariants as forget
+use Rattle.ee_page.specs.Listing.{IsZeroIfErase, steps_of}
 use Rattle.ee_page.specs.declared.answer.Answer.{Answer}
 use Rattle.ee_page.specs.declared.answer.Answer.TheVariants.{Done, Moved, Nothing, Full, Spent, Absent, NoStore, ListTooShort, WrongShape, ImproperAddress}
 use Rattle.ee_page.specs.declared.listing.ListedStep.{ListedStep}
@@ -95,19 +96,19 @@ FormatsCells old ImproperAddress new = ⊥
 -- the first so many of the listed steps can be taken, each when it comes, and lead to this
 pub record Lists (start : Device) (listed : List ListedStep) (count : ℕ) (leaves : Device → Type 0) : Type 0 where
   pub within : count ≤ length listed
-  pub taken : AllTaken (steps_of count listed) start
+  pub taken : CanTakeAll (steps_of count listed) start
   pub zeros : All IsZeroIfErase (take count listed)
   pub leads : leaves (all_completed (steps_of count listed) start)
 
 -- The wears when power was cut in one more step: in a program, or in the erase of a page, which wears it.
 abbrev pub WearsOnceMore : Device → List ℕ → Type 0
 WearsOnceMore device wear =
-    (wear ≡ device.wear) ⊎ ((page : ℕ) × (page < page_count device.size) × (wear ≡ (worn page device).wear))
+    (wear ≡ device.wear) ⊎ ((page : ℕ) × (page < page_count device.size) × (wear ≡ (with_page_worn page device).wear))
 
 -- Each place of the list is a step that can be taken, and power was cut in a further one, before it changed a word: what it
 -- left then is what the call leaves.
 pub record FillsList (start : Device) (listed : List ListedStep) (leaves : Device → Type 0) : Type 0 where
-  pub taken : AllTaken (steps_of (length listed) listed) start
+  pub taken : CanTakeAll (steps_of (length listed) listed) start
   pub zeros : All IsZeroIfErase listed
   pub cut : Device
   pub image : cut.image ≡ (all_completed (steps_of (length listed) listed) start).image
@@ -130,7 +131,7 @@ Drafts leaves ImproperAddress start listed count = Lists start listed count (lea
 -- what a draft says of its list when it ends
 pub record IsEnded (start device : Device) (listed : List ListedStep) (count : ℕ) : Type 0 where
   pub within : count ≤ length listed
-  pub taken : AllTaken (steps_of count listed) start
+  pub taken : CanTakeAll (steps_of count listed) start
   pub zeros : All IsZeroIfErase (take count listed)
   pub image : device.image ≡ (all_completed (steps_of count listed) start).image
   pub whole : device.cuts ≡ 0 → device ≡ all_completed (steps_of count listed) start

@@ -13,8 +13,8 @@ pub record IsFresh (device : Device) : Type 0 where
 
 -- the device after the listed steps, with its wears, its cuts and its power, which a step that found no place in the list
 -- has changed
-abbrev pub drafted : Device → List Step → List ℕ → ℕ → Bool → Device
-drafted start steps wear cuts on = record {
+abbrev pub drafted_device : Device → List Step → List ℕ → ℕ → Bool → Device
+drafted_device start steps wear cuts on = record {
   size = start.size;
   image = (all_completed steps start).image;
   wear = wear;

@@ -6,53 +6,53 @@ use Rattle.std.proofs.lemmas.Option.{none-some}
 use Rattle.ee_flash.specs.Device.{Device, IsFormed, IsOn, all_ones}
 use Rattle.ee_flash.specs.Laws.{CanTake, all_completed}
 use Rattle.ee_flash.specs.Size.{Size, page_count}
-use Rattle.ee_flash.specs.Step.{Step, Program, Erase, completed}
+use Rattle.ee_flash.specs.Step.{Step, Program, Erase, device_after}
 use Rattle.ee_flash.proofs.Outcomes.{step_keeps_formed}
-use Rattle.ee_page.specs.Draft.{IsFresh, drafted}
-use Rattle.ee_page.specs.Listing.{AllTaken}
+use Rattle.ee_flash.specs.Endurance.{CanTakeAll}
+use Rattle.ee_page.specs.Draft.{IsFresh, drafted_device}
 
-completed_on : (step : Step) (device : Device) → (completed step device).on ≡ device.on
+completed_on : (step : Step) (device : Device) → (device_after step device).on ≡ device.on
 completed_on (Program page at value) device = refl
 completed_on (Erase page) device = refl
 
-completed_size : (step : Step) (device : Device) → (completed step device).size ≡ device.size
+completed_size : (step : Step) (device : Device) → (device_after step device).size ≡ device.size
 completed_size (Program page at value) device = refl
 completed_size (Erase page) device = refl
 
-completed_cuts : (step : Step) (device : Device) → (completed step device).cuts ≡ device.cuts
+completed_cuts : (step : Step) (device : Device) → (device_after step device).cuts ≡ device.cuts
 completed_cuts (Program page at value) device = refl
 completed_cuts (Erase page) device = refl
 
-completed_cuts_left : (step : Step) (device : Device) → (completed step device).cuts_left ≡ device.cuts_left
+completed_cuts_left : (step : Step) (device : Device) → (device_after step device).cuts_left ≡ device.cuts_left
 completed_cuts_left (Program page at value) device = refl
 completed_cuts_left (Erase page) device = refl
 
 pub same_on : (steps : List Step) (device : Device) → (all_completed steps device).on ≡ device.on
 same_on [] device = refl
-same_on (step ∷ steps) device = same_on steps (completed step device) ∙ completed_on step device
+same_on (step ∷ steps) device = same_on steps (device_after step device) ∙ completed_on step device
 
 pub same_size : (steps : List Step) (device : Device) → (all_completed steps device).size ≡ device.size
 same_size [] device = refl
-same_size (step ∷ steps) device = same_size steps (completed step device) ∙ completed_size step device
+same_size (step ∷ steps) device = same_size steps (device_after step device) ∙ completed_size step device
 
 pub same_cuts : (steps : List Step) (device : Device) → (all_completed steps device).cuts ≡ device.cuts
 same_cuts [] device = refl
-same_cuts (step ∷ steps) device = same_cuts steps (completed step device) ∙ completed_cuts step device
+same_cuts (step ∷ steps) device = same_cuts steps (device_after step device) ∙ completed_cuts step device
 
 pub same_cuts_left : (steps : List Step) (device : Device) → (all_completed steps device).cuts_left ≡ device.cuts_left
 same_cuts_left [] device = refl
-same_cuts_left (step ∷ steps) device = same_cuts_left steps (completed step device) ∙ completed_cuts_left step device
+same_cuts_left (step ∷ steps) device = same_cuts_left steps (device_after step device) ∙ completed_cuts_left step device
 
-step_formed : (step : Step) (device : Device) → IsFormed device → IsOn device → CanTake step device → IsFormed (completed step device)
+step_formed : (step : Step) (device : Device) → IsFormed device → IsOn device → CanTake step device → IsFormed (device_after step device)
 step_formed step device formed on may =
-    step_keeps_formed step device (completed step device) (record { formed = formed; may = may; follows = inl (record { was_on = on; done = refl }) })
+    step_keeps_formed step device (device_after step device) (record { formed = formed; may = may; follows = inl (record { was_on = on; done = refl }) })
 
-pub all_formed : (steps : List Step) (device : Device) → IsFormed device → IsOn device → AllTaken steps device → IsFormed (all_completed steps device)
+pub all_formed : (steps : List Step) (device : Device) → IsFormed device → IsOn device → CanTakeAll steps device → IsFormed (all_completed steps device)
 all_formed [] device formed on taken = formed
 all_formed (step ∷ steps) device formed on taken =
-    all_formed steps (completed step device) (step_formed step device formed on taken.0) (completed_on step device ∙ on) taken.1
+    all_formed steps (device_after step device) (step_formed step device formed on taken.0) (completed_on step device ∙ on) taken.1
 
-pub IsFormed-drafted : (start : Device) (steps : List Step) (wear : List ℕ) (cuts : ℕ) (on : Bool) → IsFresh start → AllTaken steps start → length wear ≡ page_count start.size → All (λ count. count ≤ all_ones) wear → cuts ≤ all_ones → IsFormed (drafted start steps wear cuts on)
+pub IsFormed-drafted : (start : Device) (steps : List Step) (wear : List ℕ) (cuts : ℕ) (on : Bool) → IsFresh start → CanTakeAll steps start → length wear ≡ page_count start.size → All (λ count. count ≤ all_ones) wear → cuts ≤ all_ones → IsFormed (drafted_device start steps wear cuts on)
 IsFormed-drafted start steps wear cuts on fresh taken as_long fits fit =
     let formed = all_formed steps start fresh.formed fresh.on taken in
     let size = same_size steps start in
@@ -68,10 +68,10 @@ IsFormed-drafted start steps wear cuts on fresh taken as_long fits fit =
     }
 
 -- one more step
-pub one_more_step : (steps : List Step) (step : Step) (device : Device) → all_completed (steps ++ step ∷ []) device ≡ completed step (all_completed steps device)
+pub one_more_step : (steps : List Step) (step : Step) (device : Device) → all_completed (steps ++ step ∷ []) device ≡ device_after step (all_completed steps device)
 one_more_step [] step device = refl
-one_more_step (first ∷ steps) step device = one_more_step steps step (completed first device)
+one_more_step (first ∷ steps) step device = one_more_step steps step (device_after first device)
 
-pub one_more_taken : (steps : List Step) (step : Step) (device : Device) → AllTaken steps device → CanTake step (all_completed steps device) → AllTaken (steps ++ step ∷ []) device
+pub one_more_taken : (steps : List Step) (step : Step) (device : Device) → CanTakeAll steps device → CanTake step (all_completed steps device) → CanTakeAll (steps ++ step ∷ []) device
 one_more_taken [] step device taken may = (may, tt)
-one_more_taken (first ∷ steps) step device taken may = (taken.0, one_more_taken steps step (completed first device) taken.1 may)
+one_more_taken (first ∷ steps) step device taken may = (taken.0, one_more_taken steps step (device_after first device) taken.1 may)

@@ -4,11 +4,11 @@ use mathlib.Core.HLevel.{collapsible→set, ×_prop}
 use Rattle.std.specs.Prelude.{ℕ, Option, Some, None, List, [], ◌∷◌}
 use Rattle.std.proofs.Props as below
 use Rattle.ee_flash.specs.Device.{Device}
+use Rattle.ee_flash.specs.Endurance.{CanTakeAll}
 use Rattle.ee_flash.specs.Laws.{CanTake}
-use Rattle.ee_flash.specs.Step.{Step, Program, Erase, completed}
+use Rattle.ee_flash.specs.Step.{Step, Program, Erase, device_after}
 use Rattle.ee_flash.specs.declared.word.Word.{Word}
 use Rattle.ee_flash.specs.declared.word.Word.TheVariants.{Erased, Held, Torn}
-use Rattle.ee_page.specs.Listing.{AllTaken}
 
 -- a type that maps into a set and back is a set
 retract_set : {A B : Type 0} (to : A → B) (from : B → A) → ((x : A) → from (to x) ≡ x) → IsSet B → IsSet A
@@ -24,6 +24,6 @@ pub CanTake-prop : (step : Step) (device : Device) → IsProp (CanTake step devi
 CanTake-prop (Program page at value) device = Prim.hlevel words
 CanTake-prop (Erase page) device = Prim.hlevel words
 
-pub AllTaken-prop : (steps : List Step) (device : Device) → IsProp (AllTaken steps device)
-AllTaken-prop [] device = Prim.hlevel words
-AllTaken-prop (step ∷ steps) device = ×_prop (CanTake-prop step device) (AllTaken-prop steps (completed step device))
+pub CanTakeAll-prop : (steps : List Step) (device : Device) → IsProp (CanTakeAll steps device)
+CanTakeAll-prop [] device = Prim.hlevel words
+CanTakeAll-prop (step ∷ steps) device = ×_prop (CanTake-prop step device) (CanTakeAll-prop steps (device_after step device))

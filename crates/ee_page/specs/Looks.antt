@@ -5,10 +5,10 @@ use Rattle.ee_flash.specs.Device.{Device}
 use Rattle.ee_pages.specs.Layout.{IsScanFault}
 use Rattle.ee_pages.specs.Legal.{IsLegal}
 use Rattle.ee_pages.specs.Meaning.{IsNextLive, live_in}
-use Rattle.ee_store.specs.State.{State, capacity, state_of}
+use Rattle.ee_core.specs.State.{State, capacity, state_of}
 use Rattle.ee_flash.specs.Size.{Size}
 use Rattle.ee_page.specs.Answers.{foreign_at, status_of}
-use Rattle.ee_page.specs.Mirror.{Fits, Mirror, device_in}
+use Rattle.ee_page.specs.Mirror.{MirrorFits, Mirror, device_in}
 use Rattle.ee_page.specs.declared.answer.Answer.{Answer}
 use Rattle.ee_page.specs.declared.answer.Answer.TheVariants.{Done, Moved, Nothing, Full, Spent, Absent, NoStore, ListTooShort, WrongShape, ImproperAddress}
 use Rattle.ee_page.specs.declared.looking.Found.{Found}
@@ -25,17 +25,17 @@ abbrev pub IsZero : ℕ → ℕ → Type 0
 IsZero address value = (address ≡ 0) × (value ≡ 0)
 
 -- the value of an address, or that it has none, or why the words are no store
-abbrev pub IsRead : Device → ℕ → Answer → ℕ → ℕ → Type 0
-IsRead device asked Done address value = IsLegal device × (address ≡ asked) × ((state_of device).map asked ≡ Some value)
-IsRead device asked Nothing address value = IsLegal device × IsZero address value × ((state_of device).map asked ≡ None)
-IsRead device asked (NoStore fault) address value = IsScanFault device fault × IsZero address value
-IsRead device asked Moved address value = ⊥
-IsRead device asked Full address value = ⊥
-IsRead device asked Spent address value = ⊥
-IsRead device asked Absent address value = ⊥
-IsRead device asked ListTooShort address value = ⊥
-IsRead device asked WrongShape address value = ⊥
-IsRead device asked ImproperAddress address value = ⊥
+abbrev pub IsValueRead : Device → ℕ → Answer → ℕ → ℕ → Type 0
+IsValueRead device asked Done address value = IsLegal device × (address ≡ asked) × ((state_of device).map asked ≡ Some value)
+IsValueRead device asked Nothing address value = IsLegal device × IsZero address value × ((state_of device).map asked ≡ None)
+IsValueRead device asked (NoStore fault) address value = IsScanFault device fault × IsZero address value
+IsValueRead device asked Moved address value = ⊥
+IsValueRead device asked Full address value = ⊥
+IsValueRead device asked Spent address value = ⊥
+IsValueRead device asked Absent address value = ⊥
+IsValueRead device asked ListTooShort address value = ⊥
+IsValueRead device asked WrongShape address value = ⊥
+IsValueRead device asked ImproperAddress address value = ⊥
 
 -- the next address above this one that has a value, with the value, or that there is none, or why the words are no store
 abbrev pub IsNext : Device → ℕ → Answer → ℕ → ℕ → Type 0
@@ -51,7 +51,7 @@ IsNext device above WrongShape address value = ⊥
 IsNext device above ImproperAddress address value = ⊥
 
 -- these are the counts of a store in this state, which has so many slots
-pub record AreCountsOf (slots : ℕ) (state : State) (counts : Counts) : Type 0 where
+pub record AreStoreCountsOf (slots : ℕ) (state : State) (counts : Counts) : Type 0 where
   pub live_is : counts.live ≡ live_in state.map
   pub fill_is : counts.fill ≡ state.fill
   pub room_is : counts.room ≡ slots - state.fill
@@ -64,7 +64,7 @@ none_counted answer = record { answer = answer; live = 0; fill = 0; room = 0; ge
 
 -- what a count answers and finds
 abbrev pub CountsFor : Device → Answer → Counts → Type 0
-CountsFor device Done counts = IsLegal device × AreCountsOf (capacity device) (state_of device) counts
+CountsFor device Done counts = IsLegal device × AreStoreCountsOf (capacity device) (state_of device) counts
 CountsFor device (NoStore fault) counts = IsScanFault device fault × (counts ≡ none_counted (NoStore fault))
 CountsFor device Moved counts = ⊥
 CountsFor device Nothing counts = ⊥
@@ -75,8 +75,8 @@ CountsFor device ListTooShort counts = ⊥
 CountsFor device WrongShape counts = ⊥
 CountsFor device ImproperAddress counts = ⊥
 
-abbrev pub AreCounts : Device → Counts → Type 0
-AreCounts device counts = CountsFor device counts.answer counts
+abbrev pub AreStoreCounts : Device → Counts → Type 0
+AreStoreCounts device counts = CountsFor device counts.answer counts
 
 -- ---- what the exports tell
 
@@ -106,9 +106,9 @@ counts_result counts = record {
 -- what an answer says: the mirror has another shape, or the arguments are not proper, or it is what the look finds
 abbrev pub Finds : Size → (Device → Answer → ℕ → ℕ → Type 0) → Type 0 → Answer → Mirror → ℕ → ℕ → Type 0
 Finds size finds proper answer mirror address value =
-    ((answer ≡ WrongShape) × ¬ Fits size mirror × IsZero address value)
-    ⊎ ((answer ≡ ImproperAddress) × Fits size mirror × ¬ proper × IsZero address value)
-    ⊎ (Fits size mirror × proper × finds (device_in size mirror) answer address value)
+    ((answer ≡ WrongShape) × ¬ MirrorFits size mirror × IsZero address value)
+    ⊎ ((answer ≡ ImproperAddress) × MirrorFits size mirror × ¬ proper × IsZero address value)
+    ⊎ (MirrorFits size mirror × proper × finds (device_in size mirror) answer address value)
 
 -- a look tells one answer, which says what it says
 abbrev pub Looks : Size → (Device → Answer → ℕ → ℕ → Type 0) → Type 0 → FoundResult → Mirror → Type 0
@@ -119,4 +119,4 @@ Looks size finds proper result mirror =
 abbrev pub CountsIn : Size → CountsResult → Mirror → Type 0
 CountsIn size result mirror =
     (counts : Counts) × (result ≡ counts_result counts)
-    × (((counts ≡ none_counted WrongShape) × ¬ Fits size mirror) ⊎ (Fits size mirror × AreCounts (device_in size mirror) counts))
+    × (((counts ≡ none_counted WrongShape) × ¬ MirrorFits size mirror) ⊎ (MirrorFits size mirror × AreStoreCounts (device_in size mirror) counts))

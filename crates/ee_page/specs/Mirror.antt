@@ -9,12 +9,12 @@ use Rattle.ee_flash.specs.declared.word.Word.TheVariants.{Erased, Held, Torn}
 
 -- what a number with its flag means: where the flag is not 0 the word could not be read; else all ones are an erased word,
 -- and any other number is held
-abbrev pub decoded : ℕ → ℕ → Word
-decoded number flag = if flag == 0 then (if number == all_ones then Erased else Held number) else Torn
+abbrev pub word_of_number : ℕ → ℕ → Word
+word_of_number number flag = if flag == 0 then (if number == all_ones then Erased else Held number) else Torn
 
 -- the words that numbers and their flags mean
 unfoldable pub cells_of : List ℕ → List ℕ → List Word
-cells_of words flags = map (λ cell. decoded cell.0 cell.1) (zip words flags)
+cells_of words flags = map (λ cell. word_of_number cell.0 cell.1) (zip words flags)
 
 -- the words, the flags and the wears are as many as a device of this size has
 pub record IsMirror (size : Size) (words flags wears : List ℕ) : Type 0 where
@@ -24,8 +24,8 @@ pub record IsMirror (size : Size) (words flags wears : List ℕ) : Type 0 where
   pub wears_length : length wears ≡ page_count size
 
 -- the device that the mirror means: it is on, it was never cut, and it may be cut any number of times
-abbrev pub device_of : Size → List ℕ → List ℕ → List ℕ → Device
-device_of size words flags wears = record {
+abbrev pub mirrored_device : Size → List ℕ → List ℕ → List ℕ → Device
+mirrored_device size words flags wears = record {
   size = size;
   image = pages_of size (cells_of words flags);
   wear = wears;
@@ -44,9 +44,9 @@ abbrev pub mirror_of : List ℕ → List ℕ → List ℕ → Mirror
 mirror_of words flags wears = record { words = words; flags = flags; wears = wears }
 
 -- it has the lengths of this size
-abbrev pub Fits : Size → Mirror → Type 0
-Fits size mirror = IsMirror size mirror.words mirror.flags mirror.wears
+abbrev pub MirrorFits : Size → Mirror → Type 0
+MirrorFits size mirror = IsMirror size mirror.words mirror.flags mirror.wears
 
 -- what it means
 abbrev pub device_in : Size → Mirror → Device
-device_in size mirror = device_of size mirror.words mirror.flags mirror.wears
+device_in size mirror = mirrored_device size mirror.words mirror.flags mirror.wears

@@ -1,7 +1,7 @@
 ghost use Rattle.std.specs.Prelude.{◌≡◌};
 
+use ee_core::{ForgetFault, OpenFault, WriteFault, Written};
 use ee_pages::ScanFault;
-use ee_store::{ForgetFault, OpenFault, WriteFault, Written};
 
 /// What a call answers.
 ///

@@ -1,14 +1,15 @@
 ghost use Rattle.std.specs.Prelude.{◌<◌, ◌≤◌, ◌≡◌, ◌⊎◌, ◌*◌, OnErr, OnOk, length, take, true};
 ghost use Rattle.std.specs.List.{All};
 ghost use Rattle.ee_flash.specs.Device.{IsBelowAllOnes, all_ones};
+ghost use Rattle.ee_flash.specs.Endurance.{CanTakeAll};
 ghost use Rattle.ee_flash.specs.Laws.{all_completed};
 ghost use Rattle.ee_flash.specs.Pages.{pages_of};
 ghost use Rattle.ee_flash.specs.Size.{page_count};
 ghost use Rattle.ee_page.specs.Calls.{IsEnded, WearsOnceMore};
 ghost use Rattle.ee_page.specs.Draft.{IsFresh};
-ghost use Rattle.ee_page.specs.Listing.{AllTaken, IsZeroIfErase, steps_of};
-ghost use Rattle.ee_page.specs.ListingProps.{AllTaken-prop};
-ghost use Rattle.ee_page.specs.Mirror.{cells_of, decoded};
+ghost use Rattle.ee_page.specs.Listing.{IsZeroIfErase, steps_of};
+ghost use Rattle.ee_page.specs.ListingProps.{CanTakeAll-prop};
+ghost use Rattle.ee_page.specs.Mirror.{cells_of, word_of_number};
 
 use crate::answer::Answer;
 use crate::listing::ListedStep;
@@ -65,7 +66,7 @@ pub(crate) struct DraftFlash<'w, 'l, K: Lent> {
     ghost flags_length: { length flags.now ≡ page_count shape * shape.words },
     ghost same_list: { listed.ghost_name ≡ K.list },
     ghost within: { count ≤ length listed.now },
-    ghost taken: { AllTaken (steps_of count listed.now) K.start } by { AllTaken-prop _ _ },
+    ghost taken: { CanTakeAll (steps_of count listed.now) K.start } by { CanTakeAll-prop _ _ },
     ghost zeros: { All IsZeroIfErase (take count listed.now) },
     ghost wear_length: { length wear.items ≡ page_count shape },
     ghost wear_fits: { All (λ count. count ≤ all_ones) wear.items },
@@ -79,7 +80,7 @@ pub(crate) struct DraftFlash<'w, 'l, K: Lent> {
 
 /// What a word's number and its flag mean.
 pub(crate) fn decode(number: u64, flag: u8) -> Word
-    ensures { result ≡ decoded number flag }
+    ensures { result ≡ word_of_number number flag }
 {
     if flag != 0 {
         return Word::Torn;
@@ -101,12 +102,12 @@ fn wear_of(wears: &[u64]) -> ArrayVec<u64, GREATEST_PAGES>
 }
 
 impl<'w, 'l, K: Lent> Flash for DraftFlash<'w, 'l, K> {
-    ghost use Rattle.ee_page.specs.Draft.{drafted};
+    ghost use Rattle.ee_page.specs.Draft.{drafted_device};
     ghost use Rattle.ee_page.specs.DraftLaws.{IsFormed-drafted};
     ghost use Rattle.ee_flash.specs.Device.{IsOn, wear_at, word_at};
     ghost use Rattle.std.proofs.Common.{sym, ap, ◌∙◌};
 
-    ghost device = { λ draft. drafted K.start (steps_of draft.count draft.listed.now)
+    ghost device = { λ draft. drafted_device K.start (steps_of draft.count draft.listed.now)
         draft.wear.items draft.cuts draft.on };
 
     ghost formed = { λ draft. IsFormed-drafted K.start (steps_of draft.count draft.listed.now)
@@ -184,8 +185,8 @@ impl<'w, 'l, K: Lent> Flash for DraftFlash<'w, 'l, K> {
 }
 
 impl<'w, 'l, K: Lent> DraftFlash<'w, 'l, K> {
-    ghost use Rattle.ee_page.specs.Draft.{drafted};
-    ghost use Rattle.ee_page.specs.Mirror.{IsMirror, device_of};
+    ghost use Rattle.ee_page.specs.Draft.{drafted_device};
+    ghost use Rattle.ee_page.specs.Mirror.{IsMirror, mirrored_device};
 
     /// A draft of the device that a mirror means, with nothing listed.
     pub(crate) fn of(
@@ -196,9 +197,9 @@ impl<'w, 'l, K: Lent> DraftFlash<'w, 'l, K> {
         listed: &'l mut [ListedStep],
     ) -> Self
         requires mirror { IsMirror shape words.now flags.now wears.now }
-        requires start { K.start ≡ device_of shape words.now flags.now wears.now }
+        requires start { K.start ≡ mirrored_device shape words.now flags.now wears.now }
         requires list { listed.ghost_name ≡ K.list }
-        ensures { drafted K.start (steps_of result.count result.listed.now)
+        ensures { drafted_device K.start (steps_of result.count result.listed.now)
             result.wear.items result.cuts result.on ≡ K.start }
     {
         DraftFlash {
@@ -218,7 +219,7 @@ impl<'w, 'l, K: Lent> DraftFlash<'w, 'l, K> {
     pub(crate) fn ended(self, answer: Answer) -> Drafted<'l>
         ensures same_list { result.listed.ghost_name ≡ K.list }
         ensures ended { IsEnded K.start
-            (drafted K.start (steps_of self.entry.count self.entry.listed.now)
+            (drafted_device K.start (steps_of self.entry.count self.entry.listed.now)
             self.entry.wear.items self.entry.cuts self.entry.on)
             result.listed.now result.count }
         ensures fresh { IsFresh K.start }

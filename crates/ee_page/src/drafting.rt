@@ -1,13 +1,13 @@
 ghost use Rattle.std.specs.Prelude.{◌≡◌};
 ghost use Rattle.ee_page.specs.Calls.{CleansCells, Drafts, ForgetsCells, FormatsCells, OpensCells, WritesCells};
-ghost use Rattle.ee_page.specs.Mirror.{IsMirror, device_of};
+ghost use Rattle.ee_page.specs.Mirror.{IsMirror, mirrored_device};
 
 use crate::answer::Answer;
 use crate::draft::{DraftFlash, Drafted, Lent};
 use crate::listing::ListedStep;
 use ee_codec::Address;
+use ee_core::{Variables, format, open};
 use ee_flash::Shape;
-use ee_store::{Variables, format, open};
 
 /// Drafts a write.
 pub(crate) fn draft_write<'w, 'l, K: Lent>(
@@ -20,7 +20,7 @@ pub(crate) fn draft_write<'w, 'l, K: Lent>(
     value: u32,
 ) -> Drafted<'l>
     requires mirror { IsMirror shape words.now flags.now wears.now }
-    requires start { K.start ≡ device_of shape words.now flags.now wears.now }
+    requires start { K.start ≡ mirrored_device shape words.now flags.now wears.now }
     requires list { listed.ghost_name ≡ K.list }
     ensures same_list { result.listed.ghost_name ≡ listed.entry.ghost_name }
     ensures drafts { Drafts (WritesCells K.start address value) result.answer K.start
@@ -49,7 +49,7 @@ pub(crate) fn draft_forget<'w, 'l, K: Lent>(
     address: Address,
 ) -> Drafted<'l>
     requires mirror { IsMirror shape words.now flags.now wears.now }
-    requires start { K.start ≡ device_of shape words.now flags.now wears.now }
+    requires start { K.start ≡ mirrored_device shape words.now flags.now wears.now }
     requires list { listed.ghost_name ≡ K.list }
     ensures same_list { result.listed.ghost_name ≡ listed.entry.ghost_name }
     ensures drafts { Drafts (ForgetsCells K.start address) result.answer K.start
@@ -77,7 +77,7 @@ pub(crate) fn draft_clean<'w, 'l, K: Lent>(
     listed: &'l mut [ListedStep],
 ) -> Drafted<'l>
     requires mirror { IsMirror shape words.now flags.now wears.now }
-    requires start { K.start ≡ device_of shape words.now flags.now wears.now }
+    requires start { K.start ≡ mirrored_device shape words.now flags.now wears.now }
     requires list { listed.ghost_name ≡ K.list }
     ensures same_list { result.listed.ghost_name ≡ listed.entry.ghost_name }
     ensures drafts { Drafts (CleansCells K.start) result.answer K.start
@@ -105,7 +105,7 @@ pub(crate) fn draft_open<'w, 'l, K: Lent>(
     listed: &'l mut [ListedStep],
 ) -> Drafted<'l>
     requires mirror { IsMirror shape words.now flags.now wears.now }
-    requires start { K.start ≡ device_of shape words.now flags.now wears.now }
+    requires start { K.start ≡ mirrored_device shape words.now flags.now wears.now }
     requires list { listed.ghost_name ≡ K.list }
     ensures same_list { result.listed.ghost_name ≡ listed.entry.ghost_name }
     ensures drafts { Drafts (OpensCells K.start) result.answer K.start
@@ -129,7 +129,7 @@ pub(crate) fn draft_format<'w, 'l, K: Lent>(
     listed: &'l mut [ListedStep],
 ) -> Drafted<'l>
     requires mirror { IsMirror shape words.now flags.now wears.now }
-    requires start { K.start ≡ device_of shape words.now flags.now wears.now }
+    requires start { K.start ≡ mirrored_device shape words.now flags.now wears.now }
     requires list { listed.ghost_name ≡ K.list }
     ensures same_list { result.listed.ghost_name ≡ listed.entry.ghost_name }
     ensures drafts { Drafts (FormatsCells K.start) result.answer K.start

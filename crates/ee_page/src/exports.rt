@@ -2,7 +2,7 @@ ghost use Rattle.std.specs.Prelude.{◌≡◌};
 ghost use Rattle.ee_codec.specs.Words.{IsAddress};
 ghost use Rattle.ee_flash.specs.Size.{size_of};
 ghost use Rattle.ee_page.specs.Calls.{CleansCells, ForgetsCells, FormatsCells, OpensCells, WritesCells};
-ghost use Rattle.ee_page.specs.Exports.{Calls};
+ghost use Rattle.ee_page.specs.Exports.{MakesCall};
 ghost use Rattle.ee_page.specs.Mirror.{mirror_of};
 
 use crate::answer::{Answer, CallResult};
@@ -29,7 +29,7 @@ pub extern "C" fn ee_format(
     wears: &mut [u64],
     listed: &mut [ListedStep],
 ) -> CallResult
-    ensures { Calls (size_of pages page_words) FormatsCells (Unit {0}) result
+    ensures { MakesCall (size_of pages page_words) FormatsCells (Unit {0}) result
         (mirror_of words.old flags.old wears.old) (mirror_of words.new flags.new wears.new)
         listed.new }
 {
@@ -59,7 +59,7 @@ pub extern "C" fn ee_open(
     wears: &mut [u64],
     listed: &mut [ListedStep],
 ) -> CallResult
-    ensures { Calls (size_of pages page_words) OpensCells (Unit {0}) result
+    ensures { MakesCall (size_of pages page_words) OpensCells (Unit {0}) result
         (mirror_of words.old flags.old wears.old) (mirror_of words.new flags.new wears.new)
         listed.new }
 {
@@ -92,7 +92,7 @@ pub extern "C" fn ee_write(
     address: u16,
     value: u32,
 ) -> CallResult
-    ensures { Calls (size_of pages page_words) (λ old. WritesCells old address value)
+    ensures { MakesCall (size_of pages page_words) (λ old. WritesCells old address value)
         (IsAddress address) result
         (mirror_of words.old flags.old wears.old) (mirror_of words.new flags.new wears.new)
         listed.new }
@@ -128,7 +128,7 @@ pub extern "C" fn ee_forget(
     listed: &mut [ListedStep],
     address: u16,
 ) -> CallResult
-    ensures { Calls (size_of pages page_words) (λ old. ForgetsCells old address)
+    ensures { MakesCall (size_of pages page_words) (λ old. ForgetsCells old address)
         (IsAddress address) result
         (mirror_of words.old flags.old wears.old) (mirror_of words.new flags.new wears.new)
         listed.new }
@@ -162,7 +162,7 @@ pub extern "C" fn ee_clean(
     wears: &mut [u64],
     listed: &mut [ListedStep],
 ) -> CallResult
-    ensures { Calls (size_of pages page_words) CleansCells (Unit {0}) result
+    ensures { MakesCall (size_of pages page_words) CleansCells (Unit {0}) result
         (mirror_of words.old flags.old wears.old) (mirror_of words.new flags.new wears.new)
         listed.new }
 {

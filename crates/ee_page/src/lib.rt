@@ -19,6 +19,21 @@
 //! which number stands for which answer, and `specs/Exports.antt` what a call tells its caller and
 //! leaves in the memory that is lent to it. Nothing can stand on a static library: the exports are
 //! all that there is to use.
+//!
+//! # What is proved
+//!
+//! , the module of the page: the store's calls over a mirror of the flash, each with the list of
+//! the steps that it takes. `ee_format`, `ee_open`, `ee_write`, `ee_forget` and `ee_clean` say
+//! their answer and what the mirror means afterwards, by the relations of `ee_core`, for every
+//! mirror and list: each listed step can be taken when it comes, an erase has the value 0, and
+//! played in order they lead from what the mirror meant to what it means; a list that is refused as
+//! too short is full of steps that lead to what a cut in the call may leave, in its words and, but
+//! for one page's wear that may be one more, in its wears, and nothing is written; where the words
+//! are no store nothing is written or listed, and the answer says why, a foreign word with its
+//! place; and each other refusal has its cause, the shape and the address among them (`MakesCall` of
+//! `specs/Exports.antt`). `ee_read`, `ee_next` and `ee_counts` find exactly what the mirror says,
+//! or why it is no store (`Looks`, `CountsIn` of `specs/Looks.antt`). What a front of a list leaves
+//! is not proved, nor that a list with a place for each step is taken.
 #![tactic(auto)]
 
 mod answer;

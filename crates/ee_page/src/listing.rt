@@ -19,11 +19,11 @@ pub struct ListedStep {
 }
 
 impl ListedStep {
-    ghost use Rattle.ee_page.specs.Listing.{IsZeroIfErase, left_by, step_of};
+    ghost use Rattle.ee_page.specs.Listing.{IsZeroIfErase, left_by, step_listed_so};
 
     /// The erase of a page.
     pub(crate) fn erase(page: usize) -> Self
-        ensures erases { step_of result ≡ Erase page }
+        ensures erases { step_listed_so result ≡ Erase page }
         ensures zero { IsZeroIfErase result }
     {
         ListedStep {
@@ -35,7 +35,7 @@ impl ListedStep {
 
     /// What it leaves of this word of a page.
     pub(crate) fn leaves(self, page: usize, at: usize, word: Word) -> Word
-        ensures { result ≡ left_by (step_of self) page at word }
+        ensures { result ≡ left_by (step_listed_so self) page at word }
     {
         if self.page != page {
             return word;

@@ -1,15 +1,15 @@
 ghost use Rattle.std.specs.Prelude.{◌≡◌};
-ghost use Rattle.ee_page.specs.Looks.{AreCounts, IsNext, IsRead};
-ghost use Rattle.ee_page.specs.Mirror.{IsMirror, device_of};
+ghost use Rattle.ee_page.specs.Looks.{AreStoreCounts, IsNext, IsValueRead};
+ghost use Rattle.ee_page.specs.Mirror.{IsMirror, mirrored_device};
 ghost use Rattle.ee_pages.specs.Meaning.{above_of};
 
 use crate::answer::Answer;
 use crate::draft::{DraftFlash, Drafted, Lent};
 use crate::listing::ListedStep;
 use ee_codec::Address;
+use ee_core::count_pending;
 use ee_flash::{Flash, Shape};
 use ee_pages::{latest, live_count, next_live, scan};
-use ee_store::count_pending;
 
 /// What a look finds: an address with its value, 0 and 0 where there is none.
 #[derive(Clone, Copy, Debug, PartialEq, Eq)]
@@ -155,9 +155,9 @@ pub(crate) fn look_up<'w, 'l, K: Lent>(
     address: Address,
 ) -> (Found, &'l mut [ListedStep])
     requires mirror { IsMirror shape words.now flags.now wears.now }
-    requires start { K.start ≡ device_of shape words.now flags.now wears.now }
+    requires start { K.start ≡ mirrored_device shape words.now flags.now wears.now }
     requires list { listed.ghost_name ≡ K.list }
-    ensures { IsRead K.start address result.0.answer result.0.address result.0.value }
+    ensures { IsValueRead K.start address result.0.answer result.0.address result.0.value }
 {
     let draft = DraftFlash::<K>::of(shape, words, flags, wears, listed);
     let found = find(&draft, address);
@@ -167,7 +167,7 @@ pub(crate) fn look_up<'w, 'l, K: Lent>(
 
 // Looks an address up in any device.
 fn find<F: Flash>(flash: &F, address: Address) -> Found
-    ensures { IsRead (F.device flash.now) address result.answer result.address result.value }
+    ensures { IsValueRead (F.device flash.now) address result.answer result.address result.value }
 {
     let layout = match scan(flash) {
         Ok(layout) => layout,
@@ -193,7 +193,7 @@ pub(crate) fn look_on<'w, 'l, K: Lent>(
     after: Option<Address>,
 ) -> (Found, &'l mut [ListedStep])
     requires mirror { IsMirror shape words.now flags.now wears.now }
-    requires start { K.start ≡ device_of shape words.now flags.now wears.now }
+    requires start { K.start ≡ mirrored_device shape words.now flags.now wears.now }
     requires list { listed.ghost_name ≡ K.list }
     ensures { IsNext K.start (above_of after) result.0.answer result.0.address result.0.value }
 {
@@ -230,9 +230,9 @@ pub(crate) fn count<'w, 'l, K: Lent>(
     listed: &'l mut [ListedStep],
 ) -> (Counts, &'l mut [ListedStep])
     requires mirror { IsMirror shape words.now flags.now wears.now }
-    requires start { K.start ≡ device_of shape words.now flags.now wears.now }
+    requires start { K.start ≡ mirrored_device shape words.now flags.now wears.now }
     requires list { listed.ghost_name ≡ K.list }
-    ensures { AreCounts K.start result.0 }
+    ensures { AreStoreCounts K.start result.0 }
 {
     let draft = DraftFlash::<K>::of(shape, words, flags, wears, listed);
     let found = find_counts(&draft);
@@ -242,7 +242,7 @@ pub(crate) fn count<'w, 'l, K: Lent>(
 
 // Counts what is used in any device.
 fn find_counts<F: Flash>(flash: &F) -> Counts
-    ensures { AreCounts (F.device flash.now) result }
+    ensures { AreStoreCounts (F.device flash.now) result }
 {
     let layout = match scan(flash) {
         Ok(layout) => layout,

@@ -2,7 +2,7 @@ ghost use Rattle.std.specs.Prelude.{◌≡◌, ◌<◌, IfNone, IfSome};
 ghost use Rattle.ee_codec.specs.Words.{IsAddress};
 ghost use Rattle.ee_flash.specs.Size.{size_of};
 ghost use Rattle.ee_pages.specs.Meaning.{above_of};
-ghost use Rattle.ee_page.specs.Looks.{CountsIn, IsNext, IsRead, Looks};
+ghost use Rattle.ee_page.specs.Looks.{CountsIn, IsNext, IsValueRead, Looks};
 ghost use Rattle.ee_page.specs.Mirror.{mirror_of};
 
 use crate::answer::Answer;
@@ -26,7 +26,7 @@ pub extern "C" fn ee_read(
     wears: &[u64],
     address: u16,
 ) -> FoundResult
-    ensures { Looks (size_of pages page_words) (λ device. IsRead device address)
+    ensures { Looks (size_of pages page_words) (λ device. IsValueRead device address)
         (IsAddress address) result (mirror_of words.now flags.now wears.now) }
 {
     let Some(shape) = shape_of(pages, page_words, words, flags, wears) else {

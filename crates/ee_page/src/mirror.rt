@@ -1,10 +1,11 @@
 ghost use Rattle.std.specs.Prelude.{◌≡◌, ◌≤◌, SomeIff, false, length, take, true};
 ghost use Rattle.std.specs.List.{All};
+ghost use Rattle.ee_flash.specs.Endurance.{CanTakeAll};
 ghost use Rattle.ee_flash.specs.Size.{size_of};
 ghost use Rattle.ee_page.specs.Answers.{is_played, result_of};
 ghost use Rattle.ee_page.specs.Exports.{IsPlayed};
-ghost use Rattle.ee_page.specs.Listing.{AllTaken, IsZeroIfErase, steps_of};
-ghost use Rattle.ee_page.specs.Mirror.{IsMirror, device_of, mirror_of};
+ghost use Rattle.ee_page.specs.Listing.{IsZeroIfErase, steps_of};
+ghost use Rattle.ee_page.specs.Mirror.{IsMirror, mirrored_device, mirror_of};
 
 use crate::answer::{Answer, CallResult};
 use crate::listing::ListedStep;
@@ -46,7 +47,7 @@ pub(crate) fn settle(
     requires mirror { IsMirror shape words.old flags.old wears.old }
     requires within { is_played answer ≡ true → count ≤ length listed.now }
     requires taken { is_played answer ≡ true
-        → AllTaken (steps_of count listed.now) (device_of shape words.old flags.old wears.old) }
+        → CanTakeAll (steps_of count listed.now) (mirrored_device shape words.old flags.old wears.old) }
     requires zeros { is_played answer ≡ true → All IsZeroIfErase (take count listed.now) }
     ensures told { result ≡ result_of answer result.listed }
     ensures refused { is_played answer ≡ false

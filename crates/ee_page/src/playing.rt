@@ -1,10 +1,11 @@
 ghost use Rattle.std.specs.Prelude.{◌<◌, ◌≤◌, ◌≡◌, ◌+◌, ◌*◌, List, length, ℕ};
 ghost use Rattle.ee_flash.specs.Device.{all_ones};
+ghost use Rattle.ee_flash.specs.Endurance.{CanTakeAll};
 ghost use Rattle.ee_flash.specs.Laws.{CanTake, all_completed};
 ghost use Rattle.ee_flash.specs.Size.{page_count};
-ghost use Rattle.ee_flash.specs.Step.{Erase, Program, completed};
-ghost use Rattle.ee_page.specs.Listing.{AllTaken, step_of, steps_of};
-ghost use Rattle.ee_page.specs.Mirror.{IsMirror, device_of};
+ghost use Rattle.ee_flash.specs.Step.{Erase, Program, device_after};
+ghost use Rattle.ee_page.specs.Listing.{step_listed_so, steps_of};
+ghost use Rattle.ee_page.specs.Mirror.{IsMirror, mirrored_device};
 
 use crate::listing::ListedStep;
 use ee_flash::Shape;
@@ -20,12 +21,12 @@ pub(crate) fn play(
 )
     requires mirror { IsMirror shape words.old flags.old wears.old }
     requires within { count ≤ length listed.now }
-    requires taken { AllTaken (steps_of count listed.now)
-        (device_of shape words.old flags.old wears.old) }
+    requires taken { CanTakeAll (steps_of count listed.now)
+        (mirrored_device shape words.old flags.old wears.old) }
     ensures mirror { IsMirror shape words.new flags.new wears.new }
-    ensures played { device_of shape words.new flags.new wears.new
+    ensures played { mirrored_device shape words.new flags.new wears.new
         ≡ all_completed (steps_of count listed.now)
-        (device_of shape words.old flags.old wears.old) }
+        (mirrored_device shape words.old flags.old wears.old) }
 {
     'listed: for taken in 0..count {
         take_step(shape, words, flags, wears, listed[taken]);
@@ -35,10 +36,10 @@ pub(crate) fn play(
 // Takes one step on a mirror.
 fn take_step(shape: Shape, words: &mut [u64], flags: &mut [u8], wears: &mut [u64], step: ListedStep)
     requires mirror { IsMirror shape words.old flags.old wears.old }
-    requires may { CanTake (step_of step) (device_of shape words.old flags.old wears.old) }
+    requires may { CanTake (step_listed_so step) (mirrored_device shape words.old flags.old wears.old) }
     ensures mirror { IsMirror shape words.new flags.new wears.new }
-    ensures done { device_of shape words.new flags.new wears.new
-        ≡ completed (step_of step) (device_of shape words.old flags.old wears.old) }
+    ensures done { mirrored_device shape words.new flags.new wears.new
+        ≡ device_after (step_listed_so step) (mirrored_device shape words.old flags.old wears.old) }
 {
     if step.place == usize::MAX {
         erase(shape, words, flags, wears, step.page);
@@ -56,8 +57,8 @@ fn program(shape: Shape, words: &mut [u64], flags: &mut [u8], page: usize, at: u
     requires below_all_ones { value < all_ones }
     ensures words { length words.new ≡ length words.old }
     ensures flags { length flags.new ≡ length flags.old }
-    ensures done { (wears : List ℕ) → device_of shape words.new flags.new wears
-        ≡ completed (Program page at value) (device_of shape words.old flags.old wears) }
+    ensures done { (wears : List ℕ) → mirrored_device shape words.new flags.new wears
+        ≡ device_after (Program page at value) (mirrored_device shape words.old flags.old wears) }
 {
     let place = page * shape.words() + at;
     words[place] = value;
@@ -69,8 +70,8 @@ fn erase(shape: Shape, words: &mut [u64], flags: &mut [u8], wears: &mut [u64], p
     requires mirror { IsMirror shape words.old flags.old wears.old }
     requires page_in_range { page < page_count shape }
     ensures mirror { IsMirror shape words.new flags.new wears.new }
-    ensures done { device_of shape words.new flags.new wears.new
-        ≡ completed (Erase page) (device_of shape words.old flags.old wears.old) }
+    ensures done { mirrored_device shape words.new flags.new wears.new
+        ≡ device_after (Erase page) (mirrored_device shape words.old flags.old wears.old) }
 {
     let start = page * shape.words();
     let end = start + shape.words();

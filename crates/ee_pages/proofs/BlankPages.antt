@@ -11,7 +11,7 @@ use Rattle.std.proofs.lemmas.List.Sums.{length-filter, prefix_len_passes, sum_by
 use Rattle.std.proofs.lemmas.Nat.{row_fits}
 use Rattle.ee_flash.specs.Device.{Device, page_at}
 use Rattle.ee_flash.specs.Laws.{IsStep, page_of}
-use Rattle.ee_flash.specs.Step.{Erase, Program, Step, completed}
+use Rattle.ee_flash.specs.Step.{Erase, Program, Step, device_after}
 use Rattle.ee_flash.specs.declared.word.Word.{Word}
 use Rattle.ee_flash.specs.declared.word.Word.TheVariants.{Erased}
 use Rattle.ee_flash.proofs.Outcomes.{step_changes_one_page}
@@ -57,7 +57,7 @@ erase_lowers_pending page old new side of written taken =
     ]
 
 pub whole_erase_lowers_pending : (page : ℕ) (old new : Device) (side : Side) → IsPageOf old.size side page → is_blank (page_at old page) ≡ false → IsStep (Erase page) old new
-    → new ≡ completed (Erase page) old → (pending_of (set_of side new) + 1 ≡ pending_of (set_of side old)) × (is_blank (page_at new page) ≡ true)
+    → new ≡ device_after (Erase page) old → (pending_of (set_of side new) + 1 ≡ pending_of (set_of side old)) × (is_blank (page_at new page) ≡ true)
 whole_erase_lowers_pending page old new side of written taken whole =
     let count = after_step (Erase page) old new side of taken in
     let words = old.size.words in

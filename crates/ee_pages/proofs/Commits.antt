@@ -6,7 +6,7 @@ use Rattle.std.proofs.lemmas.List.{get_or-set_other, get_or-set_same}
 use Rattle.ee_flash.specs.Device.{Device, IsFormed, page_at}
 use Rattle.ee_flash.specs.Laws.{DiffersInPage, IsStep}
 use Rattle.ee_flash.specs.Size.{Size}
-use Rattle.ee_flash.specs.Step.{completed, with_word}
+use Rattle.ee_flash.specs.Step.{device_after, with_word}
 use Rattle.ee_flash.specs.declared.word.Word.{Word}
 use Rattle.ee_flash.specs.declared.word.Word.TheVariants.{Erased, Held, Torn}
 use Rattle.ee_flash.proofs.Outcomes.{step_changes_one_page, step_keeps_formed, step_leaves_pages}
@@ -14,10 +14,10 @@ use Rattle.ee_codec.proofs.Spelling.{receive_of-receive}
 use Rattle.ee_codec.specs.Reading.{mark_of, receive_of}
 use Rattle.ee_codec.specs.Words.{mark_number, IsGeneration}
 use Rattle.ee_pages.specs.Filling.{IsCommitted, IsFilling}
-use Rattle.ee_pages.specs.Laws.{IsPageOf, Keeps}
+use Rattle.ee_pages.specs.Laws.{IsPageOf, KeepsLiveSet}
 use Rattle.ee_pages.specs.Legal.{IsLive, is_allowed, is_allowed_at}
 use Rattle.ee_pages.specs.Page.{marking, word_in}
-use Rattle.ee_pages.specs.Sets.{committed, first_page, front, greater, is_mark, live_of, other, set_of, slots_of, word_of}
+use Rattle.ee_pages.specs.Sets.{committed_generation, first_page, front, greater, is_mark, live_of, other, set_of, slots_of, word_of}
 use Rattle.ee_pages.specs.declared.side.Side.{Side}
 use Rattle.ee_pages.specs.declared.side.Side.TheVariants.{First, Second}
 use Rattle.ee_pages.specs.declared.state.Mark.TheVariants.{Active}
@@ -39,7 +39,7 @@ only_second None generation e = cc
 only_second (Some second) generation e = let same : second ≡ generation = ap generation_in e in ap Some same
 
 -- the live set is committed with its generation
-pub live_commits : (side : Side) (device : Device) (generation : ℕ) → live_of device ≡ Some (side, generation) → committed (set_of side device) ≡ Some generation
+pub live_commits : (side : Side) (device : Device) (generation : ℕ) → live_of device ≡ Some (side, generation) → committed_generation (set_of side device) ≡ Some generation
 live_commits First device generation live = only_first _ generation (greater_first _ _ generation live)
 live_commits Second device generation live = only_second _ generation (greater_second _ _ generation live)
 
@@ -47,7 +47,7 @@ less_more : (n : ℕ) → (nat_lt (n + 1) n ≡ false) × (nat_lt n (n + 1) ≡ 
 less_more n = (grind (arith, common_steps), grind (arith, common_steps))
 
 -- of two committed sets, one generation apart, the later one is live
-later_is_live : (side : Side) (device : Device) (generation : ℕ) → committed (set_of side device) ≡ Some generation → committed (set_of (other side) device) ≡ Some (generation + 1) → live_of device ≡ Some (other side, generation + 1)
+later_is_live : (side : Side) (device : Device) (generation : ℕ) → committed_generation (set_of side device) ≡ Some generation → committed_generation (set_of (other side) device) ≡ Some (generation + 1) → live_of device ≡ Some (other side, generation + 1)
 later_is_live First device generation before after = rw (before, after, (less_more generation).0, (less_more generation).1) refl
 later_is_live Second device generation before after = rw (before, after, (less_more generation).1) refl
 
@@ -77,7 +77,7 @@ further_words pages word page at further =
 any_commits : (size : Size) (generation written : ℕ) → is_allowed size generation written 0 1 (Held mark_number) ≡ true
 any_commits size generation written = grind (arith, common_steps)
 
-pub marked_commits : (pages : List (List Word)) (word : Word) → 0 < length pages → 1 < length (get_or pages 0 []) → committed (marked pages word) ≡ cond (is_mark (mark_of word)) (receive_of (word_of pages 0 0)) None
+pub marked_commits : (pages : List (List Word)) (word : Word) → 0 < length pages → 1 < length (get_or pages 0 []) → committed_generation (marked pages word) ≡ cond (is_mark (mark_of word)) (receive_of (word_of pages 0 0)) None
 marked_commits pages word some long = rw (marked_word pages word some long, first_words pages word 0 some (λ e. cc)) refl
 
 pub mark_allowed : (size : Size) (generation : ℕ) (pages : List (List Word)) (page at : ℕ) → 0 < length pages → 1 < length (get_or pages 0 []) → is_allowed_at size generation pages page at ≡ true → is_allowed_at size generation (marked pages (Held mark_number)) page at ≡ true
@@ -133,12 +133,12 @@ module _ (old new : Device) (side : Side) (generation count : ℕ) (live : IsLiv
       omega (arith, ap length same, count, taken.formed.within_limits.some_words)
 
   -- the whole mark
-  commits_whole : new.image ≡ (completed (marking (first_page old.size (other side)) Active) old).image → IsCommitted old new (other side) (generation + 1)
+  commits_whole : new.image ≡ (device_after (marking (first_page old.size (other side)) Active) old).image → IsCommitted old new (other side) (generation + 1)
   commits_whole is =
       let pages = set_marked old new (other side) taken.formed differs (Held mark_number) is in
-      let after : committed (set_of (other side) new) ≡ Some (generation + 1) =
-      ap committed pages ∙ marked_commits (set_of (other side) old) (Held mark_number) some long ∙ ap receive_of filling.receives ∙ receive_of-receive (generation + 1) (omega arith, proper) in
-      let before : committed (set_of side new) ≡ Some generation = ap committed same_live ∙ live_commits side old generation live.live in
+      let after : committed_generation (set_of (other side) new) ≡ Some (generation + 1) =
+      ap committed_generation pages ∙ marked_commits (set_of (other side) old) (Held mark_number) some long ∙ ap receive_of filling.receives ∙ receive_of-receive (generation + 1) (omega arith, proper) in
+      let before : committed_generation (set_of side new) ≡ Some generation = ap committed_generation same_live ∙ live_commits side old generation live.live in
       record {
         live = record {
           formed = formed_after;
@@ -155,18 +155,18 @@ module _ (old new : Device) (side : Side) (generation count : ℕ) (live : IsLiv
         same_slots = ap slots_of pages ∙ header_word (set_of (other side) old) 0 1 (Held mark_number) (omega arith);
       }
 
-  keeps_by : (committed (set_of (other side) new) ≡ committed (set_of (other side) old)) ⊎ (committed (set_of (other side) new) ≡ None) → Keeps old new side generation
+  keeps_by : (committed_generation (set_of (other side) new) ≡ committed_generation (set_of (other side) old)) ⊎ (committed_generation (set_of (other side) new) ≡ None) → KeepsLiveSet old new side generation
   keeps_by after = keeps_live side old new generation live formed_after differs.same_size same_live after
 
   -- a torn mark does not commit
-  torn_keeps : new.image ≡ (with_word (first_page old.size (other side)) 1 Torn old).image → Keeps old new side generation
+  torn_keeps : new.image ≡ (with_word (first_page old.size (other side)) 1 Torn old).image → KeepsLiveSet old new side generation
   torn_keeps is =
       let pages = set_marked old new (other side) taken.formed differs Torn is in
-      keeps_by (inr (ap committed pages ∙ marked_commits (set_of (other side) old) Torn some long))
+      keeps_by (inr (ap committed_generation pages ∙ marked_commits (set_of (other side) old) Torn some long))
 
-  outcomes : Keeps old new side generation ⊎ IsCommitted old new (other side) (generation + 1)
+  outcomes : KeepsLiveSet old new side generation ⊎ IsCommitted old new (other side) (generation + 1)
   outcomes = elim (step_leaves_pages (marking (first_page old.size (other side)) Active) old new taken) [
-    | inl same ↦ inl (keeps_by (inl (ap committed (same_image (other side) old new differs.same_size same))))
+    | inl same ↦ inl (keeps_by (inl (ap committed_generation (same_image (other side) old new differs.same_size same))))
     | inr (inl held) ↦ inr (commits_whole held)
     | inr (inr torn) ↦ inl (torn_keeps torn)
   ]
@@ -174,13 +174,13 @@ module _ (old new : Device) (side : Side) (generation count : ℕ) (live : IsLiv
 pub commit_commits : (old new : Device) (side : Side) (generation count : ℕ) → IsLive old side generation → IsFilling old (other side) (generation + 1) count
     → IsGeneration (generation + 1) → IsStep (marking (first_page old.size (other side)) Active) old new
     → (set_of side new ≡ set_of side old)
-    × (Keeps old new side generation ⊎ IsCommitted old new (other side) (generation + 1))
+    × (KeepsLiveSet old new side generation ⊎ IsCommitted old new (other side) (generation + 1))
 commit_commits old new side generation count live filling proper taken =
     let below : generation + 1 < 4294967295 = omega (arith, proper.1) in
     (same_live old new side generation count live filling below taken, outcomes old new side generation count live filling below taken)
 
 pub whole_commit_commits : (old new : Device) (side : Side) (generation count : ℕ) → IsLive old side generation → IsFilling old (other side) (generation + 1) count
-    → IsGeneration (generation + 1) → let step = marking (first_page old.size (other side)) Active in IsStep step old new → new ≡ completed step old
+    → IsGeneration (generation + 1) → let step = marking (first_page old.size (other side)) Active in IsStep step old new → new ≡ device_after step old
     → IsCommitted old new (other side) (generation + 1)
 whole_commit_commits old new side generation count live filling proper taken whole =
     let below : generation + 1 < 4294967295 = omega (arith, proper.1) in

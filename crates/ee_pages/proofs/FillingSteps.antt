@@ -9,14 +9,14 @@ use Rattle.std.proofs.lemmas.List.{get_or_past}
 use Rattle.ee_flash.specs.Device.{Device, IsFormed}
 use Rattle.ee_flash.specs.Laws.{IsStep}
 use Rattle.ee_flash.specs.Size.{Size, slot_count}
-use Rattle.ee_flash.specs.Step.{Program, completed}
+use Rattle.ee_flash.specs.Step.{Program, device_after}
 use Rattle.ee_flash.specs.declared.word.Word.{Word}
 use Rattle.ee_flash.specs.declared.word.Word.TheVariants.{Erased, Held}
 use Rattle.ee_flash.proofs.Outcomes.{step_changes_one_page, step_keeps_formed}
 use Rattle.ee_codec.specs.Words.{receive, IsGeneration}
 use Rattle.ee_pages.specs.Filling.{IsFilling}
 use Rattle.ee_pages.specs.Legal.{fits, is_allowed, place_of}
-use Rattle.ee_pages.specs.Meaning.{meaning, value_said, Change, Spells, changed}
+use Rattle.ee_pages.specs.Meaning.{meaning, value_said, Change, SpellsChange, map_after}
 use Rattle.ee_pages.specs.Page.{is_blank, is_written, marking}
 use Rattle.ee_pages.specs.Sets.{fill_of, first_page, front, page_of_slot, place_of_slot, set_of, slots_of, word_of}
 use Rattle.ee_pages.specs.declared.side.Side.{Side}
@@ -32,11 +32,11 @@ use Rattle.ee_pages.proofs.Slots.{length-slots, page_in_range, slot_at}
 use Rattle.ee_pages.proofs.SlotWrites.{IsSlotWritten, change_written, changes}
 
 pub stages_change : (change : Change) (number : ℕ) (old new : Device) (side : Side) (generation count : ℕ) → IsFilling old side generation count
-    → count < slot_count old.size → Spells number change
-    → let step = slot_step old.size side count number in IsStep step old new → new ≡ completed step old
+    → count < slot_count old.size → SpellsChange number change
+    → let step = slot_step old.size side count number in IsStep step old new → new ≡ device_after step old
     → IsFilling new side generation (count + 1)
     × (slots_of (set_of side new) ≡ slice_set (slots_of (set_of side old)) count (Held number))
-    × ((address : ℕ) → meaning (slots_of (set_of side new)) address ≡ changed change (meaning (slots_of (set_of side old))) address)
+    × ((address : ℕ) → meaning (slots_of (set_of side new)) address ≡ map_after change (meaning (slots_of (set_of side old))) address)
 stages_change change number old new side generation count filling room spells taken done =
     let slots = slots_of (set_of side old) in
     let k = page_of_slot old.size count in
@@ -61,7 +61,7 @@ receives-own generation = grind (arith, common_steps)
 
 pub opens_page : (page : ℕ) (old new : Device) (side : Side) (generation count : ℕ) → IsGeneration generation → IsFilling old side generation count
     → page < old.size.pages → page * (old.size.words - 4) ≤ count
-    → let step = marking (first_page old.size side + page) (Receive generation) in IsStep step old new → new ≡ completed step old
+    → let step = marking (first_page old.size side + page) (Receive generation) in IsStep step old new → new ≡ device_after step old
     → IsFilling new side generation count × (slots_of (set_of side new) ≡ slots_of (set_of side old))
 opens_page page old new side generation count proper filling in_range behind taken done = elim (first_or_further page) [
   | inl first ↦
@@ -110,7 +110,7 @@ blank_slots side device formed blank slot = elim (cases_lt slot (slot_count devi
 ]
 
 pub opens_set : (old new : Device) (side : Side) (generation : ℕ) → IsGeneration generation → All (λ page. is_blank page ≡ true) (set_of side old)
-    → let step = marking (first_page old.size side) (Receive generation) in IsStep step old new → new ≡ completed step old
+    → let step = marking (first_page old.size side) (Receive generation) in IsStep step old new → new ≡ device_after step old
     → IsFilling new side generation 0 × ((address : ℕ) → meaning (slots_of (set_of side new)) address ≡ None)
 opens_set old new side generation proper blank taken done =
     let word = Held (receive generation) in
@@ -118,7 +118,7 @@ opens_set old new side generation proper blank taken done =
     let some = taken.formed.within_limits.some_pages in
     let from : first_page old.size side ≡ first_page old.size side + 0 = omega arith in
     let moved : IsStep (Program (first_page old.size side + 0) 0 (receive generation)) old new = subst (λ n. IsStep (Program n 0 (receive generation)) old new) from taken in
-    let whole : new ≡ completed (Program (first_page old.size side + 0) 0 (receive generation)) old = subst (λ n. new ≡ completed (Program n 0 (receive generation)) old) from done in
+    let whole : new ≡ device_after (Program (first_page old.size side + 0) 0 (receive generation)) old = subst (λ n. new ≡ device_after (Program n 0 (receive generation)) old) from done in
     let put : set_of side new ≡ with_word_in (set_of side old) 0 0 word = whole_in_set side old new 0 0 (receive generation) (omega arith) moved whole in
     let written = subst (IsHeaderWritten old generation 0 0 word (set_of side old)) (sym put)
     (header_written side old generation taken.formed (blank_obeyed old.size generation (set_of side old) blank) 0 0 word (omega arith) (omega arith) (omega arith) refl) in

@@ -2,7 +2,7 @@
 use Rattle.std.proofs.Common.{◌≡◌, ℕ, ◌+◌, ◌<◌, Some, None, List, length, get_or, [], refl, subst, sym, ap, ◌∙◌, arith}
 use Rattle.ee_flash.specs.Device.{Device}
 use Rattle.ee_flash.specs.Laws.{DiffersInPage, IsStep}
-use Rattle.ee_flash.specs.Step.{completed}
+use Rattle.ee_flash.specs.Step.{device_after}
 use Rattle.ee_flash.specs.declared.word.Word.{Word}
 use Rattle.ee_flash.specs.declared.word.Word.TheVariants.{Held}
 use Rattle.ee_flash.proofs.Outcomes.{step_changes_one_page, step_keeps_formed}
@@ -13,7 +13,7 @@ use Rattle.ee_pages.specs.Filling.{IsCommitted, IsFilling}
 use Rattle.ee_pages.specs.Laws.{IsPageOf}
 use Rattle.ee_pages.specs.Legal.{is_allowed_at}
 use Rattle.ee_pages.specs.Page.{marking}
-use Rattle.ee_pages.specs.Sets.{committed, first_page, live_of, other, set_of, slots_of}
+use Rattle.ee_pages.specs.Sets.{committed_generation, first_page, live_of, other, set_of, slots_of}
 use Rattle.ee_pages.specs.declared.side.Side.{Side}
 use Rattle.ee_pages.specs.declared.side.Side.TheVariants.{First, Second}
 use Rattle.ee_pages.specs.declared.state.Mark.TheVariants.{Active}
@@ -27,11 +27,11 @@ other_twice First = refl
 other_twice Second = refl
 
 -- a set that alone is committed is live
-only_is_live : (side : Side) (device : Device) (generation : ℕ) → committed (set_of side device) ≡ Some generation → committed (set_of (other side) device) ≡ None → live_of device ≡ Some (side, generation)
+only_is_live : (side : Side) (device : Device) (generation : ℕ) → committed_generation (set_of side device) ≡ Some generation → committed_generation (set_of (other side) device) ≡ None → live_of device ≡ Some (side, generation)
 only_is_live First device generation here none = rw (here, none) refl
 only_is_live Second device generation here none = rw (here, none) refl
 
-module _ (old new : Device) (side : Side) (generation count : ℕ) (filling : IsFilling old side generation count) (some : 0 < generation) (below : generation < 4294967295) (alone : committed (set_of (other side) old) ≡ None) (taken : IsStep (marking (first_page old.size side) Active) old new) where
+module _ (old new : Device) (side : Side) (generation count : ℕ) (filling : IsFilling old side generation count) (some : 0 < generation) (below : generation < 4294967295) (alone : committed_generation (set_of (other side) old) ≡ None) (taken : IsStep (marking (first_page old.size side) Active) old new) where
   differs : DiffersInPage (first_page old.size side) old new
   differs = step_changes_one_page (marking (first_page old.size side) Active) old new taken
 
@@ -51,15 +51,15 @@ module _ (old new : Device) (side : Side) (generation count : ℕ) (filling : Is
       let count = length-page_at old (first_page old.size side) taken.formed taken.may.0 in
       omega (arith, ap length same, count, taken.formed.within_limits.some_words)
 
-  pub commits : new.image ≡ (completed (marking (first_page old.size side) Active) old).image → IsCommitted old new side generation
+  pub commits : new.image ≡ (device_after (marking (first_page old.size side) Active) old).image → IsCommitted old new side generation
   commits is =
       let pages = set_marked old new side taken.formed differs (Held mark_number) is in
-      let after : committed (set_of side new) ≡ Some generation =
-      ap committed pages ∙ marked_commits (set_of side old) (Held mark_number) some_pages long ∙ ap receive_of filling.receives ∙ receive_of-receive generation (some, below) in
+      let after : committed_generation (set_of side new) ≡ Some generation =
+      ap committed_generation pages ∙ marked_commits (set_of side old) (Held mark_number) some_pages long ∙ ap receive_of filling.receives ∙ receive_of-receive generation (some, below) in
       record {
         live = record {
           formed = step_keeps_formed (marking (first_page old.size side) Active) old new taken;
-          live = only_is_live side new generation after (ap committed same_other ∙ alone);
+          live = only_is_live side new generation after (ap committed_generation same_other ∙ alone);
           allowed = λ page at in_range within.
               let old_page : page < old.size.pages = omega (arith, ap (λ size. size.pages) differs.same_size) in
               let old_at : at < old.size.words = omega (arith, ap (λ size. size.words) differs.same_size) in
@@ -73,7 +73,7 @@ module _ (old new : Device) (side : Side) (generation count : ℕ) (filling : Is
       }
 
 pub first_commit_commits : (old new : Device) (side : Side) (generation count : ℕ) → IsFilling old side generation count → IsGeneration generation
-    → committed (set_of (other side) old) ≡ None → let step = marking (first_page old.size side) Active in IsStep step old new → new ≡ completed step old
+    → committed_generation (set_of (other side) old) ≡ None → let step = marking (first_page old.size side) Active in IsStep step old new → new ≡ device_after step old
     → IsCommitted old new side generation × (set_of (other side) new ≡ set_of (other side) old)
 first_commit_commits old new side generation count filling proper alone taken whole =
     let some : 0 < generation = omega (arith, proper.0) in

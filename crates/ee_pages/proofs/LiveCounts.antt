@@ -9,7 +9,7 @@ use Rattle.ee_flash.specs.declared.word.Word.TheVariants.{Erased, Held, Torn}
 use Rattle.ee_codec.specs.Reading.{slot_of}
 use Rattle.ee_codec.specs.declared.slot.Slot.{Slot}
 use Rattle.ee_codec.specs.declared.slot.Slot.TheVariants.{Free, Spoiled, Element, Forgotten, Foreign}
-use Rattle.ee_pages.specs.Meaning.{Forget, Map, Put, changed, later, latest_in, live_in, live_to, meaning, slot_says, value_said, Change}
+use Rattle.ee_pages.specs.Meaning.{Forget, Map, Put, map_after, later, latest_in, live_in, live_to, meaning, slot_says, value_said, Change}
 use Rattle.ee_pages.specs.Pending.{IsCountAfter, address_of}
 use Rattle.ee_pages.proofs.Counts.{gap_to, live_to-suc, live_to-zero}
 
@@ -56,16 +56,16 @@ module _ (old new : Map) (named : ℕ) (else_same : (address : ℕ) → address 
   pub live_in-differs : 0 < named → named < 65535 → live_in new + cond (is_some (old named)) 1 0 ≡ live_in old + cond (is_some (new named)) 1 0
   live_in-differs some below_end = from 65534 some (omega arith)
 
-put_elsewhere : (named value address : ℕ) (map : Map) → address ≢ named → changed (Put named value) map address ≡ map address
+put_elsewhere : (named value address : ℕ) (map : Map) → address ≢ named → map_after (Put named value) map address ≡ map address
 put_elsewhere named value address map other = grind (arith, common_steps)
 
-forget_elsewhere : (named address : ℕ) (map : Map) → address ≢ named → changed (Forget named) map address ≡ map address
+forget_elsewhere : (named address : ℕ) (map : Map) → address ≢ named → map_after (Forget named) map address ≡ map address
 forget_elsewhere named address map other = grind (arith, common_steps)
 
-put_there : (named value : ℕ) (map : Map) → changed (Put named value) map named ≡ Some value
+put_there : (named value : ℕ) (map : Map) → map_after (Put named value) map named ≡ Some value
 put_there named value map = grind (arith, common_steps)
 
-forget_there : (named : ℕ) (map : Map) → changed (Forget named) map named ≡ None
+forget_there : (named : ℕ) (map : Map) → map_after (Forget named) map named ≡ None
 forget_there named map = grind (arith, common_steps)
 
 put_count : (b : Bool) (old new : ℕ) → new + cond b 1 0 ≡ old + 1 → new ≡ old + cond b 0 1
@@ -74,11 +74,11 @@ put_count false old new e = omega arith
 
 pub change_counts : (change : Change) (map : Map) → IsAddress (address_of change) → IsCountAfter change map
 change_counts (Put address value) map proper =
-    let new = changed (Put address value) map in
+    let new = map_after (Put address value) map in
     let fact = live_in-differs map new address (λ other apart. put_elsewhere address value other map apart) proper.0 proper.1 in
     put_count (is_some (map address)) (live_in map) (live_in new) (rw (put_there address value map) at fact)
 change_counts (Forget address) map proper =
-    let new = changed (Forget address) map in
+    let new = map_after (Forget address) map in
     let fact = live_in-differs map new address (λ other apart. forget_elsewhere address other map apart) proper.0 proper.1 in
     let gone = forget_there address map in
     omega (arith, rw gone at fact)

@@ -1,7 +1,6 @@
 -- Lists of named addresses, and the live ones among them.
-use Rattle.std.proofs.Common.{◌≡◌, inl, inr, ℕ, ◌+◌, ◌-◌, ◌*◌, ◌<◌, ◌≤◌, true, false, Bool, Option, Some, None, List, [], ◌∷◌, ◌++◌, length, take, drop, get_or, set, cond, ◌⊎◌, refl, sym, subst, ap, ◌∙◌, arith, suc, zero}
+use Rattle.std.proofs.Common.{◌≡◌, inl, inr, ℕ, ◌+◌, ◌-◌, ◌*◌, ◌<◌, ◌≤◌, true, false, Bool, Option, Some, None, List, [], ◌∷◌, ◌++◌, length, take, get_or, set, cond, ◌⊎◌, refl, sym, subst, ap, ◌∙◌, arith, suc, zero}
 use Rattle.std.proofs.Math.Nat.{min-le_left, mul-le-mul_right}
-use Rattle.std.proofs.Math.Seq.{take-append_seam}
 use Rattle.std.proofs.lemmas.List.{length-set, length-take, take_all, take_more}
 use Rattle.std.specs.List.{insert}
 use Rattle.std.specs.Prelude.{◌==◌, ◌≢◌, IfNone, IfSome, nat_lt}
@@ -12,7 +11,7 @@ use Rattle.ee_codec.specs.declared.slot.Slot.TheVariants.{Free, Spoiled, Element
 use Rattle.ee_flash.specs.declared.word.Word.{Word}
 use Rattle.ee_flash.specs.declared.word.Word.TheVariants.{Erased}
 use Rattle.ee_pages.specs.Meaning.{AreLiveThrough, AreNextLive, IsNoneLive, last_of, later, latest_in, meaning, says, slot_says, value_said}
-use Rattle.ee_pages.specs.Nearest.{IsPlace, IsRising, Named, gathered, last_named, living, noted, noted_above, slot_names}
+use Rattle.ee_pages.specs.Nearest.{IsPlace, IsRising, Named, with_each_named, last_named, living, with_named, noted_above, slot_names}
 
 -- what a list says of an address
 abbrev pub said_in : List Named → ℕ → Option (Option ℕ)
@@ -26,18 +25,18 @@ said-rest : (first : Named) (rest : List Named) (address : ℕ) → (first.0 ≡
 said-rest first rest address other = ap (λ (b : Bool). cond b (Some first.1) (said_in rest address)) (ne_eqb first.0 address other)
 
 -- where the address goes
-before : (new first : Named) (rest : List Named) → new.0 < first.0 → noted new (first ∷ rest) ≡ new ∷ first ∷ rest
-before new first rest h = ap (λ (b : Bool). cond b (new ∷ first ∷ rest) (cond (new.0 == first.0) (new ∷ rest) (first ∷ noted new rest))) (lt-ltb new.0 first.0 h)
+before : (new first : Named) (rest : List Named) → new.0 < first.0 → with_named new (first ∷ rest) ≡ new ∷ first ∷ rest
+before new first rest h = ap (λ (b : Bool). cond b (new ∷ first ∷ rest) (cond (new.0 == first.0) (new ∷ rest) (first ∷ with_named new rest))) (lt-ltb new.0 first.0 h)
 
-here : (new first : Named) (rest : List Named) → new.0 ≡ first.0 → noted new (first ∷ rest) ≡ new ∷ rest
+here : (new first : Named) (rest : List Named) → new.0 ≡ first.0 → with_named new (first ∷ rest) ≡ new ∷ rest
 here new first rest e =
-    ap (λ (b : Bool). cond b (new ∷ first ∷ rest) (cond (new.0 == first.0) (new ∷ rest) (first ∷ noted new rest))) (le-ltb new.0 first.0 (omega (arith, e)))
-    ∙ ap (λ (b : Bool). cond b (new ∷ rest) (first ∷ noted new rest)) (eq-eqb new.0 first.0 e)
+    ap (λ (b : Bool). cond b (new ∷ first ∷ rest) (cond (new.0 == first.0) (new ∷ rest) (first ∷ with_named new rest))) (le-ltb new.0 first.0 (omega (arith, e)))
+    ∙ ap (λ (b : Bool). cond b (new ∷ rest) (first ∷ with_named new rest)) (eq-eqb new.0 first.0 e)
 
-behind : (new first : Named) (rest : List Named) → first.0 < new.0 → noted new (first ∷ rest) ≡ first ∷ noted new rest
+behind : (new first : Named) (rest : List Named) → first.0 < new.0 → with_named new (first ∷ rest) ≡ first ∷ with_named new rest
 behind new first rest h =
-    ap (λ (b : Bool). cond b (new ∷ first ∷ rest) (cond (new.0 == first.0) (new ∷ rest) (first ∷ noted new rest))) (le-ltb new.0 first.0 (omega arith))
-    ∙ ap (λ (b : Bool). cond b (new ∷ rest) (first ∷ noted new rest)) (ne_eqb new.0 first.0 (λ e. omega (arith, e)))
+    ap (λ (b : Bool). cond b (new ∷ first ∷ rest) (cond (new.0 == first.0) (new ∷ rest) (first ∷ with_named new rest))) (le-ltb new.0 first.0 (omega arith))
+    ∙ ap (λ (b : Bool). cond b (new ∷ rest) (first ∷ with_named new rest)) (ne_eqb new.0 first.0 (λ e. omega (arith, e)))
 
 -- an address is before another, the same, or behind it
 abbrev Compared : ℕ → ℕ → Type 0
@@ -52,15 +51,15 @@ compared a b = elim (cases_lt a b) [
   ]
 ]
 
-said_in-noted : (new : Named) (list : List Named) → said_in (noted new list) new.0 ≡ Some new.1
+said_in-noted : (new : Named) (list : List Named) → said_in (with_named new list) new.0 ≡ Some new.1
 said_in-noted new [] = said-first new [] new.0 refl
 said_in-noted new (first ∷ rest) = elim (compared new.0 first.0) [
   | inl less ↦ rw (before new first rest less) (said-first new (first ∷ rest) new.0 refl)
   | inr (inl same) ↦ rw (here new first rest same) (said-first new rest new.0 refl)
-  | inr (inr more) ↦ rw (behind new first rest more) (said-rest first (noted new rest) new.0 (λ e. omega (arith, e)) ∙ said_in-noted new rest)
+  | inr (inr more) ↦ rw (behind new first rest more) (said-rest first (with_named new rest) new.0 (λ e. omega (arith, e)) ∙ said_in-noted new rest)
 ]
 
-said_in-other : (new : Named) (list : List Named) (address : ℕ) → (new.0 ≡ address → ⊥) → said_in (noted new list) address ≡ said_in list address
+said_in-other : (new : Named) (list : List Named) (address : ℕ) → (new.0 ≡ address → ⊥) → said_in (with_named new list) address ≡ said_in list address
 said_in-other new [] address other = said-rest new [] address other
 said_in-other new (first ∷ rest) address other = elim (compared new.0 first.0) [
   | inl less ↦ rw (before new first rest less) (said-rest new (first ∷ rest) address other)
@@ -68,7 +67,7 @@ said_in-other new (first ∷ rest) address other = elim (compared new.0 first.0)
   | inr (inr more) ↦ rw (behind new first rest more) (ap (λ (said : Option (Option ℕ)). cond (first.0 == address) (Some first.1) said) (said_in-other new rest address other))
 ]
 
-rising-noted : (above : ℕ) (new : Named) (list : List Named) → IsRising above list → above < new.0 → IsRising above (noted new list)
+rising-noted : (above : ℕ) (new : Named) (list : List Named) → IsRising above list → above < new.0 → IsRising above (with_named new list)
 rising-noted above new [] rising low = (low, tt)
 rising-noted above new (first ∷ rest) rising low = elim (compared new.0 first.0) [
   | inl less ↦ rw (before new first rest less) (low, (less, rising.1))
@@ -76,7 +75,7 @@ rising-noted above new (first ∷ rest) rising low = elim (compared new.0 first.
   | inr (inr more) ↦ rw (behind new first rest more) (rising.0, rising-noted first.0 new rest rising.1 more)
 ]
 
-noted-or_not : (b : Bool) (new : Named) (list : List Named) (address : ℕ) → (new.0 ≡ address → ⊥) → said_in (cond b (noted new list) list) address ≡ said_in list address
+noted-or_not : (b : Bool) (new : Named) (list : List Named) (address : ℕ) → (new.0 ≡ address → ⊥) → said_in (cond b (with_named new list) list) address ≡ said_in list address
 noted-or_not true new list address other = said_in-other new list address other
 noted-or_not false new list address other = refl
 
@@ -85,8 +84,8 @@ noted-says : (above : ℕ) (new : Named) (list : List Named) (address : ℕ) →
 noted-says above new list address h = elim (cases_eq new.0 address) [
   | inl same ↦
       let low : above < new.0 = omega (arith, same) in
-      ap (λ (b : Bool). said_in (cond b (noted new list) list) address) (lt-ltb above new.0 low)
-      ∙ subst (λ n. said_in (noted new list) n ≡ Some new.1) same (said_in-noted new list)
+      ap (λ (b : Bool). said_in (cond b (with_named new list) list) address) (lt-ltb above new.0 low)
+      ∙ subst (λ n. said_in (with_named new list) n ≡ Some new.1) same (said_in-noted new list)
       ∙ sym (ap (λ (b : Bool). later (said_in list address) (cond b (Some new.1) None)) (eq-eqb new.0 address same))
   | inr other ↦
       noted-or_not (nat_lt above new.0) new list address other
@@ -105,7 +104,7 @@ later-assoc : (first second third : Option (Option ℕ)) → later (later first 
 later-assoc first second None = refl
 later-assoc first second (Some said) = refl
 
-pub said_in-gathered : (above : ℕ) (words : List Word) (list : List Named) (address : ℕ) → above < address → said_in (gathered above words list) address ≡ later (said_in list address) (latest_in words address)
+pub said_in-gathered : (above : ℕ) (words : List Word) (list : List Named) (address : ℕ) → above < address → said_in (with_each_named above words list) address ≡ later (said_in list address) (latest_in words address)
 said_in-gathered above [] list address h = refl
 said_in-gathered above (word ∷ words) list address h =
     said_in-gathered above words (noted_above above (slot_names (slot_of word)) list) address h
@@ -119,11 +118,11 @@ rising-noted_above above (Some new) list rising = elim (cases_lt above new.0) [
   | inr high ↦ rw (le-ltb above new.0 high) rising
 ]
 
-pub rising-gathered : (above : ℕ) (words : List Word) (list : List Named) → IsRising above list → IsRising above (gathered above words list)
+pub rising-gathered : (above : ℕ) (words : List Word) (list : List Named) → IsRising above list → IsRising above (with_each_named above words list)
 rising-gathered above [] list rising = rising
 rising-gathered above (word ∷ words) list rising = rising-gathered above words (noted_above above (slot_names (slot_of word)) list) (rising-noted_above above (slot_names (slot_of word)) list rising)
 
-pub gathered-append : (above : ℕ) (words more : List Word) (list : List Named) → gathered above (words ++ more) list ≡ gathered above more (gathered above words list)
+pub gathered-append : (above : ℕ) (words more : List Word) (list : List Named) → with_each_named above (words ++ more) list ≡ with_each_named above more (with_each_named above words list)
 gathered-append above [] more list = refl
 gathered-append above (word ∷ words) more list = gathered-append above words more (noted_above above (slot_names (slot_of word)) list)
 
@@ -142,7 +141,7 @@ few-cons : (n : ℕ) (first : Named) (rest : List Named) → take n (first ∷ t
 few-cons zero first rest = refl
 few-cons (suc n) first rest = ap (λ (l : List Named). first ∷ l) (few-shorter n rest)
 
-few-noted : (n : ℕ) (new : Named) (list : List Named) → take n (noted new (take n list)) ≡ take n (noted new list)
+few-noted : (n : ℕ) (new : Named) (list : List Named) → take n (with_named new (take n list)) ≡ take n (with_named new list)
 few-noted zero new list = refl
 few-noted (suc n) new [] = refl
 few-noted (suc n) new (first ∷ rest) = elim (compared new.0 first.0) [
@@ -261,13 +260,13 @@ place_is (first ∷ rest) above address (suc place) default rising within high l
     )
 
 -- over what was noted of it
-pub put_same : (list : List Named) (new : Named) (place : ℕ) (default : Named) → IsPlace new.0 list place → place < length list → (get_or list place default).0 ≡ new.0 → set list place new ≡ noted new list
+pub put_same : (list : List Named) (new : Named) (place : ℕ) (default : Named) → IsPlace new.0 list place → place < length list → (get_or list place default).0 ≡ new.0 → set list place new ≡ with_named new list
 put_same [] new place default at within same = absurd (omega (arith, within))
 put_same (first ∷ rest) new zero default at within same = sym (here new first rest (sym same))
 put_same (first ∷ rest) new (suc place) default at within same = rw (behind new first rest at.0) (ap (λ (l : List Named). first ∷ l) (put_same rest new place default at.1 (omega arith) same))
 
 -- where nothing was noted of it
-pub put_new : (list : List Named) (new : Named) (place : ℕ) (default : Named) → IsPlace new.0 list place → place ≤ length list → (place < length list → (get_or list place default).0 ≢ new.0) → insert list place new ≡ noted new list
+pub put_new : (list : List Named) (new : Named) (place : ℕ) (default : Named) → IsPlace new.0 list place → place ≤ length list → (place < length list → (get_or list place default).0 ≢ new.0) → insert list place new ≡ with_named new list
 put_new [] new zero default at within other = refl
 put_new [] new (suc place) default at within other = absurd (omega (arith, within))
 put_new (first ∷ rest) new zero default at within other =
@@ -277,7 +276,7 @@ put_new (first ∷ rest) new (suc place) default at within other =
     rw (behind new first rest at.0) (ap (λ (l : List Named). first ∷ l) (put_new rest new place default at.1 (omega arith) (λ h. other (omega arith))))
 
 -- where all are below it
-pub put_behind : (list : List Named) (new : Named) → IsPlace new.0 list (length list) → take (length list) (noted new list) ≡ list
+pub put_behind : (list : List Named) (new : Named) → IsPlace new.0 list (length list) → take (length list) (with_named new list) ≡ list
 put_behind [] new at = refl
 put_behind (first ∷ rest) new at = rw (behind new first rest at.0) (ap (λ (l : List Named). first ∷ l) (put_behind rest new at.1))
 
@@ -312,14 +311,14 @@ later-none (Some said) = refl
 
 -- in a list of so many at most
 module _ (room : ℕ) where
-  pub put_over : (list : List Named) (new : Named) (place : ℕ) (default : Named) → IsPlace new.0 list place → place < length list → (get_or list place default).0 ≡ new.0 → length list ≤ room → set list place new ≡ take room (noted new list)
+  pub put_over : (list : List Named) (new : Named) (place : ℕ) (default : Named) → IsPlace new.0 list place → place < length list → (get_or list place default).0 ≡ new.0 → length list ≤ room → set list place new ≡ take room (with_named new list)
   put_over list new place default at within same few =
       let over = put_same list new place default at within same in
       let long : length (set list place new) ≡ length list = length-set list place new in
-      let short : length (noted new list) ≤ room = subst (λ (l : List Named). length l ≤ room) over (omega (arith, long)) in
-      over ∙ sym (take_all room (noted new list) short)
+      let short : length (with_named new list) ≤ room = subst (λ (l : List Named). length l ≤ room) over (omega (arith, long)) in
+      over ∙ sym (take_all room (with_named new list) short)
 
-  pub put_among : (list : List Named) (new : Named) (place : ℕ) (default : Named) → IsPlace new.0 list place → place ≤ length list → (place < length list → (get_or list place default).0 ≢ new.0) → take room (insert list place new) ≡ take room (noted new list)
+  pub put_among : (list : List Named) (new : Named) (place : ℕ) (default : Named) → IsPlace new.0 list place → place ≤ length list → (place < length list → (get_or list place default).0 ≢ new.0) → take room (insert list place new) ≡ take room (with_named new list)
   put_among list new place default at within other = ap (take room) (put_new list new place default at within other)
 
   -- nothing is noted
@@ -334,29 +333,29 @@ module _ (room : ℕ) where
   kept_full above new list place few high at within full =
       let same : place ≡ length list = omega arith in
       let all : length list ≡ room = omega arith in
-      rw (lt-ltb above new.0 high) (sym (ap (λ n. take n (noted new list)) (sym all) ∙ put_behind list new (subst (λ n. IsPlace new.0 list n) same at)))
+      rw (lt-ltb above new.0 high) (sym (ap (λ n. take n (with_named new list)) (sym all) ∙ put_behind list new (subst (λ n. IsPlace new.0 list n) same at)))
 
-  pub put_above : (above : ℕ) (new : Named) (list after : List Named) → above < new.0 → after ≡ take room (noted new list) → after ≡ take room (noted_above above (Some new) list)
+  pub put_above : (above : ℕ) (new : Named) (list after : List Named) → above < new.0 → after ≡ take room (with_named new list) → after ≡ take room (noted_above above (Some new) list)
   put_above above new list after high put = rw (lt-ltb above new.0 high) put
 
   -- what is gathered rises, and is no more than there is room for
-  pub rising_of : (above : ℕ) (words : List Word) (list : List Named) → list ≡ take room (gathered above words []) → IsRising above list
-  rising_of above words list e = subst (λ (l : List Named). IsRising above l) (sym e) (rising-take room above (gathered above words []) (rising-gathered above words [] tt))
+  pub rising_of : (above : ℕ) (words : List Word) (list : List Named) → list ≡ take room (with_each_named above words []) → IsRising above list
+  rising_of above words list e = subst (λ (l : List Named). IsRising above l) (sym e) (rising-take room above (with_each_named above words []) (rising-gathered above words [] tt))
 
-  pub few_of : (above : ℕ) (words : List Word) (list : List Named) → list ≡ take room (gathered above words []) → length list ≤ room
-  few_of above words list e = let long = length-take room (gathered above words []) in omega (arith, ap length e, min-le_left room (length (gathered above words [])))
+  pub few_of : (above : ℕ) (words : List Word) (list : List Named) → list ≡ take room (with_each_named above words []) → length list ≤ room
+  few_of above words list e = let long = length-take room (with_each_named above words []) in omega (arith, ap length e, min-le_left room (length (with_each_named above words [])))
 
   -- one slot more
-  pub one_slot : (above : ℕ) (slots : List Word) (slot : ℕ) (word : Word) (named : Option Named) (list after : List Named) → slot < length slots → word ≡ get_or slots slot Erased → named ≡ slot_names (slot_of word) → list ≡ take room (gathered above (take slot slots) []) → after ≡ take room (noted_above above named list) → after ≡ take room (gathered above (take (slot + 1) slots) [])
-  one_slot above slots slot word named list after within is names before noted =
-      let start = gathered above (take slot slots) [] in
+  pub one_slot : (above : ℕ) (slots : List Word) (slot : ℕ) (word : Word) (named : Option Named) (list after : List Named) → slot < length slots → word ≡ get_or slots slot Erased → named ≡ slot_names (slot_of word) → list ≡ take room (with_each_named above (take slot slots) []) → after ≡ take room (noted_above above named list) → after ≡ take room (with_each_named above (take (slot + 1) slots) [])
+  one_slot above slots slot word named list after within is names before with_named =
+      let start = with_each_named above (take slot slots) [] in
       let said = slot_names (slot_of (get_or slots slot Erased)) in
-      noted
+      with_named
       ∙ ap (λ (new : Option Named). take room (noted_above above new list)) (names ∙ ap (λ (w : Word). slot_names (slot_of w)) is)
       ∙ ap (λ (l : List Named). take room (noted_above above said l)) before
       ∙ few-noted_above room above said start
       ∙ ap (take room) (sym (gathered-append above (take slot slots) (get_or slots slot Erased ∷ []) []))
-      ∙ ap (λ (words : List Word). take room (gathered above words [])) (sym (take_more slots slot Erased within))
+      ∙ ap (λ (words : List Word). take room (with_each_named above words [])) (sym (take_more slots slot Erased within))
 
   through_is : 0 < room → (slots : List Word) (above : ℕ) (all : List Named) (through : Option ℕ) → IsRising above all → AreNext slots above above room all → IfNone through (length (take room all) < room) → IfSome through (λ last. length (take room all) ≡ room) → IfSome through (λ last. last ≡ last_named above (take room all)) → AreLiveThrough (meaning slots) above (living (take room all)) through
   through_is some slots above all None rising next none full last = record { next = next.next; rest = next.all none; further = full }
@@ -367,20 +366,20 @@ module _ (room : ℕ) where
   }
 
   -- so the living ones of the first that are gathered are the next live addresses
-  batch_is : 0 < room → (slots : List Word) (above : ℕ) (list : List Named) (through : Option ℕ) → list ≡ take room (gathered above slots []) → IfNone through (length list < room) → IfSome through (λ last. length list ≡ room) → IfSome through (λ last. last ≡ last_named above list) → AreLiveThrough (meaning slots) above (living list) through
+  batch_is : 0 < room → (slots : List Word) (above : ℕ) (list : List Named) (through : Option ℕ) → list ≡ take room (with_each_named above slots []) → IfNone through (length list < room) → IfSome through (λ last. length list ≡ room) → IfSome through (λ last. last ≡ last_named above list) → AreLiveThrough (meaning slots) above (living list) through
   batch_is some slots above list through e none full last =
-      let all = gathered above slots [] in
+      let all = with_each_named above slots [] in
       let rising = rising-gathered above slots [] tt in
       let next = are_next slots above above room all (omega arith) (λ k more less. absurd (omega arith)) (λ k more. said_in-gathered above slots [] k more ∙ later-none (latest_in slots k)) rising in
       rw e (through_is some slots above all through rising next (rw e at none) (rw e at full) (rw e at last))
 
   -- behind the last page there is no slot
-  pub all_gathered : (above : ℕ) (slots : List Word) (page pages size : ℕ) (list : List Named) → list ≡ take room (gathered above (take (page * size) slots) []) → page ≡ pages → length slots ≡ pages * size → list ≡ take room (gathered above slots [])
+  pub all_gathered : (above : ℕ) (slots : List Word) (page pages size : ℕ) (list : List Named) → list ≡ take room (with_each_named above (take (page * size) slots) []) → page ≡ pages → length slots ≡ pages * size → list ≡ take room (with_each_named above slots [])
   all_gathered above slots page pages size list gathers end long =
       let all : take (page * size) slots ≡ slots = ap (λ n. take (n * size) slots) end ∙ take_all (pages * size) slots (omega (arith, long)) in
-      gathers ∙ ap (λ (words : List Word). take room (gathered above words [])) all
+      gathers ∙ ap (λ (words : List Word). take room (with_each_named above words [])) all
 
   -- the same, as the parts of a batch are made
-  pub batch_from : 0 < room → (slots : List Word) (above start : ℕ) (list items : List Named) (through : Option ℕ) → list ≡ items → items ≡ take room (gathered start slots []) → start ≡ above → IfNone through (length list < room) → IfSome through (λ last. length list ≡ room) → IfSome through (λ last. last ≡ last_named above list) → AreLiveThrough (meaning slots) above (living list) through
+  pub batch_from : 0 < room → (slots : List Word) (above start : ℕ) (list items : List Named) (through : Option ℕ) → list ≡ items → items ≡ take room (with_each_named start slots []) → start ≡ above → IfNone through (length list < room) → IfSome through (λ last. length list ≡ room) → IfSome through (λ last. last ≡ last_named above list) → AreLiveThrough (meaning slots) above (living list) through
   batch_from some slots above start list items through same gathers begins none full last =
-      batch_is some slots above list through (same ∙ gathers ∙ ap (λ n. take room (gathered n slots [])) begins) none full last
+      batch_is some slots above list through (same ∙ gathers ∙ ap (λ n. take room (with_each_named n slots [])) begins) none full last

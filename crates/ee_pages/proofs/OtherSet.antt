@@ -9,11 +9,11 @@ use Rattle.ee_flash.specs.declared.word.Word.{Word}
 use Rattle.ee_flash.specs.declared.word.Word.TheVariants.{Erased, Held, Torn}
 use Rattle.ee_flash.proofs.Outcomes.{step_changes_one_page, step_keeps_formed, step_leaves_pages}
 use Rattle.ee_codec.specs.Reading.{mark_of, receive_of}
-use Rattle.ee_pages.specs.Laws.{CannotCommit, IsPageOf, Keeps}
+use Rattle.ee_pages.specs.Laws.{CannotCommit, IsPageOf, KeepsLiveSet}
 use Rattle.ee_pages.specs.Legal.{IsLive, is_allowed_at}
 use Rattle.ee_pages.specs.Meaning.{meaning}
 use Rattle.ee_pages.specs.Page.{word_in}
-use Rattle.ee_pages.specs.Sets.{committed, fill_of, first_page, greater, is_mark, live_of, other, set_of, slots_of, word_of}
+use Rattle.ee_pages.specs.Sets.{committed_generation, fill_of, first_page, greater, is_mark, live_of, other, set_of, slots_of, word_of}
 use Rattle.ee_pages.specs.declared.side.Side.{Side}
 use Rattle.ee_pages.specs.declared.side.Side.TheVariants.{First, Second}
 
@@ -123,17 +123,17 @@ greater_second None (Some second) generation e = e
 greater_second (Some first) None generation e = let sides : First ≡ Second = ap side_in e in cc sides
 greater_second (Some first) (Some second) generation e = second_by (nat_lt second first) (nat_lt first second) first second generation e
 
-live_stays : (side : Side) (old new : Device) (generation : ℕ) → set_of side new ≡ set_of side old → (committed (set_of (other side) new) ≡ committed (set_of (other side) old)) ⊎ (committed (set_of (other side) new) ≡ None) → live_of old ≡ Some (side, generation) → live_of new ≡ Some (side, generation)
+live_stays : (side : Side) (old new : Device) (generation : ℕ) → set_of side new ≡ set_of side old → (committed_generation (set_of (other side) new) ≡ committed_generation (set_of (other side) old)) ⊎ (committed_generation (set_of (other side) new) ≡ None) → live_of old ≡ Some (side, generation) → live_of new ≡ Some (side, generation)
 live_stays First old new generation same (inl as_before) e = rw (same, as_before) e
 live_stays First old new generation same (inr gone) e = rw (same, gone) (greater_first _ _ generation e)
 live_stays Second old new generation same (inl as_before) e = rw (same, as_before) e
 live_stays Second old new generation same (inr gone) e = rw (same, gone) (greater_second _ _ generation e)
 
-pub commits_by : (side : Side) (device : Device) → IsFormed device → committed (set_of side device) ≡ commits (word_at device (first_page device.size side) 0) (word_at device (first_page device.size side) 1)
+pub commits_by : (side : Side) (device : Device) → IsFormed device → committed_generation (set_of side device) ≡ commits (word_at device (first_page device.size side) 0) (word_at device (first_page device.size side) 1)
 commits_by side device formed = rw (first_word side device 0 formed, first_word side device 1 formed) refl
 
 -- so the live set is live still, where the other one commits as it did, or not at all
-pub keeps_live : (side : Side) (old new : Device) (generation : ℕ) → IsLive old side generation → IsFormed new → new.size ≡ old.size → set_of side new ≡ set_of side old → (committed (set_of (other side) new) ≡ committed (set_of (other side) old)) ⊎ (committed (set_of (other side) new) ≡ None) → Keeps old new side generation
+pub keeps_live : (side : Side) (old new : Device) (generation : ℕ) → IsLive old side generation → IsFormed new → new.size ≡ old.size → set_of side new ≡ set_of side old → (committed_generation (set_of (other side) new) ≡ committed_generation (set_of (other side) old)) ⊎ (committed_generation (set_of (other side) new) ≡ None) → KeepsLiveSet old new side generation
 keeps_live side old new generation live formed same_size same after = record {
   live = record {
     formed = formed;
@@ -148,16 +148,16 @@ keeps_live side old new generation live formed same_size same after = record {
 
 pub other_set_keeps_live : (step : Step) (old new : Device) (side : Side) (generation : ℕ) → IsLive old side generation → IsStep step old new
     → IsPageOf old.size (other side) (page_of step) → CannotCommit (first_page old.size (other side)) step old
-    → Keeps old new side generation × (set_of side new ≡ set_of side old)
+    → KeepsLiveSet old new side generation × (set_of side new ≡ set_of side old)
 other_set_keeps_live step old new side generation live taken at may =
     let differs = step_changes_one_page step old new taken in
     let formed = step_keeps_formed step old new taken in
     let same = same_set side old new (page_of step) differs at in
     let first : first_page new.size (other side) ≡ first_page old.size (other side) = ap (λ size. first_page size (other side)) differs.same_size in
-    let new_commit : committed (set_of (other side) new) ≡ commits (word_at new (first_page old.size (other side)) 0) (word_at new (first_page old.size (other side)) 1) =
+    let new_commit : committed_generation (set_of (other side) new) ≡ commits (word_at new (first_page old.size (other side)) 0) (word_at new (first_page old.size (other side)) 1) =
     commits_by (other side) new formed ∙ ap (λ page. commits (word_at new page 0) (word_at new page 1)) first in
     let old_commit = commits_by (other side) old taken.formed in
-    let after : (committed (set_of (other side) new) ≡ committed (set_of (other side) old)) ⊎ (committed (set_of (other side) new) ≡ None) =
+    let after : (committed_generation (set_of (other side) new) ≡ committed_generation (set_of (other side) old)) ⊎ (committed_generation (set_of (other side) new) ≡ None) =
     elim (commit_after step old new (first_page old.size (other side)) taken may) [
       | inl as_before ↦ inl (new_commit ∙ as_before ∙ sym old_commit)
       | inr gone ↦ inr (new_commit ∙ gone)

@@ -4,7 +4,7 @@ use Rattle.std.proofs.lemmas.Bool.{true≢false}
 use Rattle.std.proofs.lemmas.List.{get_or-set_same}
 use Rattle.ee_flash.specs.Device.{Device, IsFormed, IsOn, page_at, word_at}
 use Rattle.ee_flash.specs.Laws.{CanTake, IsStep}
-use Rattle.ee_flash.specs.Step.{Step, Program, programmed}
+use Rattle.ee_flash.specs.Step.{Step, Program, with_word_programmed}
 use Rattle.ee_flash.specs.declared.word.Word.{Word}
 use Rattle.ee_flash.specs.declared.word.Word.TheVariants.{Erased, Held}
 use Rattle.ee_pages.specs.Page.{is_written}
@@ -14,7 +14,7 @@ use Rattle.ee_pages.specs.Page.{is_written}
 pub other_pages_need_another : ((step : Step) (old new : Device) (page : ℕ) → IsStep step old new → page_at new page ≡ page_at old page)
     → (page at value : ℕ) (old : Device) → IsFormed old → IsOn old → CanTake (Program page at value) old → ⊥
 other_pages_need_another law page at value old formed on may =
-    let new : Device = programmed page at value old in
+    let new : Device = with_word_programmed page at value old in
     let same = law (Program page at value) old new page (record { formed = formed; may = may; follows = inl (record { was_on = on; done = refl }) }) in
     let words = page_at old page in
     let in_range : page < length old.image = omega (arith, formed.image_length, may.0) in

@@ -10,7 +10,7 @@ use Rattle.ee_flash.specs.declared.word.Word.{Word}
 use Rattle.ee_pages.specs.Layout.{IsFirstForeign, IsScanFault}
 use Rattle.ee_pages.specs.Legal.{IsLegal, is_allowed_at}
 use Rattle.ee_pages.specs.Page.{is_blank}
-use Rattle.ee_pages.specs.Sets.{committed, first_page, greater, live_of, set_of}
+use Rattle.ee_pages.specs.Sets.{committed_generation, first_page, greater, live_of, set_of}
 use Rattle.ee_pages.specs.declared.find.ScanFault.{ScanFault}
 use Rattle.ee_pages.specs.declared.find.ScanFault.TheVariants.{Unformatted, NoLiveSet, TwoLive, Foreign}
 use Rattle.ee_pages.specs.declared.side.Side.{Side}
@@ -19,7 +19,7 @@ use Rattle.ee_pages.proofs.BlankWords.{blank_set}
 
 -- ---- a device with no live set
 
-uncommitted : (pages : List (List Word)) → All (λ page. is_blank page ≡ true) pages → committed pages ≡ None
+uncommitted : (pages : List (List Word)) → All (λ page. is_blank page ≡ true) pages → committed_generation pages ≡ None
 uncommitted pages blank = rw (blank_set pages 0 1 blank) refl
 
 none_live : (first second : Option ℕ) → first ≡ None → second ≡ None → greater first second ≡ None
@@ -38,11 +38,11 @@ IsSetFault fault = Unit {0}
 
 no_live : (device : Device) (fault : ScanFault) → IsSetFault fault → IsScanFault device fault → live_of device ≡ None
 no_live device Unformatted kind blank =
-    none_live (committed (set_of First device)) (committed (set_of Second device))
+    none_live (committed_generation (set_of First device)) (committed_generation (set_of Second device))
     (uncommitted (set_of First device) (All-take (λ page. is_blank page ≡ true) device.size.pages device.image blank))
     (uncommitted (set_of Second device) (All-drop (λ page. is_blank page ≡ true) device.size.pages device.image blank))
-no_live device NoLiveSet kind none = none_live (committed (set_of First device)) (committed (set_of Second device)) none.1 none.2
-no_live device TwoLive kind both = two_live (committed (set_of First device)) (committed (set_of Second device)) both.1.0 both.1.1 both.1.2
+no_live device NoLiveSet kind none = none_live (committed_generation (set_of First device)) (committed_generation (set_of Second device)) none.1 none.2
+no_live device TwoLive kind both = two_live (committed_generation (set_of First device)) (committed_generation (set_of Second device)) both.1.0 both.1.1 both.1.2
 no_live device (Foreign page at) kind fault = absurd kind
 
 -- ---- a scan's faults

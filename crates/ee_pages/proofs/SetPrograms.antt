@@ -3,13 +3,13 @@ use Rattle.std.proofs.Common.{◌≡◌, ◌⊎◌, inl, inr, ℕ, ◌+◌, ◌<
 use Rattle.std.proofs.lemmas.List.{drop-set-add, get_or-drop, get_or-take}
 use Rattle.ee_flash.specs.Device.{Device, word_at}
 use Rattle.ee_flash.specs.Laws.{IsStep}
-use Rattle.ee_flash.specs.Step.{Program, completed}
+use Rattle.ee_flash.specs.Step.{Program, device_after}
 use Rattle.ee_flash.specs.declared.word.Word.{Word}
 use Rattle.ee_flash.specs.declared.word.Word.TheVariants.{Erased, Held, Torn}
 use Rattle.ee_flash.proofs.Outcomes.{step_changes_one_page, step_leaves_pages}
 use Rattle.ee_pages.specs.Laws.{IsPageOf}
 use Rattle.ee_pages.specs.Page.{word_in}
-use Rattle.ee_pages.specs.Sets.{committed, first_page, live_of, other, set_of, word_of}
+use Rattle.ee_pages.specs.Sets.{committed_generation, first_page, live_of, other, set_of, word_of}
 use Rattle.ee_pages.specs.declared.side.Side.{Side}
 use Rattle.ee_pages.specs.declared.side.Side.TheVariants.{First, Second}
 use Rattle.ee_pages.proofs.InTheSet.{with_word_in}
@@ -60,7 +60,7 @@ module _ (side : Side) (old new : Device) (k at value : ℕ) (h : k < old.size.p
       ]
 
   -- the whole step puts it there
-  pub whole_in_set : new ≡ completed (Program (first_page old.size side + k) at value) old → set_of side new ≡ with_word_in (set_of side old) k at (Held value)
+  pub whole_in_set : new ≡ device_after (Program (first_page old.size side + k) at value) old → set_of side new ≡ with_word_in (set_of side old) k at (Held value)
   whole_in_set done = put_in_set side old new k at (Held value) h (step_changes_one_page _ old new taken).same_size (ap (λ (device : Device). device.image) done)
 
   -- the other set stays
@@ -72,6 +72,6 @@ module _ (side : Side) (old new : Device) (k at value : ℕ) (h : k < old.size.p
   was_erased = word-in_set side old k at h ∙ taken.may.2
 
 -- which set is live depends on the words that commit the two
-pub same_live : (side : Side) (old new : Device) → committed (set_of side new) ≡ committed (set_of side old) → set_of (other side) new ≡ set_of (other side) old → live_of new ≡ live_of old
+pub same_live : (side : Side) (old new : Device) → committed_generation (set_of side new) ≡ committed_generation (set_of side old) → set_of (other side) new ≡ set_of (other side) old → live_of new ≡ live_of old
 same_live First old new commit same = rw (commit, same) refl
 same_live Second old new commit same = rw (commit, same) refl

@@ -9,7 +9,7 @@ use Rattle.ee_flash.specs.declared.word.Word.TheVariants.{Erased, Held, Torn}
 use Rattle.ee_codec.specs.Reading.{slot_of}
 use Rattle.ee_codec.proofs.Spelling.{slot_of-element, slot_of-forgetting}
 use Rattle.ee_pages.specs.Legal.{fits, is_element, place_of}
-use Rattle.ee_pages.specs.Meaning.{Change, Put, Forget, Spells, changed, later, latest_in, meaning, says, slot_says, value_said}
+use Rattle.ee_pages.specs.Meaning.{Change, Put, Forget, SpellsChange, map_after, later, latest_in, meaning, says, slot_says, value_said}
 use Rattle.ee_pages.specs.Page.{is_written}
 use Rattle.ee_pages.specs.Sets.{fill_of, front, page_of_slot, place_of_slot, set_of, slots_of, word_of}
 use Rattle.ee_pages.specs.declared.side.Side.{Side}
@@ -61,7 +61,7 @@ module _ (side : Side) (device : Device) (generation : ℕ) (formed : IsFormed d
       }
 
 -- what the word of a change says, and that it is an element or a forgetting
-spelled : (change : Change) (number : ℕ) → Spells number change → is_element (slot_of (Held number)) ≡ true
+spelled : (change : Change) (number : ℕ) → SpellsChange number change → is_element (slot_of (Held number)) ≡ true
 spelled (Put address value) number spells = ap (λ n. is_element (slot_of (Held n))) spells.2 ∙ ap is_element (slot_of-element address value spells.0 spells.1)
 spelled (Forget address) number spells = ap (λ n. is_element (slot_of (Held n))) spells.3 ∙ ap is_element (slot_of-forgetting address spells.0 spells.1 spells.2)
 
@@ -69,7 +69,7 @@ said_after : (here : Bool) (new : Option ℕ) (old : Option (Option ℕ)) → va
 said_after true new old = refl
 said_after false new old = refl
 
-pub changes : (change : Change) (number : ℕ) (slots : List Word) (address : ℕ) → Spells number change → value_said (later (latest_in slots address) (says (Held number) address)) ≡ changed change (meaning slots) address
+pub changes : (change : Change) (number : ℕ) (slots : List Word) (address : ℕ) → SpellsChange number change → value_said (later (latest_in slots address) (says (Held number) address)) ≡ map_after change (meaning slots) address
 changes (Put named value) number slots address spells =
     ap (λ n. value_said (later (latest_in slots address) (says (Held n) address))) spells.2
     ∙ ap (λ slot. value_said (later (latest_in slots address) (slot_says slot address))) (slot_of-element named value spells.0 spells.1)
@@ -80,7 +80,7 @@ changes (Forget named) number slots address spells =
     ∙ said_after (named == address) None (latest_in slots address)
 
 module _ (side : Side) (device : Device) (generation : ℕ) (formed : IsFormed device) (obeyed : IsObeyed device.size generation (set_of side device)) (slot : ℕ) (filled : fill_of (slots_of (set_of side device)) ≡ slot) (room : slot < slot_count device.size) where
-  pub change_written : (change : Change) (number : ℕ) → Spells number change → IsSlotWritten device generation slot (Held number) (set_of side device) (with_word_in (set_of side device) (page_of_slot device.size slot) (place_of_slot device.size slot) (Held number))
+  pub change_written : (change : Change) (number : ℕ) → SpellsChange number change → IsSlotWritten device generation slot (Held number) (set_of side device) (with_word_in (set_of side device) (page_of_slot device.size slot) (place_of_slot device.size slot) (Held number))
   change_written change number spells = slot_written side device generation formed obeyed slot (Held number) filled room refl (spelled change number spells)
 
   pub torn_written : IsSlotWritten device generation slot Torn (set_of side device) (with_word_in (set_of side device) (page_of_slot device.size slot) (place_of_slot device.size slot) Torn)

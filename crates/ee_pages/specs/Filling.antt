@@ -5,15 +5,15 @@ use Rattle.std.specs.List.{All}
 use Rattle.ee_flash.specs.Device.{Device, IsFormed}
 use Rattle.ee_flash.specs.Laws.{IsStep}
 use Rattle.ee_flash.specs.Size.{slot_count}
-use Rattle.ee_flash.specs.Step.{completed}
+use Rattle.ee_flash.specs.Step.{device_after}
 use Rattle.ee_flash.specs.declared.word.Word.TheVariants.{Erased, Held}
 use Rattle.ee_codec.specs.Words.{IsGeneration, receive}
-use Rattle.ee_pages.specs.Laws.{Keeps}
+use Rattle.ee_pages.specs.Laws.{KeepsLiveSet}
 use Rattle.ee_pages.specs.Legal.{IsLive, is_allowed_at}
-use Rattle.ee_pages.specs.Meaning.{Change, Spells, changed, meaning}
+use Rattle.ee_pages.specs.Meaning.{Change, SpellsChange, map_after, meaning}
 use Rattle.ee_pages.specs.Page.{is_blank, marking}
 use Rattle.ee_pages.specs.Pushing.{slot_step}
-use Rattle.ee_pages.specs.Sets.{committed, fill_of, first_page, other, set_of, slots_of, word_of}
+use Rattle.ee_pages.specs.Sets.{committed_generation, fill_of, first_page, other, set_of, slots_of, word_of}
 use Rattle.ee_pages.specs.declared.side.Side.{Side}
 use Rattle.ee_pages.specs.declared.state.Mark.TheVariants.{Active, Receive}
 
@@ -30,7 +30,7 @@ pub record IsFilling (device : Device) (side : Side) (generation count : ℕ) : 
 abbrev pub OpensSet : Type 0
 OpensSet =
     (old new : Device) (side : Side) (generation : ℕ) → IsGeneration generation → All (λ page. is_blank page ≡ true) (set_of side old)
-    → let step = marking (first_page old.size side) (Receive generation) in IsStep step old new → new ≡ completed step old
+    → let step = marking (first_page old.size side) (Receive generation) in IsStep step old new → new ≡ device_after step old
     → IsFilling new side generation 0 × ((address : ℕ) → meaning (slots_of (set_of side new)) address ≡ None)
 
 -- a receive word on a further page, with every slot before that page written, opens the page
@@ -38,18 +38,18 @@ abbrev pub OpensPage : Type 0
 OpensPage =
     (page : ℕ) (old new : Device) (side : Side) (generation count : ℕ) → IsGeneration generation → IsFilling old side generation count
     → page < old.size.pages → page * (old.size.words - 4) ≤ count
-    → let step = marking (first_page old.size side + page) (Receive generation) in IsStep step old new → new ≡ completed step old
+    → let step = marking (first_page old.size side + page) (Receive generation) in IsStep step old new → new ≡ device_after step old
     → IsFilling new side generation count × (slots_of (set_of side new) ≡ slots_of (set_of side old))
 
 -- a change in the first free slot changes the map that the set will have
 abbrev pub StagesChange : Type 0
 StagesChange =
     (change : Change) (number : ℕ) (old new : Device) (side : Side) (generation count : ℕ) → IsFilling old side generation count
-    → count < slot_count old.size → Spells number change
-    → let step = slot_step old.size side count number in IsStep step old new → new ≡ completed step old
+    → count < slot_count old.size → SpellsChange number change
+    → let step = slot_step old.size side count number in IsStep step old new → new ≡ device_after step old
     → IsFilling new side generation (count + 1)
     × (slots_of (set_of side new) ≡ slice_set (slots_of (set_of side old)) count (Held number))
-    × ((address : ℕ) → meaning (slots_of (set_of side new)) address ≡ changed change (meaning (slots_of (set_of side old))) address)
+    × ((address : ℕ) → meaning (slots_of (set_of side new)) address ≡ map_after change (meaning (slots_of (set_of side old))) address)
 
 -- the set that was filled is live now, with the slots that it was filled with
 pub record IsCommitted (old new : Device) (side : Side) (generation : ℕ) : Type 0 where
@@ -64,18 +64,18 @@ CommitCommits =
     (old new : Device) (side : Side) (generation count : ℕ) → IsLive old side generation → IsFilling old (other side) (generation + 1) count
     → IsGeneration (generation + 1) → IsStep (marking (first_page old.size (other side)) Active) old new
     → (set_of side new ≡ set_of side old)
-    × (Keeps old new side generation ⊎ IsCommitted old new (other side) (generation + 1))
+    × (KeepsLiveSet old new side generation ⊎ IsCommitted old new (other side) (generation + 1))
 
 -- the whole step makes it live
 abbrev pub WholeCommitCommits : Type 0
 WholeCommitCommits =
     (old new : Device) (side : Side) (generation count : ℕ) → IsLive old side generation → IsFilling old (other side) (generation + 1) count
-    → IsGeneration (generation + 1) → let step = marking (first_page old.size (other side)) Active in IsStep step old new → new ≡ completed step old
+    → IsGeneration (generation + 1) → let step = marking (first_page old.size (other side)) Active in IsStep step old new → new ≡ device_after step old
     → IsCommitted old new (other side) (generation + 1)
 
 -- so it does where the other set is not committed, as in a device that was blank; and that set is as it was
 abbrev pub FirstCommitCommits : Type 0
 FirstCommitCommits =
     (old new : Device) (side : Side) (generation count : ℕ) → IsFilling old side generation count → IsGeneration generation
-    → committed (set_of (other side) old) ≡ None → let step = marking (first_page old.size side) Active in IsStep step old new → new ≡ completed step old
+    → committed_generation (set_of (other side) old) ≡ None → let step = marking (first_page old.size side) Active in IsStep step old new → new ≡ device_after step old
     → IsCommitted old new side generation × (set_of (other side) new ≡ set_of (other side) old)

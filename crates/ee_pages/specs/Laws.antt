@@ -17,7 +17,7 @@ pub record IsPageOf (size : Size) (side : Side) (page : ℕ) : Type 0 where
   pub below : page < first_page size side + size.pages
 
 -- the live set is live still, with the same slots, and so is all that follows from them as before
-pub record Keeps (old new : Device) (side : Side) (generation : ℕ) : Type 0 where
+pub record KeepsLiveSet (old new : Device) (side : Side) (generation : ℕ) : Type 0 where
   pub live : IsLive new side generation
   pub same_size : new.size ≡ old.size
   pub same_slots : slots_of (set_of side new) ≡ slots_of (set_of side old)
@@ -37,7 +37,7 @@ abbrev pub OtherSetKeepsLive : Type 0
 OtherSetKeepsLive =
     (step : Step) (old new : Device) (side : Side) (generation : ℕ) → IsLive old side generation → IsStep step old new
     → IsPageOf old.size (other side) (page_of step) → CannotCommit (first_page old.size (other side)) step old
-    → Keeps old new side generation × (set_of side new ≡ set_of side old)
+    → KeepsLiveSet old new side generation × (set_of side new ≡ set_of side old)
 
 -- every outcome of a step leaves the other pages blank, or not, as they were
 abbrev pub StepKeepsOtherPages : Type 0

@@ -5,7 +5,7 @@ use Rattle.ee_flash.specs.Device.{Device}
 use Rattle.ee_flash.specs.Size.{Size}
 use Rattle.ee_flash.specs.declared.word.Word.{Word}
 use Rattle.ee_pages.specs.Page.{is_blank}
-use Rattle.ee_pages.specs.Sets.{committed, fill_of, first_page, live_of, page_of_slot, set_of, slots_of}
+use Rattle.ee_pages.specs.Sets.{committed_generation, fill_of, first_page, live_of, page_of_slot, set_of, slots_of}
 use Rattle.ee_pages.specs.Legal.{IsLive, is_allowed_at}
 use Rattle.ee_pages.specs.declared.find.Layout.{Layout}
 use Rattle.ee_pages.specs.declared.find.ScanFault.{ScanFault}
@@ -36,10 +36,10 @@ pub record IsFirstForeign (size : Size) (generation : ℕ) (pages : List (List W
 abbrev pub IsScanFault : Device → ScanFault → Type 0
 IsScanFault device Unformatted = IsUnformatted device
 IsScanFault device NoLiveSet =
-    ¬ IsUnformatted device × (committed (set_of First device) ≡ None) × (committed (set_of Second device) ≡ None)
+    ¬ IsUnformatted device × (committed_generation (set_of First device) ≡ None) × (committed_generation (set_of Second device) ≡ None)
 IsScanFault device TwoLive =
     ¬ IsUnformatted device
-    × ((generation : ℕ) × (committed (set_of First device) ≡ Some generation) × (committed (set_of Second device) ≡ Some generation))
+    × ((generation : ℕ) × (committed_generation (set_of First device) ≡ Some generation) × (committed_generation (set_of Second device) ≡ Some generation))
 IsScanFault device (Foreign page at) =
     ¬ IsUnformatted device
     × ((side : Side) × (generation : ℕ) × (live_of device ≡ Some (side, generation)) × (first_page device.size side ≤ page)

@@ -89,17 +89,17 @@ pub data Change : Type 0 where
   Forget : (address : ℕ) → Change
 
 -- the map after a change
-abbrev pub changed : Change → Map → Map
-changed (Put named value) map address = if named == address then Some value else map address
-changed (Forget named) map address = if named == address then None else map address
+abbrev pub map_after : Change → Map → Map
+map_after (Put named value) map address = if named == address then Some value else map address
+map_after (Forget named) map address = if named == address then None else map address
 
 -- the map after changes, in their order
 abbrev pub changed_by : List Change → Map → Map
 changed_by [] map = map
-changed_by (change ∷ changes) map = changed_by changes (changed change map)
+changed_by (change ∷ changes) map = changed_by changes (map_after change map)
 
 -- The change, of a proper address and a value that fits, is spelled by this number; the value in a forgetting means
 -- nothing.
-abbrev pub Spells : ℕ → Change → Type 0
-Spells number (Put address value) = IsAddress address × IsValue value × (number ≡ element address value)
-Spells number (Forget address) = (value : ℕ) × IsAddress address × IsValue value × (number ≡ forgetting address value)
+abbrev pub SpellsChange : ℕ → Change → Type 0
+SpellsChange number (Put address value) = IsAddress address × IsValue value × (number ≡ element address value)
+SpellsChange number (Forget address) = (value : ℕ) × IsAddress address × IsValue value × (number ≡ forgetting address value)

@@ -29,21 +29,21 @@ IsPlace address (first ∷ rest) zero = address ≤ first.0
 IsPlace address (first ∷ rest) (suc place) = (first.0 < address) × IsPlace address rest place
 
 -- the list with what is said of an address, in the place of what it had of it
-abbrev pub noted : Named → List Named → List Named
-noted new [] = new ∷ []
-noted new (first ∷ rest) =
+abbrev pub with_named : Named → List Named → List Named
+with_named new [] = new ∷ []
+with_named new (first ∷ rest) =
     if nat_lt new.0 first.0 then new ∷ first ∷ rest
-    else (if new.0 == first.0 then new ∷ rest else first ∷ noted new rest)
+    else (if new.0 == first.0 then new ∷ rest else first ∷ with_named new rest)
 
 -- the same, if it is said of an address above this one
 abbrev pub noted_above : ℕ → Option Named → List Named → List Named
 noted_above above None list = list
-noted_above above (Some new) list = if nat_lt above new.0 then noted new list else list
+noted_above above (Some new) list = if nat_lt above new.0 then with_named new list else list
 
 -- the list with what each of these words says of an address above this one, in their order
-abbrev pub gathered : ℕ → List Word → List Named → List Named
-gathered above [] list = list
-gathered above (word ∷ words) list = gathered above words (noted_above above (slot_names (slot_of word)) list)
+abbrev pub with_each_named : ℕ → List Word → List Named → List Named
+with_each_named above [] list = list
+with_each_named above (word ∷ words) list = with_each_named above words (noted_above above (slot_names (slot_of word)) list)
 
 -- those that have a value
 abbrev pub living : List Named → List (ℕ × ℕ)

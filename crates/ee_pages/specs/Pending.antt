@@ -4,12 +4,12 @@ use Rattle.std.specs.Prelude.{◌≡◌, ◌≤◌, ◌⊎◌, ℕ, ◌+◌, fal
 use Rattle.ee_flash.specs.Device.{Device, page_at}
 use Rattle.ee_flash.specs.Laws.{IsStep}
 use Rattle.ee_flash.specs.Size.{slot_count}
-use Rattle.ee_flash.specs.Step.{Erase, Program, completed}
+use Rattle.ee_flash.specs.Step.{Erase, Program, device_after}
 use Rattle.ee_flash.specs.declared.word.Word.{Word}
 use Rattle.ee_codec.specs.Words.{IsAddress}
 use Rattle.ee_pages.specs.Laws.{IsPageOf}
 use Rattle.ee_pages.specs.Legal.{IsLive}
-use Rattle.ee_pages.specs.Meaning.{Change, Map, Put, Forget, changed, live_in, meaning}
+use Rattle.ee_pages.specs.Meaning.{Change, Map, Put, Forget, map_after, live_in, meaning}
 use Rattle.ee_pages.specs.Page.{is_blank}
 use Rattle.ee_pages.specs.Sets.{fill_of, pending_of, set_of, slots_of}
 use Rattle.ee_pages.specs.declared.side.Side.{Side}
@@ -24,7 +24,7 @@ EraseLowersPending =
 abbrev pub WholeEraseLowersPending : Type 0
 WholeEraseLowersPending =
     (page : ℕ) (old new : Device) (side : Side) → IsPageOf old.size side page → is_blank (page_at old page) ≡ false → IsStep (Erase page) old new
-    → new ≡ completed (Erase page) old → (pending_of (set_of side new) + 1 ≡ pending_of (set_of side old)) × (is_blank (page_at new page) ≡ true)
+    → new ≡ device_after (Erase page) old → (pending_of (set_of side new) + 1 ≡ pending_of (set_of side old)) × (is_blank (page_at new page) ≡ true)
 
 -- every outcome of a program in a page that is not blank leaves as many pages that are not
 abbrev pub ProgramKeepsPending : Type 0
@@ -44,8 +44,8 @@ LiveWithinFill = (slots : List Word) → live_in (meaning slots) ≤ fill_of slo
 
 -- how many addresses have a value after a change: one more or less than before, or as many
 abbrev pub IsCountAfter : Change → Map → Type 0
-IsCountAfter (Put address value) map = live_in (changed (Put address value) map) ≡ live_in map + (if is_some (map address) then 0 else 1)
-IsCountAfter (Forget address) map = live_in (changed (Forget address) map) + (if is_some (map address) then 1 else 0) ≡ live_in map
+IsCountAfter (Put address value) map = live_in (map_after (Put address value) map) ≡ live_in map + (if is_some (map address) then 0 else 1)
+IsCountAfter (Forget address) map = live_in (map_after (Forget address) map) + (if is_some (map address) then 1 else 0) ≡ live_in map
 
 -- the address of a change
 abbrev pub address_of : Change → ℕ

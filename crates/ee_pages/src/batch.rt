@@ -4,7 +4,7 @@ ghost use Rattle.ee_codec.specs.Reading.{slot_of};
 ghost use Rattle.ee_codec.specs.Words.{IsAddress};
 ghost use Rattle.ee_pages.specs.Layout.{IsLayout};
 ghost use Rattle.ee_pages.specs.Meaning.{AreLiveThrough, above_of, meaning};
-ghost use Rattle.ee_pages.specs.Nearest.{IsPlace, IsRising, gathered, last_named, noted, noted_above, slot_names};
+ghost use Rattle.ee_pages.specs.Nearest.{IsPlace, IsRising, with_each_named, last_named, with_named, noted_above, slot_names};
 ghost use Rattle.ee_pages.specs.Sets.{set_of, slots_of};
 ghost use Rattle.ee_pages.specs.declared.batch_items.TheConstants.{BATCH};
 
@@ -12,7 +12,7 @@ use crate::batch_items::{BATCH, Batch};
 use crate::find::Layout;
 use crate::side::{Side, page_slot};
 use ee_codec::{Address, Slot, read_slot};
-use ee_flash::{Flash, Word};
+use ee_flash::{Flash, HEADER_WORDS, Word};
 
 /// The live addresses of a stretch of addresses, with their values: as many as are found in one look
 /// through the slots.
@@ -81,7 +81,7 @@ fn number_of(after: Option<Address>) -> u16
 fn gather<F: Flash>(flash: &F, side: Side, above: u16, nearest: &mut Batch)
     requires { nearest.old.named ≡ [] }
     ensures { let slots = slots_of (set_of side (F.device flash.now)) in
-        nearest.new.named ≡ take BATCH (gathered above slots []) }
+        nearest.new.named ≡ take BATCH (with_each_named above slots []) }
 {
     for page in 0..flash.shape().pages() {
         gather_page(flash, side, page, above, nearest);
@@ -92,13 +92,13 @@ fn gather<F: Flash>(flash: &F, side: Side, above: u16, nearest: &mut Batch)
 fn gather_page<F: Flash>(flash: &F, side: Side, page: usize, above: u16, nearest: &mut Batch)
     requires page_in_range { page < (F.device flash.now).size.pages }
     requires before { let device = F.device flash.now in nearest.old.named
-        ≡ take BATCH (gathered above
+        ≡ take BATCH (with_each_named above
         (take (page * (device.size.words - 4)) (slots_of (set_of side device))) []) }
     ensures { let device = F.device flash.now in nearest.new.named
-        ≡ take BATCH (gathered above
+        ≡ take BATCH (with_each_named above
         (take ((page + 1) * (device.size.words - 4)) (slots_of (set_of side device))) []) }
 {
-    for slot in 0..flash.shape().words() - 4 {
+    for slot in 0..flash.shape().words() - HEADER_WORDS {
         note(above, named(page_slot(flash, side, page, slot)), nearest);
     }
 }
@@ -148,7 +148,7 @@ fn put(nearest: &mut Batch, place: usize, address: Address, said: Option<u32>)
     requires within { place ≤ length nearest.old.named }
     requires few { length nearest.old.named ≤ BATCH }
     requires room { place < BATCH }
-    ensures { nearest.new.named ≡ take BATCH (noted (address, said) nearest.old.named) }
+    ensures { nearest.new.named ≡ take BATCH (with_named (address, said) nearest.old.named) }
 {
     if nearest.has(place, address) {
         nearest.set(place, address, said);

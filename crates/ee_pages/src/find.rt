@@ -9,7 +9,7 @@ ghost use Rattle.ee_pages.specs.Sets.{front, live_of, set_of, slots_of};
 use crate::side::{Side, committed, first_page, set_slot, set_word};
 use crate::state::{is_blank, is_written};
 use crate::table::is_allowed;
-use ee_flash::Flash;
+use ee_flash::{Flash, HEADER_WORDS};
 
 /// Where the live set of a legal image is and how far it is used.
 ///
@@ -69,7 +69,7 @@ pub fn scan<F: Flash>(flash: &F) -> Result<Layout, ScanFault>
             side,
             generation,
             fill: written,
-            current: start + written.saturating_sub(1) / (flash.shape().words() - 4),
+            current: start + written.saturating_sub(1) / (flash.shape().words() - HEADER_WORDS),
         }),
     }
 }

@@ -2,7 +2,7 @@ ghost use Rattle.std.specs.Prelude.{◌≡◌, ◌<◌, ◌⊎◌, ℕ, OnErr, O
 ghost use Rattle.ee_codec.specs.Words.{IsGeneration};
 ghost use Rattle.ee_flash.specs.Device.{IsOn};
 ghost use Rattle.ee_flash.specs.Size.{page_count};
-ghost use Rattle.ee_flash.specs.Step.{IsCutIn, IsUntouched, completed};
+ghost use Rattle.ee_flash.specs.Step.{IsCutIn, IsUntouched, device_after};
 ghost use Rattle.ee_pages.specs.Page.{is_marked, marking};
 
 use crate::state::{Mark, is_written};
@@ -27,7 +27,7 @@ pub fn mark<F: Flash>(flash: &mut F, page: usize, mark: Mark) -> Result<(), Cut>
     ensures on { is_marked (F.device flash.old) page mark ≡ false
         → OnOk result (IsOn (F.device flash.old)) }
     ensures done { is_marked (F.device flash.old) page mark ≡ false
-        → OnOk result (F.device flash.new ≡ completed (marking page mark) (F.device flash.old)) }
+        → OnOk result (F.device flash.new ≡ device_after (marking page mark) (F.device flash.old)) }
     ensures cut { OnErr result
         (IsCutIn (marking page mark) (F.device flash.old) (F.device flash.new)
         ⊎ IsUntouched (F.device flash.old) (F.device flash.new)) }

@@ -11,7 +11,7 @@ use crate::find::Layout;
 use crate::side::{Side, first_page, page_slot, set_slot};
 use crate::state::is_torn;
 use ee_codec::{Address, Slot, ends_in, read_slot};
-use ee_flash::{Flash, Word};
+use ee_flash::{Flash, HEADER_WORDS, Word};
 
 /// The word in a slot of the live set, by the slot's number, counted from 0 and below the capacity.
 /// The layout is the image's.
@@ -36,7 +36,7 @@ pub fn latest<F: Flash>(flash: &F, layout: &Layout, address: Address) -> Option<
         result ≡ meaning slots address }
 {
     // Page by page, since finding a slot by its number takes a division.
-    let slots = flash.shape().words() - 4;
+    let slots = flash.shape().words() - HEADER_WORDS;
     let last = layout.current - first_page(flash, layout.side);
     let mut left = layout.fill;
     for page in (0..last + 1).rev() {
@@ -126,7 +126,7 @@ fn torn_through<F: Flash>(flash: &F, side: Side, page: usize, before: usize) -> 
         ≡ torn_of (take ((page + 1) * (device.size.words - 4)) (slots_of (set_of side device))) }
 {
     let mut torn = before;
-    for slot in 0..flash.shape().words() - 4 {
+    for slot in 0..flash.shape().words() - HEADER_WORDS {
         if is_torn(page_slot(flash, side, page, slot)) {
             torn += 1;
         }

@@ -1,10 +1,10 @@
 ghost use Rattle.std.specs.Prelude.{◌≡◌, ◌<◌, ◌+◌, ◌-◌, ◌*◌, IfSome, slice_index_or};
 ghost use Rattle.ee_codec.specs.Words.{IsGeneration};
 ghost use Rattle.ee_flash.specs.Size.{slot_count};
-ghost use Rattle.ee_pages.specs.Sets.{committed as commits, first_page as first, other as other_of, set_of, slots_of, word_of};
+ghost use Rattle.ee_pages.specs.Sets.{committed_generation as commits, first_page as first, other as other_of, set_of, slots_of, word_of};
 
 use ee_codec::{MarkRead, read_mark, read_receive};
-use ee_flash::{Flash, Word};
+use ee_flash::{Flash, HEADER_WORDS, Word};
 
 /// One of the two sets of pages.
 ///
@@ -57,7 +57,7 @@ pub(crate) fn page_slot<F: Flash>(flash: &F, side: Side, page: usize, slot: usiz
     ensures { let slots = slots_of (set_of side (F.device flash.now)) in
         result ≡ slice_index_or slots (page * ((F.device flash.now).size.words - 4) + slot) Word.Erased }
 {
-    set_word(flash, side, page, 4 + slot)
+    set_word(flash, side, page, HEADER_WORDS + slot)
 }
 
 // The slot of this number of a set, counted from 0.
@@ -65,7 +65,7 @@ pub(crate) fn set_slot<F: Flash>(flash: &F, side: Side, slot: usize) -> Word
     requires { slot < slot_count (F.device flash.now).size }
     ensures { result ≡ slice_index_or (slots_of (set_of side (F.device flash.now))) slot Word.Erased }
 {
-    let slots = flash.shape().words() - 4;
+    let slots = flash.shape().words() - HEADER_WORDS;
     page_slot(flash, side, slot / slots, slot % slots)
 }
 

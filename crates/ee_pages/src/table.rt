@@ -4,7 +4,7 @@ ghost use Rattle.ee_pages.specs.Legal.{fits as may_stand, is_allowed as allowed,
 
 use crate::state::is_written;
 use ee_codec::{MarkRead, Slot, read_mark, read_slot, receive_word};
-use ee_flash::{Shape, Word};
+use ee_flash::{HEADER_WORDS, Shape, Word};
 
 // The places of a live set, by what may stand in them.
 #[derive(Clone, Copy)]
@@ -72,6 +72,6 @@ pub(crate) fn is_allowed(
     requires place_in_range { at < shape.words }
     ensures { result ≡ allowed shape generation written page at word }
 {
-    let before = page * (shape.words() - 4) + at.saturating_sub(4);
+    let before = page * (shape.words() - HEADER_WORDS) + at.saturating_sub(HEADER_WORDS);
     fits(generation, place_of(page, at), word) && (!is_written(word) || before <= written)
 }

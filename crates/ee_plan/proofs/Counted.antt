@@ -6,28 +6,28 @@ use Rattle.std.proofs.lemmas.List.{get_or-replicate, get_or-set_other, get_or-se
 use Rattle.std.proofs.Math.Seq.{take-append-add}
 use Rattle.std.proofs.Math.Nat.{mod-eq_of_lt, mod-lt, add-mod_left, add-mul-mod_self_left, mod-mod, mod-add-mod, div-add-mod}
 use Rattle.ee_check.specs.declared.change.Change.{Change}
-use Rattle.ee_check.specs.Live.{changed, live_after, live_count}
+use Rattle.ee_check.specs.Live.{live_after_one, live_after, live_count}
 use Rattle.ee_check.proofs.Walks.{live_after-append}
 use Rattle.ee_plan.specs.declared.counts.Counts.{Counts}
-use Rattle.ee_plan.specs.Rounds.{repeated}
-use Rattle.ee_plan.specs.Places.{counts_before, AreCounts, AreFlats, AreRounds, count_after}
+use Rattle.ee_plan.specs.Rounds.{repeated_trace}
+use Rattle.ee_plan.specs.Places.{counts_before, AreRoundCounts, AreFlats, AreRounds, count_after}
 use Rattle.ee_plan.proofs.Repeating.{left_again}
 
 -- ---- the counts of one round
 
 counts_length : (live : List ℕ) (changes : List Change) → length (counts_before live changes) ≡ length changes
 counts_length live [] = refl
-counts_length live (change ∷ changes) = let h = counts_length (changed live change) changes in omega arith
+counts_length live (change ∷ changes) = let h = counts_length (live_after_one live change) changes in omega arith
 
 counts_at : (live : List ℕ) (changes : List Change) (n : ℕ) → n < length changes → get_or (counts_before live changes) n 0 ≡ live_count live changes n
 counts_at live [] n h = absurd (omega arith)
 counts_at live (change ∷ changes) zero h = refl
-counts_at live (change ∷ changes) (suc n) h = counts_at (changed live change) changes n (omega arith)
+counts_at live (change ∷ changes) (suc n) h = counts_at (live_after_one live change) changes n (omega arith)
 
-pub later_length : {A : Type 0} (trace : List Change) (counts : Counts A) → AreCounts trace counts → length counts.later.items ≡ length trace
+pub later_length : {A : Type 0} (trace : List Change) (counts : Counts A) → AreRoundCounts trace counts → length counts.later.items ≡ length trace
 later_length trace counts are = ap length are.later ∙ counts_length (live_after [] trace) trace
 
-pub are_rounds : {A : Type 0} (trace : List Change) (counts : Counts A) → AreCounts trace counts → 0 < length trace → AreRounds counts
+pub are_rounds : {A : Type 0} (trace : List Change) (counts : Counts A) → AreRoundCounts trace counts → 0 < length trace → AreRounds counts
 are_rounds trace counts are some =
     let a = ap length are.first ∙ counts_length [] trace in
     let b = later_length trace counts are in
@@ -36,60 +36,60 @@ are_rounds trace counts are some =
 -- ---- rounds that leave the addresses which they find
 
 settled_count : (live : List ℕ) (trace : List Change) (runs n : ℕ) → 0 < length trace → live_after live trace ≡ live → n ≤ runs * length trace
-    → live_count live (repeated runs trace) n ≡ live_count live trace (n % length trace)
+    → live_count live (repeated_trace runs trace) n ≡ live_count live trace (n % length trace)
 settled_count live trace zero n some settled within =
     let e : n ≡ 0 = omega arith in
     let m : n % length trace ≡ 0 = ap (λ k. k % length trace) e ∙ mod-eq_of_lt some in
     rw (m, e) refl
 settled_count live trace (suc runs) n some settled within = elim (cases_lt n (length trace)) [
-  | inl first ↦ rw (mod-eq_of_lt first, take-append-le n trace (repeated runs trace) (omega arith)) refl
+  | inl first ↦ rw (mod-eq_of_lt first, take-append-le n trace (repeated_trace runs trace) (omega arith)) refl
   | inr later ↦
       let m = n - length trace in
       let e : n ≡ length trace + m = omega arith in
       let product : suc runs * length trace ≡ runs * length trace + length trace = omega arith in
       let more = settled_count live trace runs m some settled (omega arith) in
-      let split : take n (trace ++ repeated runs trace) ≡ trace ++ take m (repeated runs trace) =
-      ap (λ k. take k (trace ++ repeated runs trace)) e ∙ take-append-add trace (repeated runs trace) m in
-      let same : live_after live (trace ++ take m (repeated runs trace)) ≡ live_after live (take m (repeated runs trace)) =
-      live_after-append live trace (take m (repeated runs trace)) ∙ ap (λ l. live_after l (take m (repeated runs trace))) settled in
+      let split : take n (trace ++ repeated_trace runs trace) ≡ trace ++ take m (repeated_trace runs trace) =
+      ap (λ k. take k (trace ++ repeated_trace runs trace)) e ∙ take-append-add trace (repeated_trace runs trace) m in
+      let same : live_after live (trace ++ take m (repeated_trace runs trace)) ≡ live_after live (take m (repeated_trace runs trace)) =
+      live_after-append live trace (take m (repeated_trace runs trace)) ∙ ap (λ l. live_after l (take m (repeated_trace runs trace))) settled in
       let turn : n % length trace ≡ m % length trace = ap (λ k. k % length trace) e ∙ add-mod_left (length trace) m in
       ap (λ l. length (live_after live l)) split ∙ ap length same ∙ more ∙ ap (live_count live trace) (sym turn)
 ]
 
 -- ---- all rounds
 
-first_count : {A : Type 0} (trace : List Change) (counts : Counts A) (n : ℕ) → AreCounts trace counts → n < length trace
+first_count : {A : Type 0} (trace : List Change) (counts : Counts A) (n : ℕ) → AreRoundCounts trace counts → n < length trace
     → count_after counts n ≡ live_count [] trace n
 first_count trace counts n are within =
     let size = later_length trace counts are in
     let test : nat_lt n (length counts.later.items) ≡ true = lt-ltb n (length counts.later.items) (omega arith) in
     rw (test, are.first) (counts_at [] trace n within)
 
-later_count : {A : Type 0} (trace : List Change) (counts : Counts A) (n : ℕ) → AreCounts trace counts → 0 < length trace → length trace ≤ n
+later_count : {A : Type 0} (trace : List Change) (counts : Counts A) (n : ℕ) → AreRoundCounts trace counts → 0 < length trace → length trace ≤ n
     → count_after counts n ≡ live_count (live_after [] trace) trace (n % length trace)
 later_count trace counts n are some behind =
     let size = later_length trace counts are in
     let test : nat_lt n (length counts.later.items) ≡ false = le-ltb n (length counts.later.items) (omega arith) in
     rw (test, size, are.later) (counts_at (live_after [] trace) trace (n % length trace) (mod-lt n some))
 
-pub counted : {A : Type 0} (trace : List Change) (counts : Counts A) (runs n : ℕ) → AreCounts trace counts → 0 < length trace → n ≤ runs * length trace
-    → count_after counts n ≡ live_count [] (repeated runs trace) n
+pub counted : {A : Type 0} (trace : List Change) (counts : Counts A) (runs n : ℕ) → AreRoundCounts trace counts → 0 < length trace → n ≤ runs * length trace
+    → count_after counts n ≡ live_count [] (repeated_trace runs trace) n
 counted trace counts zero n are some within =
     let e : n ≡ 0 = omega arith in
     subst (λ k. count_after counts k ≡ live_count [] [] k) (sym e) (first_count trace counts 0 are some)
 counted trace counts (suc runs) n are some within = elim (cases_lt n (length trace)) [
-  | inl first ↦ first_count trace counts n are first ∙ sym (rw (take-append-le n trace (repeated runs trace) (omega arith)) refl)
+  | inl first ↦ first_count trace counts n are first ∙ sym (rw (take-append-le n trace (repeated_trace runs trace) (omega arith)) refl)
   | inr behind ↦
       let m = n - length trace in
       let left = live_after [] trace in
       let e : n ≡ length trace + m = omega arith in
       let product : suc runs * length trace ≡ runs * length trace + length trace = omega arith in
       let more = settled_count left trace runs m some (left_again trace) (omega arith) in
-      let split : take n (trace ++ repeated runs trace) ≡ trace ++ take m (repeated runs trace) =
-      ap (λ k. take k (trace ++ repeated runs trace)) e ∙ take-append-add trace (repeated runs trace) m in
+      let split : take n (trace ++ repeated_trace runs trace) ≡ trace ++ take m (repeated_trace runs trace) =
+      ap (λ k. take k (trace ++ repeated_trace runs trace)) e ∙ take-append-add trace (repeated_trace runs trace) m in
       let turn : n % length trace ≡ m % length trace = ap (λ k. k % length trace) e ∙ add-mod_left (length trace) m in
       later_count trace counts n are some (omega arith) ∙ ap (live_count left trace) turn ∙ sym more
-      ∙ sym (ap (λ l. length (live_after [] l)) split ∙ ap length (live_after-append [] trace (take m (repeated runs trace))))
+      ∙ sym (ap (λ l. length (live_after [] l)) split ∙ ap length (live_after-append [] trace (take m (repeated_trace runs trace))))
 ]
 
 -- in the second round the place in it needs no division

@@ -4,15 +4,15 @@ use Rattle.std.proofs.lemmas.List.{length-append, length-take-le, take-append-dr
 use Rattle.ee_check.specs.declared.change.Change.{Change}
 use Rattle.ee_check.specs.declared.change.Change.TheVariants.{Forget}
 use Rattle.ee_check.specs.declared.certificate.Stretch.{Stretch}
-use Rattle.ee_check.specs.Live.{changed, live_after, live_count, KeepsWithin}
+use Rattle.ee_check.specs.Live.{live_after_one, live_after, live_count, KeepsWithin}
 use Rattle.ee_check.specs.Schedule.{IsProper}
 use Rattle.ee_check.specs.Certificate.{Claim, IsTight, IsTightStretch, EachStretch, first_place, last_place, place_at}
 use Rattle.ee_check.proofs.Bounds.{certificates_bound_schedules_lem, tight_are_certificates_lem, tight_is_met_lem}
 use Rattle.ee_check.proofs.Stretches.{EachStretch-append, last_place-append}
 use Rattle.ee_check.proofs.Walks.{live_after_more}
 use Rattle.ee_plan.specs.Plan.{IsFirstNotFitting}
-use Rattle.ee_plan.specs.Rounds.{repeated, fresh, IsFewest}
-use Rattle.ee_plan.specs.Places.{next_place, place_of}
+use Rattle.ee_plan.specs.Rounds.{repeated_trace, fresh, IsFewest}
+use Rattle.ee_plan.specs.Places.{next_place, place_in_round}
 use Rattle.ee_plan.proofs.Fitting.{keeps_more, first_breaks}
 use Rattle.ee_plan.proofs.Stations.{place_first, place_next}
 
@@ -26,15 +26,15 @@ record LeadsTo (slots : ℕ) (trace : List Change) (k place : ℕ) : Type 0 wher
   last : last_place (fresh slots) trace (first_place (fresh slots)) stretches ≡ place_at (fresh slots) trace place
 
 leads : (count : ℕ → ℕ) (slots : ℕ) (trace : List Change) → ((n : ℕ) → n ≤ length trace → count n ≡ live_count [] trace n)
-    → ((n : ℕ) → n ≤ length trace → count n ≤ slots) → (k : ℕ) → place_of count slots k ≤ length trace
-    → LeadsTo slots trace k (place_of count slots k)
+    → ((n : ℕ) → n ≤ length trace → count n ≤ slots) → (k : ℕ) → place_in_round count slots k ≤ length trace
+    → LeadsTo slots trace k (place_in_round count slots k)
 leads count slots trace counts fits zero within =
     let begun : LeadsTo slots trace 0 0 = record { stretches = []; each = tt; many = refl; last = refl } in
     subst (LeadsTo slots trace 0) (sym (place_first count slots)) begun
 leads count slots trace counts fits (suc k) within =
-    let p = place_of count slots k in
-    let q = place_of count slots (suc k) in
-    let is : q ≡ next_place count slots p = ap (place_of count slots) (sym (add-one k)) ∙ place_next count slots k in
+    let p = place_in_round count slots k in
+    let q = place_in_round count slots (suc k) in
+    let is : q ≡ next_place count slots p = ap (place_in_round count slots) (sym (add-one k)) ∙ place_next count slots k in
     let before = leads count slots trace counts fits k (omega arith) in
     let stretch : Stretch = record { to = q; from = count p } in
     let a = counts p (omega arith) in let b = fits p (omega arith) in
@@ -53,11 +53,11 @@ leads count slots trace counts fits (suc k) within =
 
 -- as many transfers as come within the trace are the fewest
 pub fewest : (count : ℕ → ℕ) (slots : ℕ) (trace : List Change) (k : ℕ) → ((n : ℕ) → n ≤ length trace → count n ≡ live_count [] trace n)
-    → ((n : ℕ) → n ≤ length trace → count n ≤ slots) → place_of count slots k ≤ length trace → length trace < place_of count slots (k + 1)
+    → ((n : ℕ) → n ≤ length trace → count n ≤ slots) → place_in_round count slots k ≤ length trace → length trace < place_in_round count slots (k + 1)
     → IsFewest (fresh slots) trace k
 fewest count slots trace k counts fits within beyond =
     let way = leads count slots trace counts fits k within in
-    let p = place_of count slots k in
+    let p = place_in_round count slots k in
     let start = fresh slots in
     let proper : IsProper start = record { held = omega arith; fits = omega arith } in
     let claim : Claim = record { slots = slots; fill = 0; live = 0; writes = length trace; stretches = way.stretches } in
@@ -84,7 +84,7 @@ pub keeps_by_counts : (slots : ℕ) (live : List ℕ) (trace : List Change) → 
     → KeepsWithin slots live trace
 keeps_by_counts slots live [] fits = tt
 keeps_by_counts slots live (change ∷ changes) fits =
-    keeps_more slots live change changes (fits (suc zero) (omega arith)) (keeps_by_counts slots (changed live change) changes (λ n h. fits (suc n) (omega arith)))
+    keeps_more slots live change changes (fits (suc zero) (omega arith)) (keeps_by_counts slots (live_after_one live change) changes (λ n h. fits (suc n) (omega arith)))
 
 -- before some change of it
 keeps_before : (slots : ℕ) (trace : List Change) (m : ℕ) → m ≤ length trace → ((n : ℕ) → n ≤ m → live_count [] trace n ≤ slots)
@@ -113,15 +113,15 @@ first_not_fitting slots trace (suc m) within over before =
 
 -- ---- a trace of no changes
 
-pub repeated_nothing : (runs : ℕ) (trace : List Change) → length trace ≡ 0 → repeated runs trace ≡ []
+pub repeated_nothing : (runs : ℕ) (trace : List Change) → length trace ≡ 0 → repeated_trace runs trace ≡ []
 repeated_nothing zero trace empty = refl
 repeated_nothing (suc runs) [] empty = repeated_nothing runs [] empty
 repeated_nothing (suc runs) (change ∷ changes) empty = absurd (omega arith)
 
-pub length-repeated : (runs : ℕ) (trace : List Change) → length (repeated runs trace) ≡ runs * length trace
+pub length-repeated : (runs : ℕ) (trace : List Change) → length (repeated_trace runs trace) ≡ runs * length trace
 length-repeated zero trace = omega arith
 length-repeated (suc runs) trace =
-    let a = length-append trace (repeated runs trace) in let b = length-repeated runs trace in
+    let a = length-append trace (repeated_trace runs trace) in let b = length-repeated runs trace in
     let product : suc runs * length trace ≡ runs * length trace + length trace = omega arith in
     omega arith
 

@@ -4,18 +4,18 @@ use Rattle.std.specs.Ordering.{nat_cmp}
 use Rattle.std.specs.BTreeMap.{is_at}
 use Rattle.ee_check.specs.declared.change.Change.{Change}
 use Rattle.ee_check.specs.declared.change.Change.TheVariants.{Write, Forget}
-use Rattle.ee_check.specs.Live.{changed, live_after, KeepsWithin}
+use Rattle.ee_check.specs.Live.{live_after_one, live_after, KeepsWithin}
 use Rattle.ee_check.specs.Schedule.{Situation}
 use Rattle.ee_check.proofs.Sizes.{remove_key-le}
 use Rattle.ee_plan.specs.Plan.{IsFirstNotFitting}
 
 pub keeps_tail : (slots : ℕ) (live : List ℕ) (change : Change) (changes : List Change) → KeepsWithin slots live (change ∷ changes)
-    → KeepsWithin slots (changed live change) changes
+    → KeepsWithin slots (live_after_one live change) changes
 keeps_tail slots live (Write address) changes keeps = keeps.1
 keeps_tail slots live (Forget address) changes keeps = keeps
 
-pub keeps_more : (slots : ℕ) (live : List ℕ) (change : Change) (changes : List Change) → length (changed live change) ≤ slots
-    → KeepsWithin slots (changed live change) changes → KeepsWithin slots live (change ∷ changes)
+pub keeps_more : (slots : ℕ) (live : List ℕ) (change : Change) (changes : List Change) → length (live_after_one live change) ≤ slots
+    → KeepsWithin slots (live_after_one live change) changes → KeepsWithin slots live (change ∷ changes)
 keeps_more slots live (Write address) changes fits keeps = (fits, keeps)
 keeps_more slots live (Forget address) changes fits keeps = keeps
 
@@ -23,13 +23,13 @@ keeps_more slots live (Forget address) changes fits keeps = keeps
 pub keeps_append : (slots : ℕ) (live : List ℕ) (changes more : List Change) → KeepsWithin slots live changes → KeepsWithin slots (live_after live changes) more
     → KeepsWithin slots live (changes ++ more)
 keeps_append slots live [] more keeps then = then
-keeps_append slots live (Write address ∷ changes) more keeps then = (keeps.0, keeps_append slots (changed live (Write address)) changes more keeps.1 then)
-keeps_append slots live (Forget address ∷ changes) more keeps then = keeps_append slots (changed live (Forget address)) changes more keeps then
+keeps_append slots live (Write address ∷ changes) more keeps then = (keeps.0, keeps_append slots (live_after_one live (Write address)) changes more keeps.1 then)
+keeps_append slots live (Forget address ∷ changes) more keeps then = keeps_append slots (live_after_one live (Forget address)) changes more keeps then
 
 -- what is behind the front of one that does
 pub keeps_back : (slots : ℕ) (live : List ℕ) (changes more : List Change) → KeepsWithin slots live (changes ++ more) → KeepsWithin slots (live_after live changes) more
 keeps_back slots live [] more keeps = keeps
-keeps_back slots live (change ∷ changes) more keeps = keeps_back slots (changed live change) changes more (keeps_tail slots live change (changes ++ more) keeps)
+keeps_back slots live (change ∷ changes) more keeps = keeps_back slots (live_after_one live change) changes more (keeps_tail slots live change (changes ++ more) keeps)
 
 -- where all fit none is the first that doesn't
 pub none_breaks : (start : Situation) (trace : List Change) (n : ℕ) → KeepsWithin start.slots start.live trace → IsFirstNotFitting start trace n → ⊥
@@ -41,7 +41,7 @@ none_breaks start trace n keeps first =
 -- two changes that are each the first are one
 same_length : (slots : ℕ) (live : List ℕ) (before others rest more : List Change) (address other : ℕ)
     → before ++ Write address ∷ rest ≡ others ++ Write other ∷ more → KeepsWithin slots live before → KeepsWithin slots live others
-    → slots < length (changed (live_after live before) (Write address)) → slots < length (changed (live_after live others) (Write other))
+    → slots < length (live_after_one (live_after live before) (Write address)) → slots < length (live_after_one (live_after live others) (Write other))
     → length before ≡ length others
 same_length slots live [] [] rest more address other e keeps keep breaks break = refl
 same_length slots live [] (change ∷ others) rest more address other e keeps keep breaks break =
@@ -56,9 +56,9 @@ same_length slots live (change ∷ before) (first ∷ others) rest more address 
     let same : first ≡ change = cc in
     let tails : before ++ Write address ∷ rest ≡ others ++ Write other ∷ more = cc in
     let keep_here : KeepsWithin slots live (change ∷ others) = subst (λ c. KeepsWithin slots live (c ∷ others)) same keep in
-    let break_here : slots < length (changed (live_after (changed live change) others) (Write other)) =
-    subst (λ c. slots < length (changed (live_after (changed live c) others) (Write other))) same break in
-    let h = same_length slots (changed live change) before others rest more address other tails (keeps_tail slots live change before keeps)
+    let break_here : slots < length (live_after_one (live_after (live_after_one live change) others) (Write other)) =
+    subst (λ c. slots < length (live_after_one (live_after (live_after_one live c) others) (Write other))) same break in
+    let h = same_length slots (live_after_one live change) before others rest more address other tails (keeps_tail slots live change before keeps)
     (keeps_tail slots live change others keep_here) breaks break_here in
     omega arith
 
@@ -71,7 +71,7 @@ one_first start trace m n first other =
 -- a change after which more addresses are live than there are slots is a write
 pub first_breaks : (start : Situation) (trace before rest : List Change) (change : Change) (n : ℕ) → trace ≡ before ++ change ∷ rest
     → KeepsWithin start.slots start.live before → length (live_after start.live before) ≤ start.slots
-    → start.slots < length (changed (live_after start.live before) change) → n ≡ length before + 1 → IsFirstNotFitting start trace n
+    → start.slots < length (live_after_one (live_after start.live before) change) → n ≡ length before + 1 → IsFirstNotFitting start trace n
 first_breaks start trace before rest (Write address) n is keeps held breaks number =
     record { before = before; address = address; rest = rest; trace_is = is; keeps = keeps; breaks = breaks; number = number }
 first_breaks start trace before rest (Forget address) n is keeps held breaks number =

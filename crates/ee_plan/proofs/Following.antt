@@ -3,14 +3,14 @@ use Rattle.std.proofs.Common.{◌≡◌, ℕ, ◌+◌, ◌<◌, ◌≤◌, List,
 use Rattle.std.proofs.lemmas.List.{take_more, take-append-drop, length-take-le}
 use Rattle.ee_check.specs.declared.change.Change.{Change}
 use Rattle.ee_check.specs.declared.certificate.Stretch.{Stretch}
-use Rattle.ee_check.specs.Live.{changed, live_after, KeepsWithin}
+use Rattle.ee_check.specs.Live.{live_after_one, live_after, KeepsWithin}
 use Rattle.ee_check.specs.Schedule.{Situation, IsProper}
 use Rattle.ee_check.specs.Certificate.{Place, first_place, last_place, place_at, IsTightStretch}
 use Rattle.ee_check.proofs.Sizes.{changed-le}
 use Rattle.ee_check.proofs.Stretches.{EachStretch-append, last_place-append}
 use Rattle.ee_check.proofs.Walks.{one_made}
 use Rattle.ee_plan.specs.Plan.{IsPlanFault}
-use Rattle.ee_plan.specs.LateStore.{LateStore, Makes, HasMade, IsRefused}
+use Rattle.ee_plan.specs.LateStore.{LateStore, Makes, HasMade, IsChangeRefused}
 use Rattle.ee_plan.specs.declared.planned.PlanFault.{PlanFault}
 use Rattle.ee_plan.specs.declared.planned.PlanFault.TheVariants.{NotFitting, Memory}
 use Rattle.ee_plan.proofs.Fitting.{keeps_more, keeps_append, first_breaks}
@@ -34,21 +34,21 @@ made_none start trace store proper e =
 
 -- the changes fit, one more with them
 keeps_one_more : (start : Situation) (trace : List Change) (n : ℕ) (live : List ℕ) (change : Change) → n < length trace → change ≡ get_or trace n change
-    → live ≡ live_after start.live (take n trace) → KeepsWithin start.slots start.live (take n trace) → length (changed live change) ≤ start.slots
+    → live ≡ live_after start.live (take n trace) → KeepsWithin start.slots start.live (take n trace) → length (live_after_one live change) ≤ start.slots
     → KeepsWithin start.slots start.live (take (n + 1) trace)
 keeps_one_more start trace n live change h is live_is keeps fits =
-    let there : length (changed (live_after start.live (take n trace)) change) ≤ start.slots = subst (λ l. length (changed l change) ≤ start.slots) live_is fits in
+    let there : length (live_after_one (live_after start.live (take n trace)) change) ≤ start.slots = subst (λ l. length (live_after_one l change) ≤ start.slots) live_is fits in
     let one = keeps_more start.slots (live_after start.live (take n trace)) change [] there tt in
     let all = keeps_append start.slots start.live (take n trace) (change ∷ []) keeps one in
     let e : take n trace ++ change ∷ [] ≡ take (n + 1) trace = ap (λ c. take n trace ++ c ∷ []) is ∙ sym (take_more trace n change h) in
     subst (λ l. KeepsWithin start.slots start.live l) e all
 
 appended : (start : Situation) (trace : List Change) (n : ℕ) (change : Change) (old : LateStore) → n < length trace → HasMade start trace n old
-    → change ≡ get_or trace n change → length (changed old.now.live change) ≤ start.slots → old.now.fill < old.now.slots
-    → HasMade start trace (n + 1) record old { now = record { slots = old.now.slots; fill = old.now.fill + 1; live = changed old.now.live change } }
+    → change ≡ get_or trace n change → length (live_after_one old.now.live change) ≤ start.slots → old.now.fill < old.now.slots
+    → HasMade start trace (n + 1) record old { now = record { slots = old.now.slots; fill = old.now.fill + 1; live = live_after_one old.now.live change } }
 appended start trace n change old h made is fits free = record {
   slots = made.slots;
-  live = one_made start.live old.now.live (changed old.now.live change) trace n change h made.live is refl;
+  live = one_made start.live old.now.live (live_after_one old.now.live change) trace n change h made.live is refl;
   keeps = keeps_one_more start trace n old.now.live change h is made.live made.keeps fits;
   stretches = made.stretches;
   from = made.from;
@@ -59,16 +59,16 @@ appended start trace n change old h made is fits free = record {
 }
 
 carried : (start : Situation) (trace : List Change) (n : ℕ) (change : Change) (old : LateStore) → n < length trace → HasMade start trace n old
-    → change ≡ get_or trace n change → length (changed old.now.live change) ≤ start.slots → old.now.slots ≤ old.now.fill
+    → change ≡ get_or trace n change → length (live_after_one old.now.live change) ≤ start.slots → old.now.slots ≤ old.now.fill
     → HasMade start trace (n + 1) record {
-      now = record { slots = old.now.slots; fill = length (changed old.now.live change); live = changed old.now.live change };
-      from = length (changed old.now.live change);
+      now = record { slots = old.now.slots; fill = length (live_after_one old.now.live change); live = live_after_one old.now.live change };
+      from = length (live_after_one old.now.live change);
       stretches = old.stretches ++ record { to = n + 1; from = old.from } ∷ [];
     }
 carried start trace n change old h made is fits used =
     let place : Place = last_place start trace (first_place start) old.stretches in
     let stretch : Stretch = record { to = n + 1; from = old.from } in
-    let live_is = one_made start.live old.now.live (changed old.now.live change) trace n change h made.live is refl in
+    let live_is = one_made start.live old.now.live (live_after_one old.now.live change) trace n change h made.live is refl in
     let a = made.behind in let b = made.fill in let c = made.fits in let d = made.slots in let f = made.from in
     let tight : IsTightStretch start trace place stretch = record {
       forced = record { rising = omega arith; within = omega arith; from_is = f; forced = omega arith };
@@ -95,25 +95,25 @@ pub made_more : (start : Situation) (trace : List Change) (n number : ℕ) (chan
     → HasMade start trace (n + 1) new
 made_more start trace n number change old new numbered h made is (inl appends) fits =
     let e = appends.new_is in
-    let live_fits : length (changed old.now.live change) ≤ start.slots = let a = ap (λ s. length s.now.live) e in let b = made.slots in omega arith in
+    let live_fits : length (live_after_one old.now.live change) ≤ start.slots = let a = ap (λ s. length s.now.live) e in let b = made.slots in omega arith in
     subst (λ s. HasMade start trace (n + 1) s) (sym e) (appended start trace n change old h made is live_fits appends.free)
 made_more start trace n number change old new numbered h made is (inr carries) fits =
     let e = carries.new_is in
-    let live_fits : length (changed old.now.live change) ≤ start.slots = let a = ap (λ s. length s.now.live) e in let b = made.slots in omega arith in
+    let live_fits : length (live_after_one old.now.live change) ≤ start.slots = let a = ap (λ s. length s.now.live) e in let b = made.slots in omega arith in
     let numbers : new ≡ record {
-      now = record { slots = old.now.slots; fill = length (changed old.now.live change); live = changed old.now.live change };
-      from = length (changed old.now.live change);
+      now = record { slots = old.now.slots; fill = length (live_after_one old.now.live change); live = live_after_one old.now.live change };
+      from = length (live_after_one old.now.live change);
       stretches = old.stretches ++ record { to = n + 1; from = old.from } ∷ [];
     } = subst (λ m. new ≡ record {
-      now = record { slots = old.now.slots; fill = length (changed old.now.live change); live = changed old.now.live change };
-      from = length (changed old.now.live change);
+      now = record { slots = old.now.slots; fill = length (live_after_one old.now.live change); live = live_after_one old.now.live change };
+      from = length (live_after_one old.now.live change);
       stretches = old.stretches ++ record { to = m; from = old.from } ∷ [];
     }) numbered e in
     subst (λ s. HasMade start trace (n + 1) s) (sym numbers) (carried start trace n change old h made is live_fits carries.used)
 
 -- a change that isn't made is the first that doesn't fit
 pub refused : (start : Situation) (trace : List Change) (n number : ℕ) (change : Change) (old : LateStore) (fault : PlanFault) → number ≡ n + 1 → n < length trace
-    → HasMade start trace n old → change ≡ get_or trace n change → IsRefused old change number fault → IsPlanFault start trace fault
+    → HasMade start trace n old → change ≡ get_or trace n change → IsChangeRefused old change number fault → IsPlanFault start trace fault
 refused start trace n number change old Memory numbered h made is why = tt
 refused start trace n number change old (NotFitting m) numbered h made is why =
     let behind : drop n trace ≡ get_or trace n change ∷ drop (n + 1) trace = rw add-one (drop-cons trace n change h) in
@@ -121,7 +121,7 @@ refused start trace n number change old (NotFitting m) numbered h made is why =
     sym (take-append-drop n trace) ∙ ap (λ l. take n trace ++ l) (behind ∙ ap (λ c. c ∷ drop (n + 1) trace) (sym is)) in
     let held : length (live_after start.live (take n trace)) ≤ start.slots =
     let a = ap length made.live in let b = made.held in let c = made.fits in omega arith in
-    let breaks : start.slots < length (changed (live_after start.live (take n trace)) change) =
-    subst (λ l. start.slots < length (changed l change)) made.live (let a = made.slots in let b = why.1 in omega arith) in
+    let breaks : start.slots < length (live_after_one (live_after start.live (take n trace)) change) =
+    subst (λ l. start.slots < length (live_after_one l change)) made.live (let a = made.slots in let b = why.1 in omega arith) in
     let before : length (take n trace) ≡ n = length-take-le n trace (omega arith) in
     first_breaks start trace (take n trace) (drop (n + 1) trace) change m parts made.keeps held breaks (let a = why.0 in omega arith)

@@ -19,12 +19,12 @@ use Rattle.ee_pages.specs.Sets.{live_of, set_of, slots_of}
 use Rattle.ee_pages.specs.declared.side.Side.{Side}
 use Rattle.ee_flash.specs.Device.{Device}
 use Rattle.ee_flash.specs.Size.{slot_count}
-use Rattle.ee_store.specs.Finished.{IsStore}
-use Rattle.ee_store.specs.State.{State, state_in, state_of}
-use Rattle.ee_store.proofs.CopiedMaps.{meaning-zero}
-use Rattle.ee_store.proofs.Making.{few_within}
-use Rattle.ee_store.proofs.MovingFacts.{few_slots}
-use Rattle.ee_store.proofs.States.{state_is}
+use Rattle.ee_core.specs.Finished.{IsStore}
+use Rattle.ee_core.specs.State.{State, state_in, state_of}
+use Rattle.ee_core.proofs.CopiedMaps.{meaning-zero}
+use Rattle.ee_core.proofs.Making.{few_within}
+use Rattle.ee_core.proofs.MovingFacts.{few_slots}
+use Rattle.ee_core.proofs.States.{state_is}
 use Rattle.ee_check.specs.Start.{IsStart}
 use Rattle.ee_plan.specs.Start.{AreLive, with_addresses}
 

@@ -10,4 +10,6 @@ pub mod Counted
 pub mod Stations
 pub mod Demanded
 pub mod Answering
+pub mod Lasting
 pub mod Wearing
+pub mod Premises

@@ -22,11 +22,11 @@ use Rattle.ee_pages.specs.declared.side.Side.{Side}
 use Rattle.ee_pages.proofs.LiveCounts.{live_within_fill}
 use Rattle.ee_pages.proofs.Counts.{gap_to, live_to-next, live_to-zero}
 use Rattle.ee_check.specs.declared.change.Change.TheVariants.{Forget, Write}
-use Rattle.ee_check.specs.Live.{changed}
+use Rattle.ee_check.specs.Live.{live_after_one}
 use Rattle.ee_check.specs.Schedule.{IsProper, Situation}
-use Rattle.ee_store.specs.State.{State, capacity, empty_state, state_in, state_of}
-use Rattle.ee_store.proofs.CopiedMaps.{live_in-nothing}
-use Rattle.ee_store.proofs.Making.{few_within}
+use Rattle.ee_core.specs.State.{State, capacity, empty_state, state_in, state_of}
+use Rattle.ee_core.proofs.CopiedMaps.{live_in-nothing}
+use Rattle.ee_core.proofs.Making.{few_within}
 use Rattle.ee_plan.specs.Start.{AreLive, IsStartOf}
 
 -- ---- numbers in ascending order
@@ -122,17 +122,17 @@ insert_adds (x ∷ xs) k = elim (cases_lt k x) [
 
 -- ---- a write
 
-put_there : (map : Map) (named value address : ℕ) → named ≡ address → meaning.changed (Put named value) map address ≡ Some value
+put_there : (map : Map) (named value address : ℕ) → named ≡ address → meaning.map_after (Put named value) map address ≡ Some value
 put_there map named value address here = grind (arith, common_steps)
 
 put_elsewhere : (map : Map) (named value address : ℕ) → (named ≡ address → ⊥)
-    → meaning.changed (Put named value) map address ≡ map address
+    → meaning.map_after (Put named value) map address ≡ map address
 put_elsewhere map named value address apart = grind (arith, common_steps)
 
-put_has : (map : Map) (named value address : ℕ) → named ≡ address → meaning.changed (Put named value) map address ≢ None
+put_has : (map : Map) (named value address : ℕ) → named ≡ address → meaning.map_after (Put named value) map address ≢ None
 put_has map named value address here = λ e. let f = put_there map named value address here in cc
 
-put_keeps : (map : Map) (named value address : ℕ) → map address ≢ None → meaning.changed (Put named value) map address ≢ None
+put_keeps : (map : Map) (named value address : ℕ) → map address ≢ None → meaning.map_after (Put named value) map address ≢ None
 put_keeps map named value address some = elim (cases_eq named address) [
   | inl here ↦ put_has map named value address here
   | inr apart ↦ λ e. some (sym (put_elsewhere map named value address apart) ∙ e)
@@ -140,12 +140,12 @@ put_keeps map named value address some = elim (cases_eq named address) [
 
 -- what is live after a value is put
 pub live_after_put : (map : Map) (live : List ℕ) (address value : ℕ) → IsAddress address → AreLive map live
-    → AreLive (meaning.changed (Put address value) map) (changed live (Write address))
+    → AreLive (meaning.map_after (Put address value) map) (live_after_one live (Write address))
 live_after_put map live address value proper are = record {
   ascending = insert_sorted live address are.ascending;
   proper = All-insert_key nat_cmp address IsAddress live are.proper proper;
   have_values =
-      let P = λ (a : ℕ). meaning.changed (Put address value) map a ≢ None in
+      let P = λ (a : ℕ). meaning.map_after (Put address value) map a ≢ None in
       let all : All P live = All-weaker (λ a. map a ≢ None) P (put_keeps map address value) live are.have_values in
       All-insert_key nat_cmp address P live all (put_has map address value address refl);
   all = λ a some. elim (cases_eq address a) [
@@ -197,15 +197,15 @@ remove_takes (x ∷ xs) k sorted = elim (cases_eq k x) [
 ]
 
 forget_elsewhere : (map : Map) (named address : ℕ) → (named ≡ address → ⊥)
-    → meaning.changed (meaning.Forget named) map address ≡ map address
+    → meaning.map_after (meaning.Forget named) map address ≡ map address
 forget_elsewhere map named address apart = grind (arith, common_steps)
 
-forget_there : (map : Map) (named address : ℕ) → named ≡ address → meaning.changed (meaning.Forget named) map address ≡ None
+forget_there : (map : Map) (named address : ℕ) → named ≡ address → meaning.map_after (meaning.Forget named) map address ≡ None
 forget_there map named address here = grind (arith, common_steps)
 
 -- what is live after an address is forgotten
 pub live_after_forget : (map : Map) (live : List ℕ) (address : ℕ) → AreLive map live
-    → AreLive (meaning.changed (meaning.Forget address) map) (changed live (Forget address))
+    → AreLive (meaning.map_after (meaning.Forget address) map) (live_after_one live (Forget address))
 live_after_forget map live address are =
     let test = is_at (nat_cmp address) in
     let Q = λ (a : ℕ). map a ≢ None in

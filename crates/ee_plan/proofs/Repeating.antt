@@ -10,7 +10,7 @@ use Rattle.std.specs.BTreeSet.{insert_key}
 use Rattle.std.specs.Set.{remove_key}
 use Rattle.ee_check.specs.declared.change.Change.{Change}
 use Rattle.ee_check.specs.declared.change.Change.TheVariants.{Forget, Write}
-use Rattle.ee_check.specs.Live.{changed, live_after}
+use Rattle.ee_check.specs.Live.{live_after_one, live_after}
 use Rattle.ee_plan.proofs.LiveLists.{smaller, same, greater, not_at, from_less, insert_sorted, remove_sorted}
 
 -- ---- which addresses a list has
@@ -124,21 +124,21 @@ decided_again changes q b = elim (decided changes q) [
   | inr settled ↦ settled (decides changes q b) b
 ]
 
-changed_sorted : (live : List ℕ) (change : Change) → IsStrictlySortedBy nat_cmp live → IsStrictlySortedBy nat_cmp (changed live change)
+changed_sorted : (live : List ℕ) (change : Change) → IsStrictlySortedBy nat_cmp live → IsStrictlySortedBy nat_cmp (live_after_one live change)
 changed_sorted live (Write address) sorted = insert_sorted live address sorted
 changed_sorted live (Forget address) sorted = remove_sorted live address sorted
 
 after_sorted : (live : List ℕ) (changes : List Change) → IsStrictlySortedBy nat_cmp live → IsStrictlySortedBy nat_cmp (live_after live changes)
 after_sorted live [] sorted = sorted
-after_sorted live (change ∷ changes) sorted = after_sorted (changed live change) changes (changed_sorted live change sorted)
+after_sorted live (change ∷ changes) sorted = after_sorted (live_after_one live change) changes (changed_sorted live change sorted)
 
 has_after : (live : List ℕ) (changes : List Change) (q : ℕ) → IsStrictlySortedBy nat_cmp live
     → has (live_after live changes) q ≡ decides changes q (has live q)
 has_after live [] q sorted = refl
 has_after live (Write address ∷ changes) q sorted =
-    has_after (changed live (Write address)) changes q (insert_sorted live address sorted) ∙ ap (decides changes q) (has_insert live address q)
+    has_after (live_after_one live (Write address)) changes q (insert_sorted live address sorted) ∙ ap (decides changes q) (has_insert live address q)
 has_after live (Forget address ∷ changes) q sorted =
-    has_after (changed live (Forget address)) changes q (remove_sorted live address sorted) ∙ ap (decides changes q) (has_remove live address q sorted)
+    has_after (live_after_one live (Forget address)) changes q (remove_sorted live address sorted) ∙ ap (decides changes q) (has_remove live address q sorted)
 
 -- made twice, changes leave what they left the first time
 made_twice : (live : List ℕ) (changes : List Change) → IsStrictlySortedBy nat_cmp live

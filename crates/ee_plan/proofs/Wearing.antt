@@ -1,31 +1,31 @@
 -- How often a schedule erases: a set that is entered was erased since it was entered last.
-use Rattle.std.proofs.Common.{◌≡◌, ◌≢◌, ◌⊎◌, ◌∙◌, inl, inr, ℕ, zero, suc, ◌+◌, ◌-◌, ◌/◌, ◌<◌, ◌≤◌, Bool, true, false, not, cond, eqb, Some, None, Option, List, [], ◌∷◌, ◌++◌, length, get_or, replicate, refl, sym, subst, ap, arith}
+use Rattle.std.proofs.Common.{◌≡◌, ◌≢◌, ◌⊎◌, ◌∙◌, inl, inr, ℕ, zero, suc, ◌+◌, ◌-◌, ◌/◌, ◌<◌, ◌≤◌, Bool, true, false, not, cond, eqb, Some, None, Option, List, [], ◌∷◌, ◌++◌, refl, sym, subst, ap, arith}
 use Rattle.std.specs.Prelude.{◌&&◌}
 use Rattle.std.specs.List.{All}
-use Rattle.std.proofs.lemmas.Bool.{cases_Bool, cases_eq, eq-eqb, eqb-true, ne_eqb, true≢false}
+use Rattle.std.proofs.lemmas.Bool.{cases_Bool, cases_eq, eq-eqb, eqb-true, true≢false}
 use Rattle.std.proofs.lemmas.List.Elements.{All-head}
 use Rattle.std.proofs.lemmas.List.Folds.{list_any_at}
 use Rattle.ee_flash.proofs.Endurance.{behind, more_erases_of}
 use Rattle.ee_flash.specs.Device.{Device, IsFormed, page_at, word_at}
-use Rattle.ee_flash.specs.Endurance.{AreTaken, erases_of, is_erase_of}
+use Rattle.ee_flash.specs.Endurance.{AreTaken, erases_of}
 use Rattle.ee_flash.specs.Laws.{IsStep, page_of}
 use Rattle.ee_flash.specs.Size.{Size, page_count}
-use Rattle.ee_flash.specs.Step.{Step, Program, Erase, completed}
+use Rattle.ee_flash.specs.Step.{Step, Program, Erase, device_after}
 use Rattle.ee_flash.specs.declared.word.Word.{Word}
 use Rattle.ee_flash.specs.declared.word.Word.TheVariants.{Erased, Held, Torn}
 use Rattle.ee_codec.specs.Reading.{receive_of}
 use Rattle.ee_pages.proofs.Commits.{live_commits}
 use Rattle.ee_pages.proofs.OtherPages.{step_keeps_other_pages, written_page}
-use Rattle.ee_pages.proofs.OtherSet.{commits, commits_by}
+use Rattle.ee_pages.proofs.OtherSet.{commits_by}
 use Rattle.ee_pages.proofs.Slots.{length-page_at}
 use Rattle.ee_pages.specs.Page.{is_blank, is_written}
 use Rattle.ee_pages.specs.Sets.{first_page, live_of, other}
 use Rattle.ee_pages.specs.declared.side.Side.{Side}
 use Rattle.ee_pages.specs.declared.side.Side.TheVariants.{First, Second}
-use Rattle.ee_store.proofs.States.{other_twice}
+use Rattle.ee_core.proofs.States.{other_twice}
 use Rattle.ee_check.specs.declared.change.Change.{Change}
 use Rattle.ee_check.specs.Schedule.{IsSchedule, Move, Situation, cost}
-use Rattle.ee_plan.specs.Wearing.{EnterBlank, NoneWearsLess, Transfer, WearsAtLeast, by_turns, entered, entered_by, is_entry}
+use Rattle.ee_plan.specs.Wearing.{EnterBlank, NoneWearsLess, by_turns, entered_sets, entered_by, is_entry}
 
 -- ---- the first page of the live set
 
@@ -39,7 +39,7 @@ no_commit true generation e = cc
 no_commit false generation e = cc
 
 -- a device has some pages, and the first of each set is one of them
-first_in_device : (size : Size) (side : Side) → 1 ≤ size.pages → first_page size side < page_count size
+pub first_in_device : (size : Size) (side : Side) → 1 ≤ size.pages → first_page size side < page_count size
 first_in_device size First some = omega arith
 first_in_device size Second some = omega arith
 
@@ -65,17 +65,17 @@ few_blank true = omega arith
 few_blank false = omega arith
 
 -- what a device's first step leaves
-taken_step : (step : Step) (steps : List Step) (device : Device) → AreTaken (step ∷ steps) device → IsStep step device (completed step device)
+taken_step : (step : Step) (steps : List Step) (device : Device) → AreTaken (step ∷ steps) device → IsStep step device (device_after step device)
 taken_step step steps device taken = record { formed = taken.formed; may = taken.can.0; follows = inl (record { was_on = taken.on; done = refl }) }
 
 other_page : (step : Step) (steps : List Step) (device : Device) (page : ℕ) → AreTaken (step ∷ steps) device → page ≢ page_of step
-    → blank_count (completed step device) page ≡ blank_count device page
+    → blank_count (device_after step device) page ≡ blank_count device page
 other_page step steps device page taken apart =
-    ap (λ (words : List Word). cond {A = ℕ} (is_blank words) 1 0) (step_keeps_other_pages step device (completed step device) page (taken_step step steps device taken) apart)
+    ap (λ (words : List Word). cond {A = ℕ} (is_blank words) 1 0) (step_keeps_other_pages step device (device_after step device) page (taken_step step steps device taken) apart)
 
 -- a page with a word programmed is not blank
 programmed_page : (page at value : ℕ) (steps : List Step) (device : Device) → AreTaken (Program page at value ∷ steps) device
-    → is_blank (page_at (completed (Program page at value) device) page) ≡ false
+    → is_blank (page_at (device_after (Program page at value) device) page) ≡ false
 programmed_page page at value steps device taken =
     let can = taken.can.0 in
     let long = length-page_at device page taken.formed can.0 in
@@ -83,14 +83,14 @@ programmed_page page at value steps device taken =
 
 -- only an erase makes a page blank
 not_blanker : (step : Step) (steps : List Step) (device : Device) (page : ℕ) → AreTaken (step ∷ steps) device
-    → erases_of page steps + blank_count (completed step device) page ≤ erases_of page (step ∷ steps) + blank_count device page
+    → erases_of page steps + blank_count (device_after step device) page ≤ erases_of page (step ∷ steps) + blank_count device page
 not_blanker (Program other at value) steps device page taken =
     let step = Program other at value in
     let same : erases_of page (step ∷ steps) ≡ erases_of page steps = omega (arith, more_erases_of page step steps) in
     elim (cases_eq page other) [
       | inl here ↦
-          let none : blank_count (completed step device) page ≡ 0 =
-          ap (λ n. blank_count (completed step device) n) here ∙ ap (λ b. cond {A = ℕ} b 1 0) (programmed_page other at value steps device taken) in
+          let none : blank_count (device_after step device) page ≡ 0 =
+          ap (λ n. blank_count (device_after step device) n) here ∙ ap (λ b. cond {A = ℕ} b 1 0) (programmed_page other at value steps device taken) in
           omega (arith, same, none)
       | inr apart ↦ omega (arith, same, other_page step steps device page taken apart)
     ]
@@ -100,7 +100,7 @@ not_blanker (Erase other) steps device page taken =
     elim (cases_eq page other) [
       | inl here ↦
           let one : cond {A = ℕ} (eqb other page) 1 0 ≡ 1 = ap (λ b. cond {A = ℕ} b 1 0) (eq-eqb other page (sym here)) in
-          omega (arith, more, one, few_blank (is_blank (page_at (completed step device) page)))
+          omega (arith, more, one, few_blank (is_blank (page_at (device_after step device) page)))
       | inr apart ↦ omega (arith, more, other_page step steps device page taken apart)
     ]
 
@@ -136,16 +136,16 @@ rest_of : List Side → List Side
 rest_of [] = []
 rest_of (side ∷ sides) = sides
 
-same_size : (step : Step) (device : Device) → (completed step device).size ≡ device.size
+same_size : (step : Step) (device : Device) → (device_after step device).size ≡ device.size
 same_size (Program page at value) device = refl
 same_size (Erase page) device = refl
 
 -- a step that enters none
 enters_none : (count : ℕ) (next : Side) (step : Step) (steps : List Step) (device : Device) → AreTaken (step ∷ steps) device
-    → WearFrom count next steps (completed step device) → WearFrom count next (step ∷ steps) device
+    → WearFrom count next steps (device_after step device) → WearFrom count next (step ∷ steps) device
 enters_none count next step steps device taken later =
-    let behind = subst (λ (size : Size). ((count + 1) / 2 ≤ erases_of (first_page size next) steps + blank_count (completed step device) (first_page size next))
-    × (count / 2 ≤ erases_of (first_page size (other next)) steps + blank_count (completed step device) (first_page size (other next)))) (same_size step device) (later.here, later.there) in
+    let behind = subst (λ (size : Size). ((count + 1) / 2 ≤ erases_of (first_page size next) steps + blank_count (device_after step device) (first_page size next))
+    × (count / 2 ≤ erases_of (first_page size (other next)) steps + blank_count (device_after step device) (first_page size (other next)))) (same_size step device) (later.here, later.there) in
     record {
       here = omega (arith, behind.0, not_blanker step steps device (first_page device.size next) taken);
       there = omega (arith, behind.1, not_blanker step steps device (first_page device.size (other next)) taken);
@@ -154,19 +154,19 @@ enters_none count next step steps device taken later =
 -- a step that enters a set: its first page was blank, and no longer is
 enters_one : (count : ℕ) (next : Side) (at value : ℕ) (step : Step) (steps : List Step) (device : Device) → step ≡ Program (first_page device.size next) at value
     → AreTaken (step ∷ steps) device → is_blank (page_at device (first_page device.size next)) ≡ true
-    → WearFrom count (other next) steps (completed step device) → WearFrom (suc count) next (step ∷ steps) device
+    → WearFrom count (other next) steps (device_after step device) → WearFrom (suc count) next (step ∷ steps) device
 enters_one count next at value step steps device step_is taken blank later =
     let page = first_page device.size next in
     let size_stays = same_size step device in
-    let written : is_blank (page_at (completed step device) page) ≡ false =
-    subst (λ (s : Step). AreTaken (s ∷ steps) device → is_blank (page_at (completed s device) page) ≡ false) (sym step_is) (programmed_page page at value steps device) taken in
-    let none : blank_count (completed step device) page ≡ 0 = ap (λ b. cond {A = ℕ} b 1 0) written in
+    let written : is_blank (page_at (device_after step device) page) ≡ false =
+    subst (λ (s : Step). AreTaken (s ∷ steps) device → is_blank (page_at (device_after s device) page) ≡ false) (sym step_is) (programmed_page page at value steps device) taken in
+    let none : blank_count (device_after step device) page ≡ 0 = ap (λ b. cond {A = ℕ} b 1 0) written in
     let one : blank_count device page ≡ 1 = ap (λ b. cond {A = ℕ} b 1 0) blank in
-    let twice : count / 2 ≤ erases_of page steps + blank_count (completed step device) page =
-    subst (λ (size : Size). count / 2 ≤ erases_of (first_page size next) steps + blank_count (completed step device) (first_page size next)) size_stays
-    (subst (λ side. count / 2 ≤ erases_of (first_page (completed step device).size side) steps + blank_count (completed step device) (first_page (completed step device).size side)) (other_twice next) later.there) in
-    let others : (count + 1) / 2 ≤ erases_of (first_page device.size (other next)) steps + blank_count (completed step device) (first_page device.size (other next)) =
-    subst (λ (size : Size). (count + 1) / 2 ≤ erases_of (first_page size (other next)) steps + blank_count (completed step device) (first_page size (other next))) size_stays later.here in
+    let twice : count / 2 ≤ erases_of page steps + blank_count (device_after step device) page =
+    subst (λ (size : Size). count / 2 ≤ erases_of (first_page size next) steps + blank_count (device_after step device) (first_page size next)) size_stays
+    (subst (λ side. count / 2 ≤ erases_of (first_page (device_after step device).size side) steps + blank_count (device_after step device) (first_page (device_after step device).size side)) (other_twice next) later.there) in
+    let others : (count + 1) / 2 ≤ erases_of (first_page device.size (other next)) steps + blank_count (device_after step device) (first_page device.size (other next)) =
+    subst (λ (size : Size). (count + 1) / 2 ≤ erases_of (first_page size (other next)) steps + blank_count (device_after step device) (first_page size (other next))) size_stays later.here in
     record {
       here = omega (arith, twice, none, one, more_erases_of page step steps);
       there = omega (arith, others, not_blanker step steps device (first_page device.size (other next)) taken);
@@ -192,35 +192,35 @@ enters size step = elim (cases_Bool (is_entry size First step)) [
 
 -- what comes behind a step
 abbrev WearsFrom : List Step → Device → Type 0
-WearsFrom steps device = (next : Side) (count : ℕ) → entered device.size steps ≡ by_turns next count → WearFrom count next steps device
+WearsFrom steps device = (next : Side) (count : ℕ) → entered_sets device.size steps ≡ by_turns next count → WearFrom count next steps device
 
 -- one more step, that enters this set
 enters_next : (step : Step) (steps : List Step) (device : Device) (next : Side) (count : ℕ) → AreTaken (step ∷ steps) device → EnterBlank (step ∷ steps) device
-    → (this : EntersThis device.size step) → this.side ∷ entered device.size steps ≡ by_turns next count → WearsFrom steps (completed step device)
+    → (this : EntersThis device.size step) → this.side ∷ entered_sets device.size steps ≡ by_turns next count → WearsFrom steps (device_after step device)
     → WearFrom count next (step ∷ steps) device
 unfolding side_of rest_of
 enters_next step steps device next zero taken blank this turns later = absurd cc
 enters_next step steps device next (suc count) taken blank this turns later =
     let side_is : this.side ≡ next = ap (side_of next) turns in
-    let rest : entered device.size steps ≡ by_turns (other next) count = ap rest_of turns in
+    let rest : entered_sets device.size steps ≡ by_turns (other next) count = ap rest_of turns in
     let was_blank = All-head (λ side. is_blank (page_at device (first_page device.size side)) ≡ true) this.side [] (subst (λ l. All (λ side. is_blank (page_at device (first_page device.size side)) ≡ true) l) this.found blank.0) in
     let made = entry device.size this.side step this.enters in
     enters_one count next made.at made.value step steps device
     (made.step_is ∙ ap (λ side. Program (first_page device.size side) made.at made.value) side_is) taken
     (subst (λ side. is_blank (page_at device (first_page device.size side)) ≡ true) side_is was_blank)
-    (later (other next) count (subst (λ (size : Size). entered size steps ≡ by_turns (other next) count) (sym (same_size step device)) rest))
+    (later (other next) count (subst (λ (size : Size). entered_sets size steps ≡ by_turns (other next) count) (sym (same_size step device)) rest))
 
 wear_from : (steps : List Step) (device : Device) → AreTaken steps device → EnterBlank steps device → WearsFrom steps device
 wear_from [] device taken blank next zero turns = record { here = omega arith; there = omega arith }
 wear_from [] device taken blank next (suc count) turns = absurd cc
 wear_from (step ∷ steps) device taken blank next count turns =
-    let later = wear_from steps (completed step device) (behind step steps device taken) blank.1 in
+    let later = wear_from steps (device_after step device) (behind step steps device taken) blank.1 in
     elim (enters device.size step) [
-      | inl this ↦ enters_next step steps device next count taken blank this (sym (ap (λ l. l ++ entered device.size steps) this.found) ∙ turns) later
+      | inl this ↦ enters_next step steps device next count taken blank this (sym (ap (λ l. l ++ entered_sets device.size steps) this.found) ∙ turns) later
       | inr none ↦
-          let still : entered device.size steps ≡ by_turns next count = sym (ap (λ l. l ++ entered device.size steps) none) ∙ turns in
+          let still : entered_sets device.size steps ≡ by_turns next count = sym (ap (λ l. l ++ entered_sets device.size steps) none) ∙ turns in
           enters_none count next step steps device taken
-          (later next count (subst (λ (size : Size). entered size steps ≡ by_turns next count) (sym (same_size step device)) still))
+          (later next count (subst (λ (size : Size). entered_sets size steps ≡ by_turns next count) (sym (same_size step device)) still))
     ]
 
 -- ---- a schedule

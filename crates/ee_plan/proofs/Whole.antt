@@ -4,7 +4,7 @@ use Rattle.std.proofs.Math.Seq.{take-length}
 use Rattle.ee_check.specs.declared.change.Change.{Change}
 use Rattle.ee_check.specs.Live.{KeepsWithin}
 use Rattle.ee_check.specs.Schedule.{Situation, IsProper}
-use Rattle.ee_check.specs.Certificate.{Claim, first_place, IsTightStretch, EachStretch, IsHeader, IsCertificate, IsTight, used_at_end}
+use Rattle.ee_check.specs.Certificate.{Claim, first_place, IsTightStretch, EachStretch, IsCertificateHeader, IsCertificate, IsTight, used_at_end}
 use Rattle.ee_check.proofs.Bounds.{tight_are_certificates_lem}
 use Rattle.ee_plan.specs.Plan.{IsReached, IsBestThroughout, IsFirstNotFitting, IsPlanFault}
 use Rattle.ee_plan.specs.LateStore.{LateStore, HasMade}
@@ -23,7 +23,7 @@ pub used_now : (start : Situation) (trace : List Change) (store : LateStore) →
 used_now start trace store made = let a = made.fill in let b = made.from in omega arith
 
 pub whole_tight : (start : Situation) (trace : List Change) (store : LateStore) (claim : Claim) → HasMade start trace (length trace) store
-    → claim.stretches ≡ store.stretches → IsHeader start trace claim → IsTight start trace claim
+    → claim.stretches ≡ store.stretches → IsCertificateHeader start trace claim → IsTight start trace claim
 whole_tight start trace store claim made e header = record {
   header = header;
   stretches = subst (λ l. EachStretch start trace IsTightStretch (first_place start) l) (sym e) made.stretches;
@@ -31,7 +31,7 @@ whole_tight start trace store claim made e header = record {
 }
 
 pub whole_certificate : (start : Situation) (trace : List Change) (store : LateStore) (claim : Claim) → HasMade start trace (length trace) store
-    → claim.stretches ≡ store.stretches → IsHeader start trace claim → IsCertificate start trace claim
+    → claim.stretches ≡ store.stretches → IsCertificateHeader start trace claim → IsCertificate start trace claim
 whole_certificate start trace store claim made e header = tight_are_certificates_lem start trace claim (whole_tight start trace store claim made e header)
 
 -- the claim of its stretches
@@ -43,7 +43,7 @@ pub whole_reached : (start : Situation) (trace : List Change) (store : LateStore
 unfolding claim_after
 whole_reached start trace store transfers free proper made counted left =
     let claim : Claim = claim_after start trace store in
-    let header : IsHeader start trace claim = record { slots = refl; fill = refl; live = refl; writes = refl } in
+    let header : IsCertificateHeader start trace claim = record { slots = refl; fill = refl; live = refl; writes = refl } in
     let reached = tight_is_reached start trace claim proper (whole_tight start trace store claim made refl header) in
     record {
       moves = reached.moves;
@@ -57,7 +57,7 @@ pub whole_best : (start : Situation) (trace : List Change) (store : LateStore) (
 unfolding claim_after
 whole_best start trace store moments proper made positions =
     let claim : Claim = claim_after start trace store in
-    let header : IsHeader start trace claim = record { slots = refl; fill = refl; live = refl; writes = refl } in
+    let header : IsCertificateHeader start trace claim = record { slots = refl; fill = refl; live = refl; writes = refl } in
     best_throughout start trace claim moments proper (whole_tight start trace store claim made refl header) positions
 
 pub whole_breaks_nowhere : (start : Situation) (trace : List Change) (store : LateStore) (n : ℕ) → HasMade start trace (length trace) store → IsFirstNotFitting start trace n → ⊥

@@ -2,7 +2,7 @@
 use Rattle.std.specs.Prelude.{◌≡◌, ◌⊎◌, ℕ, ◌+◌, ◌-◌, ◌<◌, ◌≤◌, List, [], ◌∷◌, ◌++◌, length, take}
 use Rattle.ee_check.specs.declared.change.Change.{Change}
 use Rattle.ee_check.specs.declared.certificate.Stretch.{Stretch}
-use Rattle.ee_check.specs.Live.{changed, live_after, KeepsWithin}
+use Rattle.ee_check.specs.Live.{live_after_one, live_after, KeepsWithin}
 use Rattle.ee_check.specs.Schedule.{Situation, Append, Carry, after_move}
 use Rattle.ee_check.specs.Certificate.{IsTightStretch, EachStretch, first_place, last_place}
 use Rattle.ee_plan.specs.declared.planned.PlanFault.{PlanFault}
@@ -15,15 +15,15 @@ pub record LateStore : Type 0 where
   pub stretches : List Stretch
 
 -- change n is made, and a stretch ends with it: the live addresses are copied, and take a slot each
-abbrev pub transferred : LateStore → ℕ → LateStore
-transferred s n = record {
+abbrev pub store_after_transfer : LateStore → ℕ → LateStore
+store_after_transfer s n = record {
   now = record { slots = s.now.slots; fill = length s.now.live; live = s.now.live };
   from = length s.now.live;
   stretches = s.stretches ++ record { to = n; from = s.from } ∷ [];
 }
 
 -- a change takes a free slot
-pub record Appends (old : LateStore) (change : Change) (new : LateStore) : Type 0 where
+pub record TakesFreeSlot (old : LateStore) (change : Change) (new : LateStore) : Type 0 where
   pub free : old.now.fill < old.now.slots
   pub new_is : new ≡ record old { now = after_move old.now (Append change) }
 
@@ -32,13 +32,13 @@ pub record Carries (old : LateStore) (change : Change) (n : ℕ) (new : LateStor
   pub used : old.now.slots ≤ old.now.fill
   pub new_is : new ≡ record {
     now = after_move old.now (Carry change);
-    from = length (changed old.now.live change);
+    from = length (live_after_one old.now.live change);
     stretches = old.stretches ++ record { to = n; from = old.from } ∷ [];
   }
 
 -- change n is made in one of these ways
 abbrev pub Makes : LateStore → Change → ℕ → LateStore → Type 0
-Makes old change n new = Appends old change new ⊎ Carries old change n new
+Makes old change n new = TakesFreeSlot old change new ⊎ Carries old change n new
 
 -- After n changes of the trace its stretches are tight, and as many slots are used as were where the last of them ended, and one for each
 -- change since.
@@ -54,6 +54,6 @@ pub record HasMade (start : Situation) (trace : List Change) (n : ℕ) (store : 
   pub fits : store.now.fill ≤ start.slots
 
 -- why change n isn't made
-abbrev pub IsRefused : LateStore → Change → ℕ → PlanFault → Type 0
-IsRefused old change n (NotFitting number) = (number ≡ n) × (old.now.slots < length (changed old.now.live change))
-IsRefused old change n Memory = Unit {0}
+abbrev pub IsChangeRefused : LateStore → Change → ℕ → PlanFault → Type 0
+IsChangeRefused old change n (NotFitting number) = (number ≡ n) × (old.now.slots < length (live_after_one old.now.live change))
+IsChangeRefused old change n Memory = Unit {0}

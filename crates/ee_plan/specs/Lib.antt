@@ -4,3 +4,4 @@ pub mod Start
 pub mod Rounds
 pub mod Places
 pub mod Wearing
+pub mod Lasting

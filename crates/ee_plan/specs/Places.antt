@@ -1,14 +1,14 @@
 -- Where the late store transfers in a trace that is made many times over, and what its addresses are counted by.
 use Rattle.std.specs.Prelude.{◌≡◌, ℕ, ◌+◌, ◌-◌, ◌%◌, ◌<◌, ◌≤◌, List, [], ◌∷◌, length, slice_index, nat_lt, if◌then◌else◌, zero, suc}
 use Rattle.ee_check.specs.declared.change.Change.{Change}
-use Rattle.ee_check.specs.Live.{changed, live_after}
+use Rattle.ee_check.specs.Live.{live_after_one, live_after}
 use Rattle.ee_plan.specs.declared.counts.Counts.{Counts}
 use Rattle.ee_plan.specs.declared.walking.Walk.{Walk}
 
 -- how many addresses are live before each change
 abbrev pub counts_before : List ℕ → List Change → List ℕ
 counts_before live [] = []
-counts_before live (change ∷ changes) = length live ∷ counts_before (changed live change) changes
+counts_before live (change ∷ changes) = length live ∷ counts_before (live_after_one live change) changes
 
 -- behind each count come so many more that are the same
 pub record AreFlats (counts flats : List ℕ) : Type 0 where
@@ -18,7 +18,7 @@ pub record AreFlats (counts flats : List ℕ) : Type 0 where
 
 -- the counts of the first round, and those of each later one: whatever a trace finds, it leaves the same addresses the
 -- second time as the first
-pub record AreCounts {A : Type 0} (trace : List Change) (counts : Counts A) : Type 0 where
+pub record AreRoundCounts {A : Type 0} (trace : List Change) (counts : Counts A) : Type 0 where
   pub first : counts.first.items ≡ counts_before [] trace
   pub later : counts.later.items ≡ counts_before (live_after [] trace) trace
   pub flats : AreFlats counts.later.items counts.flats.items
@@ -41,13 +41,13 @@ abbrev pub next_place : (ℕ → ℕ) → ℕ → ℕ → ℕ
 next_place count slots n = n + (slots - count n) + 1
 
 -- with which change transfer k comes, and 0 for none yet
-unfoldable pub place_of : (ℕ → ℕ) → ℕ → ℕ → ℕ
-place_of count slots zero = 0
-place_of count slots (suc k) = next_place count slots (place_of count slots k)
+unfoldable pub place_in_round : (ℕ → ℕ) → ℕ → ℕ → ℕ
+place_in_round count slots zero = 0
+place_in_round count slots (suc k) = next_place count slots (place_in_round count slots k)
 
 -- it stands where it says, within the trace
 pub record IsOnWay (count : ℕ → ℕ) (slots total : ℕ) (walk : Walk) : Type 0 where
-  pub place : walk.place ≡ place_of count slots walk.made
+  pub place : walk.place ≡ place_in_round count slots walk.made
   pub within : walk.place ≤ total
   pub rising : walk.made ≤ walk.place
 

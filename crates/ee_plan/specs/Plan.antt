@@ -2,7 +2,7 @@
 use Rattle.std.specs.Prelude.{◌≡◌, ◌⊎◌, ℕ, ◌+◌, ◌-◌, ◌<◌, ◌≤◌, List, ◌∷◌, ◌++◌, filter, length, map, nat_le}
 use Rattle.ee_check.specs.declared.change.Change.{Change}
 use Rattle.ee_check.specs.declared.change.Change.TheVariants.{Write}
-use Rattle.ee_check.specs.Live.{changed, live_after, KeepsWithin}
+use Rattle.ee_check.specs.Live.{live_after_one, live_after, KeepsWithin}
 use Rattle.ee_check.specs.Schedule.{Situation, Move, IsSchedule, after_moves, cost}
 use Rattle.ee_check.specs.Certificate.{Claim, IsTight, claim_of, room}
 use Rattle.ee_plan.specs.declared.planned.Plan.{Plan}
@@ -53,7 +53,7 @@ pub record IsFirstNotFitting (start : Situation) (trace : List Change) (n : ℕ)
   pub rest : List Change
   pub trace_is : trace ≡ before ++ Write address ∷ rest
   pub keeps : KeepsWithin start.slots start.live before
-  pub breaks : start.slots < length (changed (live_after start.live before) (Write address))
+  pub breaks : start.slots < length (live_after_one (live_after start.live before) (Write address))
   pub number : n ≡ length before + 1
 
 -- why there is no plan; want of memory has no cause in the trace

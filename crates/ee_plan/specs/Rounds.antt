@@ -11,9 +11,9 @@ use Rattle.ee_plan.specs.declared.demand.RoundsFault.TheVariants.{TooMany, Memor
 use Rattle.ee_plan.specs.Plan.{IsFirstNotFitting}
 
 -- the trace written out so many times, one after another
-abbrev pub repeated : ℕ → List Change → List Change
-repeated zero trace = []
-repeated (suc more) trace = trace ++ repeated more trace
+abbrev pub repeated_trace : ℕ → List Change → List Change
+repeated_trace zero trace = []
+repeated_trace (suc more) trace = trace ++ repeated_trace more trace
 
 -- a set of so many slots of which none is used
 abbrev pub fresh : ℕ → Situation

@@ -5,7 +5,7 @@ use Rattle.std.specs.List.Sorted.{IsStrictlySortedBy}
 use Rattle.std.specs.Ordering.{nat_cmp}
 use Rattle.ee_codec.specs.Words.{IsAddress}
 use Rattle.ee_pages.specs.Meaning.{Map}
-use Rattle.ee_store.specs.State.{State}
+use Rattle.ee_core.specs.State.{State}
 use Rattle.ee_check.specs.Schedule.{Situation}
 
 -- These are the addresses that have a value in the map, ascending; each is proper.

@@ -4,7 +4,7 @@ use Rattle.std.specs.List.{All, flat_map}
 use Rattle.ee_flash.specs.Device.{Device, page_at}
 use Rattle.ee_flash.specs.Endurance.{AreTaken, erases_of}
 use Rattle.ee_flash.specs.Size.{Size}
-use Rattle.ee_flash.specs.Step.{Step, Program, Erase, completed}
+use Rattle.ee_flash.specs.Step.{Step, Program, Erase, device_after}
 use Rattle.ee_pages.specs.Page.{is_blank}
 use Rattle.ee_pages.specs.Sets.{first_page, live_of, other}
 use Rattle.ee_pages.specs.declared.side.Side.{Side}
@@ -24,8 +24,8 @@ abbrev pub entered_by : Size → Step → List Side
 entered_by size step = if is_entry size First step then First ∷ [] else (if is_entry size Second step then Second ∷ [] else [])
 
 -- the sets that steps enter, in their order
-abbrev pub entered : Size → List Step → List Side
-entered size steps = flat_map (entered_by size) steps
+abbrev pub entered_sets : Size → List Step → List Side
+entered_sets size steps = flat_map (entered_by size) steps
 
 -- so many sets by turns, of which this is the first
 abbrev pub by_turns : Side → ℕ → List Side
@@ -37,13 +37,13 @@ abbrev pub EnterBlank : List Step → Device → Type 0
 EnterBlank [] device = Unit {0}
 EnterBlank (step ∷ steps) device =
     All (λ side. is_blank (page_at device (first_page device.size side)) ≡ true) (entered_by device.size step)
-    × EnterBlank steps (completed step device)
+    × EnterBlank steps (device_after step device)
 
 -- Steps that a device takes, and that make so many transfers, if this set of it is live at the start: each enters the set that
 -- isn't live then, so the sets take turns, and the other one is the first. Whatever else they program and erase is free.
 pub record Transfer (transfers : ℕ) (side : Side) (steps : List Step) (device : Device) : Type 0 where
   pub taken : AreTaken steps device
-  pub turns : entered device.size steps ≡ by_turns (other side) transfers
+  pub turns : entered_sets device.size steps ≡ by_turns (other side) transfers
   pub blank : EnterBlank steps device
 
 -- ---- what they erase

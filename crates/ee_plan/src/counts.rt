@@ -1,7 +1,7 @@
 //! How many addresses are live after each change of a trace that is made many times over.
 ghost use Rattle.std.specs.Prelude.{◌≡◌, ◌+◌, ◌≤◌, ℕ, IfOk, OnOk};
 ghost use Rattle.ee_check.specs.Live.{live_after};
-ghost use Rattle.ee_plan.specs.Places.{AreCounts, AreFlats, AreRounds, count_after, counts_before};
+ghost use Rattle.ee_plan.specs.Places.{AreRoundCounts, AreFlats, AreRounds, count_after, counts_before};
 
 use ee_check::Change;
 use ee_codec::Address;
@@ -21,7 +21,7 @@ pub(crate) struct Counts<A: Allocator> {
 impl<A: Allocator + Copy> Counts<A> {
     /// Makes the trace twice.
     pub(crate) fn of(alloc: A, trace: &[Change]) -> Result<Counts<A>, AllocError>
-        ensures { IfOk result (AreCounts trace.now) }
+        ensures { IfOk result (AreRoundCounts trace.now) }
     {
         let mut live = BTreeSet::new(alloc);
         let first = count(alloc, trace, &mut live)?;

@@ -1,7 +1,7 @@
 //! The store that transfers exactly when each slot is used.
 ghost use Rattle.std.specs.Prelude.{◌≡◌, ◌≤◌, [], length, OnOk, IfOk, IfErr};
 ghost use Rattle.ee_check.specs.Start.{IsStart};
-ghost use Rattle.ee_plan.specs.LateStore.{Makes, IsRefused, transferred};
+ghost use Rattle.ee_plan.specs.LateStore.{Makes, IsChangeRefused, store_after_transfer};
 
 use super::planned::PlanFault;
 use ee_check::{Change, Start, Stretch};
@@ -51,7 +51,7 @@ impl<A: Allocator + Copy> LateStore<A> {
     pub(crate) fn make(&mut self, change: Change, number: u64) -> Result<(), PlanFault>
         ensures made { OnOk result (Makes self.old change number self.new) }
         ensures fits { OnOk result (length self.new.now.live ≤ self.old.now.slots) }
-        ensures err { IfErr result (λ fault. IsRefused self.old change number fault) }
+        ensures err { IfErr result (λ fault. IsChangeRefused self.old change number fault) }
     {
         change.make(&mut self.live)?;
         if self.slots < self.live.len() as u64 {
@@ -67,7 +67,7 @@ impl<A: Allocator + Copy> LateStore<A> {
 
     /// A stretch ends with change `number`, which is made; the live addresses are copied.
     fn transfer(&mut self, number: u64) -> Result<(), AllocError>
-        ensures { OnOk result (self.new ≡ transferred self.old number) }
+        ensures { OnOk result (self.new ≡ store_after_transfer self.old number) }
     {
         self.stretches.push(Stretch {
             to: number,

@@ -11,6 +11,25 @@
 //!
 //! `Rounds` answers the same of a trace that is made many times over, on a set that starts empty: the
 //! length of its tight certificate, for any number of slots, without writing the trace out.
+//!
+//! # What is proved
+//!
+//! Want of memory aside, `plan` gives the tight certificate of any trace that keeps within the
+//! slots, with its positions, its size and the room that it leaves (`planned`), and names the first
+//! change that doesn't fit (`refused`, `fits`, `names`). Some schedule reaches it (`reached`), and
+//! the checker accepts it (`certificate`). Wherever the trace is broken off, the plan's moments so
+//! far are those of the tight certificate of what was made of it, and each schedule makes more
+//! transfers, or as many and ends with no more slots free (`best`). `start_of` gives a store's
+//! slots, fill and live addresses, of any `Variables`. `Rounds` answers of a trace that is made
+//! many times over, without writing it out: `demand` gives the length of the tight certificate of
+//! the whole long trace on a set that starts empty, so that some schedule transfers as often and
+//! none less, or names the first change that doesn't fit (`demand`, `fits`, `names`); `changes`
+//! tells how many all rounds have. `laws`: where no schedule makes fewer than K transfers, each of
+//! them erases the first page of one set K / 2 times, whatever its steps are
+//! (`fewest_transfers_wear`). So where a store's calls made no more transfers, each erases its most
+//! worn page as often as they erased theirs, or once less (`fewest_moves_last`), and as often where
+//! no clean step erased a page, and at the start no page of the other set waited, or its first page
+//! did (`fewest_moves_last_as_long`).
 #![tactic(auto)]
 
 mod counts;

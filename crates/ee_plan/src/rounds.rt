@@ -1,9 +1,9 @@
 //! What a trace that is made many times over demands of sets of any size.
 ghost use Rattle.std.specs.Prelude.{◌≡◌, ℕ, ◌*◌, ◌^◌, ◌<◌, ◌≤◌, length, IfErr, IfOk};
 ghost use Rattle.ee_check.specs.Live.{KeepsWithin};
-ghost use Rattle.ee_plan.specs.Places.{AreCounts};
+ghost use Rattle.ee_plan.specs.Places.{AreRoundCounts};
 ghost use Rattle.ee_plan.specs.Plan.{IsFirstNotFitting};
-ghost use Rattle.ee_plan.specs.Rounds.{IsDemand, IsRoundsFault, fresh, repeated};
+ghost use Rattle.ee_plan.specs.Rounds.{IsDemand, IsRoundsFault, fresh, repeated_trace};
 
 use super::counts::Counts;
 use super::demand::{Demand, RoundsFault};
@@ -24,15 +24,15 @@ pub struct Rounds<A: Allocator = Global> {
 impl<A: Allocator> Model for Rounds<A> {
     ghost use Rattle.std.specs.Prelude.{List, length, ◌*◌, ◌<◌, ◌^◌};
     ghost use Rattle.ee_check.specs.declared.change.Change.{Change};
-    ghost use Rattle.ee_plan.specs.Places.{AreCounts};
-    ghost use Rattle.ee_plan.specs.Rounds.{repeated};
+    ghost use Rattle.ee_plan.specs.Places.{AreRoundCounts};
+    ghost use Rattle.ee_plan.specs.Rounds.{repeated_trace};
 
     // the changes of all rounds
     ghost Value = { List Change };
 
-    ghost view = { λ s. repeated s.runs s.trace.items };
+    ghost view = { λ s. repeated_trace s.runs s.trace.items };
 
-    ghost invariant = { λ s. AreCounts s.trace.items s.counts × (s.runs * length s.trace.items < 2 ^ 63) };
+    ghost invariant = { λ s. AreRoundCounts s.trace.items s.counts × (s.runs * length s.trace.items < 2 ^ 63) };
 }
 
 impl<A: Allocator + Copy> Rounds<A> {
@@ -42,7 +42,7 @@ impl<A: Allocator + Copy> Rounds<A> {
     ///
     /// `TooMany` exactly where the changes of all rounds are 2^63 or more; otherwise memory can run out.
     pub fn new(alloc: A, trace: Vec<Change, A>, runs: u64) -> Result<Rounds<A>, RoundsFault>
-        ensures rounds { IfOk result (λ rounds. rounds ≡ repeated runs trace.items) }
+        ensures rounds { IfOk result (λ rounds. rounds ≡ repeated_trace runs trace.items) }
         ensures fault { IfErr result (IsRoundsFault runs trace.items) }
         ensures few { runs * length trace.items < 2 ^ 63 → IfErr result (λ fault. fault ≡ RoundsFault.Memory) }
         ensures many { 2 ^ 63 ≤ runs * length trace.items → result ≡ Err RoundsFault.TooMany }
@@ -90,10 +90,10 @@ impl<A: Allocator> Rounds<A> {
 
 /// What the trace, made so many times, demands of a set of so many slots.
 fn demand_of<A: Allocator>(trace: &[Change], runs: u64, counts: &Counts<A>, slots: u64) -> Demand
-    requires counts { AreCounts trace.now counts.now }
+    requires counts { AreRoundCounts trace.now counts.now }
     requires runs { runs * length trace.now < 2 ^ 63 }
     requires slots { slots < 2 ^ 32 }
-    ensures { IsDemand (fresh slots) (repeated runs trace.now) result }
+    ensures { IsDemand (fresh slots) (repeated_trace runs trace.now) result }
 {
     if trace.is_empty() {
         return Demand::Transfers(0);

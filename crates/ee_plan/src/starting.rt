@@ -5,13 +5,13 @@ ghost use Rattle.std.specs.Ordering.{nat_cmp};
 ghost use Rattle.ee_flash.specs.Device.{IsOn};
 ghost use Rattle.ee_flash.specs.Size.{slot_count};
 ghost use Rattle.ee_pages.specs.Meaning.{live_in};
-ghost use Rattle.ee_store.specs.Finished.{IsStore};
-ghost use Rattle.ee_store.specs.State.{state_of};
+ghost use Rattle.ee_core.specs.Finished.{IsStore};
+ghost use Rattle.ee_core.specs.State.{state_of};
 ghost use Rattle.ee_plan.specs.Start.{AreLive, IsStartOf, with_addresses};
 
 use ee_check::Start;
 use ee_codec::Address;
-use ee_store::Variables;
+use ee_core::Variables;
 use std::alloc::{AllocError, Allocator};
 use std::collections::BTreeSet;
 

@@ -1,6 +1,6 @@
 //! From transfer to transfer through a trace that is made many times over.
 ghost use Rattle.std.specs.Prelude.{◌≡◌, ◌≢◌, ℕ, ◌+◌, ◌-◌, ◌*◌, ◌^◌, ◌<◌, ◌≤◌, length, IfNone, IfSome};
-ghost use Rattle.ee_plan.specs.Places.{AreRounds, IsFirstOver, IsOnWay, count_after, place_of};
+ghost use Rattle.ee_plan.specs.Places.{AreRounds, IsFirstOver, IsOnWay, count_after, place_in_round};
 
 use super::counts::Counts;
 use std::alloc::Allocator;
@@ -19,8 +19,8 @@ pub(crate) fn transfers<A: Allocator>(counts: &Counts<A>, slots: u64, total: u64
     requires rounds { AreRounds counts.now }
     requires slots { slots < 2 ^ 32 }
     requires total { total < 2 ^ 63 }
-    ensures made { place_of (count_after counts.now) slots result ≤ total }
-    ensures all { total < place_of (count_after counts.now) slots (result + 1) }
+    ensures made { place_in_round (count_after counts.now) slots result ≤ total }
+    ensures all { total < place_in_round (count_after counts.now) slots (result + 1) }
 {
     let mut walk = leap(counts, slots, total);
     'walking: loop {
@@ -87,7 +87,7 @@ fn onward<A: Allocator>(counts: &Counts<A>, slots: u64, total: u64, walk: Walk) 
     requires total { total < 2 ^ 63 }
     requires walked { IsOnWay (count_after counts.now) slots total walk }
     ensures walked { IsOnWay (count_after counts.now) slots total result }
-    ensures last { result.made ≡ walk.made → total < place_of (count_after counts.now) slots (walk.made + 1) }
+    ensures last { result.made ≡ walk.made → total < place_in_round (count_after counts.now) slots (walk.made + 1) }
     ensures further { result.made ≢ walk.made → walk.place < result.place }
     ensures more { walk.made ≤ result.made }
     ensures slow { result.made + walk.place ≤ result.place + walk.made }

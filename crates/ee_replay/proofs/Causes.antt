@@ -6,9 +6,9 @@ use Rattle.ee_image.specs.declared.fault.ImageFault.TheVariants as image
 use Rattle.ee_script.specs.Whole.{IsScriptFault}
 use Rattle.ee_script.specs.declared.session.ScriptFault.{ScriptFault}
 use Rattle.ee_script.specs.declared.session.ScriptFault.TheVariants as script
-use Rattle.ee_words.specs.declared.replay_fault.ReplayFault.{ReplayFault}
-use Rattle.ee_words.specs.declared.replay_fault.ReplayFault.TheVariants.{Script, Memory}
-use Rattle.ee_words.specs.ReplayFault.{of_image, same_cause}
+use Rattle.ee_faults.specs.declared.replay_fault.ReplayFault.{ReplayFault}
+use Rattle.ee_faults.specs.declared.replay_fault.ReplayFault.TheVariants.{Script, Memory}
+use Rattle.ee_faults.specs.ReplayFault.{of_image, same_cause}
 use Rattle.ee_image_store.specs.Opening.{IsOpenFault}
 use Rattle.ee_replay.specs.Replaying.{IsRunFault}
 

@@ -7,14 +7,14 @@ use Rattle.ee_flash.specs.Size.{Size}
 use Rattle.ee_flash.specs.declared.fuse.Fuse.{Fuse}
 use Rattle.ee_pages.specs.Meaning.{Change, Put}
 use Rattle.ee_pages.specs.Meaning as meaning
-use Rattle.ee_store.proofs.Running.{runs_go_on_lem}
-use Rattle.ee_store.specs.Changes.{IsCutChange}
-use Rattle.ee_store.specs.Events.{Point, powered}
-use Rattle.ee_store.specs.Runs.{Call, Cleaned as DidClean, DidRead, Follows, Forgot, Wrote, is_cut}
-use Rattle.ee_store.specs.State.{State, state_of}
-use Rattle.ee_store.specs.declared.variables.ForgetFault.TheVariants as forgetting
-use Rattle.ee_store.specs.declared.variables.WriteFault.TheVariants as fault
-use Rattle.ee_store.specs.declared.variables.Written.TheVariants as written
+use Rattle.ee_core.proofs.Running.{runs_go_on_lem}
+use Rattle.ee_core.specs.Changes.{IsCutChange}
+use Rattle.ee_core.specs.Points.{Point, with_power_on}
+use Rattle.ee_core.specs.Runs.{Call, Cleaned as DidClean, DidRead, Follows, Forgot, Wrote, is_cut}
+use Rattle.ee_core.specs.State.{State, state_of}
+use Rattle.ee_core.specs.declared.variables.ForgetFault.TheVariants as forgetting
+use Rattle.ee_core.specs.declared.variables.WriteFault.TheVariants as fault
+use Rattle.ee_core.specs.declared.variables.Written.TheVariants as written
 use Rattle.ee_script.specs.declared.command.Command.{Command}
 use Rattle.ee_script.specs.declared.command.Command.TheVariants.{Write, Read, Forget, Clean, Arm, PowerOn}
 use Rattle.ee_script.specs.declared.answer.Answer.{Answer}
@@ -159,7 +159,7 @@ power_made false old Opened new most powers = record {
   at_most = at_most_still old new.device powers.0.goes_on.same_cuts_left most;
 }
 power_made false old Cut new most powers =
-    let here = cut_here (powered old) new powers.0.cut powers.1 most in
+    let here = cut_here (with_power_on old) new powers.0.cut powers.1 most in
     record { step = (refl, here.armed, here.desk ∙ ap (λ (state : State). record { state = state; serving = false; armed = false }) (powers.0.state_is ∙ state_powered old)); same_size = powers.0.cut.same_size; at_most = here.at_most }
 power_made serving old answer new most powers = absurd powers
 

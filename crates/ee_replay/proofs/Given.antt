@@ -2,14 +2,14 @@
 use Rattle.std.proofs.Common.{◌≡◌, ◌⊎◌, ◌∙◌, ℕ, List, ap, inl, inr, subst, sym, Some}
 use Rattle.std.specs.Prelude.{Option}
 use Rattle.std.specs.Io.KnownBytes.{Consumes}
-use Rattle.ee_script.specs.Script.{IsFirstBadLine}
+use Rattle.ee_script.specs.Script.{IsFirstBadCommandLine}
 use Rattle.ee_script.specs.declared.session.ScriptFault.TheVariants as script
 use Rattle.ee_script.specs.declared.session.StreamFault.TheVariants as stream
 use Rattle.ee_script.proofs.Reading.{scripts_are_good_lem}
 use Rattle.ee_script.proofs.Streams.{all_given, stream_names}
-use Rattle.ee_words.specs.ReplayFault.{of_stream}
-use Rattle.ee_words.specs.declared.replay_fault.ReplayFault.{ReplayFault}
-use Rattle.ee_words.specs.declared.replay_fault.ReplayFault.TheVariants.{Script, Memory, Read}
+use Rattle.ee_faults.specs.ReplayFault.{of_stream}
+use Rattle.ee_faults.specs.declared.replay_fault.ReplayFault.{ReplayFault}
+use Rattle.ee_faults.specs.declared.replay_fault.ReplayFault.TheVariants.{Script, Memory, Read}
 use Rattle.ee_replay.specs.Reading.{IsGiven, IsNotAnswered}
 use Rattle.ee_image_store.specs.Opening.{HasStore, IsOpenFault}
 use Rattle.ee_replay.specs.Replaying.{IsReplayed}
@@ -28,7 +28,7 @@ pub out_of_memory : (before after : Option (List ℕ)) (text : List ℕ) (fault 
 out_of_memory before after text fault given none = (stream.Script script.Memory, record { text = text; given = given; met = tt }, none)
 
 -- a bad line is named, but where a read failed or memory ran out
-pub named_of_stream : (before after : Option (List ℕ)) (text : List ℕ) (n : ℕ) (fault : ReplayFault) → before ≡ Some text → IsFirstBadLine text n → IsNotAnswered before after fault
+pub named_of_stream : (before after : Option (List ℕ)) (text : List ℕ) (n : ℕ) (fault : ReplayFault) → before ≡ Some text → IsFirstBadCommandLine text n → IsNotAnswered before after fault
     → (fault ≡ Script n) ⊎ (fault ≡ Memory) ⊎ (fault ≡ Read)
 named_of_stream before after text n fault known bad why = elim (stream_names before after text n why.0 known bad why.1) [
   | inl same ↦ inl (why.2 ∙ ap of_stream same)
@@ -37,8 +37,8 @@ named_of_stream before after text n fault known bad why = elim (stream_names bef
 ]
 
 -- and a text that was replayed has none
-pub given_is_good : (before after : Option (List ℕ)) (image text given new_image reported : List ℕ) (n : ℕ) → before ≡ Some text → IsFirstBadLine text n → IsGiven before after given
+pub given_is_good : (before after : Option (List ℕ)) (image text given new_image reported : List ℕ) (n : ℕ) → before ≡ Some text → IsFirstBadCommandLine text n → IsGiven before after given
     → IsReplayed image given new_image reported → ⊥
 given_is_good before after image text given new_image reported n known bad whole replayed =
     let same = all_given text given after (subst (λ (b : Option (List ℕ)). Consumes b after given) known whole.given) whole.ended in
-    scripts_are_good_lem given replayed.run.report.commands n replayed.run.report.is_script (subst (λ l. IsFirstBadLine l n) (sym same) bad)
+    scripts_are_good_lem given replayed.run.report.commands n replayed.run.report.is_script (subst (λ l. IsFirstBadCommandLine l n) (sym same) bad)

@@ -4,20 +4,19 @@ use Rattle.std.proofs.lemmas.Bool.{cases_lt}
 use Rattle.std.specs.List.{All}
 use Rattle.std.proofs.lemmas.List.Elements.{All-head, All-tail}
 use Rattle.ee_flash.specs.Size.{Size, slot_count}
-use Rattle.ee_pages.specs.Meaning.{Change, Map, Put, changed}
+use Rattle.ee_pages.specs.Meaning.{Change, Map, Put, map_after}
 use Rattle.ee_pages.specs.Meaning as meaning
 use Rattle.ee_pages.specs.Pending.{address_of}
-use Rattle.ee_store.proofs.CopiedMaps.{forget-at, forget-other, put-at, put-other}
-use Rattle.ee_store.specs.Changes.{IsCutAppend, IsCutMove}
-use Rattle.ee_store.specs.Outcome.{HasChange}
-use Rattle.ee_store.specs.State.{State, with_pending}
+use Rattle.ee_core.proofs.CopiedMaps.{forget-at, forget-other, put-at, put-other}
+use Rattle.ee_core.specs.Changes.{HasChange, IsCutAppend, IsCutMove}
+use Rattle.ee_core.specs.State.{State, with_pending}
 use Rattle.ee_script.specs.Run.{Run}
 use Rattle.ee_script.specs.declared.answer.Answer.{Answer}
 use Rattle.ee_script.specs.declared.answer.Answer.TheVariants.{Appended, Moved, Full, Spent, Cleaned, Idle, Value, NoValue, Absent, Armed, Cut, Off, Opened}
 use Rattle.ee_script.specs.declared.command.Command.{Command}
 use Rattle.ee_script.specs.declared.command.Command.TheVariants.{Write, Read, Forget, Clean, Arm, PowerOn}
-use Rattle.ee_image_store.specs.Machine.{CallStep, CutStep, CutsChange, Desk, DeskStep, PowerStep, Step, StoreStep, is_cut_answer}
-use Rattle.ee_replay.specs.Kept.{Keeps, KeepsChange, asks_change_of, change_answered}
+use Rattle.ee_image_store.specs.Machine.{CallStep, CutStep, CutsChange, Desk, DeskStep, PowerStep, MachineStep, StoreStep, is_cut_answer}
+use Rattle.ee_replay.specs.Kept.{Keeps, KeepsChange, command_asks_change_of, change_answered}
 
 -- ---- one line
 
@@ -25,7 +24,7 @@ same_map : (old new : State) → new ≡ old → new.map ≡ old.map
 same_map old new same = ap (λ (state : State). state.map) same
 
 -- an open store's answer
-answered : (size : Size) (old : State) (command : Command) (answer : Answer) (new : State) → Step size old command answer new → Keeps old.map command answer new.map
+answered : (size : Size) (old : State) (command : Command) (answer : Answer) (new : State) → MachineStep size old command answer new → Keeps old.map command answer new.map
 answered size old (Write address value) Full new step = same_map old new step.1
 answered size old (Write address value) Spent new step = same_map old new step.2
 answered size old (Write address value) Appended new step = ap (λ (state : State). state.map) step.2
@@ -116,7 +115,7 @@ apart : (named address : ℕ) → (named == address) ≡ false → address ≡ n
 apart named address other same = let wrong : true ≡ false = sym (eq-eqb named address (sym same)) ∙ other in cc wrong
 
 -- the map has it, where a change of another address is made or not
-of_other : (change : Change) (address : ℕ) (old : Map) → (address_of change == address) ≡ false → changed change old address ≡ old address
+of_other : (change : Change) (address : ℕ) (old : Map) → (address_of change == address) ≡ false → map_after change old address ≡ old address
 of_other (Put named value) address old other = put-other old named value address (apart named address other)
 of_other (meaning.Forget named) address old other = forget-other old named address (apart named address other)
 
@@ -124,13 +123,13 @@ at_same : (address : ℕ) (old new : Map) → new ≡ old → new address ≡ ol
 at_same address old new same = ap (λ (map : Map). map address) same
 
 beside : (change : Change) (address : ℕ) (old : Map) (answer : Answer) (new : Map) → (address_of change == address) ≡ false → KeepsChange change old answer new → new address ≡ old address
-beside change address old Appended new other made = at_same address (changed change old) new made ∙ of_other change address old other
-beside change address old Moved new other made = at_same address (changed change old) new made ∙ of_other change address old other
+beside change address old Appended new other made = at_same address (map_after change old) new made ∙ of_other change address old other
+beside change address old Moved new other made = at_same address (map_after change old) new made ∙ of_other change address old other
 beside change address old Cut new other (inl same) = at_same address old new same
-beside change address old Cut new other (inr made) = at_same address (changed change old) new made ∙ of_other change address old other
+beside change address old Cut new other (inr made) = at_same address (map_after change old) new made ∙ of_other change address old other
 beside change address old answer new other same = at_same address old new same
 
-elsewhere : (address : ℕ) (command : Command) (answer : Answer) (old new : Map) → Keeps old command answer new → asks_change_of address command ≡ false → new address ≡ old address
+elsewhere : (address : ℕ) (command : Command) (answer : Answer) (old new : Map) → Keeps old command answer new → command_asks_change_of address command ≡ false → new address ≡ old address
 elsewhere address (Write named value) answer old new kept other = beside (Put named value) address old answer new other kept
 elsewhere address (Forget named) answer old new kept other = beside (meaning.Forget named) address old answer new other kept
 elsewhere address (Read named) answer old new kept other = at_same address old new kept.1
@@ -139,31 +138,31 @@ elsewhere address (Arm fuse) answer old new kept other = at_same address old new
 elsewhere address PowerOn answer old new kept other = at_same address old new kept
 
 stays : (address : ℕ) (commands : List Command) (answers : List Answer) (old new : Map) → Run Keeps old commands answers new
-    → All (λ (one : Command). asks_change_of address one ≡ false) commands → new address ≡ old address
+    → All (λ (one : Command). command_asks_change_of address one ≡ false) commands → new address ≡ old address
 stays address [] [] old new run others = at_same address old new run
 stays address [] (answer ∷ answers) old new run others = absurd run
 stays address (command ∷ commands) [] old new run others = absurd run
 stays address (command ∷ commands) (answer ∷ answers) old new run others =
-    stays address commands answers run.0 new run.2 (All-tail (λ (one : Command). asks_change_of address one ≡ false) command commands others)
-    ∙ elsewhere address command answer old run.0 run.1 (All-head (λ (one : Command). asks_change_of address one ≡ false) command commands others)
+    stays address commands answers run.0 new run.2 (All-tail (λ (one : Command). command_asks_change_of address one ≡ false) command commands others)
+    ∙ elsewhere address command answer old run.0 run.1 (All-head (λ (one : Command). command_asks_change_of address one ≡ false) command commands others)
 
-made : (change : Change) (map after : Map) → after (address_of change) ≡ changed change map (address_of change) → HasChange change after
+made : (change : Change) (map after : Map) → after (address_of change) ≡ map_after change map (address_of change) → HasChange change after
 made (Put address value) map after same = same ∙ put-at map address value address refl
 made (meaning.Forget address) map after same = same ∙ forget-at map address address refl
 
 -- the map right behind the change
-is_made : (command : Command) (answer : Answer) (change : Change) (old new : Map) → Keeps old command answer new → change_answered command answer ≡ Some change → new ≡ changed change old
-is_made (Write address value) Appended change old new kept is = let same : Put address value ≡ change = cc is in kept ∙ ap (λ (one : Change). changed one old) same
-is_made (Write address value) Moved change old new kept is = let same : Put address value ≡ change = cc is in kept ∙ ap (λ (one : Change). changed one old) same
-is_made (Forget address) Appended change old new kept is = let same : meaning.Forget address ≡ change = cc is in kept ∙ ap (λ (one : Change). changed one old) same
-is_made (Forget address) Moved change old new kept is = let same : meaning.Forget address ≡ change = cc is in kept ∙ ap (λ (one : Change). changed one old) same
+is_made : (command : Command) (answer : Answer) (change : Change) (old new : Map) → Keeps old command answer new → change_answered command answer ≡ Some change → new ≡ map_after change old
+is_made (Write address value) Appended change old new kept is = let same : Put address value ≡ change = cc is in kept ∙ ap (λ (one : Change). map_after one old) same
+is_made (Write address value) Moved change old new kept is = let same : Put address value ≡ change = cc is in kept ∙ ap (λ (one : Change). map_after one old) same
+is_made (Forget address) Appended change old new kept is = let same : meaning.Forget address ≡ change = cc is in kept ∙ ap (λ (one : Change). map_after one old) same
+is_made (Forget address) Moved change old new kept is = let same : meaning.Forget address ≡ change = cc is in kept ∙ ap (λ (one : Change). map_after one old) same
 is_made command answer change old new kept is = absurd (cc is)
 
 pub an_answered_change_stays_lem : (before later : List Command) (said answers : List Answer) (command : Command) (answer : Answer) (change : Change) (old new : Map)
     → Run Keeps old (before ++ command ∷ later) (said ++ answer ∷ answers) new → length before ≡ length said → change_answered command answer ≡ Some change
-    → All (λ (one : Command). asks_change_of (address_of change) one ≡ false) later → HasChange change new
+    → All (λ (one : Command). command_asks_change_of (address_of change) one ≡ false) later → HasChange change new
 an_answered_change_stays_lem [] later [] answers command answer change old new run same is others =
-    made change old new (stays (address_of change) later answers run.0 new run.2 others ∙ at_same (address_of change) (changed change old) run.0 (is_made command answer change old run.0 run.1 is))
+    made change old new (stays (address_of change) later answers run.0 new run.2 others ∙ at_same (address_of change) (map_after change old) run.0 (is_made command answer change old run.0 run.1 is))
 an_answered_change_stays_lem [] later (one ∷ said) answers command answer change old new run same is others = absurd (cc same)
 an_answered_change_stays_lem (first ∷ before) later [] answers command answer change old new run same is others = absurd (cc same)
 an_answered_change_stays_lem (first ∷ before) later (one ∷ said) answers command answer change old new run same is others =

@@ -3,11 +3,11 @@ use Rattle.std.proofs.Common.{◌≡◌, inl, inr, ℕ, ◌+◌, ◌<◌, ◌≤
 use Rattle.ee_flash.specs.Size.{Size, slot_count}
 use Rattle.ee_pages.specs.Meaning.{Put, changed_by}
 use Rattle.ee_pages.specs.Meaning as meaning
-use Rattle.ee_store.specs.State.{State, appended, moved}
+use Rattle.ee_core.specs.State.{State, appended_state, moved_state}
 use Rattle.ee_check.specs.declared.change.Change.{Change}
 use Rattle.ee_check.specs.declared.change.Change.TheVariants as changes
 use Rattle.ee_check.specs.Certificate.{Claim, IsTight, used_at_end}
-use Rattle.ee_check.specs.Live.{KeepsWithin, changed}
+use Rattle.ee_check.specs.Live.{KeepsWithin, live_after_one}
 use Rattle.ee_check.specs.Schedule.{Append, Carry, EachMove, IsLate, IsProper, Move, Situation, after_move, after_moves, carried_at, changes_of}
 use Rattle.ee_check.proofs.Sizes.{changed-le}
 use Rattle.ee_check.proofs.Bounds.{certificates_bound_schedules_lem, certificates_dominate_lem, late_stores_meet_it_lem, tight_are_certificates_lem, tight_is_met_lem}
@@ -18,8 +18,8 @@ use Rattle.ee_script.specs.declared.answer.Answer.{Answer}
 use Rattle.ee_script.specs.declared.answer.Answer.TheVariants.{Appended, Moved, Full, Spent, Cleaned, Idle, Value, NoValue, Absent, Armed, Opened}
 use Rattle.ee_script.specs.declared.command.Command.{Command}
 use Rattle.ee_script.specs.declared.command.Command.TheVariants.{Write, Read, Forget, Clean, Arm, PowerOn}
-use Rattle.ee_image_store.specs.Machine.{Step}
-use Rattle.ee_image_store.specs.Trace.{AreFewest, Fits, ForgetsWhatIsHeld, NoneEndsWithMoreRoom, accepted, moved_at, moves, map_changes, trace_of}
+use Rattle.ee_image_store.specs.Machine.{MachineStep}
+use Rattle.ee_image_store.specs.Trace.{AreFewest, TraceFits, ForgetsWhatIsHeld, NoneEndsWithMoreRoom, accepted_commands, moved_at, moves, map_changes, trace_of}
 use Rattle.ee_plan.proofs.Fitting.{keeps_more, keeps_tail}
 use Rattle.ee_plan.proofs.LiveLists.{live_after_forget, live_after_put}
 use Rattle.ee_image_store.proofs.Starts.{appends, forgetting_fits, length_map, moves_on, not_full, start_stays, stays, write_fits}
@@ -29,16 +29,16 @@ use Rattle.ee_image_store.proofs.Starts.{appends, forgetting_fits, length_map, m
 -- The run of these commands with these answers is this: the changes that are accepted, made by moves of the late store.
 pub record IsLateRun (slots : ℕ) (start : Situation) (commands : List Command) (answers : List Answer) (new : State) : Type 0 where
   pub moves : List Move
-  pub changes_are : changes_of moves ≡ trace_of (accepted commands answers)
+  pub changes_are : changes_of moves ≡ trace_of (accepted_commands commands answers)
   pub late : EachMove IsLate start moves
   pub carried : (n : ℕ) → carried_at n moves ≡ moved_at n answers
   pub end : IsStartOf slots new (after_moves start moves)
   pub proper : IsProper (after_moves start moves)
-  pub keeps : KeepsWithin start.slots start.live (trace_of (accepted commands answers))
+  pub keeps : KeepsWithin start.slots start.live (trace_of (accepted_commands commands answers))
 
 -- a command that changes neither the map nor the slots goes before
 no_move : (slots : ℕ) (start : Situation) (commands : List Command) (answers : List Answer) (new : State) (command : Command) (answer : Answer)
-    → accepted (command ∷ commands) (answer ∷ answers) ≡ accepted commands answers
+    → accepted_commands (command ∷ commands) (answer ∷ answers) ≡ accepted_commands commands answers
     → ((n : ℕ) → moved_at n (answer ∷ answers) ≡ moved_at n answers)
     → IsLateRun slots start commands answers new → IsLateRun slots start (command ∷ commands) (answer ∷ answers) new
 no_move slots start commands answers new command answer same same_moved run = record {
@@ -57,11 +57,11 @@ AsksFor command change = (commands : List Command) → trace_of (command ∷ com
 
 -- an append goes before
 append_first : (slots : ℕ) (start : Situation) (commands : List Command) (answers : List Answer) (new : State) (command : Command) (change : Change)
-    → AsksFor command change → start.fill < start.slots → length (changed start.live change) ≤ start.slots
+    → AsksFor command change → start.fill < start.slots → length (live_after_one start.live change) ≤ start.slots
     → IsLateRun slots (after_move start (Append change)) commands answers new
     → IsLateRun slots start (command ∷ commands) (Appended ∷ answers) new
 append_first slots start commands answers new command change asks free fits run =
-    let one = asks (accepted commands answers) in
+    let one = asks (accepted_commands commands answers) in
     record {
       moves = Append change ∷ run.moves;
       changes_are = ap (λ l. change ∷ l) run.changes_are ∙ sym one;
@@ -69,16 +69,16 @@ append_first slots start commands answers new command change asks free fits run 
       carried = λ n. run.carried (n + 1);
       end = run.end;
       proper = run.proper;
-      keeps = subst (λ l. KeepsWithin start.slots start.live l) (sym one) (keeps_more start.slots start.live change (trace_of (accepted commands answers)) fits run.keeps);
+      keeps = subst (λ l. KeepsWithin start.slots start.live l) (sym one) (keeps_more start.slots start.live change (trace_of (accepted_commands commands answers)) fits run.keeps);
     }
 
 -- a move goes before
 carry_first : (slots : ℕ) (start : Situation) (commands : List Command) (answers : List Answer) (new : State) (command : Command) (change : Change)
-    → AsksFor command change → start.fill ≡ start.slots → length (changed start.live change) ≤ start.slots
+    → AsksFor command change → start.fill ≡ start.slots → length (live_after_one start.live change) ≤ start.slots
     → IsLateRun slots (after_move start (Carry change)) commands answers new
     → IsLateRun slots start (command ∷ commands) (Moved ∷ answers) new
 carry_first slots start commands answers new command change asks used fits run =
-    let one = asks (accepted commands answers) in
+    let one = asks (accepted_commands commands answers) in
     record {
       moves = Carry change ∷ run.moves;
       changes_are = ap (λ l. change ∷ l) run.changes_are ∙ sym one;
@@ -86,14 +86,14 @@ carry_first slots start commands answers new command change asks used fits run =
       carried = λ n. ap (λ l. (n + 1) ∷ l) (run.carried (n + 1));
       end = run.end;
       proper = run.proper;
-      keeps = subst (λ l. KeepsWithin start.slots start.live l) (sym one) (keeps_more start.slots start.live change (trace_of (accepted commands answers)) fits run.keeps);
+      keeps = subst (λ l. KeepsWithin start.slots start.live l) (sym one) (keeps_more start.slots start.live change (trace_of (accepted_commands commands answers)) fits run.keeps);
     }
 
 module _ (size : Size) where
   -- an append and what follows
   append_on : (commands : List Command) (answers : List Answer) (old mid new : State) (start : Situation) (command : Command) (change : Change) (meant : meaning.Change)
-      → AsksFor command change → old.fill < slot_count size → mid ≡ appended meant old
-      → AreLive (meaning.changed meant old.map) (changed start.live change) → IsStartOf (slot_count size) old start → IsProper start
+      → AsksFor command change → old.fill < slot_count size → mid ≡ appended_state meant old
+      → AreLive (meaning.map_after meant old.map) (live_after_one start.live change) → IsStartOf (slot_count size) old start → IsProper start
       → (IsStartOf (slot_count size) mid (after_move start (Append change)) → IsProper (after_move start (Append change))
       → IsLateRun (slot_count size) (after_move start (Append change)) commands answers new)
       → IsLateRun (slot_count size) start (command ∷ commands) (Appended ∷ answers) new
@@ -107,8 +107,8 @@ module _ (size : Size) where
 
   -- a move and what follows
   carry_on : (commands : List Command) (answers : List Answer) (old mid new : State) (start : Situation) (command : Command) (change : Change) (meant : meaning.Change)
-      → AsksFor command change → old.fill ≡ slot_count size → mid ≡ moved size.pages meant old → length (changed start.live change) ≤ start.slots
-      → AreLive (meaning.changed meant old.map) (changed start.live change) → IsStartOf (slot_count size) old start
+      → AsksFor command change → old.fill ≡ slot_count size → mid ≡ moved_state size.pages meant old → length (live_after_one start.live change) ≤ start.slots
+      → AreLive (meaning.map_after meant old.map) (live_after_one start.live change) → IsStartOf (slot_count size) old start
       → (IsStartOf (slot_count size) mid (after_move start (Carry change)) → IsProper (after_move start (Carry change))
       → IsLateRun (slot_count size) (after_move start (Carry change)) commands answers new)
       → IsLateRun (slot_count size) start (command ∷ commands) (Moved ∷ answers) new
@@ -119,7 +119,7 @@ module _ (size : Size) where
       (rest (moves_on size old mid start change meant is live from) kept)
 
   pub late_run : (commands : List Command) (answers : List Answer) (old new : State) (start : Situation) → AreCommands commands
-      → IsStartOf (slot_count size) old start → IsProper start → Run (Step size) old commands answers new
+      → IsStartOf (slot_count size) old start → IsProper start → Run (MachineStep size) old commands answers new
       → IsLateRun (slot_count size) start commands answers new
   late_run [] [] old new start are is proper run = record {
     moves = [];
@@ -188,10 +188,10 @@ module _ (size : Size) where
 
 -- the moves of a late run of this trace stand where the tight certificate's stretches end
 fewest_moves : (slots : ℕ) (start : Situation) (commands : List Command) (answers : List Answer) (new : State) (claim : Claim)
-    → IsProper start → IsLateRun slots start commands answers new → IsTight start (trace_of (accepted commands answers)) claim
-    → AreFewest start (trace_of (accepted commands answers)) answers claim
+    → IsProper start → IsLateRun slots start commands answers new → IsTight start (trace_of (accepted_commands commands answers)) claim
+    → AreFewest start (trace_of (accepted_commands commands answers)) answers claim
 fewest_moves slots start commands answers new claim proper run tight =
-    let trace = trace_of (accepted commands answers) in
+    let trace = trace_of (accepted_commands commands answers) in
     let met = late_stores_meet_it_lem start trace claim run.moves proper tight run.changes_are run.late in
     let positions : moved_at 0 answers ≡ map (λ stretch. stretch.to) claim.stretches = sym (run.carried 0) ∙ met.0 in
     let count : moves answers ≡ length claim.stretches = ap length positions ∙ length_map claim.stretches in
@@ -211,13 +211,13 @@ fewest_moves slots start commands answers new claim proper run tight =
 
 module _ (size : Size) where
   put_first : (old mid : State) (commands : List Command) (answers : List Answer) (new : State) (change : meaning.Change)
-      → mid.map ≡ meaning.changed change old.map → new.map ≡ changed_by (map_changes (accepted commands answers)) mid.map
-      → new.map ≡ changed_by (map_changes (accepted commands answers)) (meaning.changed change old.map)
-  put_first old mid commands answers new change is rest = rest ∙ ap (λ m. changed_by (map_changes (accepted commands answers)) m) is
+      → mid.map ≡ meaning.map_after change old.map → new.map ≡ changed_by (map_changes (accepted_commands commands answers)) mid.map
+      → new.map ≡ changed_by (map_changes (accepted_commands commands answers)) (meaning.map_after change old.map)
+  put_first old mid commands answers new change is rest = rest ∙ ap (λ m. changed_by (map_changes (accepted_commands commands answers)) m) is
 
   -- the map at the end has what was written last
-  pub values_are : (commands : List Command) (answers : List Answer) (old new : State) → Run (Step size) old commands answers new
-      → new.map ≡ changed_by (map_changes (accepted commands answers)) old.map
+  pub values_are : (commands : List Command) (answers : List Answer) (old new : State) → Run (MachineStep size) old commands answers new
+      → new.map ≡ changed_by (map_changes (accepted_commands commands answers)) old.map
   values_are [] [] old new run = ap (λ s. s.map) run
   values_are [] (answer ∷ answers) old new run = absurd run
   values_are (command ∷ commands) [] old new run = absurd run
@@ -228,9 +228,9 @@ module _ (size : Size) where
       put_first old run.0 commands answers new (Put address value) (ap (λ s. s.map) run.1.2)
       (values_are commands answers run.0 new run.2)
   values_are (Write address value ∷ commands) (Full ∷ answers) old new run =
-      values_are commands answers run.0 new run.2 ∙ ap (λ s. changed_by (map_changes (accepted commands answers)) s.map) run.1.1
+      values_are commands answers run.0 new run.2 ∙ ap (λ s. changed_by (map_changes (accepted_commands commands answers)) s.map) run.1.1
   values_are (Write address value ∷ commands) (Spent ∷ answers) old new run =
-      values_are commands answers run.0 new run.2 ∙ ap (λ s. changed_by (map_changes (accepted commands answers)) s.map) run.1.2
+      values_are commands answers run.0 new run.2 ∙ ap (λ s. changed_by (map_changes (accepted_commands commands answers)) s.map) run.1.2
   values_are (Forget address ∷ commands) (Appended ∷ answers) old new run =
       put_first old run.0 commands answers new (meaning.Forget address) (ap (λ s. s.map) run.1.2)
       (values_are commands answers run.0 new run.2)
@@ -238,21 +238,21 @@ module _ (size : Size) where
       put_first old run.0 commands answers new (meaning.Forget address) (ap (λ s. s.map) run.1.2)
       (values_are commands answers run.0 new run.2)
   values_are (Forget address ∷ commands) (Absent ∷ answers) old new run =
-      values_are commands answers run.0 new run.2 ∙ ap (λ s. changed_by (map_changes (accepted commands answers)) s.map) run.1.1
+      values_are commands answers run.0 new run.2 ∙ ap (λ s. changed_by (map_changes (accepted_commands commands answers)) s.map) run.1.1
   values_are (Forget address ∷ commands) (Spent ∷ answers) old new run =
-      values_are commands answers run.0 new run.2 ∙ ap (λ s. changed_by (map_changes (accepted commands answers)) s.map) run.1.2
+      values_are commands answers run.0 new run.2 ∙ ap (λ s. changed_by (map_changes (accepted_commands commands answers)) s.map) run.1.2
   values_are (Read address ∷ commands) (Value value ∷ answers) old new run =
-      values_are commands answers run.0 new run.2 ∙ ap (λ s. changed_by (map_changes (accepted commands answers)) s.map) run.1.1
+      values_are commands answers run.0 new run.2 ∙ ap (λ s. changed_by (map_changes (accepted_commands commands answers)) s.map) run.1.1
   values_are (Read address ∷ commands) (NoValue ∷ answers) old new run =
-      values_are commands answers run.0 new run.2 ∙ ap (λ s. changed_by (map_changes (accepted commands answers)) s.map) run.1.1
+      values_are commands answers run.0 new run.2 ∙ ap (λ s. changed_by (map_changes (accepted_commands commands answers)) s.map) run.1.1
   values_are (Clean ∷ commands) (Cleaned ∷ answers) old new run =
-      values_are commands answers run.0 new run.2 ∙ ap (λ s. changed_by (map_changes (accepted commands answers)) s.map) run.1.1
+      values_are commands answers run.0 new run.2 ∙ ap (λ s. changed_by (map_changes (accepted_commands commands answers)) s.map) run.1.1
   values_are (Clean ∷ commands) (Idle ∷ answers) old new run =
-      values_are commands answers run.0 new run.2 ∙ ap (λ s. changed_by (map_changes (accepted commands answers)) s.map) run.1.1
+      values_are commands answers run.0 new run.2 ∙ ap (λ s. changed_by (map_changes (accepted_commands commands answers)) s.map) run.1.1
   values_are (Arm fuse ∷ commands) (Armed ∷ answers) old new run =
-      values_are commands answers run.0 new run.2 ∙ ap (λ s. changed_by (map_changes (accepted commands answers)) s.map) run.1
+      values_are commands answers run.0 new run.2 ∙ ap (λ s. changed_by (map_changes (accepted_commands commands answers)) s.map) run.1
   values_are (PowerOn ∷ commands) (Opened ∷ answers) old new run =
-      values_are commands answers run.0 new run.2 ∙ ap (λ s. changed_by (map_changes (accepted commands answers)) s.map) run.1
+      values_are commands answers run.0 new run.2 ∙ ap (λ s. changed_by (map_changes (accepted_commands commands answers)) s.map) run.1
   values_are (command ∷ commands) (answer ∷ answers) old new run = absurd run.1
 
   -- ---- where all changes fit
@@ -261,7 +261,7 @@ module _ (size : Size) where
   fits_on : (old mid : State) (start : Situation) (command : Command) (commands : List Command)
       → trace_of (command ∷ commands) ≡ trace_of commands
       → (ForgetsWhatIsHeld old.map (command ∷ commands) → ForgetsWhatIsHeld old.map commands)
-      → mid.generation ≡ old.generation → mid.map ≡ old.map → Fits start old (command ∷ commands) → Fits start mid commands
+      → mid.generation ≡ old.generation → mid.map ≡ old.map → TraceFits start old (command ∷ commands) → TraceFits start mid commands
   fits_on old mid start command commands none held same map fits = record {
     keeps = subst (λ l. KeepsWithin start.slots start.live l) none fits.keeps;
     held = subst (λ m. ForgetsWhatIsHeld m commands) (sym map) (held fits.held);
@@ -270,23 +270,23 @@ module _ (size : Size) where
 
   -- after a change that takes one generation at most, the other changes fit
   fits_after : (old mid : State) (start next : Situation) (command : Command) (change : Change) (meant : meaning.Change) (commands : List Command)
-      → AsksFor command change → mid.generation ≤ old.generation + 1 → mid.map ≡ meaning.changed meant old.map
-      → next.slots ≡ start.slots → next.live ≡ changed start.live change
-      → ForgetsWhatIsHeld (meaning.changed meant old.map) commands
-      → Fits start old (command ∷ commands) → Fits next mid commands
+      → AsksFor command change → mid.generation ≤ old.generation + 1 → mid.map ≡ meaning.map_after meant old.map
+      → next.slots ≡ start.slots → next.live ≡ live_after_one start.live change
+      → ForgetsWhatIsHeld (meaning.map_after meant old.map) commands
+      → TraceFits start old (command ∷ commands) → TraceFits next mid commands
   fits_after old mid start next command change meant commands asks later map slots live held fits =
       let one = asks commands in
       let keeps = subst (λ l. KeepsWithin start.slots start.live l) one fits.keeps in
       record {
         keeps = subst (λ l. KeepsWithin next.slots l (trace_of commands)) (sym live)
-            (subst (λ n. KeepsWithin n (changed start.live change) (trace_of commands)) (sym slots) (keeps_tail start.slots start.live change (trace_of commands) keeps));
+            (subst (λ n. KeepsWithin n (live_after_one start.live change) (trace_of commands)) (sym slots) (keeps_tail start.slots start.live change (trace_of commands) keeps));
         held = subst (λ m. ForgetsWhatIsHeld m commands) (sym map) held;
         generations = let g = fits.generations in let e = ap length one in omega arith;
       }
 
   pub all_put : (commands : List Command) (answers : List Answer) (old new : State) (start : Situation) → AreCommands commands
-      → IsStartOf (slot_count size) old start → Run (Step size) old commands answers new → Fits start old commands
-      → map_changes (accepted commands answers) ≡ map_changes commands
+      → IsStartOf (slot_count size) old start → Run (MachineStep size) old commands answers new → TraceFits start old commands
+      → map_changes (accepted_commands commands answers) ≡ map_changes commands
   all_put [] [] old new start are is run fits = refl
   all_put [] (answer ∷ answers) old new start are is run fits = absurd run
   all_put (command ∷ commands) [] old new start are is run fits = absurd run
@@ -351,16 +351,16 @@ module _ (size : Size) where
 module _ (size : Size) where
   -- what a run's accepted writes leave live has room in the slots
   pub run_keeps : (commands : List Command) (answers : List Answer) (old new : State) (start : Situation) → AreCommands commands
-      → IsStartOf (slot_count size) old start → IsProper start → Run (Step size) old commands answers new
-      → KeepsWithin start.slots start.live (trace_of (accepted commands answers))
+      → IsStartOf (slot_count size) old start → IsProper start → Run (MachineStep size) old commands answers new
+      → KeepsWithin start.slots start.live (trace_of (accepted_commands commands answers))
   run_keeps commands answers old new start are is proper run = (late_run size commands answers old new start are is proper run).keeps
 
   -- and its moves are the fewest
   pub run_fewest : (commands : List Command) (answers : List Answer) (old new : State) (start : Situation) (claim : Claim)
       → AreCommands commands
-      → IsStartOf (slot_count size) old start → IsProper start → Run (Step size) old commands answers new
-      → IsTight start (trace_of (accepted commands answers)) claim
-      → AreFewest start (trace_of (accepted commands answers)) answers claim
+      → IsStartOf (slot_count size) old start → IsProper start → Run (MachineStep size) old commands answers new
+      → IsTight start (trace_of (accepted_commands commands answers)) claim
+      → AreFewest start (trace_of (accepted_commands commands answers)) answers claim
   run_fewest commands answers old new start claim are is proper run tight =
       fewest_moves (slot_count size) start commands answers new claim proper
       (late_run size commands answers old new start are is proper run) tight
@@ -368,8 +368,8 @@ module _ (size : Size) where
   -- as many as the certificate has stretches
   pub run_count : (commands : List Command) (answers : List Answer) (old new : State) (start : Situation) (claim : Claim)
       → AreCommands commands
-      → IsStartOf (slot_count size) old start → IsProper start → Run (Step size) old commands answers new
-      → IsTight start (trace_of (accepted commands answers)) claim → moves answers ≡ length claim.stretches
+      → IsStartOf (slot_count size) old start → IsProper start → Run (MachineStep size) old commands answers new
+      → IsTight start (trace_of (accepted_commands commands answers)) claim → moves answers ≡ length claim.stretches
   run_count commands answers old new start claim are is proper run tight =
       let fewest = run_fewest commands answers old new start claim are is proper run tight in
       ap length fewest.positions ∙ length_map claim.stretches
@@ -377,22 +377,22 @@ module _ (size : Size) where
   -- and as many slots are used at the end as the certificate says
   pub run_fill : (commands : List Command) (answers : List Answer) (old new : State) (start : Situation) (claim : Claim)
       → AreCommands commands
-      → IsStartOf (slot_count size) old start → IsProper start → Run (Step size) old commands answers new
-      → IsTight start (trace_of (accepted commands answers)) claim
-      → new.fill ≡ used_at_end start (trace_of (accepted commands answers)) claim.stretches
+      → IsStartOf (slot_count size) old start → IsProper start → Run (MachineStep size) old commands answers new
+      → IsTight start (trace_of (accepted_commands commands answers)) claim
+      → new.fill ≡ used_at_end start (trace_of (accepted_commands commands answers)) claim.stretches
   run_fill commands answers old new start claim are is proper run tight =
       let late = late_run size commands answers old new start are is proper run in
-      let met = late_stores_meet_it_lem start (trace_of (accepted commands answers)) claim late.moves proper tight late.changes_are late.late in
+      let met = late_stores_meet_it_lem start (trace_of (accepted_commands commands answers)) claim late.moves proper tight late.changes_are late.late in
       sym late.end.fill_is ∙ met.1
 
   -- so each store makes more transfers, or as many, and ends with no more room
   pub run_room : (commands : List Command) (answers : List Answer) (old new : State) (start : Situation) (claim : Claim)
       → AreCommands commands
-      → IsStartOf (slot_count size) old start → IsProper start → Run (Step size) old commands answers new
-      → IsTight start (trace_of (accepted commands answers)) claim
-      → NoneEndsWithMoreRoom start (trace_of (accepted commands answers)) (moves answers) new.fill
+      → IsStartOf (slot_count size) old start → IsProper start → Run (MachineStep size) old commands answers new
+      → IsTight start (trace_of (accepted_commands commands answers)) claim
+      → NoneEndsWithMoreRoom start (trace_of (accepted_commands commands answers)) (moves answers) new.fill
   run_room commands answers old new start claim are is proper run tight = λ schedule scheduled.
-      let trace = trace_of (accepted commands answers) in
+      let trace = trace_of (accepted_commands commands answers) in
       let count = run_count commands answers old new start claim are is proper run tight in
       let fill = run_fill commands answers old new start claim are is proper run tight in
       let certificate = tight_are_certificates_lem start trace claim tight in

@@ -2,22 +2,22 @@
 use Rattle.std.proofs.Common.{◌≡◌, ◌∙◌, ◌++◌, ℕ, ◌+◌, ◌*◌, ◌^◌, ◌<◌, ◌≤◌, List, [], ◌∷◌, length, get_or, ap, arith, inl, inr, refl, subst, sym, append_assoc, append-nil, length-append, add-mul, one-mul, mul-le-mul}
 use Rattle.std.proofs.Math.Bool.{or-false}
 use Rattle.std.proofs.Math.Seq.{get_or-append_seam}
-use Rattle.std.specs.Prelude.{Bool, false, true, ◌||◌}
+use Rattle.std.specs.Prelude.{Bool, false, true, ◌||◌, Err}
 use Rattle.ee_flash.specs.Device.{Device}
 use Rattle.ee_flash.specs.Size.{Size, slot_count}
 use Rattle.ee_pages.specs.Meaning.{Put}
 use Rattle.ee_pages.specs.Meaning as meaning
-use Rattle.ee_store.specs.Changes.{Appends, IsAccepted, IsCutAppend, IsCutChange, IsCutMove, Moves, greatest_generation}
-use Rattle.ee_store.specs.Finished.{IsStore}
-use Rattle.ee_store.specs.State.{State, appended, moved, state_of}
+use Rattle.ee_core.specs.Changes.{Appends, IsAccepted, IsCutAppend, IsCutChange, IsCutMove, Moves, greatest_generation}
+use Rattle.ee_core.specs.Finished.{IsStore}
+use Rattle.ee_core.specs.State.{State, appended_state, moved_state, state_of}
 use Rattle.std.proofs.lemmas.Bool.{cases_order}
-use Rattle.ee_store.proofs.Making.{generation_proper}
-use Rattle.ee_store.proofs.MovingFacts.{few_slots}
-use Rattle.ee_store.proofs.States.{state_is}
+use Rattle.ee_core.proofs.Making.{generation_proper}
+use Rattle.ee_core.proofs.MovingFacts.{few_slots}
+use Rattle.ee_core.proofs.States.{state_is}
 use Rattle.ee_check.specs.declared.change.Change.{Change}
 use Rattle.ee_check.specs.declared.change.Change.TheVariants as changes
-use Rattle.ee_check.specs.Certificate.{IsHeader, IsTight}
-use Rattle.ee_check.specs.Live.{changed}
+use Rattle.ee_check.specs.Certificate.{IsCertificateHeader, IsTight}
+use Rattle.ee_check.specs.Live.{live_after_one}
 use Rattle.ee_check.specs.Schedule.{Append, Carry, IsProper, Situation, after_move}
 use Rattle.ee_check.proofs.Sizes.{changed-le}
 use Rattle.ee_plan.specs.LateStore.{HasMade}
@@ -33,17 +33,16 @@ use Rattle.ee_script.specs.declared.answer.Answer.TheVariants.{Appended, Moved, 
 use Rattle.ee_script.specs.declared.command.Command.{Command}
 use Rattle.ee_script.specs.declared.command.Command.TheVariants.{Write, Read, Forget, Clean, Arm, PowerOn}
 use Rattle.ee_script.proofs.Seen.{IsAnswered-seen}
-use Rattle.ee_store.specs.Events.{Point}
-use Rattle.ee_store.specs.Runs.{Forgot, Wrote}
-use Rattle.ee_store.specs.declared.variables.ForgetFault.{ForgetFault}
-use Rattle.ee_store.specs.declared.variables.ForgetFault.TheVariants as forgetting
-use Rattle.ee_store.specs.declared.variables.WriteFault.{WriteFault}
-use Rattle.ee_store.specs.declared.variables.WriteFault.TheVariants as fault
-use Rattle.std.specs.Prelude.{Err}
-use Rattle.ee_replay.specs.Desk.{Calls, SaysTheSame}
+use Rattle.ee_core.specs.Points.{Point}
+use Rattle.ee_core.specs.Runs.{Forgot, Wrote}
+use Rattle.ee_core.specs.declared.variables.ForgetFault.{ForgetFault}
+use Rattle.ee_core.specs.declared.variables.ForgetFault.TheVariants as forgetting
+use Rattle.ee_core.specs.declared.variables.WriteFault.{WriteFault}
+use Rattle.ee_core.specs.declared.variables.WriteFault.TheVariants as fault
+use Rattle.ee_replay.specs.Desk.{CallsAtDesk, SaysTheSame}
 use Rattle.ee_image_store.specs.Machine.{is_cut_answer, was_cut}
-use Rattle.ee_replay.specs.Serving.{Attends, IsCounted, IsTraced, Noted, Notes, Records, Serves, claim_noted, no_notes, noted, serving_on}
-use Rattle.ee_image_store.specs.Trace.{accepted, moved_at, trace_of}
+use Rattle.ee_replay.specs.Serving.{Attends, IsCounted, IsTraced, Noted, Notes, Records, Serves, claim_noted, no_notes, notes_after, serving_on}
+use Rattle.ee_image_store.specs.Trace.{accepted_commands, moved_at, trace_of}
 use Rattle.ee_image_store.proofs.Starts.{appends, forgetting_fits, moves_on, start_stays, write_fits}
 use Rattle.ee_replay.proofs.Powering.{state_armed}
 use Rattle.ee_replay.proofs.Runs.{neither}
@@ -59,10 +58,10 @@ record Held : Type 0 where
 -- a line is served, and its answer is noted
 record IsHeld (old : Held) (command : Command) (answer : Answer) (new : Held) : Type 0 where
   serves : Serves old.device command answer new.device
-  notes_are : new.notes ≡ noted answer (state_of new.device).fill old.notes
+  notes_are : new.notes ≡ notes_after answer (state_of new.device).fill old.notes
 
 abbrev held_at : Noted → Held
-held_at noted = record { device = noted.point.device; notes = noted.notes }
+held_at notes_after = record { device = notes_after.point.device; notes = notes_after.notes }
 
 -- ---- one change
 
@@ -75,8 +74,8 @@ record AreNoted (slots : ℕ) (start : Situation) (trace : List Change) (n : ℕ
 
 module _ (size : Size) (start : Situation) (trace : List Change) (n : ℕ) (below : n < length trace) (old new : State) (change : Change) (meant : meaning.Change)
     (here : change ≡ get_or trace n change) (notes : Notes) (so_far : AreNoted (slot_count size) start trace n old notes)
-    (live : AreLive (meaning.changed meant old.map) (changed so_far.now.live change)) where
-  note_append : old.fill < slot_count size → new ≡ appended meant old → (fill : ℕ) → AreNoted (slot_count size) start trace (n + 1) new (noted Appended fill notes)
+    (live : AreLive (meaning.map_after meant old.map) (live_after_one so_far.now.live change)) where
+  note_append : old.fill < slot_count size → new ≡ appended_state meant old → (fill : ℕ) → AreNoted (slot_count size) start trace (n + 1) new (notes_after Appended fill notes)
   note_append free is fill =
       let now = so_far.now in
       let next = after_move now (Append change) in
@@ -91,8 +90,8 @@ module _ (size : Size) (start : Situation) (trace : List Change) (n : ℕ) (belo
         counted = ap (λ m. m + 1) so_far.counted;
       }
 
-  note_move : length (changed so_far.now.live change) ≤ so_far.now.slots → old.fill ≡ slot_count size → new ≡ moved size.pages meant old
-      → AreNoted (slot_count size) start trace (n + 1) new (noted Moved new.fill notes)
+  note_move : length (live_after_one so_far.now.live change) ≤ so_far.now.slots → old.fill ≡ slot_count size → new ≡ moved_state size.pages meant old
+      → AreNoted (slot_count size) start trace (n + 1) new (notes_after Moved new.fill notes)
   note_move fits used is =
       let now = so_far.now in
       let next = after_move now (Carry change) in
@@ -150,9 +149,9 @@ module _ (size : Size) (start : Situation) (trace : List Change) where
 
   -- an appended change, and what was noted of it
   appended_noted : (before : List Change) (old mid : Held) (change : Change) (meant : meaning.Change) (rest : List Change) → trace ≡ before ++ change ∷ rest
-      → old.device.size ≡ size → Appends old.device meant mid.device → mid.notes ≡ noted Appended (state_of mid.device).fill old.notes
+      → old.device.size ≡ size → Appends old.device meant mid.device → mid.notes ≡ notes_after Appended (state_of mid.device).fill old.notes
       → (so_far : AreNoted (slot_count size) start trace (length before) (state_of old.device) old.notes)
-      → AreLive (meaning.changed meant (state_of old.device).map) (changed so_far.now.live change)
+      → AreLive (meaning.map_after meant (state_of old.device).map) (live_after_one so_far.now.live change)
       → AreNoted (slot_count size) start trace (length (before ++ change ∷ [])) (state_of mid.device) mid.notes
   appended_noted before old mid change meant rest parts sized call notes so_far live =
       let at = there before change rest parts in
@@ -163,21 +162,21 @@ module _ (size : Size) (start : Situation) (trace : List Change) where
 
   -- a change that was moved with the map
   moved_noted : (before : List Change) (old mid : Held) (change : Change) (meant : meaning.Change) (rest : List Change) → trace ≡ before ++ change ∷ rest
-      → old.device.size ≡ size → Moves old.device meant mid.device → mid.notes ≡ noted Moved (state_of mid.device).fill old.notes
+      → old.device.size ≡ size → Moves old.device meant mid.device → mid.notes ≡ notes_after Moved (state_of mid.device).fill old.notes
       → (so_far : AreNoted (slot_count size) start trace (length before) (state_of old.device) old.notes)
-      → AreLive (meaning.changed meant (state_of old.device).map) (changed so_far.now.live change)
-      → length (changed so_far.now.live change) ≤ so_far.now.slots
+      → AreLive (meaning.map_after meant (state_of old.device).map) (live_after_one so_far.now.live change)
+      → length (live_after_one so_far.now.live change) ≤ so_far.now.slots
       → AreNoted (slot_count size) start trace (length (before ++ change ∷ [])) (state_of mid.device) mid.notes
   moved_noted before old mid change meant rest parts sized call notes so_far live fits =
       let at = there before change rest parts in
       let used = subst (λ (s : Size). (state_of old.device).fill ≡ slot_count s) sized call.all_used in
-      let state = subst (λ (s : Size). state_of mid.device ≡ moved s.pages meant (state_of old.device)) sized call.state_is in
+      let state = subst (λ (s : Size). state_of mid.device ≡ moved_state s.pages meant (state_of old.device)) sized call.state_is in
       let next = note_move size start trace (length before) at.0 (state_of old.device) (state_of mid.device) change meant at.1 old.notes so_far live fits used state in
       let here = subst (λ (kept : Notes). AreNoted (slot_count size) start trace (length before + 1) (state_of mid.device) kept) (sym notes) next in
       subst (λ m. AreNoted (slot_count size) start trace m (state_of mid.device) mid.notes) (sym (one_longer before change)) here
 
   notes_of_run : (commands : List Command) (answers : List Answer) (old new : Held) (before : List Change) → AreCommands commands
-      → trace ≡ before ++ trace_of (accepted commands answers) → old.device.size ≡ size → Run IsHeld old commands answers new
+      → trace ≡ before ++ trace_of (accepted_commands commands answers) → old.device.size ≡ size → Run IsHeld old commands answers new
       → AreNoted (slot_count size) start trace (length before) (state_of old.device) old.notes
       → AreNoted (slot_count size) start trace (length trace) (state_of new.device) new.notes
   notes_of_run [] [] old new before are parts sized run so_far =
@@ -187,12 +186,12 @@ module _ (size : Size) (start : Situation) (trace : List Change) where
   notes_of_run [] (answer ∷ answers) old new before are parts sized run so_far = absurd run
   notes_of_run (command ∷ commands) [] old new before are parts sized run so_far = absurd run
   notes_of_run (Write address value ∷ commands) (Appended ∷ answers) old new before are parts sized run so_far =
-      let rest = trace_of (accepted commands answers) in
+      let rest = trace_of (accepted_commands commands answers) in
       let live = live_after_put (state_of old.device).map so_far.now.live address value are.0.0 so_far.is.are_live in
       notes_of_run commands answers run.0 new (before ++ changes.Write address ∷ []) are.1 (passed before (changes.Write address) rest parts) (run.1.serves.goes_on.same_size ∙ sized) run.2
       (appended_noted before old run.0 (changes.Write address) (Put address value) rest parts sized run.1.serves run.1.notes_are so_far live)
   notes_of_run (Write address value ∷ commands) (Moved ∷ answers) old new before are parts sized run so_far =
-      let rest = trace_of (accepted commands answers) in
+      let rest = trace_of (accepted_commands commands answers) in
       let live = live_after_put (state_of old.device).map so_far.now.live address value are.0.0 so_far.is.are_live in
       let place = subst (λ (s : Size). IsAccepted (slot_count s) (state_of old.device) (Put address value)) sized run.1.serves.proceeds.accepted in
       let fits = write_fits (slot_count size) (state_of old.device) so_far.now address value are.0.0 so_far.is
@@ -200,12 +199,12 @@ module _ (size : Size) (start : Situation) (trace : List Change) where
       notes_of_run commands answers run.0 new (before ++ changes.Write address ∷ []) are.1 (passed before (changes.Write address) rest parts) (run.1.serves.goes_on.same_size ∙ sized) run.2
       (moved_noted before old run.0 (changes.Write address) (Put address value) rest parts sized run.1.serves run.1.notes_are so_far live fits)
   notes_of_run (Forget address ∷ commands) (Appended ∷ answers) old new before are parts sized run so_far =
-      let rest = trace_of (accepted commands answers) in
+      let rest = trace_of (accepted_commands commands answers) in
       let live = live_after_forget (state_of old.device).map so_far.now.live address so_far.is.are_live in
       notes_of_run commands answers run.0 new (before ++ changes.Forget address ∷ []) are.1 (passed before (changes.Forget address) rest parts) (run.1.serves.goes_on.same_size ∙ sized) run.2
       (appended_noted before old run.0 (changes.Forget address) (meaning.Forget address) rest parts sized run.1.serves run.1.notes_are so_far live)
   notes_of_run (Forget address ∷ commands) (Moved ∷ answers) old new before are parts sized run so_far =
-      let rest = trace_of (accepted commands answers) in
+      let rest = trace_of (accepted_commands commands answers) in
       let live = live_after_forget (state_of old.device).map so_far.now.live address so_far.is.are_live in
       let fits = forgetting_fits so_far.now address (proper_now (slot_count size) start trace (length before) (state_of old.device) old.notes so_far) in
       notes_of_run commands answers run.0 new (before ++ changes.Forget address ∷ []) are.1 (passed before (changes.Forget address) rest parts) (run.1.serves.goes_on.same_size ∙ sized) run.2
@@ -256,9 +255,9 @@ module _ (size : Size) (start : Situation) (trace : List Change) where
 noted_tight : (old new : Held) (commands : List Command) (answers : List Answer) (start : Situation) → AreCommands commands
     → old.notes ≡ no_notes (state_of old.device).fill → Run IsHeld old commands answers new
     → IsStartOf (slot_count old.device.size) (state_of old.device) start → IsProper start
-    → IsTight start (trace_of (accepted commands answers)) (claim_noted start new.notes)
+    → IsTight start (trace_of (accepted_commands commands answers)) (claim_noted start new.notes)
 noted_tight old new commands answers start are fresh run is proper =
-    let trace = trace_of (accepted commands answers) in
+    let trace = trace_of (accepted_commands commands answers) in
     let begun : AreNoted (slot_count old.device.size) start trace 0 (state_of old.device) (no_notes (state_of old.device).fill) = record {
       now = start;
       is = is;
@@ -267,7 +266,7 @@ noted_tight old new commands answers start are fresh run is proper =
     } in
     let first = subst (λ (notes : Notes). AreNoted (slot_count old.device.size) start trace 0 (state_of old.device) notes) (sym fresh) begun in
     let last = notes_of_run old.device.size start trace commands answers old new [] are refl refl run first in
-    let header : IsHeader start trace (claim_noted start new.notes) = record { slots = refl; fill = refl; live = refl; writes = last.counted } in
+    let header : IsCertificateHeader start trace (claim_noted start new.notes) = record { slots = refl; fill = refl; live = refl; writes = last.counted } in
     whole_tight start trace record { now = last.now; from = new.notes.from; stretches = new.notes.stretches } (claim_noted start new.notes) last.made refl header
 
 -- a run at a desk in which no line was cut is one of a store that stays open
@@ -293,14 +292,14 @@ run_attended old new (command ∷ commands) (answer ∷ answers) run = (run.0.po
 
 -- each answer `moved` ends a stretch
 one_stretch : (answer : Answer) (fill n : ℕ) (notes : Notes) (answers : List Answer)
-    → (m : ℕ) × (length (moved_at n (answer ∷ answers)) + length notes.stretches ≡ length (moved_at m answers) + length (noted answer fill notes).stretches)
+    → (m : ℕ) × (length (moved_at n (answer ∷ answers)) + length notes.stretches ≡ length (moved_at m answers) + length (notes_after answer fill notes).stretches)
 one_stretch Appended fill n notes answers = (n + 1, refl)
 one_stretch Moved fill n notes answers = (n + 1, omega (arith, length-append notes.stretches (record { to = notes.changes + 1; from = notes.from } ∷ [])))
 one_stretch answer fill n notes answers = (n, refl)
 
 stretches_are : (old new : Noted) (commands : List Command) (answers : List Answer) (n : ℕ) → Run Records old commands answers new
     → length new.notes.stretches ≡ length (moved_at n answers) + length old.notes.stretches
-stretches_are old new [] [] n run = let same = ap (λ (noted : Noted). length noted.notes.stretches) run in omega arith
+stretches_are old new [] [] n run = let same = ap (λ (notes_after : Noted). length notes_after.notes.stretches) run in omega arith
 stretches_are old new [] (answer ∷ answers) n run = absurd run
 stretches_are old new (command ∷ commands) [] n run = absurd run
 stretches_are old new (command ∷ commands) (answer ∷ answers) n run =
@@ -310,7 +309,7 @@ stretches_are old new (command ∷ commands) (answer ∷ answers) n run =
     omega (arith, one.1, rest, same)
 
 -- and each `cut` is noted
-one_cut : (answer : Answer) (fill : ℕ) (notes : Notes) → (noted answer fill notes).cut ≡ (is_cut_answer answer || notes.cut)
+one_cut : (answer : Answer) (fill : ℕ) (notes : Notes) → (notes_after answer fill notes).cut ≡ (is_cut_answer answer || notes.cut)
 one_cut Cut fill notes = refl
 one_cut answer fill notes = refl
 
@@ -395,7 +394,7 @@ one_slot_more old new notes sized same filled counted =
 same_count : (old new : Device) (notes : Notes) → new ≡ old → IsCounted old notes → IsCounted new notes
 same_count old new notes same counted = subst (λ (device : Device). IsCounted device notes) (sym same) counted
 
-pub counted_on : (old new : Device) (command : Command) (answer : Answer) (notes : Notes) (fill : ℕ) → Serves old command answer new → IsCounted old notes → IsCounted new (noted answer fill notes)
+pub counted_on : (old new : Device) (command : Command) (answer : Answer) (notes : Notes) (fill : ℕ) → Serves old command answer new → IsCounted old notes → IsCounted new (notes_after answer fill notes)
 counted_on old new (Write address value) Appended notes fill serves counted =
     let sized = ap slot_count serves.goes_on.same_size in
     let same : (state_of new).generation ≡ (state_of old).generation = ap (λ (s : State). s.generation) serves.state_is in
@@ -462,7 +461,7 @@ cut_append_counted old new change notes sized (inr (inr made)) counted = one_slo
 
 cut_move_counted : (old new : Device) (change : meaning.Change) (notes : Notes) → new.size ≡ old.size → (state_of old).fill ≡ slot_count old.size
     → IsAccepted (slot_count old.size) (state_of old) change → IsCutMove old.size.pages (state_of old) change (state_of new) → IsCounted old notes → IsCounted new notes
-cut_move_counted old new change notes sized used accepted (inl kept) counted =
+cut_move_counted old new change notes sized used accepted_commands (inl kept) counted =
     let wide = ap slot_count sized in
     let generation : (state_of new).generation ≡ (state_of old).generation = ap (λ (s : State). s.generation) kept.2 in
     let filled : (state_of new).fill ≡ (state_of old).fill = ap (λ (s : State). s.fill) kept.2 in
@@ -471,10 +470,10 @@ cut_move_counted old new change notes sized used accepted (inl kept) counted =
       generation = let a = counted.generation in omega arith;
       changes = rw (generation, wide, filled) counted.changes;
     }
-cut_move_counted old new change notes sized used accepted (inr made) counted =
+cut_move_counted old new change notes sized used accepted_commands (inr made) counted =
     let wide = ap slot_count sized in
     let one : (state_of new).generation ≡ (state_of old).generation + 1 = ap (λ (s : State). s.generation) made in
-    let not_last : (state_of old).generation ≡ greatest_generation → ⊥ = λ last. accepted.not_spent (record { all_used = used; last_generation = last }) in
+    let not_last : (state_of old).generation ≡ greatest_generation → ⊥ = λ last. accepted_commands.not_spent (record { all_used = used; last_generation = last }) in
     let turn = count_turn notes.changes (state_of old).generation (slot_count old.size) (state_of old).fill (state_of new).generation (slot_count new.size) (state_of new).fill one wide used counted.changes in
     record {
       slots = let a = counted.slots in omega arith;
@@ -482,7 +481,7 @@ cut_move_counted old new change notes sized used accepted (inr made) counted =
       changes = omega (arith, turn);
     }
 
-pub counted_cut : (old new : Device) (change : meaning.Change) (notes : Notes) → IsCutChange old change new → IsCounted old notes → IsCounted new (noted Cut 0 notes)
+pub counted_cut : (old new : Device) (change : meaning.Change) (notes : Notes) → IsCutChange old change new → IsCounted old notes → IsCounted new (notes_after Cut 0 notes)
 counted_cut old new change notes cut counted =
     let there : IsCounted new notes = elim (cases_order (state_of old).fill (slot_count old.size)) [
       | inl used ↦ cut_move_counted old new change notes cut.cut.same_size used cut.proceeds.accepted (cut.all_used used) counted
@@ -492,27 +491,27 @@ counted_cut old new change notes cut counted =
     record { slots = there.slots; generation = there.generation; changes = there.changes }
 
 -- where a call at a desk is cut
-wrote_counted : (serving : Bool) (old : Device) (new : Point) (address value : ℕ) (notes : Notes) → Calls serving old (Wrote address value (Err fault.Cut)) new
-    → IsCounted old notes → IsCounted new.device (noted Cut 0 notes)
+wrote_counted : (serving : Bool) (old : Device) (new : Point) (address value : ℕ) (notes : Notes) → CallsAtDesk serving old (Wrote address value (Err fault.Cut)) new
+    → IsCounted old notes → IsCounted new.device (notes_after Cut 0 notes)
 wrote_counted true old new address value notes calls counted = counted_cut old new.device (Put address value) notes calls.1 counted
 wrote_counted false old new address value notes calls counted = absurd calls.0
 
 pub wrote_cut_counted : (serving : Bool) (old : Device) (new : Point) (address value : ℕ) (notes kept : Notes) (answer : WriteFault) → answer ≡ fault.Cut
-    → Calls serving old (Wrote address value (Err answer)) new → IsCounted old notes → kept ≡ noted Cut 0 notes → IsCounted new.device kept
+    → CallsAtDesk serving old (Wrote address value (Err answer)) new → IsCounted old notes → kept ≡ notes_after Cut 0 notes → IsCounted new.device kept
 wrote_cut_counted serving old new address value notes kept answer cut calls counted is =
     subst (IsCounted new.device) (sym is)
-    (wrote_counted serving old new address value notes (subst (λ (one : WriteFault). Calls serving old (Wrote address value (Err one)) new) cut calls) counted)
+    (wrote_counted serving old new address value notes (subst (λ (one : WriteFault). CallsAtDesk serving old (Wrote address value (Err one)) new) cut calls) counted)
 
-forgot_counted : (serving : Bool) (old : Device) (new : Point) (address : ℕ) (notes : Notes) → Calls serving old (Forgot address (Err forgetting.Cut)) new
-    → IsCounted old notes → IsCounted new.device (noted Cut 0 notes)
+forgot_counted : (serving : Bool) (old : Device) (new : Point) (address : ℕ) (notes : Notes) → CallsAtDesk serving old (Forgot address (Err forgetting.Cut)) new
+    → IsCounted old notes → IsCounted new.device (notes_after Cut 0 notes)
 forgot_counted true old new address notes calls counted = counted_cut old new.device (meaning.Forget address) notes calls.1 counted
 forgot_counted false old new address notes calls counted = absurd calls.0
 
 pub forgot_cut_counted : (serving : Bool) (old : Device) (new : Point) (address : ℕ) (notes kept : Notes) (answer : ForgetFault) → answer ≡ forgetting.Cut
-    → Calls serving old (Forgot address (Err answer)) new → IsCounted old notes → kept ≡ noted Cut 0 notes → IsCounted new.device kept
+    → CallsAtDesk serving old (Forgot address (Err answer)) new → IsCounted old notes → kept ≡ notes_after Cut 0 notes → IsCounted new.device kept
 forgot_cut_counted serving old new address notes kept answer cut calls counted is =
     subst (IsCounted new.device) (sym is)
-    (forgot_counted serving old new address notes (subst (λ (one : ForgetFault). Calls serving old (Forgot address (Err one)) new) cut calls) counted)
+    (forgot_counted serving old new address notes (subst (λ (one : ForgetFault). CallsAtDesk serving old (Forgot address (Err one)) new) cut calls) counted)
 
 -- where the image says the same
 pub counted_same : (old new : Device) (notes kept : Notes) → SaysTheSame old new → kept.changes ≡ notes.changes → IsCounted old notes → IsCounted new kept
@@ -520,7 +519,7 @@ counted_same old new notes kept same changes counted =
     let there = same_place old new notes same.same_size same.state_is counted in
     record { slots = there.slots; generation = there.generation; changes = rw changes there.changes }
 
-not_fewer : (answer : Answer) (notes : Notes) (fill : ℕ) → notes.changes ≤ (noted answer fill notes).changes
+not_fewer : (answer : Answer) (notes : Notes) (fill : ℕ) → notes.changes ≤ (notes_after answer fill notes).changes
 not_fewer Appended notes fill = omega arith
 not_fewer Moved notes fill = omega arith
 not_fewer answer notes fill = omega arith

@@ -1,11 +1,11 @@
 -- A script has one cause at most for which it isn't replayed.
 use Rattle.std.proofs.Common.{◌≡◌, ◌≢◌, ◌⊎◌, inl, inr, ℕ, List, refl, ap}
 use Rattle.ee_flash.specs.Size.{Size}
-use Rattle.ee_store.specs.State.{State}
+use Rattle.ee_core.specs.State.{State}
 use Rattle.ee_script.proofs.Reading.{one_first_bad_line_lem, scripts_are_good_lem}
-use Rattle.ee_words.specs.declared.replay_fault.ReplayFault.{ReplayFault}
-use Rattle.ee_words.specs.declared.replay_fault.ReplayFault.TheVariants.{Image, Open, Script, Memory, Read}
-use Rattle.ee_replay.specs.Replaying.{IsReplayFault, IsReplayed, IsRun, IsRunFault}
+use Rattle.ee_faults.specs.declared.replay_fault.ReplayFault.{ReplayFault}
+use Rattle.ee_faults.specs.declared.replay_fault.ReplayFault.TheVariants.{Image, Open, Script, Memory, Read}
+use Rattle.ee_replay.specs.Replaying.{IsReplayFault, IsReplayed, IsScriptRun, IsRunFault}
 use Rattle.ee_image_store.proofs.OneCause.{one_open_fault, store_is_good}
 
 -- ---- the faults of a script
@@ -24,7 +24,7 @@ one_run_fault text (Script m) (Script n) some h i = inl (ap Script (one_first_ba
 one_run_fault text (Script n) Memory some h i = inr refl
 one_run_fault text (Script n) Read some h i = absurd i
 
-pub run_is_good : (size : Size) (start : State) (text image reported : List ℕ) (cause : ReplayFault) → IsRun size start text image reported → cause ≢ Memory → IsRunFault text cause → ⊥
+pub run_is_good : (size : Size) (start : State) (text image reported : List ℕ) (cause : ReplayFault) → IsScriptRun size start text image reported → cause ≢ Memory → IsRunFault text cause → ⊥
 run_is_good size start text image reported (Image cause) run some h = h
 run_is_good size start text image reported (Open cause) run some h = h
 run_is_good size start text image reported (Script n) run some h = scripts_are_good_lem text run.report.commands n run.report.is_script h

@@ -2,21 +2,21 @@
 use Rattle.std.proofs.Common.{◌≡◌, ℕ, List, ap, subst, arith}
 use Rattle.ee_flash.specs.Device.{Device, blank_device}
 use Rattle.ee_flash.specs.Size.{Size}
-use Rattle.ee_store.specs.Events.{Point}
-use Rattle.ee_store.specs.State.{State, formatted, state_of}
+use Rattle.ee_core.specs.Points.{Point}
+use Rattle.ee_core.specs.State.{State, formatted_state, state_of}
 use Rattle.ee_image_store.specs.Erases.{ErasesRise, erases_of_all}
-use Rattle.ee_image_store.specs.Opening.{IsNewStore, IsOpened, Spells}
-use Rattle.ee_replay.specs.Replaying.{IsReplayed, IsRun, IsRunOn, IsTried}
+use Rattle.ee_image_store.specs.Opening.{IsNewStore, IsOpened, SpellsDevice}
+use Rattle.ee_replay.specs.Replaying.{IsReplayed, IsScriptRun, IsRunOn, IsTried}
 use Rattle.ee_replay.specs.Serving.{IsMade, IsServed, IsSound}
 use Rattle.ee_image_store.proofs.Erasing.{both, wear_since}
 use Rattle.ee_replay.proofs.ScriptWears.{wears_since_opening}
 
-pub is_run_on : (old flash : Device) (new : Point) (text image reported : List ℕ) → IsServed old text new reported → IsSound new → flash ≡ new.device → Spells image flash
+pub is_run_on : (old flash : Device) (new : Point) (text image reported : List ℕ) → IsServed old text new reported → IsSound new → flash ≡ new.device → SpellsDevice image flash
     → IsRunOn old text image reported
 is_run_on old flash new text image reported served sound same spelled = record {
   run = record {
     last = new;
-    left = record { spelled = subst (Spells image) same spelled; sound = sound; same_size = served.same_size };
+    left = record { spelled = subst (SpellsDevice image) same spelled; sound = sound; same_size = served.same_size };
     report = served.report;
   };
   made = served.made;
@@ -25,7 +25,7 @@ is_run_on old flash new text image reported served sound same spelled = record {
 -- a run of the machine of this size from this state, on this store
 abbrev RunFrom : Size → State → List ℕ → List ℕ → List ℕ → Device → Type 0
 RunFrom size start text image reported store =
-    (run : IsRun size start text image reported) × IsMade store run.report.commands run.report.answers run.last
+    (run : IsScriptRun size start text image reported) × IsMade store run.report.commands run.report.answers run.last
 
 -- the same run, of a machine that is known by another size and state
 from_there : (size other : Size) (start from : State) (text image reported : List ℕ) (store : Device) → size ≡ other → start ≡ from
@@ -56,7 +56,7 @@ is_replayed old_image text image reported store opened on =
 -- a run from what was formatted
 pub is_tried : (size : Size) (text image reported : List ℕ) (store : Device) → IsNewStore size store → IsRunOn store text image reported → IsTried size text image reported
 is_tried size text image reported store new on =
-    let there = from_there store.size size (state_of store) formatted text image reported store new.size_is new.state_is (on.run, on.made) in
+    let there = from_there store.size size (state_of store) formatted_state text image reported store new.size_is new.state_is (on.run, on.made) in
     let answers = there.0.report.answers in
     let pending : (state_of store).pending ≡ 0 = ap (λ (s : State). s.pending) new.state_is in
     record {

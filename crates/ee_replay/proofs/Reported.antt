@@ -6,17 +6,17 @@ use Rattle.ee_check.specs.Schedule.{IsProper, Situation}
 use Rattle.ee_check.specs.Text.{text_of}
 use Rattle.ee_plan.specs.Start.{IsStartOf}
 use Rattle.ee_script.specs.Answer.{report}
-use Rattle.ee_script.specs.Script.{IsFirstBadLine}
+use Rattle.ee_script.specs.Script.{IsFirstBadCommandLine}
 use Rattle.ee_script.proofs.Reading.{scripts_are_good_lem}
 use Rattle.ee_pages.specs.Meaning.{live_in}
-use Rattle.ee_store.specs.State.{State, state_of}
-use Rattle.ee_store.specs.Events.{Point}
+use Rattle.ee_core.specs.State.{State, state_of}
+use Rattle.ee_core.specs.Points.{Point}
 use Rattle.ee_script.specs.Run.{Run}
 use Rattle.ee_image_store.specs.Machine.{Desk, DeskStep, desk_with, was_cut}
 use Rattle.ee_replay.specs.Report.{IsReported, cut_report_text, desk_line, end_line}
 use Rattle.ee_replay.specs.Serving.{IsServed, IsTraced, Notes, claim_noted, desk_of, serving_on}
 use Rattle.ee_image_store.specs.Opening.{StaysOn}
-use Rattle.ee_image_store.specs.Trace.{accepted, moves, trace_of}
+use Rattle.ee_image_store.specs.Trace.{accepted_commands, moves, trace_of}
 use Rattle.ee_plan.proofs.Wearing.{fewest_transfers_wear_lem}
 use Rattle.ee_replay.proofs.Desks.{desk_run}
 use Rattle.ee_replay.proofs.Kept.{keeps_all}
@@ -87,7 +87,7 @@ module _ (old : Device) (new : Point) (text lines : List ℕ) (notes : Notes) (r
           run = machine.run;
           start_is = is;
           fewest = fewest;
-          lasts = fewest_transfers_wear_lem start (trace_of (accepted commands answers)) (moves answers) fewest.fewest;
+          lasts = fewest_transfers_wear_lem start (trace_of (accepted_commands commands answers)) (moves answers) fewest.fewest;
           room = run_room old.size commands answers (state_of old) (state_of new.device) start claim are is proper machine.run tight;
           values = values_are old.size commands answers (state_of old) (state_of new.device) machine.run;
           all_accepted = all_put old.size commands answers (state_of old) (state_of new.device) start are is machine.run;
@@ -124,5 +124,5 @@ is_served old new text lines notes start run is proper stays ended reported end 
     }
 
 -- a script that was answered has no bad line
-pub no_bad_line : (old : Device) (new : Point) (text lines : List ℕ) (notes : Notes) (n : ℕ) → IsTraced old text new notes lines → IsFirstBadLine text n → ⊥
+pub no_bad_line : (old : Device) (new : Point) (text lines : List ℕ) (notes : Notes) (n : ℕ) → IsTraced old text new notes lines → IsFirstBadCommandLine text n → ⊥
 no_bad_line old new text lines notes n run bad = scripts_are_good_lem text run.answered.commands n run.answered.is_script bad

@@ -8,18 +8,18 @@ use Rattle.ee_flash.specs.Device.{Device}
 use Rattle.ee_flash.specs.Size.{Size}
 use Rattle.ee_pages.specs.Meaning.{Put}
 use Rattle.ee_pages.specs.Meaning as meaning
-use Rattle.ee_store.specs.Runs.{Call, Follows, IsRun, IsWholeRun, is_cut}
-use Rattle.ee_store.specs.State.{state_of}
+use Rattle.ee_core.specs.Runs.{Call, Follows, IsRun, IsWholeRun, is_cut}
+use Rattle.ee_core.specs.State.{state_of}
 use Rattle.ee_script.specs.declared.command.Command.{Command}
 use Rattle.ee_script.specs.declared.command.Command.TheVariants.{Write, Read, Forget, Clean, Arm, PowerOn}
 use Rattle.ee_script.specs.declared.answer.Answer.{Answer}
 use Rattle.ee_script.specs.declared.answer.Answer.TheVariants.{Appended, Moved, Full, Spent, Cleaned, Idle, Value, NoValue, Absent, Armed, Opened}
 use Rattle.ee_script.specs.Run.{Run}
-use Rattle.ee_image_store.specs.Erases.{ErasesRise, erases_of, erases_of_all}
-use Rattle.ee_image_store.specs.Machine.{Step, is_arming}
-use Rattle.ee_replay.specs.Serving.{Serves, call_of, calls_of, is_armed_by, with_call}
+use Rattle.ee_image_store.specs.Erases.{ErasesRise, erases_left_by, erases_of_all}
+use Rattle.ee_image_store.specs.Machine.{MachineStep, is_arming}
+use Rattle.ee_replay.specs.Serving.{Serves, call_of_command, calls_of, is_armed_by, with_call}
 use Rattle.ee_image_store.specs.Steps.{Steps}
-use Rattle.ee_store.proofs.Wears.{no_wear}
+use Rattle.ee_core.proofs.Wears.{no_wear}
 use Rattle.ee_replay.proofs.Powering.{state_armed}
 use Rattle.ee_image_store.proofs.Erasing.{as_before, both, by_append, by_clean, by_move, by_wear}
 
@@ -108,7 +108,7 @@ neither false rest e = (refl, e)
 neither true rest e = absurd (cc e)
 
 uncut_first : (command : Command) (answer : Answer) (calls : List Call) → All (λ made. is_cut made ≡ false) calls
-    → All (λ made. is_cut made ≡ false) (with_call (call_of command answer) calls)
+    → All (λ made. is_cut made ≡ false) (with_call (call_of_command command answer) calls)
 uncut_first (Write address value) Appended calls all = All-cons (λ made. is_cut made ≡ false) _ calls refl all
 uncut_first (Write address value) Moved calls all = All-cons (λ made. is_cut made ≡ false) _ calls refl all
 uncut_first (Write address value) Full calls all = All-cons (λ made. is_cut made ≡ false) _ calls refl all
@@ -135,13 +135,13 @@ call_first (Some made) calls old mid new follows run = (mid, follows, run)
 
 -- with what a line did that arms no cut before it
 line_first : (command : Command) (answer : Answer) (calls : List Call) (old mid new : Device) → is_arming command ≡ false → Serves old command answer mid → IsRun calls mid new
-    → IsRun (with_call (call_of command answer) calls) old new
+    → IsRun (with_call (call_of_command command answer) calls) old new
 line_first (Arm fuse) answer calls old mid new unarmed serves run = absurd (cc unarmed)
 line_first PowerOn Opened calls old mid new unarmed serves run = subst (λ device. IsRun calls device new) serves run
-line_first (Write address value) answer calls old mid new unarmed serves run = call_first (call_of (Write address value) answer) calls old mid new serves run
-line_first (Forget address) answer calls old mid new unarmed serves run = call_first (call_of (Forget address) answer) calls old mid new serves run
-line_first (Read address) answer calls old mid new unarmed serves run = call_first (call_of (Read address) answer) calls old mid new serves run
-line_first Clean answer calls old mid new unarmed serves run = call_first (call_of Clean answer) calls old mid new serves run
+line_first (Write address value) answer calls old mid new unarmed serves run = call_first (call_of_command (Write address value) answer) calls old mid new serves run
+line_first (Forget address) answer calls old mid new unarmed serves run = call_first (call_of_command (Forget address) answer) calls old mid new serves run
+line_first (Read address) answer calls old mid new unarmed serves run = call_first (call_of_command (Read address) answer) calls old mid new serves run
+line_first Clean answer calls old mid new unarmed serves run = call_first (call_of_command Clean answer) calls old mid new serves run
 line_first command answer calls old mid new unarmed serves run = absurd serves
 
 -- ---- a run
@@ -149,7 +149,7 @@ line_first command answer calls old mid new unarmed serves run = absurd serves
 -- what a run of calls comes to: the machine goes from state to state, the size stays, and each move leaves the pages of a
 -- set to be erased
 pub record IsMachineRun (old new : Device) (commands : List Command) (answers : List Answer) : Type 0 where
-  pub run : Run (Step old.size) (state_of old) commands answers (state_of new)
+  pub run : Run (MachineStep old.size) (state_of old) commands answers (state_of new)
   pub same_size : new.size ≡ old.size
   pub erases : ErasesRise (erases_of_all old.size answers) old new
 
@@ -166,10 +166,10 @@ machine_run old new (command ∷ commands) (answer ∷ answers) run =
     let here = machine_step old mid command answer run.1 in
     let rest = machine_run mid new commands answers run.2 in
     record {
-      run = (state_of mid, here.step, subst (λ (size : Size). Run (Step size) (state_of mid) commands answers (state_of new)) here.same_size rest.run);
+      run = (state_of mid, here.step, subst (λ (size : Size). Run (MachineStep size) (state_of mid) commands answers (state_of new)) here.same_size rest.run);
       same_size = rest.same_size ∙ here.same_size;
-      erases = both old mid new (erases_of old.size answer) (erases_of_all old.size answers) (erases_of_all old.size (answer ∷ answers)) here.erases
-          (subst (λ (size : Size). ErasesRise (erases_of_all size answers) mid new) here.same_size rest.erases) (sum_by-cons (erases_of old.size) answer answers);
+      erases = both old mid new (erases_left_by old.size answer) (erases_of_all old.size answers) (erases_of_all old.size (answer ∷ answers)) here.erases
+          (subst (λ (size : Size). ErasesRise (erases_of_all size answers) mid new) here.same_size rest.erases) (sum_by-cons (erases_left_by old.size) answer answers);
     }
 
 -- where no line arms a cut it is a run of calls

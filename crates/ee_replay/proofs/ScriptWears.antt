@@ -1,18 +1,18 @@
 -- How often pages are erased by a script that is not cut.
-use Rattle.std.proofs.Common.{◌≡◌, ◌∙◌, ℕ, ◌+◌, Bool, true, false, cond, Ok, Err, Option, Some, None, List, [], ◌∷◌, length, ap, refl, sym, subst, arith}
+use Rattle.std.proofs.Common.{◌≡◌, ℕ, ◌+◌, Bool, true, false, cond, Ok, Err, Option, Some, None, List, [], ◌∷◌, length, refl, sym, subst, arith}
 use Rattle.ee_flash.specs.Device.{Device}
 use Rattle.ee_pages.specs.Sets.{live_of, other}
 use Rattle.ee_pages.specs.declared.side.Side.{Side}
 use Rattle.ee_pages.specs.declared.side.Side.TheVariants.{First, Second}
-use Rattle.ee_store.specs.Events.{Point}
-use Rattle.ee_store.specs.Openings.{Opens}
-use Rattle.ee_store.specs.Runs.{Wrote, Forgot, DidRead, WearsAtMost}
-use Rattle.ee_store.specs.Runs as call
-use Rattle.ee_store.specs.State.{not_blank_in, pending_pages_in}
-use Rattle.ee_store.specs.declared.variables.ForgetFault.TheVariants as forgetting
-use Rattle.ee_store.specs.declared.variables.WriteFault.TheVariants as fault
-use Rattle.ee_store.specs.declared.variables.Written.TheVariants as written
-use Rattle.ee_store.proofs.PageWears.{Aged, Ages, ages, none_more, one_more, stays, wears_at_most}
+use Rattle.ee_core.specs.Points.{Point}
+use Rattle.ee_core.specs.Openings.{Opens}
+use Rattle.ee_core.specs.Runs.{Wrote, Forgot, DidRead, WearsAtMost}
+use Rattle.ee_core.specs.Runs as call
+use Rattle.ee_core.specs.State.{not_blank_in, pending_pages_in}
+use Rattle.ee_core.specs.declared.variables.ForgetFault.TheVariants as forgetting
+use Rattle.ee_core.specs.declared.variables.WriteFault.TheVariants as fault
+use Rattle.ee_core.specs.declared.variables.Written.TheVariants as written
+use Rattle.ee_core.proofs.PageWears.{Aged, Ages, ages, none_more, one_more, stays, wears_at_most}
 use Rattle.ee_script.specs.Run.{Run}
 use Rattle.ee_script.specs.declared.answer.Answer.{Answer}
 use Rattle.ee_script.specs.declared.answer.Answer.TheVariants.{Appended, Moved, Full, Spent, Cleaned, Idle, Value, NoValue, Absent, Armed, Cut, Off, Opened}
@@ -20,7 +20,7 @@ use Rattle.ee_script.specs.declared.command.Command.{Command}
 use Rattle.ee_script.specs.declared.command.Command.TheVariants.{Write, Read, Forget, Clean, Arm, PowerOn}
 use Rattle.ee_image_store.specs.Machine.{was_cut}
 use Rattle.ee_image_store.specs.Trace.{moved_at, moves}
-use Rattle.ee_replay.specs.Serving.{Attends, IsMade, Serves, armed, serving_on}
+use Rattle.ee_replay.specs.Serving.{Attends, IsMade, Serves, with_cut_to_come, serving_on}
 use Rattle.ee_replay.proofs.Runs.{machine_run, whole_run}
 use Rattle.ee_replay.proofs.UncutRuns.{run_open}
 
@@ -64,11 +64,11 @@ moves_more Opened answers = omega arith
 
 -- ---- lines
 
-named_armed : (device : Device) (side : Side) → not_blank_in side (armed device) ≡ not_blank_in side device
+named_armed : (device : Device) (side : Side) → not_blank_in side (with_cut_to_come device) ≡ not_blank_in side device
 named_armed device First = refl
 named_armed device Second = refl
 
-pending_armed : (device : Device) (live : Option (Side × ℕ)) → pending_pages_in (armed device) live ≡ pending_pages_in device live
+pending_armed : (device : Device) (live : Option (Side × ℕ)) → pending_pages_in (with_cut_to_come device) live ≡ pending_pages_in device live
 pending_armed device None = refl
 pending_armed device (Some live) = named_armed device (other live.0)
 
@@ -86,7 +86,7 @@ line_ages old new (Read address) (Value value) serves = ages (DidRead address (O
 line_ages old new (Read address) NoValue serves = ages (DidRead address (Ok None)) old new refl serves
 line_ages old new Clean Cleaned serves = ages (call.Cleaned (Ok true)) old new refl serves
 line_ages old new Clean Idle serves = ages (call.Cleaned (Ok false)) old new refl serves
-line_ages old new (Arm fuse) Armed serves = rw serves (stays old (armed old) refl refl (pending_armed old (live_of old)) refl)
+line_ages old new (Arm fuse) Armed serves = rw serves (stays old (with_cut_to_come old) refl refl (pending_armed old (live_of old)) refl)
 line_ages old new PowerOn Opened serves = rw serves (stays old old refl refl refl refl)
 line_ages old new command answer serves = absurd serves
 

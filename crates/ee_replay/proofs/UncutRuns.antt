@@ -1,7 +1,7 @@
 -- Where no line is cut, a desk is a store that stays open.
 use Rattle.std.proofs.Common.{◌≡◌, List, [], ◌∷◌, ap, false, refl, subst, true}
 use Rattle.ee_flash.specs.Device.{Device}
-use Rattle.ee_store.specs.Events.{Point}
+use Rattle.ee_core.specs.Points.{Point}
 use Rattle.ee_script.specs.Run.{Run}
 use Rattle.ee_script.specs.declared.answer.Answer.{Answer}
 use Rattle.ee_script.specs.declared.answer.Answer.TheVariants.{Appended, Moved, Full, Spent, Cleaned, Idle, Value, NoValue, Absent, Armed, Cut, Opened}

@@ -6,12 +6,11 @@ use Rattle.ee_flash.specs.declared.memory.MemFlash.{MemFlash}
 use Rattle.ee_pages.specs.Legal.{IsLegal, IsLive}
 use Rattle.ee_pages.specs.Sets.{live_of}
 use Rattle.ee_pages.specs.declared.side.Side.{Side}
-use Rattle.ee_store.specs.Events.{Point, closed}
-use Rattle.ee_store.specs.Runs.{Call, Cleaned, DidRead, Follows, Forgot, Wrote}
-use Rattle.ee_store.specs.State.{state_of}
-use Rattle.ee_store.specs.declared.variables.ForgetFault.TheVariants as forgetting
-use Rattle.ee_store.specs.declared.variables.WriteFault.TheVariants as fault
-use Rattle.ee_replay.specs.Serving.{opened}
+use Rattle.ee_core.specs.Points.{Point, closed_point, open_point}
+use Rattle.ee_core.specs.Runs.{Call, Cleaned, DidRead, Follows, Forgot, Wrote}
+use Rattle.ee_core.specs.State.{state_of}
+use Rattle.ee_core.specs.declared.variables.ForgetFault.TheVariants as forgetting
+use Rattle.ee_core.specs.declared.variables.WriteFault.TheVariants as fault
 use Rattle.ee_replay.specs.declared.desk.Desk.{Desk}
 use Rattle.ee_replay.specs.declared.desk.Desk.TheVariants.{Open, Bare, Gone}
 
@@ -40,9 +39,9 @@ IsOffCall (DidRead address (Err off)) = Unit {0}
 IsOffCall call = ⊥
 
 -- a call at a desk, by whether a store is open
-abbrev pub Calls : Bool → Device → Call → Point → Type 0
-Calls true old made new = IsOn old × Follows made old new.device × (new ≡ opened new.device)
-Calls false old made new = IsOffCall made × (new ≡ closed old)
+abbrev pub CallsAtDesk : Bool → Device → Call → Point → Type 0
+CallsAtDesk true old made new = IsOn old × Follows made old new.device × (new ≡ open_point new.device)
+CallsAtDesk false old made new = IsOffCall made × (new ≡ closed_point old)
 
 -- the size is as before, and what the image says
 pub record SaysTheSame (old new : Device) : Type 0 where
@@ -50,7 +49,7 @@ pub record SaysTheSame (old new : Device) : Type 0 where
   pub state_is : state_of new ≡ state_of old
 
 module _ {S A : Type 0} (device : S → Device) where
-  abbrev pub point_of : Desk S A → Point
-  point_of (Open store) = opened (device store)
-  point_of (Bare flash) = closed (device_of flash)
-  point_of Gone = closed (blank_device (record { pages = 0; words = 0 }))
+  abbrev pub point_of_desk : Desk S A → Point
+  point_of_desk (Open store) = open_point (device store)
+  point_of_desk (Bare flash) = closed_point (device_of flash)
+  point_of_desk Gone = closed_point (blank_device (record { pages = 0; words = 0 }))

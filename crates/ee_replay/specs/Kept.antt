@@ -1,10 +1,10 @@
 -- What an image keeps of the changes of a script, whatever is cut in it.
 use Rattle.std.specs.Prelude.{◌≡◌, ◌⊎◌, ◌==◌, ◌++◌, ℕ, Bool, false, Option, Some, None, List, ◌∷◌, length}
 use Rattle.std.specs.List.{All}
-use Rattle.ee_pages.specs.Meaning.{Change, Map, Put, changed}
+use Rattle.ee_pages.specs.Meaning.{Change, Map, Put, map_after}
 use Rattle.ee_pages.specs.Meaning as meaning
 use Rattle.ee_pages.specs.Pending.{address_of}
-use Rattle.ee_store.specs.Outcome.{HasChange}
+use Rattle.ee_core.specs.Changes.{HasChange}
 use Rattle.ee_script.specs.declared.command.Command.{Command}
 use Rattle.ee_script.specs.declared.command.Command.TheVariants.{Write, Read, Forget}
 use Rattle.ee_script.specs.declared.answer.Answer.{Answer}
@@ -13,9 +13,9 @@ use Rattle.ee_script.specs.Run.{Run}
 
 -- A change that is answered `ok` or `moved` is made; one in which power is cut is made or not; no other is made.
 abbrev pub KeepsChange : Change → Map → Answer → Map → Type 0
-KeepsChange change old Appended new = new ≡ changed change old
-KeepsChange change old Moved new = new ≡ changed change old
-KeepsChange change old Cut new = (new ≡ old) ⊎ (new ≡ changed change old)
+KeepsChange change old Appended new = new ≡ map_after change old
+KeepsChange change old Moved new = new ≡ map_after change old
+KeepsChange change old Cut new = (new ≡ old) ⊎ (new ≡ map_after change old)
 KeepsChange change old answer new = new ≡ old
 
 -- what a read is answered is what the map has
@@ -40,10 +40,10 @@ change_answered (Forget address) Moved = Some (meaning.Forget address)
 change_answered command answer = None
 
 -- the line asks for a change of the address
-abbrev pub asks_change_of : ℕ → Command → Bool
-asks_change_of address (Write named value) = named == address
-asks_change_of address (Forget named) = named == address
-asks_change_of address command = false
+abbrev pub command_asks_change_of : ℕ → Command → Bool
+command_asks_change_of address (Write named value) = named == address
+command_asks_change_of address (Forget named) = named == address
+command_asks_change_of address command = false
 
 -- A change that was answered stays, whatever is cut later, and however often: where no later line asks for a change of its
 -- address, the image has it in the end.
@@ -51,5 +51,5 @@ abbrev pub AnAnsweredChangeStays : Type 0
 AnAnsweredChangeStays =
     (before later : List Command) (said answers : List Answer) (command : Command) (answer : Answer) (change : Change) (old new : Map)
     → Run Keeps old (before ++ command ∷ later) (said ++ answer ∷ answers) new → length before ≡ length said
-    → change_answered command answer ≡ Some change → All (λ one. asks_change_of (address_of change) one ≡ false) later
+    → change_answered command answer ≡ Some change → All (λ one. command_asks_change_of (address_of change) one ≡ false) later
     → HasChange change new

@@ -2,15 +2,15 @@
 use Rattle.std.specs.Prelude.{◌≡◌, ◌⊎◌, ◌+◌, ℕ, false, List}
 use Rattle.ee_flash.specs.Device.{Device, blank_device}
 use Rattle.ee_flash.specs.Size.{Size}
-use Rattle.ee_store.specs.Events.{Point}
-use Rattle.ee_store.specs.Openings.{IsFormatted, Opens}
-use Rattle.ee_store.specs.Runs.{WearsAtMost}
-use Rattle.ee_store.specs.State.{State, WearRises, formatted, state_of}
-use Rattle.ee_script.specs.Script.{IsFirstBadLine}
-use Rattle.ee_words.specs.declared.replay_fault.ReplayFault.{ReplayFault}
-use Rattle.ee_words.specs.declared.replay_fault.ReplayFault.TheVariants.{Image, Open, Script, Memory, Read}
+use Rattle.ee_core.specs.Points.{Point}
+use Rattle.ee_core.specs.Openings.{IsFormatted, Opens}
+use Rattle.ee_core.specs.Runs.{WearsAtMost}
+use Rattle.ee_core.specs.State.{State, WearRises, formatted_state, state_of}
+use Rattle.ee_script.specs.Script.{IsFirstBadCommandLine}
+use Rattle.ee_faults.specs.declared.replay_fault.ReplayFault.{ReplayFault}
+use Rattle.ee_faults.specs.declared.replay_fault.ReplayFault.TheVariants.{Image, Open, Script, Memory, Read}
 use Rattle.ee_image_store.specs.Erases.{ErasesRise, erases_of_all}
-use Rattle.ee_image_store.specs.Opening.{IsOpenFault, IsStoreText, Spells}
+use Rattle.ee_image_store.specs.Opening.{IsOpenFault, IsStoreText, SpellsDevice}
 use Rattle.ee_image_store.specs.Machine.{was_cut}
 use Rattle.ee_image_store.specs.Trace.{moves}
 use Rattle.ee_replay.specs.Report.{IsDeskReported}
@@ -19,20 +19,20 @@ use Rattle.ee_replay.specs.Serving.{IsMade, IsSound, desk_of}
 -- The text is that of the device on the desk, which is of this size: its image is legal, and where a store is open it is on,
 -- and no mark is left to set.
 pub record IsDeskLeft (size : Size) (text : List ℕ) (point : Point) : Type 0 where
-  pub spelled : Spells text point.device
+  pub spelled : SpellsDevice text point.device
   pub sound : IsSound point
   pub same_size : point.device.size ≡ size
 
 -- From a store that is open with this state, on a device of this size, the script was answered with this report, as the
 -- report machine answers it; and the text is that of the device at the end, with what the machine came to.
-pub record IsRun (size : Size) (start : State) (text new_image reported : List ℕ) : Type 0 where
+pub record IsScriptRun (size : Size) (start : State) (text new_image reported : List ℕ) : Type 0 where
   pub last : Point
   pub left : IsDeskLeft size new_image last
   pub report : IsDeskReported size start text (desk_of last) reported
 
 -- the script was run on this store, line by line
 pub record IsRunOn (store : Device) (text new_image reported : List ℕ) : Type 0 where
-  pub run : IsRun store.size (state_of store) text new_image reported
+  pub run : IsScriptRun store.size (state_of store) text new_image reported
   pub made : IsMade store run.report.commands run.report.answers run.last
 
 -- The script was run on the store that was opened of the device whose image the first text spells, line by line. So the new
@@ -41,7 +41,7 @@ pub record IsRunOn (store : Device) (text new_image reported : List ℕ) : Type 
 pub record IsReplayed (old_image text new_image reported : List ℕ) : Type 0 where
   pub device : Device
   pub old : IsStoreText old_image device
-  pub run : IsRun device.size (state_of device) text new_image reported
+  pub run : IsScriptRun device.size (state_of device) text new_image reported
   pub opened : Device
   pub opens : Opens device opened
   pub made : IsMade opened run.report.commands run.report.answers run.last
@@ -57,7 +57,7 @@ pub record IsWornBy (size : Size) (pages : ℕ) (last : Device) : Type 0 where
 -- The script was run on a store with nothing in it, just formatted, on a device of this size of which no page was erased,
 -- line by line. Where none was cut, each move left the pages of a set to be erased, and nothing else did.
 pub record IsTried (size : Size) (text new_image reported : List ℕ) : Type 0 where
-  pub run : IsRun size formatted text new_image reported
+  pub run : IsScriptRun size formatted_state text new_image reported
   pub fresh : Device
   pub formats : IsFormatted (blank_device size) fresh
   pub made : IsMade fresh run.report.commands run.report.answers run.last
@@ -67,7 +67,7 @@ pub record IsTried (size : Size) (text new_image reported : List ℕ) : Type 0 w
 abbrev pub IsRunFault : List ℕ → ReplayFault → Type 0
 IsRunFault text (Image fault) = ⊥
 IsRunFault text (Open fault) = ⊥
-IsRunFault text (Script n) = IsFirstBadLine text n
+IsRunFault text (Script n) = IsFirstBadCommandLine text n
 IsRunFault text Memory = Unit {0}
 IsRunFault text Read = ⊥
 

@@ -2,7 +2,7 @@
 use Rattle.std.specs.Prelude.{◌≡◌, ◌-◌, ℕ, Bool, true, false, List, ◌++◌, codes, decimal}
 use Rattle.ee_flash.specs.Size.{Size, slot_count}
 use Rattle.ee_pages.specs.Meaning.{changed_by, live_in}
-use Rattle.ee_store.specs.State.{State}
+use Rattle.ee_core.specs.State.{State}
 use Rattle.ee_check.specs.Certificate.{Claim}
 use Rattle.ee_check.specs.Schedule.{Situation}
 use Rattle.ee_check.specs.Text.{text_of}
@@ -13,9 +13,9 @@ use Rattle.ee_script.specs.Run.{Run}
 use Rattle.ee_script.specs.Script.{IsScript}
 use Rattle.ee_script.specs.declared.answer.Answer.{Answer}
 use Rattle.ee_script.specs.declared.command.Command.{Command}
-use Rattle.ee_image_store.specs.Machine.{Desk, DeskStep, Step, desk_with, was_cut}
+use Rattle.ee_image_store.specs.Machine.{Desk, DeskStep, MachineStep, desk_with, was_cut}
 use Rattle.ee_replay.specs.Kept.{Keeps}
-use Rattle.ee_image_store.specs.Trace.{AreFewest, Fits, NoneEndsWithMoreRoom, accepted, moves, map_changes, trace_of}
+use Rattle.ee_image_store.specs.Trace.{AreFewest, TraceFits, NoneEndsWithMoreRoom, accepted_commands, moves, map_changes, trace_of}
 
 -- how a store of so many slots stands, and how many answers were `moved`
 abbrev pub end_line : ℕ → State → ℕ → List ℕ
@@ -36,13 +36,13 @@ report_text slots answers state claim = report answers ++ (end_line slots state 
 pub record IsReported (size : Size) (old : State) (commands : List Command) (answers : List Answer) (new : State) (reported : List ℕ) : Type 0 where
   pub start : Situation
   pub claim : Claim
-  pub run : Run (Step size) old commands answers new
+  pub run : Run (MachineStep size) old commands answers new
   pub start_is : IsStartOf (slot_count size) old start
-  pub fewest : AreFewest start (trace_of (accepted commands answers)) answers claim
-  pub room : NoneEndsWithMoreRoom start (trace_of (accepted commands answers)) (moves answers) new.fill
-  pub lasts : NoneWearsLess start (trace_of (accepted commands answers)) (moves answers)
-  pub values : new.map ≡ changed_by (map_changes (accepted commands answers)) old.map
-  pub all_accepted : Fits start old commands → map_changes (accepted commands answers) ≡ map_changes commands
+  pub fewest : AreFewest start (trace_of (accepted_commands commands answers)) answers claim
+  pub room : NoneEndsWithMoreRoom start (trace_of (accepted_commands commands answers)) (moves answers) new.fill
+  pub lasts : NoneWearsLess start (trace_of (accepted_commands commands answers)) (moves answers)
+  pub values : new.map ≡ changed_by (map_changes (accepted_commands commands answers)) old.map
+  pub all_accepted : TraceFits start old commands → map_changes (accepted_commands commands answers) ≡ map_changes commands
   pub report_is : reported ≡ report_text (slot_count size) answers new claim
 
 -- ---- with power cuts

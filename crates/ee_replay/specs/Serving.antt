@@ -6,17 +6,17 @@ use Rattle.ee_flash.specs.Memory.{Memory}
 use Rattle.ee_flash.specs.Size.{slot_count}
 use Rattle.ee_flash.specs.declared.fuse.Fuse.{Fuse}
 use Rattle.ee_pages.specs.Legal.{IsLegal}
-use Rattle.ee_store.specs.Changes.{greatest_generation}
-use Rattle.ee_store.specs.Events.{Point, closed, powered}
-use Rattle.ee_store.specs.Finished.{IsStore}
-use Rattle.ee_store.specs.Openings.{IsCutOpening, Opens}
-use Rattle.ee_store.specs.Runs.{Call, Wrote, Forgot, DidRead, Follows, IsWholeRun, WearsAtMost}
-use Rattle.ee_store.specs.Runs as call
-use Rattle.ee_store.specs.State.{state_of}
-use Rattle.ee_store.specs.declared.variables.ForgetFault.TheVariants as forgetting
-use Rattle.ee_store.specs.declared.variables.WriteFault.TheVariants as fault
-use Rattle.ee_store.specs.declared.variables.Written.{Written}
-use Rattle.ee_store.specs.declared.variables.Written.TheVariants as written
+use Rattle.ee_core.specs.Changes.{greatest_generation}
+use Rattle.ee_core.specs.Points.{Point, closed_point, with_power_on}
+use Rattle.ee_core.specs.Finished.{IsStore}
+use Rattle.ee_core.specs.Openings.{IsCutOpening, Opens}
+use Rattle.ee_core.specs.Runs.{Call, Wrote, Forgot, DidRead, Follows, IsWholeRun, WearsAtMost}
+use Rattle.ee_core.specs.Runs as call
+use Rattle.ee_core.specs.State.{state_of}
+use Rattle.ee_core.specs.declared.variables.ForgetFault.TheVariants as forgetting
+use Rattle.ee_core.specs.declared.variables.WriteFault.TheVariants as fault
+use Rattle.ee_core.specs.declared.variables.Written.{Written}
+use Rattle.ee_core.specs.declared.variables.Written.TheVariants as written
 use Rattle.ee_check.specs.declared.certificate.Stretch.{Stretch}
 use Rattle.ee_check.specs.Certificate.{Claim, IsTight}
 use Rattle.ee_check.specs.Schedule.{IsProper, Situation}
@@ -30,25 +30,25 @@ use Rattle.ee_script.specs.Whole.{IsAnswered}
 use Rattle.ee_image_store.specs.Erases.{ErasesRise, erases_of_all}
 use Rattle.ee_image_store.specs.Machine.{Desk, is_arming, was_cut}
 use Rattle.ee_replay.specs.Report.{IsDeskReported}
-use Rattle.ee_image_store.specs.Trace.{accepted, moves, trace_of}
+use Rattle.ee_image_store.specs.Trace.{accepted_commands, moves, trace_of}
 
 -- ---- the calls of a store
 
 -- the call of a store that serves a command and is not cut, as the answer tells of it
-abbrev pub call_of : Command → Answer → Option Call
-call_of (Write address value) Appended = Some (Wrote address value (Ok written.Appended))
-call_of (Write address value) Moved = Some (Wrote address value (Ok written.Moved))
-call_of (Write address value) Full = Some (Wrote address value (Err fault.Full))
-call_of (Write address value) Spent = Some (Wrote address value (Err fault.Spent))
-call_of (Forget address) Appended = Some (Forgot address (Ok written.Appended))
-call_of (Forget address) Moved = Some (Forgot address (Ok written.Moved))
-call_of (Forget address) Absent = Some (Forgot address (Err forgetting.Absent))
-call_of (Forget address) Spent = Some (Forgot address (Err forgetting.Spent))
-call_of (Read address) (Value value) = Some (DidRead address (Ok (Some value)))
-call_of (Read address) NoValue = Some (DidRead address (Ok None))
-call_of Clean Cleaned = Some (call.Cleaned (Ok true))
-call_of Clean Idle = Some (call.Cleaned (Ok false))
-call_of command answer = None
+abbrev pub call_of_command : Command → Answer → Option Call
+call_of_command (Write address value) Appended = Some (Wrote address value (Ok written.Appended))
+call_of_command (Write address value) Moved = Some (Wrote address value (Ok written.Moved))
+call_of_command (Write address value) Full = Some (Wrote address value (Err fault.Full))
+call_of_command (Write address value) Spent = Some (Wrote address value (Err fault.Spent))
+call_of_command (Forget address) Appended = Some (Forgot address (Ok written.Appended))
+call_of_command (Forget address) Moved = Some (Forgot address (Ok written.Moved))
+call_of_command (Forget address) Absent = Some (Forgot address (Err forgetting.Absent))
+call_of_command (Forget address) Spent = Some (Forgot address (Err forgetting.Spent))
+call_of_command (Read address) (Value value) = Some (DidRead address (Ok (Some value)))
+call_of_command (Read address) NoValue = Some (DidRead address (Ok None))
+call_of_command Clean Cleaned = Some (call.Cleaned (Ok true))
+call_of_command Clean Idle = Some (call.Cleaned (Ok false))
+call_of_command command answer = None
 
 -- the call of a store that is cut in a command; a read makes no step, so none is cut
 abbrev pub cut_call_of : Command → Option Call
@@ -64,14 +64,14 @@ with_call (Some first) calls = first ∷ calls
 
 -- the calls of a whole script
 abbrev pub calls_of : List Command → List Answer → List Call
-calls_of (command ∷ commands) (answer ∷ answers) = with_call (call_of command answer) (calls_of commands answers)
+calls_of (command ∷ commands) (answer ∷ answers) = with_call (call_of_command command answer) (calls_of commands answers)
 calls_of commands answers = []
 
 -- ---- lines, one after another
 
 -- with a cut to come
-abbrev pub armed : Device → Device
-armed device = record device { cuts_left = Some 1 }
+abbrev pub with_cut_to_come : Device → Device
+with_cut_to_come device = record device { cuts_left = Some 1 }
 
 -- whether a cut is to come
 abbrev pub is_armed : Option ℕ → Bool
@@ -84,26 +84,22 @@ HasFuse fuse kept = kept.fuse ≡ Some fuse
 
 -- a device in memory is that device, but for its fuse, which is this one
 pub record IsArmed (old : Device) (fuse : Fuse) (kept : Memory) : Type 0 where
-  pub device_is : kept.device ≡ armed old
+  pub device_is : kept.device ≡ with_cut_to_come old
   pub has_fuse : HasFuse fuse kept
-
--- a store of this device is open, while it is on
-abbrev pub opened : Device → Point
-opened device = record { serving = device.on; device = device }
 
 -- An open store makes the call of the command, and none is open once power is cut in it; where none is open, the answer is
 -- `off`, and nothing is done.
 abbrev pub Asks : Bool → Device → Command → Answer → Point → Type 0
 Asks true old command Cut new = IsSomeAnd (cut_call_of command) (λ made. Follows made old new.device × (new.serving ≡ false))
-Asks true old command answer new = IsSomeAnd (call_of command answer) (λ made. Follows made old new.device × (new.serving ≡ true))
-Asks false old command Off new = new ≡ closed old
+Asks true old command answer new = IsSomeAnd (call_of_command command answer) (λ made. Follows made old new.device × (new.serving ≡ true))
+Asks false old command Off new = new ≡ closed_point old
 Asks false old command answer new = ⊥
 
 -- Power comes on. A store that is open stays as it is; where none is, the store of the image is opened, or that is cut.
 abbrev pub Powers : Bool → Device → Answer → Point → Type 0
 Powers true old Opened new = new ≡ record { serving = true; device = old }
-Powers false old Opened new = Opens (powered old) new.device × (new.serving ≡ true)
-Powers false old Cut new = IsCutOpening (powered old) new.device × (new.serving ≡ false)
+Powers false old Opened new = Opens (with_power_on old) new.device × (new.serving ≡ true)
+Powers false old Cut new = IsCutOpening (with_power_on old) new.device × (new.serving ≡ false)
 Powers serving old answer new = ⊥
 
 -- A line arms its fuse: on the desk is a device in memory whose fuse is the line's, and a store is open on it if one was.
@@ -144,14 +140,14 @@ pub record IsMade (old : Device) (commands : List Command) (answers : List Answe
 
 -- the command is served by its call, or arms a cut, or opens what is open
 abbrev pub Serves : Device → Command → Answer → Device → Type 0
-Serves old (Arm fuse) Armed new = new ≡ armed old
+Serves old (Arm fuse) Armed new = new ≡ with_cut_to_come old
 Serves old PowerOn Opened new = new ≡ old
-Serves old command answer new = IsSomeAnd (call_of command answer) (λ made. Follows made old new)
+Serves old command answer new = IsSomeAnd (call_of_command command answer) (λ made. Follows made old new)
 
 -- the answer to a change that was stored
-abbrev pub stored : Written → Answer
-stored written.Appended = Appended
-stored written.Moved = Moved
+abbrev pub stored_answer : Written → Answer
+stored_answer written.Appended = Appended
+stored_answer written.Moved = Moved
 
 -- ---- what is noted
 
@@ -169,15 +165,15 @@ no_notes fill = record { changes = 0; from = fill; stretches = []; cut = false }
 
 -- A change that is appended is counted. With one that is moved a stretch ends; so many slots are used behind it. A cut is
 -- noted.
-abbrev pub noted : Answer → ℕ → Notes → Notes
-noted Appended fill notes = record notes { changes = notes.changes + 1 }
-noted Moved fill notes = record notes {
+abbrev pub notes_after : Answer → ℕ → Notes → Notes
+notes_after Appended fill notes = record notes { changes = notes.changes + 1 }
+notes_after Moved fill notes = record notes {
   changes = notes.changes + 1;
   from = fill;
   stretches = notes.stretches ++ record { to = notes.changes + 1; from = notes.from } ∷ [];
 }
-noted Cut fill notes = record notes { cut = true }
-noted answer fill notes = notes
+notes_after Cut fill notes = record notes { cut = true }
+notes_after answer fill notes = notes
 
 -- the certificate of what was noted since this start
 abbrev pub claim_noted : Situation → Notes → Claim
@@ -200,7 +196,7 @@ with_notes point notes = record { point = point; notes = notes }
 -- A line is served, and its answer is noted.
 pub record Records (old : Noted) (command : Command) (answer : Answer) (new : Noted) : Type 0 where
   pub attends : Attends old.point command answer new.point
-  pub notes_are : new.notes ≡ noted answer (state_of new.point.device).fill old.notes
+  pub notes_are : new.notes ≡ notes_after answer (state_of new.point.device).fill old.notes
 
 -- The count of the changes stays far below 64 bits: between two moves there are no more of them than slots.
 pub record IsCounted (device : Device) (notes : Notes) : Type 0 where
@@ -222,7 +218,7 @@ pub record IsTraced (old : Device) (text : List ℕ) (new : Point) (notes : Note
   pub transfers : length notes.stretches ≡ moves answered.answers
   pub cut : notes.cut ≡ was_cut answered.answers
   pub tight : was_cut answered.answers ≡ false → (start : Situation) → IsStartOf (slot_count old.size) (state_of old) start
-      → IsProper start → IsTight start (trace_of (accepted answered.commands answered.answers)) (claim_noted start notes)
+      → IsProper start → IsTight start (trace_of (accepted_commands answered.commands answered.answers)) (claim_noted start notes)
 
 -- A script was answered from a store that is open to a point, with the whole report of a run from the one's state to the
 -- other's.

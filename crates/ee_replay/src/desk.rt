@@ -3,16 +3,17 @@ ghost use Rattle.std.specs.Prelude.{◌≡◌, IfOk, true};
 ghost use Rattle.ee_flash.specs.Memory.{device_of, memory_of};
 ghost use Rattle.ee_pages.specs.Legal.{IsLegal};
 ghost use Rattle.ee_script.specs.declared.command.Command.TheVariants.{Arm, PowerOn};
-ghost use Rattle.ee_store.specs.Runs.{Cleaned, DidRead, Forgot, Wrote};
-ghost use Rattle.ee_store.specs.State.{state_of};
-ghost use Rattle.ee_replay.specs.Desk.{Calls, IsLegalDesk, IsLegalSo, SaysTheSame, point_of};
-ghost use Rattle.ee_replay.specs.Serving.{Attends, IsArmed, IsSound, armed};
+ghost use Rattle.ee_core.specs.Runs.{Cleaned, DidRead, Forgot, Wrote};
+ghost use Rattle.ee_core.specs.State.{state_of};
+ghost use Rattle.ee_replay.specs.Desk.{CallsAtDesk, IsLegalDesk, IsLegalSo, SaysTheSame, point_of_desk};
+ghost use Rattle.ee_replay.specs.Serving.{Attends, IsArmed, IsSound, with_cut_to_come};
 
 use ee_codec::Address;
+use ee_core::{ForgetFault, Off, Variables, WriteFault, Written};
 use ee_flash::{Flash, Fuse, MemFlash};
 use ee_image_store::Opened;
+use ee_index::IndexedFault;
 use ee_script::Answer;
-use ee_store::{ForgetFault, IndexedFault, Off, Variables, WriteFault, Written};
 use std::alloc::{AllocError, Allocator};
 
 /// A device, with a store open on it or without.
@@ -29,7 +30,7 @@ pub(crate) enum Desk<S: Variables + Drop, A: Allocator> {
 impl<S: Opened<MemFlash<A>, A>, A: Allocator + Copy> Desk<S, A> {
     /// Whether a store is open.
     pub(crate) fn is_open(&self) -> bool
-        ensures { result ≡ (point_of S.device self.now).serving }
+        ensures { result ≡ (point_of_desk S.device self.now).serving }
     {
         match self {
             Desk::Open(store) => store.is_on(),
@@ -40,8 +41,8 @@ impl<S: Opened<MemFlash<A>, A>, A: Allocator + Copy> Desk<S, A> {
     /// The device. A store that was open on it is closed.
     pub(crate) fn into_flash(self) -> MemFlash<A>
         requires { IsLegalDesk self }
-        ensures device { device_of result ≡ (point_of S.device self).device }
-        ensures sound { IsSound (point_of S.device self) }
+        ensures device { device_of result ≡ (point_of_desk S.device self).device }
+        ensures sound { IsSound (point_of_desk S.device self) }
     {
         match self {
             Desk::Open(store) => store.close(),
@@ -52,8 +53,8 @@ impl<S: Opened<MemFlash<A>, A>, A: Allocator + Copy> Desk<S, A> {
 
     /// Writes. Where no store is open, the fault is `Off`.
     pub(crate) fn write(&mut self, address: Address, value: u32) -> Result<Written, WriteFault>
-        ensures calls { let old = point_of S.device self.old in Calls old.serving old.device
-            (Wrote address value result) (point_of S.device self.new) }
+        ensures calls { let old = point_of_desk S.device self.old in CallsAtDesk old.serving old.device
+            (Wrote address value result) (point_of_desk S.device self.new) }
         ensures legal { IsLegalSo self.old → IsLegalSo self.new }
     {
         match self {
@@ -64,8 +65,8 @@ impl<S: Opened<MemFlash<A>, A>, A: Allocator + Copy> Desk<S, A> {
 
     /// Forgets. Where no store is open, the fault is `Off`.
     pub(crate) fn forget(&mut self, address: Address) -> Result<Written, ForgetFault>
-        ensures calls { let old = point_of S.device self.old in Calls old.serving old.device
-            (Forgot address result) (point_of S.device self.new) }
+        ensures calls { let old = point_of_desk S.device self.old in CallsAtDesk old.serving old.device
+            (Forgot address result) (point_of_desk S.device self.new) }
         ensures legal { IsLegalSo self.old → IsLegalSo self.new }
     {
         match self {
@@ -76,8 +77,8 @@ impl<S: Opened<MemFlash<A>, A>, A: Allocator + Copy> Desk<S, A> {
 
     /// Takes a clean step. Where no store is open, the fault is `Off`.
     pub(crate) fn clean_step(&mut self) -> Result<bool, WriteFault>
-        ensures calls { let old = point_of S.device self.old in Calls old.serving old.device
-            (Cleaned result) (point_of S.device self.new) }
+        ensures calls { let old = point_of_desk S.device self.old in CallsAtDesk old.serving old.device
+            (Cleaned result) (point_of_desk S.device self.new) }
         ensures legal { IsLegalSo self.old → IsLegalSo self.new }
     {
         match self {
@@ -88,7 +89,7 @@ impl<S: Opened<MemFlash<A>, A>, A: Allocator + Copy> Desk<S, A> {
 
     /// Reads.
     pub(crate) fn read(&self, address: Address) -> Result<Option<u32>, Off>
-        ensures { let point = point_of S.device self.now in Calls point.serving point.device
+        ensures { let point = point_of_desk S.device self.now in CallsAtDesk point.serving point.device
             (DidRead address result) point }
     {
         match self {
@@ -99,8 +100,8 @@ impl<S: Opened<MemFlash<A>, A>, A: Allocator + Copy> Desk<S, A> {
 
     /// How many slots are used.
     pub(crate) fn fill(&self) -> usize
-        requires { (point_of S.device self.now).serving ≡ true }
-        ensures { result ≡ (state_of (point_of S.device self.now).device).fill }
+        requires { (point_of_desk S.device self.now).serving ≡ true }
+        ensures { result ≡ (state_of (point_of_desk S.device self.now).device).fill }
     {
         match self {
             Desk::Open(store) => store.fill(),
@@ -111,9 +112,9 @@ impl<S: Opened<MemFlash<A>, A>, A: Allocator + Copy> Desk<S, A> {
     /// The device, with this fuse. A store that was open on it is closed.
     fn into_armed(self, fuse: Fuse) -> MemFlash<A>
         requires { IsLegalDesk self }
-        ensures memory { IsArmed (point_of S.device self).device fuse (memory_of result) }
-        ensures device { device_of result ≡ armed (point_of S.device self).device }
-        ensures sound { IsSound (point_of S.device self) }
+        ensures memory { IsArmed (point_of_desk S.device self).device fuse (memory_of result) }
+        ensures device { device_of result ≡ with_cut_to_come (point_of_desk S.device self).device }
+        ensures sound { IsSound (point_of_desk S.device self) }
     {
         let mut flash = self.into_flash();
         flash.arm(fuse);
@@ -124,10 +125,10 @@ impl<S: Opened<MemFlash<A>, A>, A: Allocator + Copy> Desk<S, A> {
     /// step. An error says that memory ran out.
     pub(crate) fn arm(self, alloc: A, fuse: Fuse) -> (Desk<S, A>, Result<Answer, AllocError>)
         requires { IsLegalDesk self }
-        ensures attends { IfOk result.1 (λ answer. Attends (point_of S.device self)
-            (Arm fuse) answer (point_of S.device result.0)) }
+        ensures attends { IfOk result.1 (λ answer. Attends (point_of_desk S.device self)
+            (Arm fuse) answer (point_of_desk S.device result.0)) }
         ensures legal { IsLegalDesk result.0 }
-        ensures same { SaysTheSame (point_of S.device self).device (point_of S.device result.0).device }
+        ensures same { SaysTheSame (point_of_desk S.device self).device (point_of_desk S.device result.0).device }
     {
         let open = self.is_open();
         let flash = self.into_armed(fuse);
@@ -146,10 +147,10 @@ impl<S: Opened<MemFlash<A>, A>, A: Allocator + Copy> Desk<S, A> {
     /// that memory ran out.
     pub(crate) fn power_on(self, alloc: A) -> (Desk<S, A>, Result<Answer, AllocError>)
         requires { IsLegalDesk self }
-        ensures attends { IfOk result.1 (λ answer. Attends (point_of S.device self)
-            PowerOn answer (point_of S.device result.0)) }
+        ensures attends { IfOk result.1 (λ answer. Attends (point_of_desk S.device self)
+            PowerOn answer (point_of_desk S.device result.0)) }
         ensures legal { IsLegalDesk result.0 }
-        ensures same { SaysTheSame (point_of S.device self).device (point_of S.device result.0).device }
+        ensures same { SaysTheSame (point_of_desk S.device self).device (point_of_desk S.device result.0).device }
     {
         if self.is_open() {
             return (self, Ok(Answer::Opened));

@@ -1,12 +1,12 @@
 //! The certificate of the changes that a store accepts, noted as it accepts them.
 ghost use Rattle.std.specs.Prelude.{◌≡◌, ◌<◌, ◌+◌, ◌^◌, IfOk, OnErr, OnOk, length};
 ghost use Rattle.ee_check.specs.Certificate.{claim_of};
-ghost use Rattle.ee_replay.specs.Serving.{claim_noted, no_notes, noted, stored};
+ghost use Rattle.ee_replay.specs.Serving.{claim_noted, no_notes, notes_after, stored_answer};
 ghost use Rattle.ee_script.specs.declared.answer.Answer.TheVariants.{Appended, Cut, Moved};
 
 use ee_check::{Certificate, Start, Stretch};
+use ee_core::Written;
 use ee_script::Answer;
-use ee_store::Written;
 use std::alloc::{AllocError, Allocator, Global};
 use std::marker::Model;
 
@@ -53,8 +53,8 @@ impl<A: Allocator> Notes<A> {
     /// Notes how a change was stored, behind which so many slots are used, and gives the answer to it.
     pub(crate) fn note(&mut self, written: Written, fill: u64) -> Result<Answer, AllocError>
         requires { self.old.changes + 1 < 2 ^ 64 }
-        ensures answer { IfOk result (λ answer. answer ≡ stored written) }
-        ensures noted { OnOk result (self.new ≡ noted (stored written) fill self.old) }
+        ensures answer { IfOk result (λ answer. answer ≡ stored_answer written) }
+        ensures noted { OnOk result (self.new ≡ notes_after (stored_answer written) fill self.old) }
         ensures err { OnErr result (self.new ≡ self.old) }
     {
         match written {
@@ -72,7 +72,7 @@ impl<A: Allocator> Notes<A> {
     /// A change was appended.
     fn append(&mut self)
         requires { self.old.changes + 1 < 2 ^ 64 }
-        ensures { self.new ≡ noted Appended 0 self.old }
+        ensures { self.new ≡ notes_after Appended 0 self.old }
     {
         self.changes += 1;
     }
@@ -80,7 +80,7 @@ impl<A: Allocator> Notes<A> {
     /// A change was moved with the map, and so many slots are used behind it.
     fn transfer(&mut self, fill: u64) -> Result<(), AllocError>
         requires { self.old.changes + 1 < 2 ^ 64 }
-        ensures ok { OnOk result (self.new ≡ noted Moved fill self.old) }
+        ensures ok { OnOk result (self.new ≡ notes_after Moved fill self.old) }
         ensures err { OnErr result (self.new ≡ self.old) }
     {
         self.stretches.push(Stretch {
@@ -95,7 +95,7 @@ impl<A: Allocator> Notes<A> {
     /// Notes that power was cut, and gives the answer to it.
     pub(crate) fn note_cut(&mut self) -> Answer
         ensures answer { result ≡ Cut }
-        ensures noted { self.new ≡ noted Cut 0 self.old }
+        ensures noted { self.new ≡ notes_after Cut 0 self.old }
     {
         self.cut = true;
         Answer::Cut

@@ -1,15 +1,16 @@
 //! Scripts on images.
 ghost use Rattle.std.specs.Prelude.{◌≡◌, ◌≢◌, ◌⊎◌, ℕ, List, IfOk, IfErr, MatchResult, Some};
-ghost use Rattle.ee_script.specs.Script.{IsFirstBadLine};
+ghost use Rattle.ee_script.specs.Script.{IsFirstBadCommandLine};
 ghost use Rattle.ee_replay.specs.Replaying.{IsReplayFault, IsReplayed, IsRunFault, IsRunOn, IsTried};
 ghost use Rattle.ee_replay.specs.Reading.{IsGiven, IsNotAnswered, IsReaderFault};
 ghost use Rattle.ee_image_store.specs.Opening.{HasStore, IsOpenFault, StaysOn};
 
 use super::reporting::{answer_on, answer_reader_on};
+use ee_core::Store;
+use ee_faults::ReplayFault;
 use ee_flash::{MemFlash, Shape};
 use ee_image_store::{Opened, new_store, open_as, open_image, text_of};
-use ee_store::{IndexedStore, Store};
-use ee_words::ReplayFault;
+use ee_index::IndexedStore;
 use std::alloc::{Allocator, Global};
 use std::io::Read;
 
@@ -121,7 +122,7 @@ pub fn replay_reader<A: Allocator + Copy, R: Read>(
         (λ fault. (fault ≡ cause) ⊎ (fault ≡ ReplayFault.Memory)) }
     // A bad line is never passed over.
     ensures bad { (script : List ℕ) (n : ℕ) → R.remaining reader.old ≡ Some script
-        → HasStore image.now → IsFirstBadLine script n → MatchResult result (λ _. ⊥)
+        → HasStore image.now → IsFirstBadCommandLine script n → MatchResult result (λ _. ⊥)
         (λ fault. (fault ≡ ReplayFault.Script n) ⊎ (fault ≡ ReplayFault.Memory)
         ⊎ (fault ≡ ReplayFault.Read)) }
 {
@@ -147,7 +148,7 @@ pub fn try_script<A: Allocator + Copy>(
         IsTried shape script.now replayed.image.items replayed.report.items) }
     ensures fault { IfErr result (IsRunFault script.now) }
     // A bad line is never passed over.
-    ensures bad { (n : ℕ) → IsFirstBadLine script.now n
+    ensures bad { (n : ℕ) → IsFirstBadCommandLine script.now n
         → MatchResult result (λ _. ⊥)
         (λ fault. (fault ≡ ReplayFault.Script n) ⊎ (fault ≡ ReplayFault.Memory)) }
 {

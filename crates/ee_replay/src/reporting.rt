@@ -8,11 +8,11 @@ ghost use Rattle.ee_flash.specs.Memory.{device_of};
 ghost use Rattle.ee_flash.specs.Size.{slot_count};
 ghost use Rattle.ee_plan.specs.Start.{IsStartOf};
 ghost use Rattle.ee_script.specs.Reading.{IsStreamFault};
-ghost use Rattle.ee_script.specs.Script.{IsFirstBadLine};
+ghost use Rattle.ee_script.specs.Script.{IsFirstBadCommandLine};
 ghost use Rattle.ee_script.specs.Whole.{IsScriptFault};
-ghost use Rattle.ee_store.specs.Events.{Point};
-ghost use Rattle.ee_store.specs.State.{state_of};
-ghost use Rattle.ee_replay.specs.Desk.{IsLegalDesk, point_of};
+ghost use Rattle.ee_core.specs.Points.{Point};
+ghost use Rattle.ee_core.specs.State.{state_of};
+ghost use Rattle.ee_replay.specs.Desk.{IsLegalDesk, point_of_desk};
 ghost use Rattle.ee_replay.specs.Report.{desk_line, end_line};
 ghost use Rattle.ee_replay.specs.Reading.{IsGiven};
 ghost use Rattle.ee_replay.specs.Serving.{IsServed, IsSound, IsTraced, claim_noted};
@@ -22,12 +22,12 @@ use super::desk::Desk;
 use super::noting::Notes;
 use super::serving::{Traced, trace_on, trace_reader};
 use ee_check::{Start, write_certificate};
+use ee_core::Variables;
 use ee_flash::MemFlash;
 use ee_image_store::Opened;
 use ee_plan::start_of;
 use ee_script::{ScriptFault, StreamFault};
-use ee_store::Variables;
-use ee_text::push_number;
+use ee_text::push_number_behind;
 use std::alloc::{AllocError, Allocator};
 use std::io::Read;
 
@@ -45,7 +45,7 @@ pub(crate) fn answer_on<A: Allocator + Copy, S: Opened<MemFlash<A>, A>>(
         × IsSound last × IsServed (S.device store) script.now last done.1.items) }
     ensures fault { IfErr result (IsScriptFault script.now) }
     // A bad line is never passed over.
-    ensures bad { (n : ℕ) → IsFirstBadLine script.now n
+    ensures bad { (n : ℕ) → IsFirstBadCommandLine script.now n
         → MatchResult result (λ _. ⊥)
         (λ fault. (fault ≡ ScriptFault.BadLine n) ⊎ (fault ≡ ScriptFault.Memory)) }
 {
@@ -86,10 +86,10 @@ fn report_on<A: Allocator + Copy, B: Allocator, S: Opened<MemFlash<A>, A>>(
     lines: Vec<u8, A>,
 ) -> Result<Vec<u8, A>, AllocError>
     ensures { IfOk result (λ report. (old : Device) (script : List ℕ)
-        → IsTraced old script (point_of S.device desk.now) notes lines.items
+        → IsTraced old script (point_of_desk S.device desk.now) notes lines.items
         → IsStartOf (slot_count old.size) (state_of old) start.now → IsProper start.now
         → StaysOn old
-        → IsServed old script (point_of S.device desk.now) report.items) }
+        → IsServed old script (point_of_desk S.device desk.now) report.items) }
 {
     let mut report = lines;
     push_desk(desk, notes.transfers(), &mut report)?;
@@ -124,7 +124,7 @@ fn push_desk<A: Allocator + Copy, S: Opened<MemFlash<A>, A>>(
     transfers: u64,
     report: &mut Vec<u8, A>,
 ) -> Result<(), AllocError>
-    ensures { let point = point_of S.device desk.now in OnOk result (report.new.items
+    ensures { let point = point_of_desk S.device desk.now in OnOk result (report.new.items
         ≡ report.old.items ++ desk_line (slot_count point.device.size) point.serving
         (state_of point.device) transfers) }
 {
@@ -144,7 +144,7 @@ fn push_off<A: Allocator>(transfers: u64, report: &mut Vec<u8, A>) -> Result<(),
     ensures { OnOk result (report.new.items ≡ report.old.items
         ++ (codes "end off transfers " ++ decimal transfers ++ codes "\n")) }
 {
-    push_count(b"end off transfers ", transfers, report)?;
+    push_number_behind(report, b"end off transfers ", transfers)?;
     report.extend_from_slice(b"\n")?;
     Ok(())
 }
@@ -161,23 +161,11 @@ fn push_end<A: Allocator, V: Variables>(
 {
     let fill = store.fill();
     let room = store.slots() - fill;
-    push_count(b"end fill ", fill as u64, report)?;
-    push_count(b" room ", room as u64, report)?;
-    push_count(b" live ", store.live_count() as u64, report)?;
-    push_count(b" pending ", store.pending() as u64, report)?;
-    push_count(b" transfers ", transfers, report)?;
+    push_number_behind(report, b"end fill ", fill as u64)?;
+    push_number_behind(report, b" room ", room as u64)?;
+    push_number_behind(report, b" live ", store.live_count() as u64)?;
+    push_number_behind(report, b" pending ", store.pending() as u64)?;
+    push_number_behind(report, b" transfers ", transfers)?;
     report.extend_from_slice(b"\n")?;
     Ok(())
-}
-
-/// Writes a count behind its name. After an error there may be a part of them.
-fn push_count<A: Allocator>(
-    name: &[u8],
-    count: u64,
-    report: &mut Vec<u8, A>,
-) -> Result<(), AllocError>
-    ensures { OnOk result (report.new.items ≡ report.old.items ++ (name.now ++ decimal count)) }
-{
-    report.extend_from_slice(name)?;
-    push_number(report, count)
 }

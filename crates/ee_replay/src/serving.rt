@@ -1,24 +1,24 @@
 //! Scripts at a desk: what serves a script's commands, and the answers to a whole one.
 ghost use Rattle.std.specs.Prelude.{◌≡◌, ◌⊎◌, ℕ, List, IfOk, IfErr, MatchResult};
-ghost use Rattle.ee_script.specs.Script.{IsFirstBadLine};
+ghost use Rattle.ee_script.specs.Script.{IsFirstBadCommandLine};
 ghost use Rattle.ee_script.specs.Whole.{IsScriptFault};
 ghost use Rattle.ee_script.specs.declared.command.Command.TheVariants.{Write, Read, Forget, Clean, Arm, PowerOn};
 ghost use Rattle.ee_script.specs.Reading.{IsStreamFault};
-ghost use Rattle.ee_store.specs.Finished.{IsStore};
-ghost use Rattle.ee_store.specs.State.{state_of};
-ghost use Rattle.ee_replay.specs.Desk.{IsLegalDesk, IsLegalSo, point_of};
+ghost use Rattle.ee_core.specs.Finished.{IsStore};
+ghost use Rattle.ee_core.specs.State.{state_of};
+ghost use Rattle.ee_replay.specs.Desk.{IsLegalDesk, IsLegalSo, point_of_desk};
 ghost use Rattle.ee_replay.specs.Reading.{IsGiven};
-ghost use Rattle.ee_replay.specs.Serving.{Attends, IsCounted, IsTraced, no_notes, noted, serving_on};
+ghost use Rattle.ee_replay.specs.Serving.{Attends, IsCounted, IsTraced, no_notes, notes_after, serving_on};
 ghost use Rattle.ee_image_store.specs.Opening.{StaysOn};
 
 use super::desk::Desk;
 use super::noting::Notes;
 use ee_codec::Address;
+use ee_command_line::MOST_READS;
+use ee_core::{ForgetFault, Off, Variables, WriteFault};
 use ee_flash::{Fuse, MemFlash};
 use ee_image_store::Opened;
 use ee_script::{Answer, Command, ScriptFault, Serve, StreamFault, answer_reader, answer_script};
-use ee_store::{ForgetFault, Off, Variables, WriteFault};
-use ee_words::MOST_READS;
 use std::alloc::{AllocError, Allocator, Global};
 use std::io::Read;
 use std::mem::replace;
@@ -30,7 +30,7 @@ struct Server<S: Opened<MemFlash<A>, A>, A: Allocator + Copy = Global> {
     desk: Desk<S, A>,
     notes: Notes<A>,
     ghost legal: { IsLegalSo desk },
-    ghost counted: { IsCounted (point_of S.device desk).device notes },
+    ghost counted: { IsCounted (point_of_desk S.device desk).device notes },
 }
 
 impl<S: Opened<MemFlash<A>, A>, A: Allocator + Copy> Server<S, A> {
@@ -40,7 +40,7 @@ impl<S: Opened<MemFlash<A>, A>, A: Allocator + Copy> Server<S, A> {
     fn new(alloc: A, store: S) -> Server<S, A>
         requires on { StaysOn (S.device store) }
         requires legal { IsStore (S.device store) }
-        ensures point { point_of S.device result.desk ≡ serving_on (S.device store) }
+        ensures point { point_of_desk S.device result.desk ≡ serving_on (S.device store) }
         ensures notes { result.notes ≡ no_notes (state_of (S.device store)).fill }
     {
         let notes = Notes::new(alloc, store.fill() as u64);
@@ -54,8 +54,8 @@ impl<S: Opened<MemFlash<A>, A>, A: Allocator + Copy> Server<S, A> {
     /// Writes, as a line of a script says. An error says that memory ran out.
     fn write(&mut self, address: Address, value: u32) -> Result<Answer, AllocError>
         ensures { IfOk result (λ answer. Records
-            (with_notes (point_of S.device self.old.desk) self.old.notes) (Write address value)
-            answer (with_notes (point_of S.device self.new.desk) self.new.notes)) }
+            (with_notes (point_of_desk S.device self.old.desk) self.old.notes) (Write address value)
+            answer (with_notes (point_of_desk S.device self.new.desk) self.new.notes)) }
     {
         match self.desk.write(address, value) {
             Ok(written) => {
@@ -73,8 +73,8 @@ impl<S: Opened<MemFlash<A>, A>, A: Allocator + Copy> Server<S, A> {
     /// Forgets, as a line of a script says. An error says that memory ran out.
     fn forget(&mut self, address: Address) -> Result<Answer, AllocError>
         ensures { IfOk result (λ answer. Records
-            (with_notes (point_of S.device self.old.desk) self.old.notes) (Forget address)
-            answer (with_notes (point_of S.device self.new.desk) self.new.notes)) }
+            (with_notes (point_of_desk S.device self.old.desk) self.old.notes) (Forget address)
+            answer (with_notes (point_of_desk S.device self.new.desk) self.new.notes)) }
     {
         match self.desk.forget(address) {
             Ok(written) => {
@@ -91,8 +91,8 @@ impl<S: Opened<MemFlash<A>, A>, A: Allocator + Copy> Server<S, A> {
     /// Reads.
     fn read(&self, address: Address) -> Answer
         ensures { Records
-            (with_notes (point_of S.device self.now.desk) self.now.notes) (Read address)
-            result (with_notes (point_of S.device self.now.desk) self.now.notes) }
+            (with_notes (point_of_desk S.device self.now.desk) self.now.notes) (Read address)
+            result (with_notes (point_of_desk S.device self.now.desk) self.now.notes) }
     {
         match self.desk.read(address) {
             Ok(Some(value)) => Answer::Value(value),
@@ -104,8 +104,8 @@ impl<S: Opened<MemFlash<A>, A>, A: Allocator + Copy> Server<S, A> {
     /// Takes a clean step.
     fn clean(&mut self) -> Answer
         ensures { Records
-            (with_notes (point_of S.device self.old.desk) self.old.notes) Clean
-            result (with_notes (point_of S.device self.new.desk) self.new.notes) }
+            (with_notes (point_of_desk S.device self.old.desk) self.old.notes) Clean
+            result (with_notes (point_of_desk S.device self.new.desk) self.new.notes) }
     {
         match self.desk.clean_step() {
             Ok(true) => Answer::Cleaned,
@@ -119,8 +119,8 @@ impl<S: Opened<MemFlash<A>, A>, A: Allocator + Copy> Server<S, A> {
     /// Arms a cut. An error says that memory ran out.
     fn arm(&mut self, fuse: Fuse) -> Result<Answer, AllocError>
         ensures { IfOk result (λ answer. Records
-            (with_notes (point_of S.device self.old.desk) self.old.notes) (Arm fuse)
-            answer (with_notes (point_of S.device self.new.desk) self.new.notes)) }
+            (with_notes (point_of_desk S.device self.old.desk) self.old.notes) (Arm fuse)
+            answer (with_notes (point_of_desk S.device self.new.desk) self.new.notes)) }
     {
         let desk = replace(&mut self.desk, Desk::Gone);
         let (desk, answer) = desk.arm(self.alloc, fuse);
@@ -131,8 +131,8 @@ impl<S: Opened<MemFlash<A>, A>, A: Allocator + Copy> Server<S, A> {
     /// Turns power on and opens the store. An error says that memory ran out.
     fn power_on(&mut self) -> Result<Answer, AllocError>
         ensures { IfOk result (λ answer. Records
-            (with_notes (point_of S.device self.old.desk) self.old.notes) PowerOn
-            answer (with_notes (point_of S.device self.new.desk) self.new.notes)) }
+            (with_notes (point_of_desk S.device self.old.desk) self.old.notes) PowerOn
+            answer (with_notes (point_of_desk S.device self.new.desk) self.new.notes)) }
     {
         let desk = replace(&mut self.desk, Desk::Gone);
         let (desk, answer) = desk.power_on(self.alloc);
@@ -148,8 +148,8 @@ impl<S: Opened<MemFlash<A>, A>, A: Allocator + Copy> Serve for Server<S, A> {
     ghost use Rattle.ee_replay.specs.Serving.{Records, with_notes};
 
     ghost serves = { λ old command answer new.
-        Records (with_notes (point_of S.device old.desk) old.notes) command answer
-        (with_notes (point_of S.device new.desk) new.notes) };
+        Records (with_notes (point_of_desk S.device old.desk) old.notes) command answer
+        (with_notes (point_of_desk S.device new.desk) new.notes) };
 
     fn serve(&mut self, command: Command) -> Result<Answer, AllocError> {
         match command {
@@ -166,7 +166,7 @@ impl<S: Opened<MemFlash<A>, A>, A: Allocator + Copy> Serve for Server<S, A> {
 impl<S: Opened<MemFlash<A>, A>, A: Allocator + Copy> Server<S, A> {
     /// The desk and what was noted at the end, with the lines of the answers.
     fn into_traced(self, lines: Vec<u8, A>) -> Traced<S, A>
-        ensures point { point_of S.device result.desk ≡ point_of S.device self.desk }
+        ensures point { point_of_desk S.device result.desk ≡ point_of_desk S.device self.desk }
         ensures legal { IsLegalDesk result.desk }
         ensures notes { result.notes ≡ self.notes }
         ensures lines { result.lines ≡ lines }
@@ -197,11 +197,11 @@ pub(crate) fn trace_on<A: Allocator + Copy, S: Opened<MemFlash<A>, A>>(
     requires on { StaysOn (S.device store) }
     requires legal { IsStore (S.device store) }
     ensures traced { IfOk result (λ left. IsTraced (S.device store) script.now
-        (point_of S.device left.desk) left.notes left.lines.items) }
+        (point_of_desk S.device left.desk) left.notes left.lines.items) }
     ensures bare { IfOk result (λ left. IsLegalDesk left.desk) }
     ensures fault { IfErr result (IsScriptFault script.now) }
     // A bad line is never passed over.
-    ensures bad { (n : ℕ) → IsFirstBadLine script.now n
+    ensures bad { (n : ℕ) → IsFirstBadCommandLine script.now n
         → MatchResult result (λ _. ⊥)
         (λ fault. (fault ≡ ScriptFault.BadLine n) ⊎ (fault ≡ ScriptFault.Memory)) }
 {
@@ -221,7 +221,7 @@ pub(crate) fn trace_reader<A: Allocator + Copy, S: Opened<MemFlash<A>, A>, R: Re
     ensures traced { IfOk result (λ left. (script : List ℕ)
         × IsGiven (R.remaining reader.old) (R.remaining reader.new) script
         × IsTraced (S.device store) script
-        (point_of S.device left.desk) left.notes left.lines.items) }
+        (point_of_desk S.device left.desk) left.notes left.lines.items) }
     ensures bare { IfOk result (λ left. IsLegalDesk left.desk) }
     ensures fault { IfErr result
         (IsStreamFault (R.remaining reader.old) (R.remaining reader.new)) }

@@ -5,22 +5,22 @@ use Rattle.ee_script.specs.declared.command.Command.{Command}
 use Rattle.ee_script.specs.declared.answer.Answer.{Answer}
 use Rattle.ee_script.specs.declared.session.ScriptFault.{ScriptFault}
 use Rattle.ee_script.specs.declared.session.ScriptFault.TheVariants.{BadLine, Memory}
-use Rattle.ee_script.specs.Command.{IsCommand, spelling}
+use Rattle.ee_script.specs.Command.{IsCommand, command_text}
 use Rattle.ee_script.specs.Script.{NoLine}
-use Rattle.ee_script.specs.Session.{Progress, Goes, counted}
+use Rattle.ee_script.specs.Session.{Progress, Goes, saturating_count}
 use Rattle.ee_script.specs.Fault.{IsFault}
 use Rattle.ee_script.proofs.Steps.{goes_nowhere, goes_on, meets_at_feed, meets_when_long, meets_later, meets_before, meets_within}
 
 pub fault_at_feed : {S : Type 0} (old : Progress S) (bytes : List ℕ) (fault : ScriptFault) → IsLine (old.unfinished ++ bytes)
-    → ((command : Command) → IsCommand command → old.unfinished ++ bytes ≢ spelling command) → fault ≡ BadLine (counted (old.lines + 1)) → IsFault old (line_of bytes) fault
+    → ((command : Command) → IsCommand command → old.unfinished ++ bytes ≢ command_text command) → fault ≡ BadLine (saturating_count (old.lines + 1)) → IsFault old (line_of bytes) fault
 fault_at_feed old bytes fault line none e = subst (IsFault old (line_of bytes)) (sym e) (meets_at_feed old bytes line none)
 
 pub fault_when_long : {S : Type 0} (old : Progress S) (bytes : List ℕ) (fault : ScriptFault) → IsLine (old.unfinished ++ bytes)
-    → 24 < length old.unfinished + length bytes → fault ≡ BadLine (counted (old.lines + 1)) → IsFault old bytes fault
+    → 24 < length old.unfinished + length bytes → fault ≡ BadLine (saturating_count (old.lines + 1)) → IsFault old bytes fault
 fault_when_long old bytes fault line long e = subst (IsFault old bytes) (sym e) (meets_when_long old bytes line long)
 
 pub fault_within : {S : Type 0} (old : Progress S) (bytes line tail : List ℕ) (fault : ScriptFault) → IsLine old.unfinished → IsLine line → bytes ≡ line_of line ++ tail
-    → NoLine (old.unfinished ++ bytes) → fault ≡ BadLine (counted (old.lines + 1)) → IsFault old bytes fault
+    → NoLine (old.unfinished ++ bytes) → fault ≡ BadLine (saturating_count (old.lines + 1)) → IsFault old bytes fault
 fault_within old bytes line tail fault before lacks cut none e = subst (IsFault old bytes) (sym e) (meets_within old bytes line tail before lacks cut none)
 
 -- want of memory is a fault of any piece

@@ -9,8 +9,8 @@ use Rattle.ee_text.specs.Line.{line_of}
 use Rattle.ee_text.proofs.Deciding.{begins_so, some_below}
 use Rattle.ee_script.specs.declared.command.Command.{Command}
 use Rattle.ee_script.specs.declared.command.Command.TheVariants.{Write, Read, Forget, Clean, Arm, PowerOn}
-use Rattle.ee_script.specs.Command.{IsCommand, spelling}
-use Rattle.ee_script.specs.Script.{script, NoLine, IsScript, IsFirstBadLine}
+use Rattle.ee_script.specs.Command.{IsCommand, command_text}
+use Rattle.ee_script.specs.Script.{script, NoLine, IsScript, IsFirstBadCommandLine}
 
 -- ---- the line at the front
 
@@ -18,10 +18,10 @@ use Rattle.ee_script.specs.Script.{script, NoLine, IsScript, IsFirstBadLine}
 record BeginsWith (text : List ℕ) (command : Command) : Type 0 where
   proper : IsCommand command
   more : List ℕ
-  text_is : text ≡ line_of (spelling command) ++ more
+  text_is : text ≡ line_of (command_text command) ++ more
 
 stands : (text : List ℕ) (command : Command) → IsCommand command → BeginsWith text command ⊎ (BeginsWith text command → ⊥)
-stands text command proper = elim (begins_so (line_of (spelling command)) text) [
+stands text command proper = elim (begins_so (line_of (command_text command)) text) [
   | inl more ↦ inl record { proper = proper; more = more.0; text_is = more.1 }
   | inr none ↦ inr (λ begins. none begins.more begins.text_is)
 ]
@@ -159,7 +159,7 @@ at_front text = elim (some_below (λ address. (value : ℕ) × BeginsWith text (
 
 -- what the text is
 IsJudged : List ℕ → Type 0
-IsJudged text = ((commands : List Command) × IsScript text commands) ⊎ ((n : ℕ) × IsFirstBadLine text n)
+IsJudged text = ((commands : List Command) × IsScript text commands) ⊎ ((n : ℕ) × IsFirstBadCommandLine text n)
 
 behind_line : (text : List ℕ) (command : Command) (begins : BeginsWith text command) → IsJudged begins.more → IsJudged text
 unfolding IsJudged
@@ -167,7 +167,7 @@ behind_line text command begins (inl good) = inl (
   command ∷ good.0,
   record {
     proper = (begins.proper, good.1.proper);
-    text_is = begins.text_is ∙ ap (λ more. line_of (spelling command) ++ more) good.1.text_is;
+    text_is = begins.text_is ∙ ap (λ more. line_of (command_text command) ++ more) good.1.text_is;
   },
 )
 behind_line text command begins (inr bad) = inr (
@@ -176,7 +176,7 @@ behind_line text command begins (inr bad) = inr (
     good = command ∷ bad.1.good;
     rest = bad.1.rest;
     proper = (begins.proper, bad.1.proper);
-    text_is = begins.text_is ∙ ap (λ more. line_of (spelling command) ++ more) bad.1.text_is ∙ sym (append_assoc (line_of (spelling command)) (script bad.1.good) bad.1.rest);
+    text_is = begins.text_is ∙ ap (λ more. line_of (command_text command) ++ more) bad.1.text_is ∙ sym (append_assoc (line_of (command_text command)) (script bad.1.good) bad.1.rest);
     goes_on = bad.1.goes_on;
     bad = bad.1.bad;
     number = omega (arith, bad.1.number);
@@ -185,7 +185,7 @@ behind_line text command begins (inr bad) = inr (
 
 shorter : (text : List ℕ) (command : Command) (begins : BeginsWith text command) → length begins.more < length text
 shorter text command begins =
-    omega (arith, ap length begins.text_is, length-append (line_of (spelling command)) begins.more, length-append (spelling command) (10 ∷ []))
+    omega (arith, ap length begins.text_is, length-append (line_of (command_text command)) begins.more, length-append (command_text command) (10 ∷ []))
 
 -- a text of at most so many bytes
 judged : (most : ℕ) (text : List ℕ) → length text ≤ most → IsJudged text
@@ -197,6 +197,6 @@ judged (suc most) (byte ∷ text) short = elim (at_front (byte ∷ text)) [
   | inr none ↦ inr (1, record { good = []; rest = byte ∷ text; proper = tt; text_is = refl; goes_on = λ e. omega (arith, ap length e); bad = none; number = refl })
 ]
 
-pub script_or_bad_line : (text : List ℕ) → ((commands : List Command) × IsScript text commands) ⊎ ((n : ℕ) × IsFirstBadLine text n)
+pub script_or_bad_line : (text : List ℕ) → ((commands : List Command) × IsScript text commands) ⊎ ((n : ℕ) × IsFirstBadCommandLine text n)
 unfolding IsJudged
 script_or_bad_line text = judged (length text) text (omega arith)

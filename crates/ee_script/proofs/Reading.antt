@@ -12,8 +12,8 @@ use Rattle.ee_text.proofs.Lacking.{first_place, Lacks-decimal}
 use Rattle.ee_text.proofs.LineFeeds.{first_line}
 use Rattle.ee_script.specs.declared.command.Command.{Command}
 use Rattle.ee_script.specs.declared.command.Command.TheVariants.{Write, Read, Forget, Clean, Arm, PowerOn}
-use Rattle.ee_script.specs.Command.{IsCommand, letter, spelling}
-use Rattle.ee_script.specs.Script.{script, AreCommands, NoLine, IsScript, IsFirstBadLine}
+use Rattle.ee_script.specs.Command.{IsCommand, letter, command_text}
+use Rattle.ee_script.specs.Script.{script, AreCommands, NoLine, IsScript, IsFirstBadCommandLine}
 use Rattle.ee_script.proofs.Spelling.{Lacks-spelling}
 
 -- ---- two commands are never spelled alike
@@ -54,7 +54,7 @@ arm_injective f g h k e =
     let tear : f.tear ≡ g.tear = letter_injective f.tear g.tear parts.1 in
     same_fuse f g after tear
 
-pub spelling_injective : (c d : Command) → IsCommand c → IsCommand d → spelling c ≡ spelling d → c ≡ d
+pub spelling_injective : (c d : Command) → IsCommand c → IsCommand d → command_text c ≡ command_text d → c ≡ d
 spelling_injective (Write a v) (Write b w) h k e =
     let rest : decimal a ++ 32 ∷ decimal v ≡ decimal b ++ 32 ∷ decimal w = cc in
     let same = write_injective a v b w h k rest in
@@ -108,12 +108,12 @@ spelling_injective PowerOn PowerOn h k e = refl
 -- the lines in front of what is no good line are determined
 pub good_front : (cs ds : List Command) (x y : List ℕ) → AreCommands cs → AreCommands ds → NoLine x → NoLine y → script cs ++ x ≡ script ds ++ y → (cs ≡ ds) × (x ≡ y)
 good_front [] [] x y h k no_x no_y e = (refl, e)
-good_front [] (d ∷ ds) x y h k no_x no_y e = absurd (no_x d (script ds ++ y) k.0 (e ∙ append_assoc (line_of (spelling d)) (script ds) y))
-good_front (c ∷ cs) [] x y h k no_x no_y e = absurd (no_y c (script cs ++ x) h.0 (sym e ∙ append_assoc (line_of (spelling c)) (script cs) x))
+good_front [] (d ∷ ds) x y h k no_x no_y e = absurd (no_x d (script ds ++ y) k.0 (e ∙ append_assoc (line_of (command_text d)) (script ds) y))
+good_front (c ∷ cs) [] x y h k no_x no_y e = absurd (no_y c (script cs ++ x) h.0 (sym e ∙ append_assoc (line_of (command_text c)) (script cs) x))
 good_front (c ∷ cs) (d ∷ ds) x y h k no_x no_y e =
-    let lines : line_of (spelling c) ++ (script cs ++ x) ≡ line_of (spelling d) ++ (script ds ++ y) =
-    sym (append_assoc (line_of (spelling c)) (script cs) x) ∙ e ∙ append_assoc (line_of (spelling d)) (script ds) y in
-    let first = first_line (spelling c) (spelling d) (script cs ++ x) (script ds ++ y) (Lacks-spelling c h.0) (Lacks-spelling d k.0) lines in
+    let lines : line_of (command_text c) ++ (script cs ++ x) ≡ line_of (command_text d) ++ (script ds ++ y) =
+    sym (append_assoc (line_of (command_text c)) (script cs) x) ∙ e ∙ append_assoc (line_of (command_text d)) (script ds) y in
+    let first = first_line (command_text c) (command_text d) (script cs ++ x) (script ds ++ y) (Lacks-spelling c h.0) (Lacks-spelling d k.0) lines in
     let command : c ≡ d = spelling_injective c d h.0 k.0 first.0 in
     let rest = good_front cs ds x y h.1 k.1 no_x no_y first.1 in
     let commands = rest.0 in
@@ -121,19 +121,19 @@ good_front (c ∷ cs) (d ∷ ds) x y h k no_x no_y e =
 
 -- nothing has no line
 pub no_line_in_nothing : NoLine []
-no_line_in_nothing command more proper e = omega (arith, ap length e, length-append (line_of (spelling command)) more, length-append (spelling command) (10 ∷ []))
+no_line_in_nothing command more proper e = omega (arith, ap length e, length-append (line_of (command_text command)) more, length-append (command_text command) (10 ∷ []))
 
 pub one_script_lem : (text : List ℕ) (commands others : List Command) → IsScript text commands → IsScript text others → commands ≡ others
 one_script_lem text commands others first second =
     (good_front commands others [] [] first.proper second.proper no_line_in_nothing no_line_in_nothing
     (append-nil (script commands) ∙ sym first.text_is ∙ second.text_is ∙ sym (append-nil (script others)))).0
 
-pub one_first_bad_line_lem : (text : List ℕ) (m n : ℕ) → IsFirstBadLine text m → IsFirstBadLine text n → m ≡ n
+pub one_first_bad_line_lem : (text : List ℕ) (m n : ℕ) → IsFirstBadCommandLine text m → IsFirstBadCommandLine text n → m ≡ n
 one_first_bad_line_lem text m n first second =
     let same = good_front first.good second.good first.rest second.rest first.proper second.proper first.bad second.bad (sym first.text_is ∙ second.text_is) in
     first.number ∙ ap (λ good. length good + 1) same.0 ∙ sym second.number
 
-pub scripts_are_good_lem : (text : List ℕ) (commands : List Command) (n : ℕ) → IsScript text commands → IsFirstBadLine text n → ⊥
+pub scripts_are_good_lem : (text : List ℕ) (commands : List Command) (n : ℕ) → IsScript text commands → IsFirstBadCommandLine text n → ⊥
 scripts_are_good_lem text commands n whole bad =
     let same = good_front commands bad.good [] bad.rest whole.proper bad.proper no_line_in_nothing bad.bad (append-nil (script commands) ∙ sym whole.text_is ∙ bad.text_is) in
     bad.goes_on (sym same.1)

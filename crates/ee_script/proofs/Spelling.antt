@@ -9,7 +9,7 @@ use Rattle.ee_text.specs.Field.{IsField, Lacks}
 use Rattle.ee_text.proofs.Lacking.{Lacks-append, Lacks-decimal, first_place}
 use Rattle.ee_script.specs.declared.command.Command.{Command}
 use Rattle.ee_script.specs.declared.command.Command.TheVariants.{Write, Read, Forget, Clean, Arm, PowerOn}
-use Rattle.ee_script.specs.Command.{IsCommand, letter, spelling}
+use Rattle.ee_script.specs.Command.{IsCommand, letter, command_text}
 
 -- a letter is one byte, and no line feed
 Lacks-letter : (tear : Tear) → Lacks 10 (letter tear)
@@ -25,7 +25,7 @@ length-letter Torn = refl
 length-letter Mixed = refl
 
 -- no spelling has a line feed
-pub Lacks-spelling : (command : Command) → IsCommand command → Lacks 10 (spelling command)
+pub Lacks-spelling : (command : Command) → IsCommand command → Lacks 10 (command_text command)
 Lacks-spelling (Write address value) h =
     Lacks-append 10 (codes "w ") (decimal address ++ (codes " " ++ decimal value)) refl
     (Lacks-append 10 (decimal address) (codes " " ++ decimal value) (Lacks-decimal 10 address (inl (omega arith)) (omega arith))
@@ -40,7 +40,7 @@ Lacks-spelling (Arm fuse) h =
 Lacks-spelling PowerOn h = refl
 
 -- no spelling has more than 24 bytes
-pub length-spelling : (command : Command) → IsCommand command → length (spelling command) ≤ 24
+pub length-spelling : (command : Command) → IsCommand command → length (command_text command) ≤ 24
 length-spelling (Write address value) h =
     let a : length (decimal address) ≤ 5 = length-decimal-le 5 address (omega arith) (omega arith) (omega arith) in
     let v : length (decimal value) ≤ 10 = length-decimal-le 10 value (omega arith) (omega arith) (omega arith) in

@@ -7,30 +7,30 @@ use Rattle.ee_text.proofs.Lacking.{first_place, front_ends, no_place, Lacks-appe
 use Rattle.ee_script.specs.declared.command.Command.{Command}
 use Rattle.ee_script.specs.declared.answer.Answer.{Answer}
 use Rattle.ee_text.specs.Line.{IsLine, line_of}
-use Rattle.ee_script.specs.Command.{IsCommand, spelling}
+use Rattle.ee_script.specs.Command.{IsCommand, command_text}
 use Rattle.ee_script.specs.Script.{script, AreCommands, NoLine}
 use Rattle.ee_script.specs.Answer.{report, wording}
 use Rattle.ee_script.specs.Run.{Run}
-use Rattle.ee_script.specs.Session.{Answered, Progress, Goes, MeetsBadLine, counted}
+use Rattle.ee_script.specs.Session.{Answered, Progress, Goes, MeetsBadLine, saturating_count}
 use Rattle.ee_script.proofs.Spelling.{Lacks-spelling, length-spelling}
 
 -- a line that a line feed ends, and that spells no command, is no good line, whatever follows
-pub no_line_at_feed : (text : List ℕ) → Lacks 10 text → ((command : Command) → IsCommand command → text ≢ spelling command)
+pub no_line_at_feed : (text : List ℕ) → Lacks 10 text → ((command : Command) → IsCommand command → text ≢ command_text command)
     → (more : List ℕ) → NoLine ((text ++ 10 ∷ []) ++ more)
 no_line_at_feed text lacks none more command after proper e =
-    let e2 : text ++ 10 ∷ more ≡ spelling command ++ 10 ∷ after = sym (append_assoc text (10 ∷ []) more) ∙ e ∙ append_assoc (spelling command) (10 ∷ []) after in
-    none command proper (first_place 10 text (spelling command) more after lacks (Lacks-spelling command proper) e2).0
+    let e2 : text ++ 10 ∷ more ≡ command_text command ++ 10 ∷ after = sym (append_assoc text (10 ∷ []) more) ∙ e ∙ append_assoc (command_text command) (10 ∷ []) after in
+    none command proper (first_place 10 text (command_text command) more after lacks (Lacks-spelling command proper) e2).0
 
 -- a line that is longer than any good one is none, whatever follows
 pub no_line_when_long : (text : List ℕ) → Lacks 10 text → 24 < length text → (more : List ℕ) → NoLine (text ++ more)
 no_line_when_long text lacks long more command after proper e =
-    let e2 : text ++ more ≡ spelling command ++ 10 ∷ after = e ∙ append_assoc (spelling command) (10 ∷ []) after in
-    omega (arith, front_ends 10 text (spelling command) more after lacks e2, length-spelling command proper)
+    let e2 : text ++ more ≡ command_text command ++ 10 ∷ after = e ∙ append_assoc (command_text command) (10 ∷ []) after in
+    omega (arith, front_ends 10 text (command_text command) more after lacks e2, length-spelling command proper)
 
 -- what no line feed ends is no good line
 pub no_line_at_end : (text : List ℕ) → Lacks 10 text → NoLine text
 no_line_at_end text lacks command after proper e =
-    no_place 10 text (spelling command) after lacks (e ∙ append_assoc (spelling command) (10 ∷ []) after)
+    no_place 10 text (command_text command) after lacks (e ∙ append_assoc (command_text command) (10 ∷ []) after)
 
 -- ---- a line, or a part of one
 
@@ -61,22 +61,22 @@ goes_keeping step old new bytes server report lines unfinished = record {
 
 -- a line feed behind a good line
 pub goes_at_feed : {S : Type 0} (step : S → Command → Answer → S → Type 0) (old mid new : Progress S) (bytes : List ℕ) (command : Command)
-    → IsCommand command → old.unfinished ++ bytes ≡ spelling command → mid.server ≡ old.server → mid.report ≡ old.report → mid.lines ≡ old.lines → mid.unfinished ≡ []
+    → IsCommand command → old.unfinished ++ bytes ≡ command_text command → mid.server ≡ old.server → mid.report ≡ old.report → mid.lines ≡ old.lines → mid.unfinished ≡ []
     → Answered step mid command new → Goes step old (line_of bytes) new
 goes_at_feed {S} step old mid new bytes command proper spelled server reported lines nothing answered = record {
   commands = command ∷ [];
   answers = answered.answer ∷ [];
   proper = (proper, tt);
   text_is = sym (append_assoc old.unfinished bytes (10 ∷ [])) ∙ ap (λ text. text ++ 10 ∷ []) spelled
-      ∙ sym (ap (λ rest. script (command ∷ []) ++ rest) (answered.unfinished_is ∙ nothing) ∙ append-nil (script (command ∷ [])) ∙ append-nil (line_of (spelling command)));
+      ∙ sym (ap (λ rest. script (command ∷ []) ++ rest) (answered.unfinished_is ∙ nothing) ∙ append-nil (script (command ∷ [])) ∙ append-nil (line_of (command_text command)));
   report_is = answered.report_is ∙ ap (λ text. text ++ report (answered.answer ∷ [])) reported;
   run = (new.server, subst (λ (s : S). step s command answered.answer new.server) server answered.stepped, refl);
-  lines_are = omega (arith, answered.lines_are, ap counted lines);
+  lines_are = omega (arith, answered.lines_are, ap saturating_count lines);
 }
 
 -- a line feed behind a bad line
 pub meets_at_feed : {S : Type 0} (old : Progress S) (bytes : List ℕ) → IsLine (old.unfinished ++ bytes)
-    → ((command : Command) → IsCommand command → old.unfinished ++ bytes ≢ spelling command) → MeetsBadLine old (line_of bytes) (counted (old.lines + 1))
+    → ((command : Command) → IsCommand command → old.unfinished ++ bytes ≢ command_text command) → MeetsBadLine old (line_of bytes) (saturating_count (old.lines + 1))
 meets_at_feed old bytes line none = record {
   good = [];
   rest = (old.unfinished ++ bytes) ++ 10 ∷ [];
@@ -84,19 +84,19 @@ meets_at_feed old bytes line none = record {
   text_is = sym (append_assoc old.unfinished bytes (10 ∷ []));
   goes_on = λ e. omega (arith, ap length e, length-append (old.unfinished ++ bytes) (10 ∷ []));
   bad = no_line_at_feed (old.unfinished ++ bytes) line none;
-  number = ap counted (omega arith);
+  number = ap saturating_count (omega arith);
 }
 
 -- where no good line begins a text that has a line feed, none does whatever follows
 no_line_stays : (text line tail more : List ℕ) → Lacks 10 line → text ≡ line_of line ++ tail → NoLine text → NoLine (text ++ more)
 no_line_stays text line tail more lacks cut none command after proper e =
-    let whole : line ++ 10 ∷ (tail ++ more) ≡ spelling command ++ 10 ∷ after =
-    sym (ap (λ l. l ++ more) (cut ∙ append_assoc line (10 ∷ []) tail) ∙ append_assoc line (10 ∷ tail) more) ∙ e ∙ append_assoc (spelling command) (10 ∷ []) after in
-    none command tail proper (cut ∙ ap (λ l. line_of l ++ tail) (first_place 10 line (spelling command) (tail ++ more) after lacks (Lacks-spelling command proper) whole).0)
+    let whole : line ++ 10 ∷ (tail ++ more) ≡ command_text command ++ 10 ∷ after =
+    sym (ap (λ l. l ++ more) (cut ∙ append_assoc line (10 ∷ []) tail) ∙ append_assoc line (10 ∷ tail) more) ∙ e ∙ append_assoc (command_text command) (10 ∷ []) after in
+    none command tail proper (cut ∙ ap (λ l. line_of l ++ tail) (first_place 10 line (command_text command) (tail ++ more) after lacks (Lacks-spelling command proper) whole).0)
 
 -- a line that the bytes end, and that is no good one
 pub meets_within : {S : Type 0} (old : Progress S) (bytes line tail : List ℕ) → IsLine old.unfinished → IsLine line → bytes ≡ line_of line ++ tail → NoLine (old.unfinished ++ bytes)
-    → MeetsBadLine old bytes (counted (old.lines + 1))
+    → MeetsBadLine old bytes (saturating_count (old.lines + 1))
 meets_within old bytes line tail before lacks cut none = record {
   good = [];
   rest = old.unfinished ++ bytes;
@@ -105,12 +105,12 @@ meets_within old bytes line tail before lacks cut none = record {
   goes_on = λ e. omega (arith, ap length e, length-append old.unfinished bytes, ap length cut, length-append (line_of line) tail, length-append line (10 ∷ []));
   bad = λ more. no_line_stays (old.unfinished ++ bytes) (old.unfinished ++ line) tail more (Lacks-append 10 old.unfinished line before lacks)
       (ap (λ l. old.unfinished ++ l) cut ∙ sym (append_assoc old.unfinished (line_of line) tail) ∙ ap (λ l. l ++ tail) (sym (append_assoc old.unfinished line (10 ∷ [])))) none;
-  number = ap counted (omega arith);
+  number = ap saturating_count (omega arith);
 }
 
 -- bytes that make the line too long
 pub meets_when_long : {S : Type 0} (old : Progress S) (bytes : List ℕ) → IsLine (old.unfinished ++ bytes) → 24 < length old.unfinished + length bytes
-    → MeetsBadLine old bytes (counted (old.lines + 1))
+    → MeetsBadLine old bytes (saturating_count (old.lines + 1))
 meets_when_long old bytes line long = record {
   good = [];
   rest = old.unfinished ++ bytes;
@@ -119,11 +119,11 @@ meets_when_long old bytes line long = record {
   goes_on = λ e. omega (arith, ap length e, length-append old.unfinished bytes);
   bad = no_line_when_long (old.unfinished ++ bytes) line
       (omega (arith, length-append old.unfinished bytes));
-  number = ap counted (omega arith);
+  number = ap saturating_count (omega arith);
 }
 
 -- no command is spelled so long
-pub too_long_to_spell : (text bytes : List ℕ) (command : Command) → 24 < length text + length bytes → IsCommand command → text ++ bytes ≡ spelling command → ⊥
+pub too_long_to_spell : (text bytes : List ℕ) (command : Command) → 24 < length text + length bytes → IsCommand command → text ++ bytes ≡ command_text command → ⊥
 too_long_to_spell text bytes command long proper e = omega (arith, ap length e, length-append text bytes, length-spelling command proper)
 
 -- ---- pieces
@@ -154,7 +154,7 @@ goes_on step old mid new front back first second = record {
   text_is =
       sym (append_assoc old.unfinished front back) ∙ ap (λ text. text ++ back) first.text_is ∙ append_assoc (script first.commands) mid.unfinished back
       ∙ ap (λ text. script first.commands ++ text) second.text_is ∙ sym (append_assoc (script first.commands) (script second.commands) new.unfinished)
-      ∙ ap (λ text. text ++ new.unfinished) (sym (flat_map-append (λ command. line_of (spelling command)) first.commands second.commands));
+      ∙ ap (λ text. text ++ new.unfinished) (sym (flat_map-append (λ command. line_of (command_text command)) first.commands second.commands));
   report_is =
       second.report_is ∙ ap (λ text. text ++ report second.answers) first.report_is ∙ append_assoc old.report (report first.answers) (report second.answers)
       ∙ ap (λ text. old.report ++ text) (sym (flat_map-append (λ answer. line_of (wording answer)) first.answers second.answers));
@@ -172,7 +172,7 @@ meets_later step old mid front back n first second = record {
   text_is =
       sym (append_assoc old.unfinished front back) ∙ ap (λ text. text ++ back) first.text_is ∙ append_assoc (script first.commands) mid.unfinished back
       ∙ ap (λ text. script first.commands ++ text) second.text_is ∙ sym (append_assoc (script first.commands) (script second.good) second.rest)
-      ∙ ap (λ text. text ++ second.rest) (sym (flat_map-append (λ command. line_of (spelling command)) first.commands second.good));
+      ∙ ap (λ text. text ++ second.rest) (sym (flat_map-append (λ command. line_of (command_text command)) first.commands second.good));
   goes_on = second.goes_on;
   bad = second.bad;
   number = omega (arith, first.lines_are, second.number, length-append first.commands second.good);

@@ -9,10 +9,10 @@ use Rattle.ee_script.specs.declared.session.ScriptFault.{ScriptFault}
 use Rattle.ee_script.specs.declared.session.ScriptFault.TheVariants.{BadLine, Memory}
 use Rattle.ee_script.specs.declared.session.StreamFault.{StreamFault}
 use Rattle.ee_script.specs.declared.session.StreamFault.TheVariants.{Read, Script}
-use Rattle.ee_script.specs.Script.{IsFirstBadLine}
-use Rattle.ee_script.specs.Session.{Ends, Goes, Progress}
+use Rattle.ee_script.specs.Script.{IsFirstBadCommandLine}
+use Rattle.ee_script.specs.Session.{EndsScript, Goes, Progress}
 use Rattle.ee_script.specs.Fault.{EndsBadly, IsFault}
-use Rattle.ee_script.specs.Reading.{IsStreamAnswered, IsStreamFault, StopsAt, Takes}
+use Rattle.ee_script.specs.Reading.{IsStreamAnswered, IsStreamFault, StopsReading, TakesText}
 use Rattle.ee_script.proofs.Reading.{one_first_bad_line_lem}
 use Rattle.ee_script.proofs.WholeScript.{answered, bad_already, fault_at_end, none_passed, started}
 use Rattle.std.proofs.lemmas.List.{append-nil}
@@ -63,12 +63,12 @@ taken_empty step old held before now after most bytes taken given none = record 
 }
 
 pub takes : {S : Type 0} (step : S → Command → Answer → S → Type 0) (old held : Progress S) (before now : Option (List ℕ)) (most : ℕ) → most < 2 ^ 64
-    → HasTaken step old before now most held → Takes step old before now held
+    → HasTaken step old before now most held → TakesText step old before now held
 takes step old held before now most small taken = record { text = taken.text; given = taken.given; countable = omega (arith, taken.few); went = taken.went }
 
 -- what was read last has a fault
 pub stops_at_fault : {S : Type 0} (step : S → Command → Answer → S → Type 0) (old held : Progress S) (before now after : Option (List ℕ)) (most : ℕ) (bytes : List ℕ) (fault : ScriptFault)
-    → HasTaken step old before now most held → Consumes now after bytes → most + length bytes < 2 ^ 64 → IsFault held bytes fault → StopsAt step old before after (Script fault)
+    → HasTaken step old before now most held → Consumes now after bytes → most + length bytes < 2 ^ 64 → IsFault held bytes fault → StopsReading step old before after (Script fault)
 stops_at_fault step old held before now after most bytes fault taken given small met = (
   taken.text ++ bytes,
   Consumes-trans before now after taken.text bytes taken.given given,
@@ -79,7 +79,7 @@ stops_at_fault step old held before now after most bytes fault taken given small
 -- ---- a whole script
 
 module _ {S : Type 0} (step : S → Command → Answer → S → Type 0) (server : S) (before after : Option (List ℕ)) where
-  pub stream_answered : (last : Progress S) (new : S) (reported : List ℕ) → Takes step (started server) before after last → IsAtEnd after → Ends last new reported
+  pub stream_answered : (last : Progress S) (new : S) (reported : List ℕ) → TakesText step (started server) before after last → IsAtEnd after → EndsScript last new reported
       → IsStreamAnswered step server before after new reported
   stream_answered last new reported taken ended done = record {
     text = taken.text;
@@ -89,7 +89,7 @@ module _ {S : Type 0} (step : S → Command → Answer → S → Type 0) (server
   }
 
   -- a session that stopped
-  pub stopped : (fault : StreamFault) → StopsAt step (started server) before after fault → IsStreamFault before after fault
+  pub stopped : (fault : StreamFault) → StopsReading step (started server) before after fault → IsStreamFault before after fault
   stopped Read stops = record {
     text = stops.1.text;
     given = stops.1.given;
@@ -105,7 +105,7 @@ module _ {S : Type 0} (step : S → Command → Answer → S → Type 0) (server
   stopped (Script Memory) stops = record { text = stops.0; given = stops.1; met = tt }
 
   -- or that ended in the middle of a line
-  pub ended_badly : (last : Progress S) (fault : ScriptFault) → Takes step (started server) before after last → IsAtEnd after → EndsBadly last fault
+  pub ended_badly : (last : Progress S) (fault : ScriptFault) → TakesText step (started server) before after last → IsAtEnd after → EndsBadly last fault
       → IsStreamFault before after (Script fault)
   ended_badly last (BadLine n) taken ended badly = record {
     text = taken.text;
@@ -126,12 +126,12 @@ some_given text given None taken = absurd taken
 some_given text given (Some rest) taken = (rest, taken)
 
 pub stream_has_no_bad_line : {S : Type 0} (step : S → Command → Answer → S → Type 0) (server new : S) (before after : Option (List ℕ)) (reported text : List ℕ) (n : ℕ)
-    → before ≡ Some text → IsFirstBadLine text n → IsStreamAnswered step server before after new reported → ⊥
+    → before ≡ Some text → IsFirstBadCommandLine text n → IsStreamAnswered step server before after new reported → ⊥
 stream_has_no_bad_line step server new before after reported text n known bad done =
     let same = all_given text done.text after (subst (λ (b : Option (List ℕ)). Consumes b after done.text) known done.given) done.ended in
-    none_passed step server new done.text reported n (subst (λ l. IsFirstBadLine l n) (sym same) bad) done.answered
+    none_passed step server new done.text reported n (subst (λ l. IsFirstBadCommandLine l n) (sym same) bad) done.answered
 
-pub stream_names : (before after : Option (List ℕ)) (text : List ℕ) (n : ℕ) (fault : StreamFault) → before ≡ Some text → IsFirstBadLine text n → IsStreamFault before after fault
+pub stream_names : (before after : Option (List ℕ)) (text : List ℕ) (n : ℕ) (fault : StreamFault) → before ≡ Some text → IsFirstBadCommandLine text n → IsStreamFault before after fault
     → (fault ≡ Script (BadLine n)) ⊎ (fault ≡ Script Memory) ⊎ (fault ≡ Read)
 stream_names before after text n Read known bad is = inr (inr refl)
 stream_names before after text n (Script Memory) known bad is = inr (inl refl)
@@ -140,7 +140,7 @@ stream_names before after text n (Script (BadLine m)) known bad is =
     elim is.met [
       | inl already ↦
           let more = some_given text is.text after given in
-          inl (ap (λ k. Script (BadLine k)) (one_first_bad_line_lem text m n (subst (λ l. IsFirstBadLine l m) (sym more.1) (already more.0)) bad))
+          inl (ap (λ k. Script (BadLine k)) (one_first_bad_line_lem text m n (subst (λ l. IsFirstBadCommandLine l m) (sym more.1) (already more.0)) bad))
       | inr last ↦
-          inl (ap (λ k. Script (BadLine k)) (one_first_bad_line_lem text m n (subst (λ l. IsFirstBadLine l m) (all_given text is.text after given last.0) last.1) bad))
+          inl (ap (λ k. Script (BadLine k)) (one_first_bad_line_lem text m n (subst (λ l. IsFirstBadCommandLine l m) (all_given text is.text after given last.0) last.1) bad))
     ]

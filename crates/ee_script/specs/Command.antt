@@ -3,7 +3,7 @@ use Rattle.std.specs.Prelude.{◌<◌, ◌+◌, ◌^◌, ℕ, List, [], ◌∷�
 use Rattle.ee_codec.specs.Words.{IsAddress, IsValue}
 use Rattle.ee_flash.specs.declared.fuse.Tear.{Tear}
 use Rattle.ee_flash.specs.declared.fuse.Tear.TheVariants.{Nothing, Done, Torn, Mixed}
-use Rattle.ee_text.specs.Field.{joined}
+use Rattle.ee_text.specs.Field.{joined_fields}
 use Rattle.ee_script.specs.declared.command.Command.{Command}
 use Rattle.ee_script.specs.declared.command.Command.TheVariants.{Write, Read, Forget, Clean, Arm, PowerOn}
 
@@ -24,10 +24,10 @@ letter Torn = codes "t"
 letter Mixed = codes "m"
 
 -- what its line says: its fields in a row
-abbrev pub spelling : Command → List ℕ
-spelling (Write address value) = joined (codes "w" ∷ decimal address ∷ decimal value ∷ [])
-spelling (Read address) = joined (codes "r" ∷ decimal address ∷ [])
-spelling (Forget address) = joined (codes "f" ∷ decimal address ∷ [])
-spelling Clean = codes "c"
-spelling (Arm fuse) = joined (codes "x" ∷ decimal (fuse.after + 1) ∷ letter fuse.tear ∷ [])
-spelling PowerOn = codes "p"
+abbrev pub command_text : Command → List ℕ
+command_text (Write address value) = joined_fields (codes "w" ∷ decimal address ∷ decimal value ∷ [])
+command_text (Read address) = joined_fields (codes "r" ∷ decimal address ∷ [])
+command_text (Forget address) = joined_fields (codes "f" ∷ decimal address ∷ [])
+command_text Clean = codes "c"
+command_text (Arm fuse) = joined_fields (codes "x" ∷ decimal (fuse.after + 1) ∷ letter fuse.tear ∷ [])
+command_text PowerOn = codes "p"

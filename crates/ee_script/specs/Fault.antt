@@ -3,7 +3,7 @@ use Rattle.std.specs.Prelude.{◌≡◌, ◌≢◌, ℕ, ◌+◌, List, []}
 use Rattle.ee_script.specs.declared.session.ScriptFault.{ScriptFault}
 use Rattle.ee_script.specs.declared.session.ScriptFault.TheVariants.{BadLine, Memory}
 use Rattle.ee_script.specs.Script.{NoLine}
-use Rattle.ee_script.specs.Session.{Progress, MeetsBadLine, counted}
+use Rattle.ee_script.specs.Session.{Progress, MeetsBadLine, saturating_count}
 
 -- in a piece: at a bad line, or for want of memory
 abbrev pub IsFault : {S : Type 0} → Progress S → List ℕ → ScriptFault → Type 0
@@ -12,5 +12,5 @@ IsFault old piece Memory = Unit {0}
 
 -- at the end: in the middle of a line
 abbrev pub EndsBadly : {S : Type 0} → Progress S → ScriptFault → Type 0
-EndsBadly old (BadLine n) = (old.unfinished ≢ []) × NoLine old.unfinished × (n ≡ counted (old.lines + 1))
+EndsBadly old (BadLine n) = (old.unfinished ≢ []) × NoLine old.unfinished × (n ≡ saturating_count (old.lines + 1))
 EndsBadly old Memory = ⊥

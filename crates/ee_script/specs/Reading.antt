@@ -6,7 +6,7 @@ use Rattle.ee_script.specs.declared.answer.Answer.{Answer}
 use Rattle.ee_script.specs.declared.session.ScriptFault.TheVariants.{BadLine, Memory}
 use Rattle.ee_script.specs.declared.session.StreamFault.{StreamFault}
 use Rattle.ee_script.specs.declared.session.StreamFault.TheVariants.{Read, Script}
-use Rattle.ee_script.specs.Script.{AreCommands, IsFirstBadLine, script}
+use Rattle.ee_script.specs.Script.{AreCommands, IsFirstBadCommandLine, script}
 use Rattle.ee_script.specs.Session.{Goes, IsUnfinished, Progress}
 use Rattle.ee_script.specs.Fault.{IsFault}
 use Rattle.ee_script.specs.Whole.{IsAnswered}
@@ -14,7 +14,7 @@ use Rattle.ee_script.specs.Whole.{IsAnswered}
 -- ---- a session
 
 -- the reader gave this text, whose bytes a u64 counts, and it was judged
-pub record Takes {S : Type 0} (step : S → Command → Answer → S → Type 0) (old : Progress S) (before after : Option (List ℕ)) (new : Progress S) : Type 0 where
+pub record TakesText {S : Type 0} (step : S → Command → Answer → S → Type 0) (old : Progress S) (before after : Option (List ℕ)) (new : Progress S) : Type 0 where
   pub text : List ℕ
   pub given : Consumes before after text
   pub countable : length text < 2 ^ 64
@@ -22,9 +22,9 @@ pub record Takes {S : Type 0} (step : S → Command → Answer → S → Type 0)
 
 -- Why it is not fed to the end. A read failed, or there were too many: all that was given before was judged, and what no
 -- line feed ended yet is less than a line. Or what was given has a fault.
-abbrev pub StopsAt : {S : Type 0} → (S → Command → Answer → S → Type 0) → Progress S → Option (List ℕ) → Option (List ℕ) → StreamFault → Type 0
-StopsAt {S} step old before after Read = (held : Progress S) × Takes step old before after held × IsUnfinished held.unfinished
-StopsAt step old before after (Script fault) = (text : List ℕ) × Consumes before after text × (length text < 2 ^ 64) × IsFault old text fault
+abbrev pub StopsReading : {S : Type 0} → (S → Command → Answer → S → Type 0) → Progress S → Option (List ℕ) → Option (List ℕ) → StreamFault → Type 0
+StopsReading {S} step old before after Read = (held : Progress S) × TakesText step old before after held × IsUnfinished held.unfinished
+StopsReading step old before after (Script fault) = (text : List ℕ) × Consumes before after text × (length text < 2 ^ 64) × IsFault old text fault
 
 -- ---- a whole script
 
@@ -45,13 +45,13 @@ pub record IsGoodSoFar (text : List ℕ) : Type 0 where
 
 -- line n is the first bad one, whatever follows
 abbrev pub IsBadAlready : List ℕ → ℕ → Type 0
-IsBadAlready text n = (more : List ℕ) → IsFirstBadLine (text ++ more) n
+IsBadAlready text n = (more : List ℕ) → IsFirstBadCommandLine (text ++ more) n
 
 -- What was met first, behind a text that the reader gave: a read that failed, with no bad line judged before it; a line that
 -- is bad whatever follows; a bad line at the end; or memory ran out.
 abbrev pub IsMet : Option (List ℕ) → List ℕ → StreamFault → Type 0
 IsMet after text Read = IsGoodSoFar text
-IsMet after text (Script (BadLine n)) = IsBadAlready text n ⊎ (IsAtEnd after × IsFirstBadLine text n)
+IsMet after text (Script (BadLine n)) = IsBadAlready text n ⊎ (IsAtEnd after × IsFirstBadCommandLine text n)
 IsMet after text (Script Memory) = Unit {0}
 
 -- why what a reader gives isn't answered to its end

@@ -16,8 +16,8 @@ pub record Progress (S : Type 0) : Type 0 where
   pub unfinished : List ℕ
 
 -- a count that stops at the greatest u64
-abbrev pub counted : ℕ → ℕ
-counted n = min n (2 ^ 64 - 1)
+abbrev pub saturating_count : ℕ → ℕ
+saturating_count n = min n (2 ^ 64 - 1)
 
 -- less than a line: no line feed, and no more bytes than the longest good line has before it
 pub record IsUnfinished (text : List ℕ) : Type 0 where
@@ -33,14 +33,14 @@ pub record Goes {S : Type 0} (step : S → Command → Answer → S → Type 0) 
   pub text_is : old.unfinished ++ piece ≡ script commands ++ new.unfinished
   pub report_is : new.report ≡ old.report ++ report answers
   pub run : Run step old.server commands answers new.server
-  pub lines_are : counted new.lines ≡ counted (old.lines + length commands)
+  pub lines_are : saturating_count new.lines ≡ saturating_count (old.lines + length commands)
 
 -- The command of a line was answered; the report grew by the answer, and what is unfinished stays.
 pub record Answered {S : Type 0} (step : S → Command → Answer → S → Type 0) (old : Progress S) (command : Command) (new : Progress S) : Type 0 where
   pub answer : Answer
   pub stepped : step old.server command answer new.server
   pub report_is : new.report ≡ old.report ++ report (answer ∷ [])
-  pub lines_are : new.lines ≡ counted (old.lines + 1)
+  pub lines_are : new.lines ≡ saturating_count (old.lines + 1)
   pub unfinished_is : new.unfinished ≡ old.unfinished
 
 -- A bad line was met in the piece, and n is its number: whatever follows the piece, no good line stands there.
@@ -51,10 +51,10 @@ pub record MeetsBadLine {S : Type 0} (old : Progress S) (piece : List ℕ) (n : 
   pub text_is : old.unfinished ++ piece ≡ script good ++ rest
   pub goes_on : rest ≢ []
   pub bad : (more : List ℕ) → NoLine (rest ++ more)
-  pub number : n ≡ counted (old.lines + length good + 1)
+  pub number : n ≡ saturating_count (old.lines + length good + 1)
 
 -- The script ended behind a line feed: this served it, and this is the report.
-pub record Ends {S : Type 0} (old : Progress S) (server : S) (reported : List ℕ) : Type 0 where
+pub record EndsScript {S : Type 0} (old : Progress S) (server : S) (reported : List ℕ) : Type 0 where
   pub nothing_left : old.unfinished ≡ []
   pub server_is : server ≡ old.server
   pub report_is : reported ≡ old.report

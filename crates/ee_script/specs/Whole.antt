@@ -4,7 +4,7 @@ use Rattle.ee_script.specs.declared.command.Command.{Command}
 use Rattle.ee_script.specs.declared.answer.Answer.{Answer}
 use Rattle.ee_script.specs.declared.session.ScriptFault.{ScriptFault}
 use Rattle.ee_script.specs.declared.session.ScriptFault.TheVariants.{BadLine, Memory}
-use Rattle.ee_script.specs.Script.{IsScript, IsFirstBadLine}
+use Rattle.ee_script.specs.Script.{IsScript, IsFirstBadCommandLine}
 use Rattle.ee_script.specs.Answer.{report}
 use Rattle.ee_script.specs.Run.{Run}
 
@@ -19,5 +19,5 @@ pub record IsAnswered {S : Type 0} (step : S → Command → Answer → S → Ty
 
 -- why the text isn't answered: its first bad line, or want of memory
 abbrev pub IsScriptFault : List ℕ → ScriptFault → Type 0
-IsScriptFault text (BadLine n) = IsFirstBadLine text n
+IsScriptFault text (BadLine n) = IsFirstBadCommandLine text n
 IsScriptFault text Memory = Unit {0}

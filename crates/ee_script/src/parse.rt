@@ -1,9 +1,8 @@
-ghost use Rattle.std.specs.Prelude.{◌≡◌, ◌+◌, ◌<◌, ◌^◌, ◌++◌, ◌∷◌, ℕ, List, Some};
-ghost use Rattle.std.specs.Prelude.{IfNone, IfSome, IsSomeAnd, decimal, codes};
+ghost use Rattle.std.specs.Prelude.{◌≡◌, ◌+◌, ◌<◌, ◌^◌, ◌++◌, ◌∷◌, ℕ, List, Some, IfNone, IfSome, IsSomeAnd, decimal, codes};
 ghost use Rattle.ee_codec.specs.Words.{IsAddress, IsValue};
 ghost use Rattle.ee_text.specs.Line.{line_of};
 ghost use Rattle.ee_text.specs.Number.{StartsWithNoDigit};
-ghost use Rattle.ee_script.specs.Command.{IsCommand, letter, spelling};
+ghost use Rattle.ee_script.specs.Command.{IsCommand, letter, command_text};
 ghost use Rattle.ee_script.specs.Script.{NoLine};
 ghost use Rattle.ee_script.specs.declared.command.Command.TheVariants as commands;
 
@@ -15,9 +14,9 @@ use ee_text::{leading_number, next_field, number};
 /// The command that a line spells, without its line feed. None where it spells none.
 pub fn read_command(line: &[u8]) -> Option<Command>
     // What is read is spelled so.
-    ensures found { IfSome result (λ command. IsCommand command × (line.now ≡ spelling command)) }
+    ensures found { IfSome result (λ command. IsCommand command × (line.now ≡ command_text command)) }
     // What is spelled so is read.
-    ensures only { (command : Command) → IsCommand command → line.now ≡ spelling command
+    ensures only { (command : Command) → IsCommand command → line.now ≡ command_text command
         → result ≡ Some command }
 {
     let Some((command, behind)) = leading_command(line) else {
@@ -33,7 +32,7 @@ pub fn read_command(line: &[u8]) -> Option<Command>
 /// no good line stands there.
 pub fn next_command(text: &[u8]) -> Option<(Command, &[u8])>
     ensures found { IfSome result (λ parts. IsCommand parts.0
-        × (text.now ≡ line_of (spelling parts.0) ++ parts.1.now)) }
+        × (text.now ≡ line_of (command_text parts.0) ++ parts.1.now)) }
     ensures none { IfNone result (NoLine text.now) }
 {
     match leading_command(text) {
@@ -46,9 +45,9 @@ pub fn next_command(text: &[u8]) -> Option<(Command, &[u8])>
 /// it goes up to the first byte that is no digit.
 fn leading_command(text: &[u8]) -> Option<(Command, &[u8])>
     ensures found { IfSome result (λ parts. IsCommand parts.0
-        × (text.now ≡ spelling parts.0 ++ parts.1.now)) }
+        × (text.now ≡ command_text parts.0 ++ parts.1.now)) }
     ensures only { (command : Command) (behind : List ℕ) → IsCommand command
-        → StartsWithNoDigit behind → text.now ≡ spelling command ++ behind
+        → StartsWithNoDigit behind → text.now ≡ command_text command ++ behind
         → IsSomeAnd result (λ parts. (parts.0 ≡ command) × (parts.1.now ≡ behind)) }
 {
     match text {
@@ -71,7 +70,7 @@ fn leading_command(text: &[u8]) -> Option<(Command, &[u8])>
 /// The write of the address and the value at the front of a text.
 fn leading_write(text: &[u8]) -> Option<(Command, &[u8])>
     ensures found { IfSome result (λ parts. IsCommand parts.0
-        × (codes "w " ++ text.now ≡ spelling parts.0 ++ parts.1.now)) }
+        × (codes "w " ++ text.now ≡ command_text parts.0 ++ parts.1.now)) }
     ensures only { (address value : ℕ) (behind : List ℕ) → IsAddress address → IsValue value
         → StartsWithNoDigit behind
         → text.now ≡ decimal address ++ 32 ∷ (decimal value ++ behind)
@@ -100,7 +99,7 @@ fn leading_address(text: &[u8]) -> Option<(Address, &[u8])>
 /// The cut to come whose step and tear stand at the front of a text.
 fn leading_arm(text: &[u8]) -> Option<(Command, &[u8])>
     ensures found { IfSome result (λ parts. IsCommand parts.0
-        × (codes "x " ++ text.now ≡ spelling parts.0 ++ parts.1.now)) }
+        × (codes "x " ++ text.now ≡ command_text parts.0 ++ parts.1.now)) }
     ensures only { (fuse : Fuse) (behind : List ℕ) → fuse.after + 1 < 2 ^ 64
         → text.now ≡ decimal (fuse.after + 1) ++ 32 ∷ (letter fuse.tear ++ behind)
         → IsSomeAnd result (λ parts. (parts.0 ≡ commands.Arm fuse) × (parts.1.now ≡ behind)) }

@@ -3,9 +3,9 @@ ghost use Rattle.std.specs.Bool.{OnFalse, OnTrue};
 ghost use Rattle.ee_text.specs.Line.{IsLine, line_of};
 ghost use Rattle.ee_script.specs.Command.{IsCommand};
 ghost use Rattle.ee_script.specs.Script.{NoLine};
-ghost use Rattle.ee_script.specs.Session.{Answered, counted, Ends, Goes, IsUnfinished};
+ghost use Rattle.ee_script.specs.Session.{Answered, saturating_count, EndsScript, Goes, IsUnfinished};
 ghost use Rattle.ee_script.specs.Fault.{EndsBadly, IsFault};
-ghost use Rattle.ee_script.specs.Reading.{StopsAt, Takes};
+ghost use Rattle.ee_script.specs.Reading.{StopsReading, TakesText};
 ghost use Rattle.std.specs.Io.KnownBytes.{IsAtEnd};
 
 use super::answer::{Answer, push_answer};
@@ -150,10 +150,10 @@ impl<S: Serve + Drop, A: Allocator> Session<S, A> {
     /// Takes what a reader gives, to its end. What one read call gives is judged before the next, and
     /// a read that was interrupted is tried again. No more than `most` read calls are made.
     pub fn feed_all<R: Read>(self, reader: &mut R, most: u32) -> Result<Session<S, A>, StreamFault>
-        ensures fed { IfOk result (Takes S.serves self (R.remaining reader.old)
+        ensures fed { IfOk result (TakesText S.serves self (R.remaining reader.old)
             (R.remaining reader.new)) }
         ensures end { OnOk result (IsAtEnd (R.remaining reader.new)) }
-        ensures fault { IfErr result (StopsAt S.serves self (R.remaining reader.old)
+        ensures fault { IfErr result (StopsReading S.serves self (R.remaining reader.old)
             (R.remaining reader.new)) }
     {
         let mut session = self;
@@ -184,7 +184,7 @@ impl<S: Serve + Drop, A: Allocator> Session<S, A> {
     /// Ends the script, and gives what served it and the report. A line that no line feed ended is
     /// bad.
     pub fn finish(self) -> Result<(S, Vec<u8, A>), ScriptFault>
-        ensures { MatchResult result (λ done. Ends self done.0 done.1.items) (EndsBadly self) }
+        ensures { MatchResult result (λ done. EndsScript self done.0 done.1.items) (EndsBadly self) }
     {
         if !self.unfinished.is_empty() {
             return Err(self.bad_line());
@@ -271,7 +271,7 @@ impl<S: Serve + Drop, A: Allocator> Session<S, A> {
 
     /// The fault of the line that isn't answered yet.
     fn bad_line(&self) -> ScriptFault
-        ensures { result ≡ ScriptFault.BadLine (counted (self.now.lines + 1)) }
+        ensures { result ≡ ScriptFault.BadLine (saturating_count (self.now.lines + 1)) }
     {
         ScriptFault::BadLine(self.lines.saturating_add(1))
     }

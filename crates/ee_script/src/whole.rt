@@ -1,5 +1,5 @@
 ghost use Rattle.std.specs.Prelude.{◌≡◌, ◌⊎◌, ℕ, List, IfOk, IfErr, MatchResult, Some};
-ghost use Rattle.ee_script.specs.Script.{IsFirstBadLine};
+ghost use Rattle.ee_script.specs.Script.{IsFirstBadCommandLine};
 ghost use Rattle.ee_script.specs.Whole.{IsAnswered, IsScriptFault};
 ghost use Rattle.ee_script.specs.Reading.{IsStreamAnswered, IsStreamFault};
 
@@ -21,7 +21,7 @@ pub fn answer_script<S: Serve + Drop, A: Allocator>(
         (λ done. IsAnswered S.serves server script.now done.0 done.1.items) }
     ensures fault { IfErr result (IsScriptFault script.now) }
     // A bad line is never passed over.
-    ensures bad { (n : ℕ) → IsFirstBadLine script.now n
+    ensures bad { (n : ℕ) → IsFirstBadCommandLine script.now n
         → MatchResult result (λ _. ⊥)
         (λ fault. (fault ≡ ScriptFault.BadLine n) ⊎ (fault ≡ ScriptFault.Memory)) }
 {
@@ -48,7 +48,7 @@ pub fn answer_reader<S: Serve + Drop, A: Allocator, R: Read>(
         (IsStreamFault (R.remaining reader.old) (R.remaining reader.new)) }
     // A bad line is never passed over.
     ensures bad { (script : List ℕ) (n : ℕ) → R.remaining reader.old ≡ Some script
-        → IsFirstBadLine script n → MatchResult result (λ _. ⊥)
+        → IsFirstBadCommandLine script n → MatchResult result (λ _. ⊥)
         (λ fault. (fault ≡ StreamFault.Script (ScriptFault.BadLine n))
         ⊎ (fault ≡ StreamFault.Script ScriptFault.Memory) ⊎ (fault ≡ StreamFault.Read)) }
 {

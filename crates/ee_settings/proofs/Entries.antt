@@ -4,7 +4,7 @@ use Rattle.std.proofs.lemmas.Bool.{cases_lt}
 use Rattle.std.proofs.lemmas.List.{get_or_default}
 use Rattle.std.proofs.lemmas.List.Elements.{Contains-push_cases}
 use Rattle.toml.specs.Data.{Data}
-use Rattle.ee_settings.specs.File.{fields_of, IsTableOf, AreEntriesOf, BreaksFirst, Entry, GivesSetting, IsEntryOf, IsFirstFault, IsSchemaFault, IsSchemaOf, IsTaken, Rule, Name, Field, Range, Address}
+use Rattle.ee_settings.specs.File.{fields_of_numbers, IsTableOf, AreEntriesOf, BreaksFirst, Entry, GivesSetting, IsEntryOf, IsFirstFault, IsSchemaFault, IsSchemaOf, IsTaken, Rule, Name, Field, Range, Address}
 use Rattle.ee_settings.specs.Setting.{AreProper, HaveOwnAddresses, IsName, Setting}
 use Rattle.ee_settings.specs.declared.numbers.Fields.{Fields}
 use Rattle.ee_settings.specs.declared.numbers.Numbers.{Numbers}
@@ -83,7 +83,7 @@ fault_named (fault.SameAddress at) all before after entry settings number split 
 fault_named fault.Memory all before after entry settings number split count good h = tt
 
 -- a proper name and the numbers that stand under it make the entry's setting
-pub entry_is : (name : List ℕ) (tree : Data) (fields : Fields) (numbers : Numbers) → IsName name → IsTableOf tree fields → fields ≡ fields_of numbers → AreProper numbers
+pub entry_is : (name : List ℕ) (tree : Data) (fields : Fields) (numbers : Numbers) → IsName name → IsTableOf tree fields → fields ≡ fields_of_numbers numbers → AreProper numbers
     → IsEntryOf (name, tree) (record { name = name; numbers = numbers })
 entry_is name tree fields numbers named under same proper = record {
   name = refl;

@@ -10,7 +10,7 @@ use Rattle.std.proofs.lemmas.List.Elements.{All-append, All-cons, All-head, All-
 use Rattle.ee_codec.specs.Words.{IsAddress}
 use Rattle.ee_pages.specs.Meaning.{Map}
 use Rattle.ee_settings.specs.Laws.{IsListedExact}
-use Rattle.ee_settings.specs.Listing.{IsHeld, IsSaid, held_by, listed_of, listed_to, named_from, named_in}
+use Rattle.ee_settings.specs.Listing.{IsHeld, IsListedSo, held_by, listed_of, listed_to, named_from, named_in}
 use Rattle.ee_settings.specs.Setting.{Setting, has_address, is_in_range}
 use Rattle.ee_settings.specs.Stale.{entry_of}
 use Rattle.ee_settings.specs.declared.listing.Held.TheVariants.{Value, Stale, Default}
@@ -54,17 +54,17 @@ entry_is settings zero k setting is here = absurd (omega (arith, is))
 entry_is settings (suc index) k setting is here = ap (slice_get settings) (omega (arith, is)) ∙ here
 
 said_of : (settings : List Setting) (stored : Map) (address : ℕ) (named : Option (ℕ × Numbers)) (value : Option ℕ) → IsAddress address → IsNamedAt 1 settings address named → stored address ≡ value
-    → All (IsSaid settings stored) (listed_of address named value)
-said_of settings stored address None None proper at holds = All-nil (IsSaid settings stored)
+    → All (IsListedSo settings stored) (listed_of address named value)
+said_of settings stored address None None proper at holds = All-nil (IsListedSo settings stored)
 said_of settings stored address None (Some value) proper at holds =
-    All-cons (IsSaid settings stored) (record { address = address; entry = None; held = Value value }) [] (proper, (at, value, holds, refl)) (All-nil (IsSaid settings stored))
+    All-cons (IsListedSo settings stored) (record { address = address; entry = None; held = Value value }) [] (proper, (at, value, holds, refl)) (All-nil (IsListedSo settings stored))
 said_of settings stored address (Some named) None proper at holds =
-    All-cons (IsSaid settings stored) (record { address = address; entry = Some named.0; held = Default named.1.default }) []
-    (proper, (at.1, entry_is settings named.0 at.0 at.1 at.2 at.3, at.5, (holds, ap (λ (numbers : Numbers). numbers.default) (sym at.4)))) (All-nil (IsSaid settings stored))
+    All-cons (IsListedSo settings stored) (record { address = address; entry = Some named.0; held = Default named.1.default }) []
+    (proper, (at.1, entry_is settings named.0 at.0 at.1 at.2 at.3, at.5, (holds, ap (λ (numbers : Numbers). numbers.default) (sym at.4)))) (All-nil (IsListedSo settings stored))
 said_of settings stored address (Some named) (Some value) proper at holds =
-    All-cons (IsSaid settings stored) (record { address = address; entry = Some named.0; held = held_by named.1 value }) []
+    All-cons (IsListedSo settings stored) (record { address = address; entry = Some named.0; held = held_by named.1 value }) []
     (proper, (at.1, entry_is settings named.0 at.0 at.1 at.2 at.3, at.5, subst (λ (numbers : Numbers). IsHeld numbers (stored address) (held_by named.1 value)) (sym at.4) (held_is named.1 (stored address) value holds)))
-    (All-nil (IsSaid settings stored))
+    (All-nil (IsListedSo settings stored))
 
 abbrev IsAt : ℕ → Listed → Type 0
 IsAt address listed = listed.address ≡ address
@@ -89,11 +89,11 @@ found_of settings stored address (Some named) (Some value) at holds told = (reco
 
 -- ---- of all addresses up to one
 
-said_to : (settings : List Setting) (stored : Map) (n : ℕ) → n < 65535 → All (IsSaid settings stored) (listed_to settings stored n)
+said_to : (settings : List Setting) (stored : Map) (n : ℕ) → n < 65535 → All (IsListedSo settings stored) (listed_to settings stored n)
 unfolding listed_to
-said_to settings stored zero few = All-nil (IsSaid settings stored)
+said_to settings stored zero few = All-nil (IsListedSo settings stored)
 said_to settings stored (suc n) few =
-    All-append (IsSaid settings stored) (listed_to settings stored n) (listed_of (suc n) (named_in settings (suc n)) (stored (suc n)))
+    All-append (IsListedSo settings stored) (listed_to settings stored n) (listed_of (suc n) (named_in settings (suc n)) (stored (suc n)))
     (said_to settings stored n (omega (arith, few)))
     (said_of settings stored (suc n) (named_in settings (suc n)) (stored (suc n)) (omega arith, few) (named_at 1 settings (suc n)) refl)
 

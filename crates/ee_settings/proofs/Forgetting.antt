@@ -4,23 +4,23 @@ use Rattle.std.specs.List.{All}
 use Rattle.std.proofs.lemmas.List.Elements.{All-head, All-tail}
 use Rattle.ee_flash.specs.Device.{Device, IsOn}
 use Rattle.ee_flash.specs.Power.{GoesOn}
-use Rattle.ee_pages.specs.Meaning.{AreNextLive, Forget, Map, changed}
-use Rattle.ee_store.proofs.AfterCalls.{goes_on_both, goes_on_same}
-use Rattle.ee_store.proofs.CopiedMaps.{forget-other}
-use Rattle.ee_store.specs.Calls.{Forgets}
-use Rattle.ee_store.specs.State.{State, state_of}
-use Rattle.ee_store.specs.declared.variables.ForgetFault.{ForgetFault}
-use Rattle.ee_store.specs.declared.variables.ForgetFault.TheVariants as forget
-use Rattle.ee_store.specs.declared.variables.Written.{Written}
-use Rattle.ee_store.specs.declared.variables.Written.TheVariants.{Appended, Moved}
+use Rattle.ee_pages.specs.Meaning.{AreNextLive, Forget, Map, map_after}
+use Rattle.ee_core.proofs.AfterCalls.{goes_on_both, goes_on_same}
+use Rattle.ee_core.proofs.CopiedMaps.{forget-other}
+use Rattle.ee_core.specs.Calls.{Forgets}
+use Rattle.ee_core.specs.State.{State, state_of}
+use Rattle.ee_core.specs.declared.variables.ForgetFault.{ForgetFault}
+use Rattle.ee_core.specs.declared.variables.ForgetFault.TheVariants as forget
+use Rattle.ee_core.specs.declared.variables.Written.{Written}
+use Rattle.ee_core.specs.declared.variables.Written.TheVariants.{Appended, Moved}
 use Rattle.ee_settings.specs.Setting.{Setting, has_address}
-use Rattle.ee_settings.specs.Tidying.{ForgetsEach, Stops, StopsAt, unnamed_of}
+use Rattle.ee_settings.specs.Tidying.{ForgetsEach, Stops, StopsForgetting, unnamed_of}
 use Rattle.ee_settings.specs.declared.fault.TidyFault.{TidyFault}
 use Rattle.ee_settings.specs.declared.fault.TidyFault.TheVariants as tidy
 
 -- ---- one forgetting
 
-pub map_without : (old new : Device) (address : ℕ) (written : Written) → Forgets old address (Ok written) new → (state_of new).map ≡ changed (Forget address) (state_of old).map
+pub map_without : (old new : Device) (address : ℕ) (written : Written) → Forgets old address (Ok written) new → (state_of new).map ≡ map_after (Forget address) (state_of old).map
 map_without old new address Appended done = ap (λ (state : State). state.map) done.state_is
 map_without old new address Moved done = ap (λ (state : State). state.map) done.state_is
 
@@ -54,7 +54,7 @@ each_keeps (one ∷ addresses) old new address done others =
 
 -- ---- where one stops
 
-pub stops_one : (settings : List Setting) (address : ℕ) (fault : ForgetFault) (old new : Device) → has_address settings address ≡ false → Forgets old address (Err fault) new → StopsAt (unnamed_of settings address) fault old new
+pub stops_one : (settings : List Setting) (address : ℕ) (fault : ForgetFault) (old new : Device) → has_address settings address ≡ false → Forgets old address (Err fault) new → StopsForgetting (unnamed_of settings address) fault old new
 stops_one settings address fault old new free stopped = record {
   front = [];
   address = address;
@@ -65,7 +65,7 @@ stops_one settings address fault old new free stopped = record {
   stopped = stopped;
 }
 
-at_later : (front addresses rest : List ℕ) (fault : ForgetFault) (old mid new : Device) → ForgetsEach front old mid → StopsAt addresses fault mid new → StopsAt (front ++ (addresses ++ rest)) fault old new
+at_later : (front addresses rest : List ℕ) (fault : ForgetFault) (old mid new : Device) → ForgetsEach front old mid → StopsForgetting addresses fault mid new → StopsForgetting (front ++ (addresses ++ rest)) fault old new
 at_later front addresses rest fault old mid new done stops = record {
   front = front ++ stops.front;
   address = stops.address;
@@ -82,9 +82,9 @@ at_later front addresses rest fault old mid new done stops = record {
 pub stops_later : (front addresses rest all : List ℕ) (fault : TidyFault) (old mid new : Device) → all ≡ front ++ (addresses ++ rest) → ForgetsEach front old mid → Stops addresses mid fault new → Stops all old fault new
 stops_later front addresses rest all tidy.Off old mid new split done stops = stops
 stops_later front addresses rest all tidy.Spent old mid new split done stops =
-    subst (λ l. StopsAt l forget.Spent old new) (sym split) (at_later front addresses rest forget.Spent old mid new done stops)
+    subst (λ l. StopsForgetting l forget.Spent old new) (sym split) (at_later front addresses rest forget.Spent old mid new done stops)
 stops_later front addresses rest all tidy.Cut old mid new split done stops =
-    subst (λ l. StopsAt l forget.Cut old new) (sym split) (at_later front addresses rest forget.Cut old mid new done stops)
+    subst (λ l. StopsForgetting l forget.Cut old new) (sym split) (at_later front addresses rest forget.Cut old mid new done stops)
 
 -- ---- live addresses above one that was looked at
 

@@ -47,7 +47,7 @@ name_at settings one i d inside at =
     let found : (get_or settings i one).name ≡ one.name = ap (λ (s : Setting). s.name) at in
     here ∙ mapped ∙ found
 
-never_equal : (a b : List ℕ) → slice_cmp nat_cmp a b ≡ Less → a ≢ b
+pub never_equal : (a b : List ℕ) → slice_cmp nat_cmp a b ≡ Less → a ≢ b
 never_equal a b less e =
     let tie = tied_itself nat_list_cmp_total a in
     let same : slice_cmp nat_cmp a a ≡ Less = ap (slice_cmp nat_cmp a) e ∙ less in

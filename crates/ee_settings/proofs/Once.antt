@@ -5,7 +5,7 @@ use Rattle.std.proofs.Math.Seq.{get_or-append_seam}
 use Rattle.std.proofs.lemmas.List.{length-append}
 use Rattle.toml.specs.Data.{Data, Members, array, boolean, datetime, float, integer, string, table}
 use Rattle.ee_settings.proofs.Names.{later_differs}
-use Rattle.ee_settings.specs.File.{Address, AreEntriesOf, BreaksFirst, Entry, Field, GivesSchema, IsEntryOf, IsFirstFault, IsSchemaOf, IsTableOf, IsTaken, Name, Range, Rule, entries_of, fields_of}
+use Rattle.ee_settings.specs.File.{Address, AreEntriesOf, BreaksFirst, Entry, Field, GivesSchema, IsEntryOf, IsFirstFault, IsSchemaOf, IsTableOf, IsTaken, Name, Range, Rule, entries_of, fields_of_numbers}
 use Rattle.ee_settings.specs.Setting.{HaveOwnAddresses, HaveRisingNames, IsName, Setting}
 use Rattle.ee_settings.specs.declared.fault.SchemaFault.{SchemaFault}
 use Rattle.ee_settings.specs.declared.fault.SchemaFault.TheVariants as fault
@@ -35,7 +35,7 @@ fields_once (array ds) one other h k = absurd h
 fields_once (table ms) one other h k =
     same_fields one other (cc (h.address, k.address)) (cc (h.min, k.min)) (cc (h.max, k.max)) (cc (h.default, k.default))
 
-pub spelled_once : (one other : Numbers) → fields_of one ≡ fields_of other → one ≡ other
+pub spelled_once : (one other : Numbers) → fields_of_numbers one ≡ fields_of_numbers other → one ≡ other
 spelled_once one other e =
     same_numbers one other (cc (ap (λ (f : Fields). f.address) e)) (cc (ap (λ (f : Fields). f.min) e)) (cc (ap (λ (f : Fields). f.max) e)) (cc (ap (λ (f : Fields). f.default) e))
 
@@ -48,7 +48,7 @@ same_setting one other p q = setting_by one.name other.name one.numbers other.nu
 pub entry_once : (entry : Entry) (one other : Setting) → IsEntryOf entry one → IsEntryOf entry other → one ≡ other
 entry_once entry one other h k =
     same_setting one other (h.name ∙ sym k.name)
-    (spelled_once one.numbers other.numbers (fields_once entry.1 (fields_of one.numbers) (fields_of other.numbers) h.numbers k.numbers))
+    (spelled_once one.numbers other.numbers (fields_once entry.1 (fields_of_numbers one.numbers) (fields_of_numbers other.numbers) h.numbers k.numbers))
 
 pub entries_once : (entries : List Entry) (one other : List Setting) → AreEntriesOf entries one → AreEntriesOf entries other → one ≡ other
 entries_once [] [] [] h k = refl
@@ -86,8 +86,8 @@ never_taken first last setting rising own taken =
 -- the entry of a setting behind those of others breaks no rule
 pub breaks_none : (rule : Rule) (first last : List Setting) (setting : Setting) (entry : Entry) → HaveRisingNames (first ++ setting ∷ last) → HaveOwnAddresses (first ++ setting ∷ last) → IsEntryOf entry setting → ¬ BreaksFirst rule first entry
 breaks_none Name first last setting entry rising own here broken = broken (subst (λ name. IsName name) here.name here.proper.name)
-breaks_none Field first last setting entry rising own here broken = broken.1 (fields_of setting.numbers) here.numbers
-breaks_none Range first last setting entry rising own here broken = broken.3 setting.numbers here.proper.numbers (fields_once entry.1 broken.1 (fields_of setting.numbers) broken.2 here.numbers)
+breaks_none Field first last setting entry rising own here broken = broken.1 (fields_of_numbers setting.numbers) here.numbers
+breaks_none Range first last setting entry rising own here broken = broken.3 setting.numbers here.proper.numbers (fields_once entry.1 broken.1 (fields_of_numbers setting.numbers) broken.2 here.numbers)
 breaks_none Address first last setting entry rising own here broken =
     never_taken first last setting rising own (subst (λ (s : Setting). IsTaken first s.numbers.address) (entry_once entry broken.0 setting broken.1 here) broken.2)
 

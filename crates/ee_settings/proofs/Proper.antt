@@ -12,7 +12,7 @@ use Rattle.ee_flash.specs.declared.word.Word.TheVariants.{Erased, Held, Torn}
 use Rattle.ee_pages.specs.Meaning.{latest_in, says, slot_says, value_said}
 use Rattle.ee_pages.specs.Sets.{live_of, set_of, slots_of}
 use Rattle.ee_pages.specs.declared.side.Side.{Side}
-use Rattle.ee_store.specs.State.{state_in, state_of}
+use Rattle.ee_core.specs.State.{state_in, state_of}
 
 -- the test of a proper address
 abbrev is_proper : ℕ → Bool

@@ -3,11 +3,11 @@ use Rattle.std.proofs.Common.{◌≡◌, ◌≢◌, ℕ, List, Some, Ok, ap, sym
 use Rattle.std.specs.List.{Contains}
 use Rattle.std.proofs.lemmas.Bool.Decides.{nat_tests}
 use Rattle.ee_flash.specs.Device.{Device}
-use Rattle.ee_pages.specs.Meaning.{Map, Put, changed}
-use Rattle.ee_store.specs.Calls.{Writes}
-use Rattle.ee_store.specs.State.{state_of}
-use Rattle.ee_store.specs.declared.variables.Written.{Written}
-use Rattle.ee_store.specs.declared.variables.Written.TheVariants.{Appended, Moved}
+use Rattle.ee_pages.specs.Meaning.{Map, Put, map_after}
+use Rattle.ee_core.specs.Calls.{Writes}
+use Rattle.ee_core.specs.State.{state_of}
+use Rattle.ee_core.specs.declared.variables.Written.{Written}
+use Rattle.ee_core.specs.declared.variables.Written.TheVariants.{Appended, Moved}
 use Rattle.ee_settings.specs.Calls.{IsNamed}
 use Rattle.ee_settings.specs.Setting.{HaveOwnAddresses, IsInRange, Setting, reading_in, reading_of}
 use Rattle.ee_settings.specs.declared.numbers.Numbers.{Numbers}
@@ -17,21 +17,21 @@ use Rattle.ee_settings.specs.declared.reading.Reading.TheVariants.{Stored}
 in_range_read : (numbers : Numbers) (value : ℕ) → IsInRange numbers value → reading_of numbers (Some value) ≡ Stored value
 in_range_read numbers value h = let a = h.0 in let b = h.1 in grind (arith, nat_tests)
 
-pub changed_here : (address value : ℕ) (map : Map) → changed (Put address value) map address ≡ Some value
+pub changed_here : (address value : ℕ) (map : Map) → map_after (Put address value) map address ≡ Some value
 changed_here address value map = grind (arith, nat_tests)
 
-pub changed_elsewhere : (address value other : ℕ) (map : Map) → address ≢ other → changed (Put address value) map other ≡ map other
+pub changed_elsewhere : (address value other : ℕ) (map : Map) → address ≢ other → map_after (Put address value) map other ≡ map other
 changed_elsewhere address value other map apart = grind (arith, nat_tests)
 
 -- the setting whose value was put reads as that value
-pub stored_read : (setting : Setting) (value : ℕ) (old new : Map) → IsInRange setting.numbers value → new ≡ changed (Put setting.numbers.address value) old → reading_in new setting ≡ Stored value
+pub stored_read : (setting : Setting) (value : ℕ) (old new : Map) → IsInRange setting.numbers value → new ≡ map_after (Put setting.numbers.address value) old → reading_in new setting ≡ Stored value
 stored_read setting value old new h e =
     ap (λ (map : Map). reading_in map setting) e
     ∙ ap (reading_of setting.numbers) (changed_here setting.numbers.address value old)
     ∙ in_range_read setting.numbers value h
 
 -- a setting at another address reads as before
-pub other_read : (setting other : Setting) (value : ℕ) (old new : Map) → setting.numbers.address ≢ other.numbers.address → new ≡ changed (Put setting.numbers.address value) old
+pub other_read : (setting other : Setting) (value : ℕ) (old new : Map) → setting.numbers.address ≢ other.numbers.address → new ≡ map_after (Put setting.numbers.address value) old
     → reading_in new other ≡ reading_in old other
 other_read setting other value old new apart e =
     ap (λ (map : Map). reading_in map other) e
@@ -43,6 +43,6 @@ pub addresses_apart : (settings : List Setting) → HaveOwnAddresses settings �
 addresses_apart settings own name setting other named inside ne e = ne (ap (λ (s : Setting). s.name) (sym (own setting other named.0 inside e)) ∙ named.1)
 
 -- whether a write appended or moved, the map has the value
-pub written_map : (old new : Device) (address value : ℕ) (written : Written) → Writes old address value (Ok written) new → (state_of new).map ≡ changed (Put address value) (state_of old).map
+pub written_map : (old new : Device) (address value : ℕ) (written : Written) → Writes old address value (Ok written) new → (state_of new).map ≡ map_after (Put address value) (state_of old).map
 written_map old new address value Appended w = ap (λ s. s.map) w.state_is
 written_map old new address value Moved w = ap (λ s. s.map) w.state_is

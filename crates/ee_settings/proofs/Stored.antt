@@ -4,15 +4,15 @@ use Rattle.std.proofs.Math.Path.{fun_ext}
 use Rattle.std.proofs.lemmas.Bool.{cases_eq, cases_lt, le-leb, lt-leb}
 use Rattle.std.specs.BTreeMap.{BTreeMap, Updates, get}
 use Rattle.ee_flash.specs.Device.{Device}
-use Rattle.ee_pages.specs.Meaning.{AreLiveThrough, AreNextLive, IsNextLive, IsNoneLive, Map, Put, changed, last_of}
-use Rattle.ee_store.specs.Parts.{map_to}
-use Rattle.ee_store.specs.State.{state_of}
+use Rattle.ee_pages.specs.Meaning.{AreLiveThrough, AreNextLive, IsNextLive, IsNoneLive, Map, Put, map_after, last_of}
+use Rattle.ee_core.specs.Parts.{map_to}
+use Rattle.ee_core.specs.State.{state_of}
 use Rattle.ee_settings.proofs.Addresses.{at_is}
 use Rattle.ee_settings.proofs.Proper.{none_outside}
 use Rattle.ee_settings.proofs.Readings.{changed_elsewhere, changed_here}
 use Rattle.ee_settings.specs.Stale.{with_found}
 
-pub put_one : (old new : BTreeMap ℕ ℕ) (address value : ℕ) → Updates nat_cmp old new address (Some value) → get nat_cmp new ≡ changed (Put address value) (get nat_cmp old)
+pub put_one : (old new : BTreeMap ℕ ℕ) (address value : ℕ) → Updates nat_cmp old new address (Some value) → get nat_cmp new ≡ map_after (Put address value) (get nat_cmp old)
 put_one old new address value updates = fun_ext (λ q. updates.0 q ∙ ap (λ (b : Bool). cond b (Some value) (get nat_cmp old q)) (at_is address q))
 
 below : (map : Map) (last address : ℕ) → address ≤ last → map_to map last address ≡ map address
@@ -21,11 +21,11 @@ below map last address h = ap (λ (b : Bool). cond b (map address) None) (le-leb
 above : (map : Map) (last address : ℕ) → last < address → map_to map last address ≡ None
 above map last address h = ap (λ (b : Bool). cond b (map address) None) (lt-leb address last h)
 
-one_further : (map : Map) (last next value : ℕ) → IsNextLive map last (Some (next, value)) → (address : ℕ) → changed (Put next value) (map_to map last) address ≡ map_to map next address
+one_further : (map : Map) (last next value : ℕ) → IsNextLive map last (Some (next, value)) → (address : ℕ) → map_after (Put next value) (map_to map last) address ≡ map_to map next address
 one_further map last next value is address = elim (cases_eq next address) [
   | inl here ↦
       let low : address ≤ next = omega arith in
-      ap (changed (Put next value) (map_to map last)) (sym here) ∙ changed_here next value (map_to map last) ∙ sym is.1 ∙ ap map here ∙ sym (below map next address low)
+      ap (map_after (Put next value) (map_to map last)) (sym here) ∙ changed_here next value (map_to map last) ∙ sym is.1 ∙ ap map here ∙ sym (below map next address low)
   | inr other ↦ changed_elsewhere next value address (map_to map last) other ∙ elim (cases_lt next address) [
     | inl high ↦ above map last address (omega (arith, is.0)) ∙ sym (above map next address high)
     | inr low ↦ elim (cases_lt last address) [

@@ -6,23 +6,23 @@ use Rattle.std.proofs.lemmas.Bool.{cases_eq, eq-eqb, ne_eqb}
 use Rattle.std.proofs.lemmas.List.Elements.{All-append, All-cons, All-head, All-nil, All-tail}
 use Rattle.ee_flash.specs.Device.{Device, IsFormed}
 use Rattle.ee_flash.specs.Size.{slot_count}
-use Rattle.ee_pages.specs.Meaning.{Forget, Map, changed}
-use Rattle.ee_store.proofs.CopiedMaps.{forget-at, forget-other}
-use Rattle.ee_store.specs.Calls.{Forgets}
-use Rattle.ee_store.specs.Runs.{Call, Forgot, IsWholeRun, changes_of, is_cut}
-use Rattle.ee_store.specs.State.{appended, moved, state_of}
-use Rattle.ee_store.specs.declared.variables.ForgetFault.TheVariants as forget
-use Rattle.ee_store.specs.declared.variables.Written.{Written}
-use Rattle.ee_store.specs.declared.variables.Written.TheVariants.{Appended, Moved}
-use Rattle.ee_store.specs.Changes.{IsSpent}
+use Rattle.ee_pages.specs.Meaning.{Forget, Map, map_after}
+use Rattle.ee_core.proofs.CopiedMaps.{forget-at, forget-other}
+use Rattle.ee_core.specs.Calls.{Forgets}
+use Rattle.ee_core.specs.Runs.{Call, Forgot, IsWholeRun, changes_of_call, is_cut}
+use Rattle.ee_core.specs.State.{appended_state, moved_state, state_of}
+use Rattle.ee_core.specs.declared.variables.ForgetFault.TheVariants as forget
+use Rattle.ee_core.specs.declared.variables.Written.{Written}
+use Rattle.ee_core.specs.declared.variables.Written.TheVariants.{Appended, Moved}
+use Rattle.ee_core.specs.Changes.{IsSpent}
 use Rattle.ee_settings.proofs.Addresses.{found_taken}
 use Rattle.ee_settings.proofs.Forgetting.{map_without}
 use Rattle.ee_settings.proofs.Proper.{none_outside, proper_or_not}
-use Rattle.ee_store.proofs.CutMaps.{cut_map}
+use Rattle.ee_core.proofs.CutMaps.{cut_map}
 use Rattle.ee_settings.proofs.Unnamed.{begins_with, unnamed_to-suc, unnamed_to-zero}
 use Rattle.ee_settings.specs.Laws.{KeepsAll}
 use Rattle.ee_settings.specs.Setting.{Setting, has_address, reading_of}
-use Rattle.ee_settings.specs.Tidying.{ForgetsEach, IsSpentAmong, StopsAt, Tidies, after_forgetting, after_forgettings, is_unnamed, kept, unnamed_in, unnamed_to}
+use Rattle.ee_settings.specs.Tidying.{ForgetsEach, IsSpentAmong, StopsForgetting, Tidies, after_forgetting, after_forgettings, is_unnamed, kept_map, unnamed_in, unnamed_to}
 use Rattle.ee_settings.specs.declared.fault.TidyFault.{TidyFault}
 use Rattle.ee_settings.specs.declared.fault.TidyFault.TheVariants as tidy
 
@@ -69,7 +69,7 @@ takes_both settings old mid new first second address = elim (second address) [
 takes_none : (settings : List Setting) (old new : Map) → new ≡ old → TakesUnnamed settings old new
 takes_none settings old new same address = inl (ap (λ (values : Map). values address) same)
 
-takes_one : (settings : List Setting) (old new : Map) (named : ℕ) → has_address settings named ≡ false → new ≡ changed (Forget named) old → TakesUnnamed settings old new
+takes_one : (settings : List Setting) (old new : Map) (named : ℕ) → has_address settings named ≡ false → new ≡ map_after (Forget named) old → TakesUnnamed settings old new
 takes_one settings old new named free is address = elim (cases_eq named address) [
   | inl same ↦ inr (sym (ap (has_address settings) same) ∙ free, ap (λ (values : Map). values address) is ∙ forget-at old named address (sym same))
   | inr other ↦ inl (ap (λ (values : Map). values address) is ∙ forget-other old named address (λ e. other (sym e)))
@@ -82,14 +82,14 @@ each_takes settings (one ∷ addresses) old new free done =
     (takes_one settings (state_of old).map (state_of done.1).map one (All-head (λ a. has_address settings a ≡ false) one addresses free) (map_without old done.1 one done.0 done.2))
     (each_takes settings addresses done.1 new (All-tail (λ a. has_address settings a ≡ false) one addresses free) done.3)
 
-spent_takes : (settings : List Setting) (old new : Device) → IsFormed old → StopsAt (unnamed_in settings (state_of old).map) forget.Spent old new → TakesUnnamed settings (state_of old).map (state_of new).map
+spent_takes : (settings : List Setting) (old new : Device) → IsFormed old → StopsForgetting (unnamed_in settings (state_of old).map) forget.Spent old new → TakesUnnamed settings (state_of old).map (state_of new).map
 spent_takes settings old new formed stops =
     let free = subst (All (λ a. has_address settings a ≡ false)) stops.addresses_are (unnamed_free settings (state_of old).map 65534) in
     takes_both settings (state_of old).map (state_of stops.last).map (state_of new).map
     (each_takes settings stops.front old stops.last (free_front settings stops.front (stops.address ∷ stops.rest) free) stops.forgotten)
     (takes_none settings (state_of stops.last).map (state_of new).map (ap (λ (device : Device). (state_of device).map) stops.stopped.3))
 
-cut_takes : (settings : List Setting) (old new : Device) → IsFormed old → StopsAt (unnamed_in settings (state_of old).map) forget.Cut old new → TakesUnnamed settings (state_of old).map (state_of new).map
+cut_takes : (settings : List Setting) (old new : Device) → IsFormed old → StopsForgetting (unnamed_in settings (state_of old).map) forget.Cut old new → TakesUnnamed settings (state_of old).map (state_of new).map
 cut_takes settings old new formed stops =
     let free = subst (All (λ a. has_address settings a ≡ false)) stops.addresses_are (unnamed_free settings (state_of old).map 65534) in
     let last = stops.last in
@@ -169,13 +169,13 @@ left_at settings old new address true is done =
       | inr taken ↦ (let wrong : true ≡ false = sym is ∙ taken.0 in cc)
     ]
 
-pub leaves_named : (settings : List Setting) (old new : Device) (count : ℕ) → Tidies settings old (Ok count) new → (address : ℕ) → (state_of new).map address ≡ kept settings (state_of old).map address
+pub leaves_named : (settings : List Setting) (old new : Device) (count : ℕ) → Tidies settings old (Ok count) new → (address : ℕ) → (state_of new).map address ≡ kept_map settings (state_of old).map address
 leaves_named settings old new count done address = left_at settings old new address (has_address settings address) refl done.2
 
 -- ---- as a run of calls
 
 each_as_run : (addresses : List ℕ) (old new : Device) → ForgetsEach addresses old new
-    → (calls : List Call) × IsWholeRun calls old new × (flat_map changes_of calls ≡ map Forget addresses) × (length calls ≡ length addresses)
+    → (calls : List Call) × IsWholeRun calls old new × (flat_map changes_of_call calls ≡ map Forget addresses) × (length calls ≡ length addresses)
 each_as_run [] old new done = ([], record { run = done; without_cuts = All-nil (λ (call : Call). is_cut call ≡ false) }, refl, refl)
 each_as_run (address ∷ addresses) old new done =
     let rest = each_as_run addresses done.1 new done.3 in
@@ -190,7 +190,7 @@ each_as_run (address ∷ addresses) old new done =
     )
 
 pub as_run : (settings : List Setting) (old new : Device) (count : ℕ) → Tidies settings old (Ok count) new
-    → (calls : List Call) × IsWholeRun calls old new × (flat_map changes_of calls ≡ map Forget (unnamed_in settings (state_of old).map)) × (length calls ≡ count)
+    → (calls : List Call) × IsWholeRun calls old new × (flat_map changes_of_call calls ≡ map Forget (unnamed_in settings (state_of old).map)) × (length calls ≡ count)
 as_run settings old new count done =
     let run = each_as_run (unnamed_in settings (state_of old).map) old new done.2 in
     (run.0, run.1, run.2, run.3 ∙ sym done.1)
@@ -201,11 +201,11 @@ state_after : (old new : Device) (address : ℕ) (written : Written) → Forgets
 state_after old new address Appended done =
     let free = done.free in
     done.state_is
-    ∙ ap (λ (b : Bool). cond b (moved old.size.pages (Forget address) (state_of old)) (appended (Forget address) (state_of old)))
+    ∙ ap (λ (b : Bool). cond b (moved_state old.size.pages (Forget address) (state_of old)) (appended_state (Forget address) (state_of old)))
     (sym (ne_eqb (state_of old).fill (slot_count old.size) (λ e. omega arith)))
 state_after old new address Moved done =
     done.state_is
-    ∙ ap (λ (b : Bool). cond b (moved old.size.pages (Forget address) (state_of old)) (appended (Forget address) (state_of old)))
+    ∙ ap (λ (b : Bool). cond b (moved_state old.size.pages (Forget address) (state_of old)) (appended_state (Forget address) (state_of old)))
     (sym (eq-eqb (state_of old).fill (slot_count old.size) done.all_used))
 
 same_size : (old new : Device) (address : ℕ) (written : Written) → Forgets old address (Ok written) new → new.size ≡ old.size

@@ -3,7 +3,7 @@ use Rattle.std.proofs.Common.{◌≡◌, ◌≢◌, ◌⊎◌, ℕ, ℤ, pos, ne
 use Rattle.std.proofs.lemmas.Bool.{cases_eq, cases_lt}
 use Rattle.std.proofs.lemmas.List.{append-nil}
 use Rattle.toml.specs.Data.{Data, Members, array, boolean, datetime, float, get_member, integer, string, table}
-use Rattle.ee_settings.specs.File.{Address, BreaksFirst, Entry, Field, GivesSchema, HasBadField, HasFields, HaveBadRange, HaveRisingKeys, IsEntryOf, IsFirstFault, IsSchemaOf, IsTableOf, IsTaken, Name, Range, Rule, entries_of, fields_of}
+use Rattle.ee_settings.specs.File.{Address, BreaksFirst, Entry, Field, GivesSchema, HasBadField, HasFields, HaveBadRange, HaveRisingKeys, IsEntryOf, IsFirstFault, IsSchemaOf, IsTableOf, IsTaken, Name, Range, Rule, entries_of, fields_of_numbers}
 use Rattle.ee_settings.specs.Setting.{AreProper, HaveRisingNames, Setting, is_name}
 use Rattle.ee_settings.specs.declared.fault.SchemaFault.{SchemaFault}
 use Rattle.ee_settings.specs.declared.fault.SchemaFault.TheVariants as fault
@@ -86,14 +86,14 @@ told_proper numbers =
       | inr none ↦ inr (λ proper. let h = proper.address.0 in omega arith)
     ]
 
-proper_range : (fields : Fields) (numbers : Numbers) → fields ≡ fields_of numbers → ((known : Numbers) × AreProper known × (fields ≡ fields_of known)) ⊎ HaveBadRange fields
+proper_range : (fields : Fields) (numbers : Numbers) → fields ≡ fields_of_numbers numbers → ((known : Numbers) × AreProper known × (fields ≡ fields_of_numbers known)) ⊎ HaveBadRange fields
 proper_range fields numbers is =
     elim (told_proper numbers) [
       | inl proper ↦ inl (numbers, proper, is)
       | inr outside ↦ inr (λ other proper e. outside (subst AreProper (sym (spelled_once numbers other (sym is ∙ e))) proper))
     ]
 
-told_range : (fields : Fields) → ((numbers : Numbers) × AreProper numbers × (fields ≡ fields_of numbers)) ⊎ HaveBadRange fields
+told_range : (fields : Fields) → ((numbers : Numbers) × AreProper numbers × (fields ≡ fields_of_numbers numbers)) ⊎ HaveBadRange fields
 told_range fields =
     elim (told_natural fields.address) [
       | inl address ↦ elim (told_natural fields.min) [
@@ -101,7 +101,7 @@ told_range fields =
           | inl max ↦ elim (told_natural fields.default) [
             | inl default ↦
                 let numbers : Numbers = record { address = address.0; min = min.0; max = max.0; default = default.0 } in
-                proper_range fields numbers (same_fields fields (fields_of numbers) address.1 min.1 max.1 default.1)
+                proper_range fields numbers (same_fields fields (fields_of_numbers numbers) address.1 min.1 max.1 default.1)
             | inr none ↦ inr (λ numbers proper e. none numbers.default (ap (λ (f : Fields). f.default) e))
           ]
           | inr none ↦ inr (λ numbers proper e. none numbers.max (ap (λ (f : Fields). f.max) e))

@@ -2,9 +2,9 @@
 use Rattle.std.specs.Prelude.{◌≡◌, ℕ, List, Result, Ok, Err}
 use Rattle.std.specs.List.{Contains}
 use Rattle.ee_flash.specs.Device.{Device, IsOff, IsOn}
-use Rattle.ee_store.specs.Calls.{Writes}
-use Rattle.ee_store.specs.State.{state_of}
-use Rattle.ee_store.specs.declared.variables.Written.{Written}
+use Rattle.ee_core.specs.Calls.{Writes}
+use Rattle.ee_core.specs.State.{state_of}
+use Rattle.ee_core.specs.declared.variables.Written.{Written}
 use Rattle.ee_settings.specs.Setting.{AreProper, IsInRange, Setting, reading_in}
 use Rattle.ee_settings.specs.declared.numbers.Numbers.{Numbers}
 use Rattle.ee_settings.specs.declared.reading.Reading.{Reading}

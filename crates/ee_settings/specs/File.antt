@@ -5,7 +5,7 @@ use Rattle.std.specs.List.{Contains}
 use Rattle.std.specs.List.Sorted.{IsStrictlySortedBy}
 use Rattle.std.specs.Ordering.{nat_cmp}
 use Rattle.toml.specs.Data.{Data, Members, get_member, integer, member, no_members, table}
-use Rattle.ee_settings.specs.Setting.{AreProper, HaveOwnAddresses, HaveRisingNames, IsName, IsProper, Setting}
+use Rattle.ee_settings.specs.Setting.{AreProper, HaveOwnAddresses, HaveRisingNames, IsName, IsProperSetting, Setting}
 use Rattle.ee_settings.specs.declared.numbers.Fields.{Fields}
 use Rattle.ee_settings.specs.declared.numbers.Numbers.{Numbers}
 use Rattle.ee_settings.specs.declared.fault.SchemaFault.{SchemaFault}
@@ -37,8 +37,8 @@ abbrev pub HaveRisingKeys : List Entry → Type 0
 HaveRisingKeys entries = IsStrictlySortedBy (slice_cmp nat_cmp) (map (λ entry. entry.0) entries)
 
 -- the four whole numbers that spell the numbers of a setting
-abbrev pub fields_of : Numbers → Fields
-fields_of numbers = record {
+abbrev pub fields_of_numbers : Numbers → Fields
+fields_of_numbers numbers = record {
   address = pos numbers.address;
   min = pos numbers.min;
   max = pos numbers.max;
@@ -48,8 +48,8 @@ fields_of numbers = record {
 -- an entry is the setting, with its name and its numbers
 pub record IsEntryOf (entry : Entry) (setting : Setting) : Type 0 where
   pub name : setting.name ≡ entry.0
-  pub numbers : IsTableOf entry.1 (fields_of setting.numbers)
-  pub proper : IsProper setting
+  pub numbers : IsTableOf entry.1 (fields_of_numbers setting.numbers)
+  pub proper : IsProperSetting setting
 
 -- each entry is the setting in the same place
 abbrev pub AreEntriesOf : List Entry → List Setting → Type 0
@@ -68,7 +68,7 @@ HasBadField value = (fields : Fields) → ¬ IsTableOf value fields
 
 -- these are not the numbers of a setting
 abbrev pub HaveBadRange : Fields → Type 0
-HaveBadRange fields = (numbers : Numbers) → AreProper numbers → fields ≢ fields_of numbers
+HaveBadRange fields = (numbers : Numbers) → AreProper numbers → fields ≢ fields_of_numbers numbers
 
 -- an earlier setting has the address
 abbrev pub IsTaken : List Setting → ℕ → Type 0

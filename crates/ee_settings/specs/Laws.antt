@@ -5,16 +5,16 @@ use Rattle.std.specs.List.Sorted.{IsStrictlySortedBy}
 use Rattle.std.specs.Ordering.{nat_cmp}
 use Rattle.ee_flash.specs.Device.{Device, IsFormed}
 use Rattle.ee_pages.specs.Meaning.{Forget, Map}
-use Rattle.ee_store.specs.Runs.{Call, IsWholeRun, changes_of}
-use Rattle.ee_store.specs.State.{state_of}
-use Rattle.ee_store.specs.declared.variables.Written.{Written}
-use Rattle.ee_store.specs.declared.variables.WriteFault.TheVariants as write
-use Rattle.ee_settings.specs.Listing.{IsSaid, IsToldOf, listed_in}
+use Rattle.ee_core.specs.Runs.{Call, IsWholeRun, changes_of_call}
+use Rattle.ee_core.specs.State.{state_of}
+use Rattle.ee_core.specs.declared.variables.Written.{Written}
+use Rattle.ee_core.specs.declared.variables.WriteFault.TheVariants as write
+use Rattle.ee_settings.specs.Listing.{IsListedSo, IsToldOf, listed_in}
 use Rattle.ee_settings.specs.Setting.{IsSchema, Setting, has_address, reading_in}
 use Rattle.ee_settings.specs.Stale.{IsStale, stale_in}
 use Rattle.ee_settings.specs.declared.listing.Listed.{Listed}
 use Rattle.ee_settings.specs.declared.stale.Stale.{Stale}
-use Rattle.ee_settings.specs.Tidying.{IsSpentAmong, Tidies, after_forgettings, kept, unnamed_in}
+use Rattle.ee_settings.specs.Tidying.{IsSpentAmong, Tidies, after_forgettings, kept_map, unnamed_in}
 use Rattle.toml.specs.Data.{Members}
 use Rattle.ee_settings.specs.Calls.{IsNamed, Sets}
 use Rattle.ee_settings.specs.File.{GivesSchema, HaveRisingKeys, entries_of}
@@ -101,7 +101,7 @@ StaleIsExact = (settings : List Setting) (stored : Map) → IsStaleExact setting
 -- setting is listed.
 pub record IsListedExact (settings : List Setting) (stored : Map) : Type 0 where
   pub rising : IsStrictlySortedBy nat_cmp (map (λ (listed : Listed). listed.address) (listed_in settings stored))
-  pub each : All (IsSaid settings stored) (listed_in settings stored)
+  pub each : All (IsListedSo settings stored) (listed_in settings stored)
   pub all : (address : ℕ) → IsToldOf settings stored address
       → (listed : Listed) × (listed.address ≡ address) × Contains (listed_in settings stored) listed
 
@@ -125,7 +125,7 @@ TidyTakesTheUnnamed = (settings : List Setting) (old new : Device) (answer : Res
 -- Tidied to the end, a store has the values of the settings' addresses and no others.
 abbrev pub TidyLeavesTheNamed : Type 0
 TidyLeavesTheNamed = (settings : List Setting) (old new : Device) (count : ℕ) → Tidies settings old (Ok count) new
-    → (address : ℕ) → (state_of new).map address ≡ kept settings (state_of old).map address
+    → (address : ℕ) → (state_of new).map address ≡ kept_map settings (state_of old).map address
 
 -- Its state is what those forgettings make of the state before: so far used, of this generation, and so many pages waiting.
 abbrev pub TidyLeavesThisState : Type 0
@@ -136,7 +136,7 @@ TidyLeavesThisState = (settings : List Setting) (old new : Device) (count : ℕ)
 abbrev pub TidyIsARun : Type 0
 TidyIsARun = (settings : List Setting) (old new : Device) (count : ℕ) → Tidies settings old (Ok count) new
     → (calls : List Call) × IsWholeRun calls old new
-    × (flat_map changes_of calls ≡ map Forget (unnamed_in settings (state_of old).map)) × (length calls ≡ count)
+    × (flat_map changes_of_call calls ≡ map Forget (unnamed_in settings (state_of old).map)) × (length calls ≡ count)
 
 -- It is spent exactly where one of the forgettings is.
 abbrev pub TidyIsSpent : Type 0

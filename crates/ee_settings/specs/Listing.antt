@@ -63,8 +63,8 @@ IsSaidOf settings stored address (Some entry) held =
     (setting : Setting) × (entry_of settings entry ≡ Some setting) × (setting.numbers.address ≡ address)
     × IsHeld setting.numbers (stored address) held
 
-abbrev pub IsSaid : List Setting → Map → Listed → Type 0
-IsSaid settings stored listed =
+abbrev pub IsListedSo : List Setting → Map → Listed → Type 0
+IsListedSo settings stored listed =
     IsAddress listed.address × IsSaidOf settings stored listed.address listed.entry listed.held
 
 -- why nothing is listed: the device is off; or memory ran out

@@ -53,7 +53,7 @@ pub record AreProper (numbers : Numbers) : Type 0 where
   pub max : numbers.max < 2 ^ 32
   pub default : IsInRange numbers numbers.default
 
-pub record IsProper (setting : Setting) : Type 0 where
+pub record IsProperSetting (setting : Setting) : Type 0 where
   pub name : IsName setting.name
   pub numbers : AreProper setting.numbers
 

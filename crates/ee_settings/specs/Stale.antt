@@ -1,7 +1,7 @@
 -- Entries of a schema, and those whose stored value isn't in their range.
 use Rattle.std.specs.Prelude.{◌≡◌, ◌+◌, ℕ, zero, suc, List, [], ◌∷◌, ◌++◌, if◌then◌else◌, Option, Some, None, slice_get}
 use Rattle.ee_flash.specs.Device.{Device, IsOff, IsOn}
-use Rattle.ee_pages.specs.Meaning.{Map, Put, changed}
+use Rattle.ee_pages.specs.Meaning.{Map, Put, map_after}
 use Rattle.ee_settings.specs.Setting.{IsInRange, Setting, is_in_range}
 use Rattle.ee_settings.specs.declared.fault.StaleFault.{StaleFault}
 use Rattle.ee_settings.specs.declared.fault.StaleFault.TheVariants as fault
@@ -48,4 +48,4 @@ IsStaleFault device fault.Memory = IsOn device
 -- a map with these addresses put too, each with its value
 abbrev pub with_found : List (ℕ × ℕ) → Map → Map
 with_found [] stored = stored
-with_found (found ∷ more) stored = with_found more (changed (Put found.0 found.1) stored)
+with_found (found ∷ more) stored = with_found more (map_after (Put found.0 found.1) stored)

@@ -4,12 +4,12 @@ use Rattle.std.specs.List.{flat_map}
 use Rattle.ee_flash.specs.Device.{Device, IsOff, IsOn}
 use Rattle.ee_flash.specs.Size.{Size, slot_count}
 use Rattle.ee_pages.specs.Meaning.{Forget, Map}
-use Rattle.ee_store.specs.Calls.{Forgets}
-use Rattle.ee_store.specs.Changes.{IsSpent}
-use Rattle.ee_store.specs.State.{State, appended, moved, state_of}
-use Rattle.ee_store.specs.declared.variables.ForgetFault.{ForgetFault}
-use Rattle.ee_store.specs.declared.variables.ForgetFault.TheVariants as forget
-use Rattle.ee_store.specs.declared.variables.Written.{Written}
+use Rattle.ee_core.specs.Calls.{Forgets}
+use Rattle.ee_core.specs.Changes.{IsSpent}
+use Rattle.ee_core.specs.State.{State, appended_state, moved_state, state_of}
+use Rattle.ee_core.specs.declared.variables.ForgetFault.{ForgetFault}
+use Rattle.ee_core.specs.declared.variables.ForgetFault.TheVariants as forget
+use Rattle.ee_core.specs.declared.variables.Written.{Written}
 use Rattle.ee_settings.specs.Setting.{Setting, has_address}
 use Rattle.ee_settings.specs.declared.fault.TidyFault.{TidyFault}
 use Rattle.ee_settings.specs.declared.fault.TidyFault.TheVariants as tidy
@@ -35,7 +35,7 @@ ForgetsEach (address ∷ addresses) old new =
     (written : Written) × (between : Device) × Forgets old address (Ok written) between × ForgetsEach addresses between new
 
 -- a front of these addresses was forgotten, and the forgetting of the next one was answered with this fault
-pub record StopsAt (addresses : List ℕ) (fault : ForgetFault) (old new : Device) : Type 0 where
+pub record StopsForgetting (addresses : List ℕ) (fault : ForgetFault) (old new : Device) : Type 0 where
   pub front : List ℕ
   pub address : ℕ
   pub rest : List ℕ
@@ -46,8 +46,8 @@ pub record StopsAt (addresses : List ℕ) (fault : ForgetFault) (old new : Devic
 
 -- these addresses were not forgotten to the end
 abbrev pub Stops : List ℕ → Device → TidyFault → Device → Type 0
-Stops addresses old tidy.Spent new = StopsAt addresses forget.Spent old new
-Stops addresses old tidy.Cut new = StopsAt addresses forget.Cut old new
+Stops addresses old tidy.Spent new = StopsForgetting addresses forget.Spent old new
+Stops addresses old tidy.Cut new = StopsForgetting addresses forget.Cut old new
 Stops addresses old tidy.Off new = ⊥
 
 -- The addresses with a value that no setting has were forgotten, by rising address, and the answer is how many; or the
@@ -60,15 +60,15 @@ Tidies settings old (Err tidy.Off) new = IsOff old × (new ≡ old)
 Tidies settings old (Err fault) new = Stops (unnamed_in settings (state_of old).map) old fault new
 
 -- what is left of a map for these settings: the values of their addresses
-abbrev pub kept : List Setting → Map → Map
-kept settings map address = if has_address settings address then map address else None
+abbrev pub kept_map : List Setting → Map → Map
+kept_map settings map address = if has_address settings address then map address else None
 
 -- ---- when the store is spent
 
 -- what forgetting an address leaves: appended, or moved where no slot is free
 abbrev pub after_forgetting : Size → ℕ → State → State
 after_forgetting size address state =
-    if state.fill == slot_count size then moved size.pages (Forget address) state else appended (Forget address) state
+    if state.fill == slot_count size then moved_state size.pages (Forget address) state else appended_state (Forget address) state
 
 -- and what forgetting these leaves, one after another
 abbrev pub after_forgettings : Size → List ℕ → State → State

@@ -1,4 +1,4 @@
-use ee_store::WriteFault;
+use ee_core::WriteFault;
 
 /// Why a table is no schema: the first entry with a fault, by rising name in the order of bytes,
 /// and its first fault. Entries are counted from 1.

@@ -11,6 +11,25 @@
 //! The layers above may use: a table is read exactly by the rules, or its first fault is named; a
 //! setting is its stored value in range, else its default; what is set is then read, and no other
 //! name's reading changes; tidying leaves the values of the settings' addresses and no others.
+//!
+//! # What is proved
+//!
+//! `Schema::from_table` accepts exactly the tables that the rules allow, with the settings that
+//! they spell, or names the first entry with a fault, by rising name, and its first fault; `get`
+//! gives the stored value if there is one in range, and else the default; `set` is a write of the
+//! name's address, and an unknown name or a value out of range changes nothing. `entries` and
+//! `name` tell the settings, by rising name. Of a schema that came later than the image, `stale`
+//! and `stale_values` give exactly the entries whose stored value is out of range, and `tidy`
+//! forgets the addresses that have a value and no setting, by rising address, and says how many;
+//! refused or cut, it has forgotten a front of them. `list` tells what each address has by its
+//! setting's range and default (`listed`). `laws`: what is listed rises by address, says of each
+//! what is so, and leaves out none that has a value or a setting; each table is a schema or has a
+//! first fault, one at most, and never both; a name has one setting; what was set is read, and
+//! every other name reads as before, also where the write moved the map; after a cut it is read or
+//! reads as before, and the others as before; every other refusal leaves the device as it was; the
+//! stale entries that are told are rising, and exactly those that are; tidying changes no reading,
+//! whatever it answers, takes values of addresses alone that no setting has, leaves none of these
+//! at its end, is a run of forgettings, and is spent exactly where one of them is.
 #![tactic(auto)]
 
 mod entry;
@@ -27,6 +46,8 @@ mod tidying;
 
 pub use fault::{GetFault, ListFault, SchemaFault, SetFault, StaleFault, TidyFault};
 pub use listing::{Held, Listed};
+pub use numbers::Numbers;
 pub use reading::Reading;
 pub use schema::Schema;
+pub use setting::Setting;
 pub use stale::Stale;

@@ -2,7 +2,7 @@ ghost use Rattle.std.specs.Prelude.{◌≡◌, ◌++◌, IfOk, IfErr, OnOk};
 ghost use Rattle.std.specs.BTreeMap.{get};
 ghost use Rattle.std.specs.Ordering.{nat_cmp};
 ghost use Rattle.ee_flash.specs.Device.{IsOn};
-ghost use Rattle.ee_store.specs.State.{state_of};
+ghost use Rattle.ee_core.specs.State.{state_of};
 ghost use Rattle.ee_settings.specs.Listing.{IsListFault, held_by, listed_in, listed_of, named_in};
 
 use crate::fault::ListFault;
@@ -12,7 +12,7 @@ use crate::schema::Schema;
 use crate::setting::Setting;
 use crate::stale::stored_values;
 use ee_codec::Address;
-use ee_store::Variables;
+use ee_core::Variables;
 use std::alloc::{AllocError, Allocator};
 use std::collections::BTreeMap;
 

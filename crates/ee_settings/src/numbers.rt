@@ -1,8 +1,7 @@
 ghost use Rattle.std.specs.Prelude.{◌≡◌, IfSome, IfNone, option_and_then};
 ghost use Rattle.toml.specs.Data.{as_integer, get_member};
 ghost use Rattle.toml.specs.View.{table_view, view};
-ghost use Rattle.ee_settings.specs.File.{HasBadField, HasFields, HaveBadRange};
-ghost use Rattle.ee_settings.specs.File.{IsTableOf, fields_of};
+ghost use Rattle.ee_settings.specs.File.{HasBadField, HasFields, HaveBadRange, IsTableOf, fields_of_numbers};
 ghost use Rattle.ee_settings.specs.Setting.{AreProper};
 ghost use Rattle.ee_settings.specs.declared.numbers.Fields.{Fields};
 
@@ -20,13 +19,19 @@ pub(crate) struct Fields {
     pub(crate) default: i64,
 }
 
-/// The numbers of a setting.
+/// The numbers of a setting: `min` to `max` is its range, and `default` is in it.
+///
+/// Source: ours.
 #[derive(Clone, Copy)]
-pub(crate) struct Numbers {
-    pub(crate) address: Address,
-    pub(crate) min: u32,
-    pub(crate) max: u32,
-    pub(crate) default: u32,
+pub struct Numbers {
+    /// Where its value is stored.
+    pub address: Address,
+    /// The least value that it may have.
+    pub min: u32,
+    /// The greatest value that it may have.
+    pub max: u32,
+    /// What it reads as without a value in the range.
+    pub default: u32,
 }
 
 impl Numbers {
@@ -104,7 +109,7 @@ fn whole_number(table: &Table, key: &str) -> Option<i64>
 
 /// The same as the numbers of a setting, if they are in their ranges.
 pub(crate) fn checked(fields: Fields) -> Option<Numbers>
-    ensures found { IfSome result (λ numbers. fields ≡ fields_of numbers) }
+    ensures found { IfSome result (λ numbers. fields ≡ fields_of_numbers numbers) }
     ensures proper { IfSome result AreProper }
     ensures none { IfNone result (HaveBadRange fields) }
 {

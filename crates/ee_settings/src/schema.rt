@@ -7,8 +7,9 @@ use crate::entry::read_entries;
 use crate::fault::{GetFault, SchemaFault, SetFault};
 use crate::numbers::Numbers;
 use crate::reading::Reading;
+use crate::setting::Setting;
 use crate::settings::Settings;
-use ee_store::{Variables, Written};
+use ee_core::{Variables, Written};
 use std::alloc::{Allocator, Global};
 use std::marker::Model;
 use toml::Table;
@@ -154,6 +155,15 @@ impl<A: Allocator> Schema<A> {
     }
 
     /// The settings, by rising name.
+    ///
+    /// Source: ours.
+    pub fn as_slice(&self) -> &[Setting<A>]
+        ensures { result.now ≡ self.now }
+    {
+        self.settings.as_slice()
+    }
+
+    /// The settings, by rising name.
     pub(crate) fn settings(&self) -> &Settings<A>
         ensures { result.now ≡ self.now }
     {
@@ -161,7 +171,9 @@ impl<A: Allocator> Schema<A> {
     }
 
     /// The numbers of the setting of this name, if there is one.
-    fn find(&self, name: &str) -> Option<Numbers>
+    ///
+    /// Source: ours.
+    pub fn find(&self, name: &str) -> Option<Numbers>
         ensures found { IfSome result (IsNumbersOf self.now name.now) }
         ensures none { IfNone result (IsUnknown self.now name.now) }
     {

@@ -7,26 +7,28 @@ use std::alloc::Allocator;
 use std::marker::Model;
 
 /// A value under a name.
+///
+/// Source: ours.
 #[derive(Drop)]
-pub(crate) struct Setting<A: Allocator> {
+pub struct Setting<A: Allocator> {
     name: String<A>,
     numbers: Numbers,
 }
 
 impl<A: Allocator> Model for Setting<A> {
     ghost use Rattle.std.specs.Prelude.{string_bytes};
-    ghost use Rattle.ee_settings.specs.Setting.{IsProper, Setting};
+    ghost use Rattle.ee_settings.specs.Setting.{IsProperSetting, Setting};
 
     ghost Value = { Setting };
 
     ghost view = { λ s. record { name = string_bytes s.name; numbers = s.numbers } };
 
-    ghost invariant = { λ s. IsProper record { name = string_bytes s.name; numbers = s.numbers } };
+    ghost invariant = { λ s. IsProperSetting record { name = string_bytes s.name; numbers = s.numbers } };
 }
 
 impl<A: Allocator> Setting<A> {
     ghost use Rattle.std.specs.Prelude.{string_bytes};
-    ghost use Rattle.ee_settings.specs.Setting.{AreProper, IsName, IsProper};
+    ghost use Rattle.ee_settings.specs.Setting.{AreProper, IsName, IsProperSetting};
 
     /// A setting of a proper name and proper numbers.
     pub(crate) fn new(name: String<A>, numbers: Numbers) -> Setting<A>
@@ -37,16 +39,22 @@ impl<A: Allocator> Setting<A> {
         Setting { name, numbers }
     }
 
-    pub(crate) fn name(&self) -> &str
+    /// What it is called.
+    ///
+    /// Source: ours.
+    pub fn name(&self) -> &str
         ensures name { result.now ≡ self.now.name }
-        ensures proper { IsProper self.now }
+        ensures proper { IsProperSetting self.now }
     {
         self.name.as_str()
     }
 
-    pub(crate) fn numbers(&self) -> Numbers
+    /// Its numbers.
+    ///
+    /// Source: ours.
+    pub fn numbers(&self) -> Numbers
         ensures numbers { result ≡ self.now.numbers }
-        ensures proper { IsProper self.now }
+        ensures proper { IsProperSetting self.now }
     {
         self.numbers
     }

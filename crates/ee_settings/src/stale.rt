@@ -2,7 +2,7 @@ ghost use Rattle.std.specs.Prelude.{◌≡◌, ◌++◌, IfOk, IfErr, OnOk, map}
 ghost use Rattle.std.specs.BTreeMap.{get};
 ghost use Rattle.std.specs.Ordering.{nat_cmp};
 ghost use Rattle.ee_flash.specs.Device.{IsOn};
-ghost use Rattle.ee_store.specs.State.{state_of};
+ghost use Rattle.ee_core.specs.State.{state_of};
 ghost use Rattle.ee_settings.specs.Stale.{IsStaleFault, stale_at, stale_in, with_found};
 
 use crate::fault::StaleFault;
@@ -10,7 +10,7 @@ use crate::numbers::Numbers;
 use crate::reading::Reading;
 use crate::schema::Schema;
 use ee_codec::Address;
-use ee_store::Variables;
+use ee_core::Variables;
 use std::alloc::{AllocError, Allocator};
 use std::collections::BTreeMap;
 

@@ -1,14 +1,14 @@
 ghost use Rattle.std.specs.Prelude.{◌≡◌, ◌≢◌, ℕ, None, IfOk, IfErr, OnOk, length};
 ghost use Rattle.ee_flash.specs.Device.{IsOn};
 ghost use Rattle.ee_pages.specs.Meaning.{AreNextLive};
-ghost use Rattle.ee_store.specs.State.{state_of};
+ghost use Rattle.ee_core.specs.State.{state_of};
 ghost use Rattle.ee_settings.specs.Tidying.{ForgetsEach, Stops, Tidies, unnamed_among, unnamed_of};
 
 use crate::fault::TidyFault;
 use crate::schema::Schema;
 use crate::settings::Settings;
 use ee_codec::Address;
-use ee_store::{ForgetFault, Variables};
+use ee_core::{ForgetFault, Variables};
 use std::alloc::Allocator;
 
 impl<A: Allocator> Schema<A> {

@@ -1,46 +1,16 @@
-//! The store: a map of addresses to values in a flash device, over every device that keeps the step
-//! outcomes, with power cuts in the contract of each call.
+//! The store: a map of addresses to values in a flash device, through power cuts.
 //!
-//! `specs/State.antt` says what a store is to its users, `specs/Changes.antt` and `specs/Calls.antt`
-//! what each call answers and leaves, cuts included, `specs/Openings.antt` and `specs/Starts.antt` how a store comes to be,
-//! `specs/Finished.antt` which marks an opening sets, `specs/Picture.antt` how the image is drawn that
-//! a call leaves, and `specs/Events.antt` and `specs/Outcome.antt` what becomes of a list of events,
-//! power cuts and openings among them.
-//!
-//! The layers above may use: the contract of `Variables`, which is one relation for each call over
-//! the device before and after; `open`, `format` and `start`; that a store's image is legal, always;
-//! `count_pending`, of a device on which no store is open too; and `drive`, by which a test bench, a
-//! simulator or a fuzzer drives a store through power cuts. `Store` takes no memory,
-//! `drive` takes some for its answers, and `IndexedStore` keeps an index of the live addresses
-//! (`specs/Index.antt`).
+//! Three crates have it: `ee_core` the store itself, its contract `Variables` and how it comes to be;
+//! `ee_index` a store that keeps an index in memory; `ee_bench` what drives a store by a list of events
+//! through power cuts and openings. The last two stand side by side on the first, and a layer above
+//! waits for those alone that it names.
 #![tactic(auto)]
 
-mod change;
-mod changing;
-mod cleaning;
-mod copying;
-mod driving;
-mod event;
-mod first_start;
-mod formatting;
-mod index;
-mod index_changing;
-mod indexed;
 pub mod laws;
-mod live_cursor;
-mod marking;
-mod moving;
-mod opening;
-mod store;
-mod variables;
-mod writing;
 
-pub use cleaning::count_pending;
-pub use driving::drive;
-pub use ee_pages::LiveBatch;
-pub use event::{Answer, Driven, Event};
-pub use first_start::start;
-pub use indexed::{IndexedFault, IndexedStore};
-pub use opening::{OpenFault, format, open};
-pub use store::Store;
-pub use variables::{ForgetFault, Off, Variables, WriteFault, Written};
+pub use ee_bench::{Answer, Driven, Event, drive};
+pub use ee_core::{
+    ForgetFault, LiveBatch, Off, OpenFault, Store, Variables, WriteFault, Written, count_pending,
+    format, open, start,
+};
+pub use ee_index::{IndexedFault, IndexedStore};

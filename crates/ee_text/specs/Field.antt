@@ -14,8 +14,8 @@ abbrev pub IsField : List ℕ → Type 0
 IsField text = Lacks space text
 
 -- the fields in a row, with a space between each two
-abbrev pub joined : List (List ℕ) → List ℕ
-joined fields = join_with_byte space fields
+abbrev pub joined_fields : List (List ℕ) → List ℕ
+joined_fields fields = join_with_byte space fields
 
 -- the parts of a line between its spaces
 abbrev pub fields_of : List ℕ → List (List ℕ)

@@ -1,7 +1,7 @@
 -- What holds of every text: how numbers, fields and lines are told from one another.
 use Rattle.std.specs.Prelude.{◌≡◌, ℕ, ◌<◌, ◌≤◌, ◌^◌, List, ◌∷◌, length, decimal}
 use Rattle.std.specs.List.{AllByRecursion}
-use Rattle.ee_text.specs.Field.{IsField, joined}
+use Rattle.ee_text.specs.Field.{IsField, joined_fields}
 use Rattle.ee_text.specs.Line.{IsLine, lines_of}
 
 -- two numbers are never written alike
@@ -21,11 +21,11 @@ NumbersAreFields = (n : ℕ) → n < 2 ^ 64 → IsNumberField (decimal n)
 -- a row of fields is of these fields and no others
 abbrev pub RowsTellFields : Type 0
 RowsTellFields = (first other : List ℕ) (firsts others : List (List ℕ)) → AllByRecursion IsField (first ∷ firsts) → AllByRecursion IsField (other ∷ others)
-    → joined (first ∷ firsts) ≡ joined (other ∷ others) → ◌≡◌ {A = List (List ℕ)} (first ∷ firsts) (other ∷ others)
+    → joined_fields (first ∷ firsts) ≡ joined_fields (other ∷ others) → ◌≡◌ {A = List (List ℕ)} (first ∷ firsts) (other ∷ others)
 
 -- fields with no line feed stand in a line
 abbrev pub FieldsMakeALine : Type 0
-FieldsMakeALine = (fields : List (List ℕ)) → AllByRecursion IsLine fields → IsLine (joined fields)
+FieldsMakeALine = (fields : List (List ℕ)) → AllByRecursion IsLine fields → IsLine (joined_fields fields)
 
 -- a text of lines is of these lines and no others
 abbrev pub TextsTellLines : Type 0

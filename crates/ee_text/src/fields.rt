@@ -2,7 +2,7 @@
 ghost use Rattle.std.specs.Prelude.{◌≡◌, ◌++◌, ◌∷◌, ℕ, List, IfSome, IfNone};
 ghost use Rattle.std.specs.Iterator.{YieldsFirstRef, item_count};
 ghost use Rattle.std.specs.List.{AllByRecursion};
-ghost use Rattle.ee_text.specs.Field.{IsField, joined, space};
+ghost use Rattle.ee_text.specs.Field.{IsField, joined_fields, space};
 
 use crate::cuts::cut_at_first;
 
@@ -31,10 +31,10 @@ impl<'a> Fields<'a> {
     /// The fields of the line, of which there is at least one.
     #[tactic(auto, using(crate::proofs::Parting::parting))]
     pub fn of(line: &'a [u8]) -> Fields<'a>
-        ensures found { line.now ≡ joined (fields_left result) }
+        ensures found { line.now ≡ joined_fields (fields_left result) }
         ensures each { AllByRecursion IsField (fields_left result) }
         ensures only { (first : List ℕ) (others : List (List ℕ)) → AllByRecursion IsField (first ∷ others) →
-            line.now ≡ joined (first ∷ others) → fields_left result ≡ first ∷ others }
+            line.now ≡ joined_fields (first ∷ others) → fields_left result ≡ first ∷ others }
     {
         Fields { rest: Some(line) }
     }

@@ -2,12 +2,18 @@
 //!
 //! A line is its bytes and a line feed. Its fields stand one space apart. A number is decimal, with no
 //! sign and no zero in front. Each is stated by its spelling, in `specs/`: std's `decimal n` for a number,
-//! `joined fields` for a row of fields, `line_of text` for a line. What is read is spelled so, and what is
-//! spelled so is read. Nothing here allocates but `push_number`.
+//! `joined_fields fields` for a row of fields, `line_of text` for a line. What is read is spelled
+//! so, and what is spelled so is read. Nothing here allocates but `push_number` and `push_number_behind`.
 //!
 //! The layers above read with `next_line`, `Fields` or `next_field`, `number` and `leading_number`. They write with
-//! `push_number` and std's `extend_from_slice`. Their proofs may use the lemmas of `proofs/`: `Joining`,
+//! `push_number`, `push_number_behind` and std's `extend_from_slice`. Their proofs may use the lemmas of `proofs/`: `Joining`,
 //! `LineFeeds`, `NumberText`, `Parting` and `Lacking`. The module `laws` says what they come to.
+//!
+//! # What is proved
+//!
+//! `number`, `number_up_to`, `Fields::of`, `next_field`, `next_line` read exactly what is spelled
+//! so (`found`, `only`, and their like), `push_number` writes it or leaves its buffer as it was
+//! (`ok`, `err`), `push_number_behind` with words before it; `laws`: numbers, rows of fields and texts of lines are told apart by their bytes.
 #![tactic(auto)]
 
 mod cuts;
@@ -18,4 +24,4 @@ mod numbers;
 
 pub use fields::{Fields, next_field};
 pub use lines::next_line;
-pub use numbers::{leading_number, number, number_up_to, push_number};
+pub use numbers::{leading_number, number, number_up_to, push_number, push_number_behind};

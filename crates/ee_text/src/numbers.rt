@@ -2,6 +2,7 @@
 ghost use Rattle.std.specs.Prelude.{◌≡◌, ℕ, ◌^◌, ◌<◌, ◌≤◌, ◌++◌, List, ◌⊎◌, IfNone, IfSome, IsSomeAnd, OnOk, OnErr, Some, decimal, drop, length, slice_index};
 ghost use Rattle.std.specs.Bool.{OnFalse, OnTrue};
 ghost use Rattle.std.specs.Option.{SomeIff};
+ghost use Rattle.ee_text.specs.Line.{IsLonger};
 ghost use Rattle.ee_text.specs.Number.{IsWorth, StartsWithNoDigit};
 ghost use Rattle.std.specs.Str.Parse.{AllDigits, digits_value};
 
@@ -62,6 +63,20 @@ pub fn push_number<A: Allocator>(out: &mut Vec<u8, A>, n: u64) -> Result<(), All
     ensures err { OnErr result (out.new.items ≡ out.old.items) }
 {
     out.extend_from_slice(Buffer::new().format(n).as_bytes())
+}
+
+/// Writes the words, and the number behind them, at the end. After an error there may be a part of
+/// them.
+pub fn push_number_behind<A: Allocator>(
+    out: &mut Vec<u8, A>,
+    words: &[u8],
+    n: u64,
+) -> Result<(), AllocError>
+    ensures ok { OnOk result (out.new.items ≡ out.old.items ++ (words.now ++ decimal n)) }
+    ensures err { OnErr result (IsLonger out.old.items out.new.items) }
+{
+    out.extend_from_slice(words)?;
+    push_number(out, n)
 }
 
 // What the digits are worth. None where a byte is no digit, or the number is above `u64::MAX`.

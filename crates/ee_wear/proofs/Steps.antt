@@ -6,10 +6,10 @@ use Rattle.std.proofs.lemmas.List.{get_or-set_same, get_or-set_other, length-set
 use Rattle.std.proofs.lemmas.List.Sums.{sum_by-set}
 use Rattle.ee_flash.specs.Device.{Device, IsOn, all_ones, wear_at}
 use Rattle.ee_flash.specs.Laws.{IsStep}
-use Rattle.ee_flash.specs.Step.{Step, Program, Erase, MayFollow, completed, one_more}
+use Rattle.ee_flash.specs.Step.{Step, Program, Erase, MayFollow, device_after, one_more}
 use Rattle.ee_wear.specs.Since.{NoneFell}
 
-wear_is : (step : Step) (old new : Device) → MayFollow step old new → (new.wear ≡ old.wear) ⊎ (new.wear ≡ (completed step old).wear)
+wear_is : (step : Step) (old new : Device) → MayFollow step old new → (new.wear ≡ old.wear) ⊎ (new.wear ≡ (device_after step old).wear)
 wear_is step old new (inl done) = inr (ap (λ (device : Device). device.wear) done.done)
 wear_is step old new (inr (inl cut)) = inr cut.wear
 wear_is step old new (inr (inr untouched)) = inl (ap (λ (device : Device). device.wear) untouched.same)
@@ -26,7 +26,7 @@ NoneFell-set old new page more within grown is = rw is record {
   ];
 }
 
-wear_stays : (step : Step) (old new : Device) → IsStep step old new → (new.wear ≡ old.wear) ⊎ (new.wear ≡ (completed step old).wear) → NoneFell old.wear new.wear
+wear_stays : (step : Step) (old new : Device) → IsStep step old new → (new.wear ≡ old.wear) ⊎ (new.wear ≡ (device_after step old).wear) → NoneFell old.wear new.wear
 wear_stays step old new taken (inl same) = NoneFell-same old.wear new.wear same
 wear_stays (Program page at value) old new taken (inr same) = NoneFell-same old.wear new.wear same
 wear_stays (Erase page) old new taken (inr more) =
@@ -48,7 +48,7 @@ one_more-set old new page within below is =
     let raised = sum_by-set (λ n. n) old page (one_more (get_or old page 0)) 0 within in
     rw is (omega (arith, raised))
 
-wear_of_erase : (page : ℕ) (old new : Device) → MayFollow (Erase page) old new → IsOn old → new.wear ≡ (completed (Erase page) old).wear
+wear_of_erase : (page : ℕ) (old new : Device) → MayFollow (Erase page) old new → IsOn old → new.wear ≡ (device_after (Erase page) old).wear
 wear_of_erase page old new (inl done) on = ap (λ (device : Device). device.wear) done.done
 wear_of_erase page old new (inr (inl cut)) on = cut.wear
 wear_of_erase page old new (inr (inr untouched)) on = cc

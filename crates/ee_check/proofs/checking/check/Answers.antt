@@ -1,9 +1,9 @@
 use Rattle.ee_check.proofs.Flaws.{Answers, answers_for, bound_answered, certificate_answered, cause_answered}
-use Rattle.ee_check.specs.Certificate.{claim_of, IsHeader}
+use Rattle.ee_check.specs.Certificate.{claim_of, IsCertificateHeader}
 use Rattle.ee_check.proofs.checking.check.Given
 use Rattle.ee_check.proofs.checking.check.Goals as goal
 
-header : (g : Given.Over) (c : goal.After-check_stretches g) → IsHeader c.args.start.now c.args.trace.now (claim_of c.args.certificate.now)
+header : (g : Given.Over) (c : goal.After-check_stretches g) → IsCertificateHeader c.args.start.now c.args.trace.now (claim_of c.args.certificate.now)
 header g c = c.has_header.ensures.header.0 c.if-not-has_header.false
 
 answers : (g : Given.Over) (c : goal.After-check_stretches g) → Answers c.args.start.now c.args.trace.now (claim_of c.args.certificate.now) c.check_stretches.result

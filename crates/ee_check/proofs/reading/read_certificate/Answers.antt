@@ -2,7 +2,7 @@ use Rattle.std.proofs.Common.{◌⊎◌, ◌≡◌, ap, ◌∙◌, rules}
 use Rattle.ee_text.specs.Line.{line_of}
 use Rattle.ee_check.specs.declared.reading.TextFault.TheVariants.{BadText, Memory}
 use Rattle.ee_check.specs.Certificate.{Claim, claim_of}
-use Rattle.ee_check.specs.Text.{IsTextFault, IsText, IsClaim, ending}
+use Rattle.ee_check.specs.Text.{IsCertificateTextFault, IsText, IsClaim, ending}
 use Rattle.ee_check.proofs.Fields.{passed_on, error_passed_on}
 use Rattle.ee_check.proofs.Texts.{front_read, text_read, fault_behind, text_answered, bad_line_answered, one_text_lem, texts_are_good_lem}
 use Rattle.ee_check.proofs.reading.read_certificate.Given
@@ -18,7 +18,7 @@ refused g c = record {
   stretches = c.in_ok-stretches.stretches.items;
 }
 
-wrong : (g : Given.Over) (c : goal.After-drop-stretches g) → IsTextFault c.args.text.now c.in_err-check_ending.field-0.0
+wrong : (g : Given.Over) (c : goal.After-drop-stretches g) → IsCertificateTextFault c.args.text.now c.in_err-check_ending.field-0.0
 unfolding refused
 wrong g c =
     let proper : IsClaim (refused g c) = record {
@@ -35,7 +35,7 @@ wrong g c =
 
 pub returns-in_err-check_ending-clause-fault : goal.returns-in_err-check_ending-clause-fault
 returns-in_err-check_ending-clause-fault g c =
-    passed_on c.from_residual-in_err-check_ending.result c.in_err-check_ending.field-0.0 (IsTextFault c.args.text.now) c.from_residual-in_err-check_ending.ensures.1 (wrong g c)
+    passed_on c.from_residual-in_err-check_ending.result c.in_err-check_ending.field-0.0 (IsCertificateTextFault c.args.text.now) c.from_residual-in_err-check_ending.ensures.1 (wrong g c)
 
 pub returns-in_err-check_ending-clause-only : goal.returns-in_err-check_ending-clause-only
 returns-in_err-check_ending-clause-only g c = λ claim is.

@@ -1,5 +1,6 @@
 use Rattle.std.proofs.Common.{take}
-use Rattle.ee_check.specs.Text.{stretch_lines, IsLonger}
+use Rattle.ee_text.specs.Line.{IsLonger}
+use Rattle.ee_check.specs.Text.{stretch_lines}
 use Rattle.ee_check.proofs.Fields.{on_err_anyway}
 use Rattle.ee_check.proofs.Texts.{longer_still}
 use Rattle.ee_check.proofs.writing.push_stretches.Goals as goal

@@ -1,7 +1,6 @@
 use Rattle.std.proofs.Common.{◌++◌, take, rules}
-use Rattle.ee_text.specs.Line.{line_of}
+use Rattle.ee_text.specs.Line.{line_of, IsLonger}
 use Rattle.ee_image.specs.Text.{page_lines, size_text}
-use Rattle.ee_image.specs.Reading.{IsLonger}
 use Rattle.ee_image.proofs.Growing.{image_grows, longer_still, on_err_anyway}
 use Rattle.ee_image.proofs.writing.push_lines.Goals as goal
 

@@ -1,7 +1,7 @@
 use Rattle.std.proofs.Common.{◌≡◌, ◌<◌, ◌++◌, ◌∷◌, [], take, rules}
+use Rattle.ee_text.specs.Line.{IsLonger}
 use Rattle.ee_flash.specs.Device.{page_at, wear_at}
 use Rattle.ee_image.specs.Text.{page_text}
-use Rattle.ee_image.specs.Reading.{IsLonger}
 use Rattle.ee_image.proofs.Growing.{longer, longer_still, on_err_anyway, page_grows}
 use Rattle.ee_image.proofs.writing.push_page.Goals as goal
 

@@ -3,9 +3,9 @@ use Rattle.std.proofs.Common.{◌≡◌, ◌∙◌, ◌*◌, ◌+◌, ◌-◌, �
 use Rattle.std.proofs.lemmas.Nat.{row_fits}
 use Rattle.ee_flash.specs.Size.{page_count}
 use Rattle.ee_flash.specs.Device.{Device, all_ones}
-use Rattle.ee_flash.specs.Step.{one_more, worn}
+use Rattle.ee_flash.specs.Step.{one_more, with_page_worn}
 use Rattle.ee_flash.specs.declared.word.Word.{Word}
-use Rattle.ee_page.specs.Mirror.{device_of}
+use Rattle.ee_page.specs.Mirror.{mirrored_device}
 use Rattle.ee_page.proofs.PlayedSteps.{page_erased, part_length}
 use Rattle.ee_page.proofs.playing.erase.Goals as goal
 
@@ -23,7 +23,7 @@ returns-clause-done c =
     let fits : start + width ≤ length c.args.words.now = omega (arith, row_fits c.args.page size.words (page_count size) size.words c.requires.page_in_range (omega arith)) in
     let ones_there : c.fill.new.self ≡ replicate width all_ones = ones ∙ ap (λ (n : ℕ). replicate n all_ones) (part_length c.args.words.now start width fits) in
     let zeros_there : c.fill-2.new.self ≡ replicate width 0 = zeros ∙ ap (λ (n : ℕ). replicate n 0) (part_length c.args.flags.now start width (omega arith)) in
-    let with_pages : List (List Word) → Device = λ pages. worn c.args.page (record (device_of size c.args.words.now c.args.flags.now c.args.wears.now) { image = pages }) in
+    let with_pages : List (List Word) → Device = λ pages. with_page_worn c.args.page (record (mirrored_device size c.args.words.now c.args.flags.now c.args.wears.now) { image = pages }) in
     let wear : set c.args.wears.now c.args.page c.saturating_add.result ≡ set c.args.wears.now c.args.page (one_more (get_or c.args.wears.now c.args.page 0)) = ap (set c.args.wears.now c.args.page) c.saturating_add.ensures in
-    ap (λ (counts : List ℕ). device_of size (put_mid start width c.args.words.now c.fill.new.self) (put_mid start width c.args.flags.now c.fill-2.new.self) counts) wear
+    ap (λ (counts : List ℕ). mirrored_device size (put_mid start width c.args.words.now c.fill.new.self) (put_mid start width c.args.flags.now c.fill-2.new.self) counts) wear
     ∙ ap with_pages (page_erased size c.args.words.now c.args.flags.now c.fill.new.self c.fill-2.new.self c.args.page start width words_length flags_length c.requires.page_in_range is_start is_width ones_there zeros_there)

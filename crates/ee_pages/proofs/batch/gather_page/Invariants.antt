@@ -1,5 +1,5 @@
 use Rattle.std.proofs.Common.{◌≡◌, ◌+◌, ◌-◌, ◌*◌, [], take}
-use Rattle.ee_pages.specs.Nearest.{gathered}
+use Rattle.ee_pages.specs.Nearest.{with_each_named}
 use Rattle.ee_pages.specs.Sets.{set_of, slots_of}
 use Rattle.ee_pages.specs.declared.batch_items.TheConstants.{BATCH}
 use Rattle.ee_pages.proofs.batch.gather_page.Given as goal
@@ -7,4 +7,4 @@ use Rattle.ee_pages.proofs.batch.gather_page.Given as goal
 abbrev pub invariant-loop-slot : goal.invariant-loop-slot
 invariant-loop-slot g l =
     let device = g.F.Flash.device l.flash in
-    l.nearest.named ≡ take BATCH (gathered l.above (take (l.page * (device.size.words - 4) + l.slot) (slots_of (set_of l.side device))) [])
+    l.nearest.named ≡ take BATCH (with_each_named l.above (take (l.page * (device.size.words - 4) + l.slot) (slots_of (set_of l.side device))) [])

@@ -1,11 +1,11 @@
 use Rattle.std.proofs.Common.{rules}
-use Rattle.ee_replay.specs.Desk.{point_of}
+use Rattle.ee_replay.specs.Desk.{point_of_desk}
 use Rattle.ee_replay.specs.Serving.{with_notes}
 use Rattle.ee_replay.proofs.NotedRuns.{is_traced}
 use Rattle.ee_replay.proofs.serving.trace_on.Goals as goal
 
 pub returns-clause-traced : goal.returns-clause-traced
 returns-clause-traced g c =
-    let traced = is_traced (λ server. with_notes (point_of g.S.Variables.device server.desk) server.notes) (g.S.Variables.device c.args.store) _ _ _ _
+    let traced = is_traced (λ server. with_notes (point_of_desk g.S.Variables.device server.desk) server.notes) (g.S.Variables.device c.args.store) _ _ _ _
     c.in_ok-server.ensures.answered c.new-server.ensures.point c.new-server.ensures.notes in
     search (rules, traced)

@@ -1,12 +1,12 @@
 use Rattle.std.proofs.Common.{◌⊎◌, ℕ, List, Err, inl, inr, ap, rules}
 use Rattle.ee_flash.specs.Device.{Device, IsFormed}
 use Rattle.ee_pages.specs.Meaning.{Put}
-use Rattle.ee_store.specs.declared.variables.WriteFault.TheVariants as write
+use Rattle.ee_core.specs.declared.variables.WriteFault.TheVariants as write
 use Rattle.ee_settings.specs.Calls.{Sets}
 use Rattle.ee_settings.specs.Laws.{KeepsAll, KeepsOthers, ReadsStored}
 use Rattle.ee_settings.specs.Setting.{IsSchema, Setting, reading_in}
 use Rattle.ee_settings.specs.declared.fault.SetFault.TheVariants as set
-use Rattle.ee_store.proofs.CutMaps.{cut_map}
+use Rattle.ee_core.proofs.CutMaps.{cut_map}
 use Rattle.ee_settings.proofs.Readings.{addresses_apart, other_read, stored_read}
 use Rattle.ee_settings.proofs.laws.cut_keeps_others.Goals as goal
 

@@ -1,6 +1,6 @@
 use Rattle.std.proofs.Common.{ℕ, List, Ok, rules}
 use Rattle.ee_flash.specs.Device.{Device}
-use Rattle.ee_store.specs.declared.variables.Written.{Written}
+use Rattle.ee_core.specs.declared.variables.Written.{Written}
 use Rattle.ee_settings.specs.Calls.{Sets}
 use Rattle.ee_settings.specs.Laws.{KeepsOthers, ReadsStored}
 use Rattle.ee_settings.specs.Setting.{IsSchema, Setting}

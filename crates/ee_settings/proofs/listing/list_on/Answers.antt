@@ -1,6 +1,6 @@
 use Rattle.std.proofs.Common.{◌≡◌, ◌∙◌, Option, ℕ, ap, arith, rules, sym}
 use Rattle.ee_pages.specs.Meaning.{Map}
-use Rattle.ee_store.specs.State.{state_of}
+use Rattle.ee_core.specs.State.{state_of}
 use Rattle.ee_settings.proofs.Listings.{listed_further, none_listed}
 use Rattle.ee_settings.specs.Listing.{named_in}
 use Rattle.ee_settings.specs.declared.numbers.Numbers.{Numbers}

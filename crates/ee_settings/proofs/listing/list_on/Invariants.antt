@@ -1,5 +1,5 @@
 use Rattle.std.proofs.Common.{◌≡◌, ◌≤◌, ◌-◌}
-use Rattle.ee_store.specs.State.{state_of}
+use Rattle.ee_core.specs.State.{state_of}
 use Rattle.ee_settings.specs.Listing.{listed_to}
 use Rattle.ee_settings.proofs.listing.list_on.Given as goal
 

@@ -1,8 +1,8 @@
 use Rattle.std.proofs.Common.{◌≡◌, ◌<◌, ◌-◌, nat_cmp}
 use Rattle.std.specs.BTreeMap.{get}
 use Rattle.ee_pages.specs.Meaning.{above_of}
-use Rattle.ee_store.specs.Parts.{map_to}
-use Rattle.ee_store.specs.State.{state_of}
+use Rattle.ee_core.specs.Parts.{map_to}
+use Rattle.ee_core.specs.State.{state_of}
 use Rattle.ee_settings.proofs.stale.stored_values.Given as goal
 
 -- the values so far are there

@@ -2,10 +2,11 @@ use Rattle.std.proofs.Common.{◌∙◌, ◌≡◌, ◌≤◌, ℕ, true, List, 
 use Rattle.std.specs.List.{All}
 use Rattle.std.proofs.lemmas.List.Elements.{All-nil}
 use Rattle.ee_flash.specs.Device.{Device, all_ones}
+use Rattle.ee_flash.specs.Endurance.{CanTakeAll}
 use Rattle.ee_flash.specs.Laws.{all_completed}
 use Rattle.ee_flash.specs.Step.{Step}
-use Rattle.ee_page.specs.Draft.{IsFresh, drafted}
-use Rattle.ee_page.specs.Listing.{AllTaken, IsZeroIfErase}
+use Rattle.ee_page.specs.Draft.{IsFresh, drafted_device}
+use Rattle.ee_page.specs.Listing.{IsZeroIfErase}
 use Rattle.ee_page.proofs.DraftSteps.{none_listed}
 use Rattle.ee_page.proofs.Mirrors.{fresh_device}
 use Rattle.ee_page.proofs.draft.DraftFlash.of.Goals as goal
@@ -25,7 +26,7 @@ invariant_of-result g c =
       flags_length = mirror.flags_length;
       same_list = c.requires.list;
       within = omega arith;
-      taken = subst (λ (steps : List Step). AllTaken steps g.K.Lent.start) (sym none) tt;
+      taken = subst (λ (steps : List Step). CanTakeAll steps g.K.Lent.start) (sym none) tt;
       wear_length = ap length wear ∙ mirror.wears_length;
       wear_fits = subst (λ (counts : List ℕ). All (λ count. count ≤ all_ones) counts) (sym wear) fresh.formed.wear_fits;
       cuts_fit = omega arith;
@@ -39,6 +40,6 @@ pub returns : goal.returns
 returns g c =
     let is_start = c.requires.start in
     let none = none_listed c.args.listed.now in
-    ap (λ (steps : List Step). drafted g.K.Lent.start steps c.wear_of.result.items 0 true) none
-    ∙ ap (λ (counts : List ℕ). drafted g.K.Lent.start [] counts 0 true) c.wear_of.ensures
+    ap (λ (steps : List Step). drafted_device g.K.Lent.start steps c.wear_of.result.items 0 true) none
+    ∙ ap (λ (counts : List ℕ). drafted_device g.K.Lent.start [] counts 0 true) c.wear_of.ensures
     ∙ rw is_start refl

@@ -4,7 +4,7 @@ use Rattle.std.proofs.lemmas.List.{length-set}
 use Rattle.std.proofs.lemmas.List.Elements.{All-set}
 use Rattle.ee_flash.specs.Device.{all_ones}
 use Rattle.ee_page.specs.Listing.{steps_of}
-use Rattle.ee_page.specs.Draft.{drafted}
+use Rattle.ee_page.specs.Draft.{drafted_device}
 use Rattle.ee_page.proofs.DraftSteps.{cut_erase_wears, none_cut, erase_done, erase_taken, erase_wear, worn_items, zeros_listed}
 use Rattle.ee_page.proofs.draft.DraftFlashFlash.erase.Goals as goal
 
@@ -71,5 +71,5 @@ returns-clause-done g c =
     let worn = worn_items items c.deref_mut-2.result.now c.deref.result.now c.args.page c.saturating_add-worn.result c.deref_mut-2.ensures.value c.deref.ensures.0 c.saturating_add-worn.ensures in
     let step = c.erase-step.result in
     let is = c.erase-step.ensures.erases in
-    ap (λ (counts : List ℕ). drafted start (steps_of (draft.count + 1) (slice_set draft.listed.now draft.count step)) counts draft.cuts draft.on) worn
+    ap (λ (counts : List ℕ). drafted_device start (steps_of (draft.count + 1) (slice_set draft.listed.now draft.count step)) counts draft.cuts draft.on) worn
     ∙ erase_done start draft.listed.now draft.count room draft.fresh c.args.page step is items draft.cuts draft.on

@@ -5,7 +5,7 @@ use Rattle.ee_flash.specs.Step.{Step}
 use Rattle.ee_flash.specs.Size.{page_count}
 use Rattle.ee_page.specs.DraftLaws.{IsFormed-drafted}
 use Rattle.ee_page.specs.Listing.{steps_of}
-use Rattle.ee_page.specs.Mirror.{decoded}
+use Rattle.ee_page.specs.Mirror.{word_of_number}
 use Rattle.ee_page.proofs.DraftSteps.{none_listed, word_below, word_next, word_start}
 use Rattle.ee_page.proofs.draft.DraftFlashFlash.word.Goals as goal
 
@@ -15,7 +15,7 @@ listed-init g c =
     let start = g.K.Lent.start in
     let is_place = c.words.ensures.value in
     c.decode-word.ensures
-    ∙ ap (λ (words : ℕ). decoded (get_or draft.words.now (c.args.page * words + c.args.at) 0) (get_or draft.flags.now (c.args.page * words + c.args.at) 0)) is_place
+    ∙ ap (λ (words : ℕ). word_of_number (get_or draft.words.now (c.args.page * words + c.args.at) 0) (get_or draft.flags.now (c.args.page * words + c.args.at) 0)) is_place
     ∙ sym (word_start start draft.shape draft.words.now draft.flags.now c.args.page c.args.at draft.same_size draft.same_words draft.words_length draft.flags_length c.requires.page_in_range c.requires.place_in_range)
     ∙ sym (ap (λ (steps : List Step). word_at (all_completed steps start) c.args.page c.args.at) (none_listed draft.listed.now))
 

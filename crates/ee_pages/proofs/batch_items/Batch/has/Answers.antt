@@ -1,4 +1,4 @@
-use Rattle.std.proofs.Common.{◌≡◌, ◌<◌, ◌≤◌, ℕ, None, length, sym, ap, arith}
+use Rattle.std.proofs.Common.{◌<◌, ◌≤◌, ℕ, None, length, sym, ap, arith}
 use Rattle.std.proofs.lemmas.Bool.{eqb-false, eqb-true}
 use Rattle.ee_pages.specs.Nearest.{Batch}
 use Rattle.ee_pages.proofs.BatchLists.{length_named, named_at}

@@ -1,4 +1,4 @@
-use Rattle.std.proofs.Common.{◌≡◌, ◌-◌, ◌∙◌, ◌<◌, ◌≤◌, ℕ, None, take, length, get_or, sym, ap, arith}
+use Rattle.std.proofs.Common.{◌≡◌, ◌-◌, ◌∙◌, ◌≤◌, None, take, length, get_or, sym, ap, arith}
 use Rattle.ee_pages.specs.Nearest.{Batch, Named, with_said}
 use Rattle.ee_pages.specs.declared.batch_items.TheConstants.{BATCH}
 use Rattle.ee_pages.proofs.BatchLists.{length_named, named_at}

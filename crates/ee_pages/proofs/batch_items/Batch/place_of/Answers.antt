@@ -1,5 +1,5 @@
 use Rattle.std.proofs.Common.{◌≤◌, length, sym, ap, arith}
-use Rattle.ee_pages.specs.Nearest.{Batch, IsRising}
+use Rattle.ee_pages.specs.Nearest.{Batch}
 use Rattle.ee_pages.proofs.BatchLists.{length_items, length_named, place_taken, rising_taken}
 use Rattle.ee_pages.proofs.batch_items.Batch.place_of.Goals as goal
 

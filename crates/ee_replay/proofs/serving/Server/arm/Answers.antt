@@ -1,5 +1,5 @@
 use Rattle.std.proofs.Common.{refl, subst}
-use Rattle.ee_replay.specs.Desk.{SaysTheSame, point_of}
+use Rattle.ee_replay.specs.Desk.{SaysTheSame, point_of_desk}
 use Rattle.ee_replay.proofs.LegalAlone.{legal_so, legal_there}
 use Rattle.ee_replay.proofs.NotedRuns.{counted_same}
 use Rattle.ee_replay.proofs.serving.Server.arm.Goals as goal
@@ -13,5 +13,5 @@ invariant_of-self-clause-legal g c = legal_so _ c.arm-desk.ensures.legal
 pub invariant_of-self-clause-counted : goal.invariant_of-self-clause-counted
 invariant_of-self-clause-counted g c =
     let device = g.S.Variables.device in
-    counted_same (point_of device c.args.self.now.desk).device (point_of device c.arm-desk.result.0).device c.args.self.now.notes c.args.self.now.notes
-    (subst (λ desk. SaysTheSame (point_of device desk).device (point_of device c.arm-desk.result.0).device) c.replace-desk.ensures.value c.arm-desk.ensures.same) refl c.args.self.now.counted
+    counted_same (point_of_desk device c.args.self.now.desk).device (point_of_desk device c.arm-desk.result.0).device c.args.self.now.notes c.args.self.now.notes
+    (subst (λ desk. SaysTheSame (point_of_desk device desk).device (point_of_desk device c.arm-desk.result.0).device) c.replace-desk.ensures.value c.arm-desk.ensures.same) refl c.args.self.now.counted

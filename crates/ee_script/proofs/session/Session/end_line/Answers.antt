@@ -1,5 +1,5 @@
 use Rattle.std.proofs.Common.{◌∙◌, ◌+◌, ◌∷◌, [], ap, sym}
-use Rattle.ee_script.specs.Session.{counted}
+use Rattle.ee_script.specs.Session.{saturating_count}
 use Rattle.ee_script.specs.declared.session.ScriptFault.TheVariants.{BadLine}
 use Rattle.ee_script.proofs.Steps.{goes_at_feed}
 use Rattle.ee_script.proofs.Faults.{fault_at_feed, fault_before, fault_when_long}
@@ -9,7 +9,7 @@ pub returns-then-not-hold-clause-fault : goal.returns-then-not-hold-clause-fault
 returns-then-not-hold-clause-fault g c =
     fault_before c.args.self.now c.args.bytes.now (10 ∷ []) c.bad_line.result
     (fault_when_long c.args.self.now c.args.bytes.now c.bad_line.result c.hold.ensures.line c.if-not-hold.ensures.too_long.1
-    (c.bad_line.ensures ∙ ap (λ p. BadLine (counted (p.lines + 1))) c.if-not-hold.ensures.too_long.0))
+    (c.bad_line.ensures ∙ ap (λ p. BadLine (saturating_count (p.lines + 1))) c.if-not-hold.ensures.too_long.0))
 
 pub returns-in_default-clause-fault : goal.returns-in_default-clause-fault
 returns-in_default-clause-fault g c =
@@ -17,7 +17,7 @@ returns-in_default-clause-fault g c =
     let text = c.as_slice.ensures.value ∙ ap (λ p. p.unfinished) (c.self.view_is ∙ held) in
     fault_at_feed c.args.self.now c.args.bytes.now c.bad_line-in_default.result c.hold.ensures.line
     (λ command proper e. let none = c.in_default.ensures.only command proper (text ∙ e) in cc none)
-    (c.bad_line-in_default.ensures ∙ ap (λ p. BadLine (counted (p.lines + 1))) held)
+    (c.bad_line-in_default.ensures ∙ ap (λ p. BadLine (saturating_count (p.lines + 1))) held)
 
 pub returns-clause-done : goal.returns-clause-done
 returns-clause-done g c =

@@ -1,7 +1,7 @@
 use Rattle.std.proofs.Common.{◌∙◌, ◌++◌, ap, refl, subst, sym}
 use Rattle.std.proofs.lemmas.Result.{err_from_is_err_and}
 use Rattle.ee_text.specs.Line.{IsLine}
-use Rattle.ee_script.specs.Command.{spelling}
+use Rattle.ee_script.specs.Command.{command_text}
 use Rattle.ee_script.specs.Script.{NoLine}
 use Rattle.ee_script.proofs.Steps.{goes_at_feed}
 use Rattle.ee_script.proofs.Faults.{fault_at_last, judged_all, judged_line, judged_none}
@@ -20,8 +20,8 @@ lines-preserved g c =
     let answered = c.in_ok-answer.ensures.answered in
     record {
       judged = judged_line g.S.Serve.serves c.args.self.now c.lines.self c.answer.new.self c.args.text.now c.lines.rest.now _ _ c.lines.invariant.judged c.in-Some.ensures.found.1
-          (goes_at_feed g.S.Serve.serves c.lines.self c.lines.self c.answer.new.self (spelling command) command c.in-Some.ensures.found.0
-          (ap (λ text. text ++ spelling command) nothing) refl refl refl nothing answered);
+          (goes_at_feed g.S.Serve.serves c.lines.self c.lines.self c.answer.new.self (command_text command) command c.in-Some.ensures.found.0
+          (ap (λ text. text ++ command_text command) nothing) refl refl refl nothing answered);
       nothing = answered.unfinished_is ∙ nothing;
     }
 

@@ -1,5 +1,5 @@
 use Rattle.std.proofs.Common.{◌∙◌, ◌+◌, ap}
-use Rattle.ee_script.specs.Session.{counted}
+use Rattle.ee_script.specs.Session.{saturating_count}
 use Rattle.ee_script.specs.declared.session.ScriptFault.TheVariants.{BadLine}
 use Rattle.ee_script.proofs.Steps.{goes_keeping}
 use Rattle.ee_script.proofs.Faults.{fault_when_long, fault_within}
@@ -12,7 +12,7 @@ returns-in-Some g c =
 pub returns-then-not-hold : goal.returns-then-not-hold
 returns-then-not-hold g c =
     fault_when_long c.args.self.now c.args.bytes.now _ c.hold.ensures.line c.if-not-hold.ensures.too_long.1
-    (c.bad_line-then-not-hold.ensures ∙ ap (λ p. BadLine (counted (p.lines + 1))) c.if-not-hold.ensures.too_long.0)
+    (c.bad_line-then-not-hold.ensures ∙ ap (λ p. BadLine (saturating_count (p.lines + 1))) c.if-not-hold.ensures.too_long.0)
 
 pub returns : goal.returns
 returns g c =

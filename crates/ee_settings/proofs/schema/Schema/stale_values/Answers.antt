@@ -1,6 +1,6 @@
 use Rattle.std.proofs.Common.{◌≡◌, ◌∙◌, ap, rules}
 use Rattle.ee_pages.specs.Meaning.{Map}
-use Rattle.ee_store.specs.State.{state_of}
+use Rattle.ee_core.specs.State.{state_of}
 use Rattle.ee_settings.proofs.Outdated.{one_further}
 use Rattle.ee_settings.specs.Stale.{stale_in}
 use Rattle.ee_settings.proofs.schema.Schema.stale_values.Goals as goal

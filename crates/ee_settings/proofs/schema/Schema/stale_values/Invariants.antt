@@ -1,5 +1,5 @@
 use Rattle.std.proofs.Common.{◌≡◌, ◌+◌, ◌++◌, drop}
-use Rattle.ee_store.specs.State.{state_of}
+use Rattle.ee_core.specs.State.{state_of}
 use Rattle.ee_settings.specs.Stale.{stale_from, stale_in}
 use Rattle.ee_settings.proofs.schema.Schema.stale_values.Given as goal
 

@@ -1,0 +1,317 @@
+-- What each turn of a drive does to the cuts, to the map and to the image, and so what all of them do.
+use Rattle.std.proofs.Common.{◌≡◌, ◌⊎◌, inl, inr, ℕ, ◌+◌, ◌≤◌, ◌++◌, Bool, true, false, cond, min, Option, Some, None, Ok, Err, List, [], ◌∷◌, refl, sym, ap, ◌∙◌, subst, arith}
+use Rattle.std.proofs.Math.Path.{fun_ext}
+use Rattle.std.specs.List.{count_by}
+use Rattle.std.proofs.lemmas.Bool.{cases_eq}
+use Rattle.std.proofs.lemmas.List.Elements.{All-cons, All-nil, filter_map-append}
+use Rattle.std.proofs.lemmas.List.Sums.{sum_by-cons}
+use Rattle.ee_flash.specs.Device.{Device, IsOn, all_ones}
+use Rattle.ee_flash.specs.Step.{one_more}
+use Rattle.ee_pages.proofs.ScanFaults.{legal_is_good}
+use Rattle.ee_pages.specs.Legal.{IsLegal}
+use Rattle.ee_pages.specs.Meaning as meaning
+use Rattle.ee_pages.specs.Meaning.{Change, Map, map_after, changed_by}
+use Rattle.ee_pages.specs.Sets.{live_of}
+use Rattle.ee_core.proofs.CopiedMaps.{forget-at, forget-other, put-at, put-other}
+use Rattle.ee_core.proofs.CutMaps.{cut_map}
+use Rattle.ee_core.proofs.Powered.{legal_on, state_in_on}
+use Rattle.ee_core.proofs.Running.{changed_by-append, goes}
+use Rattle.ee_core.specs.Calls.{IsCutClean}
+use Rattle.ee_core.specs.Changes.{IsCutChange}
+use Rattle.ee_core.specs.Points.{Point, closed_point, with_power_on}
+use Rattle.ee_core.specs.Finished.{IsStore}
+use Rattle.ee_core.specs.Openings.{IsCutOpening, Opens}
+use Rattle.ee_core.specs.Runs.{Call, Wrote, Forgot, DidRead, Cleaned as DidClean, Follows, changes_of_call, is_cut}
+use Rattle.ee_core.specs.State.{State, state_of}
+use Rattle.ee_core.specs.declared.opening.OpenFault.TheVariants as opening
+use Rattle.ee_core.specs.declared.variables.ForgetFault.TheVariants as forget
+use Rattle.ee_core.specs.declared.variables.WriteFault.TheVariants as write
+use Rattle.ee_bench.specs.Events.{AreTurns, Happens, Idles, IsCalled, IsLookedFor, IsTurn, Reopens, Turn, WasDone, call_of_event, tells_of_a_cut, serves_after}
+use Rattle.ee_bench.specs.Outcome.{AreValuesFrom, IsValueIn, WasKept, change_kept, is_scan_fault, kept_changes}
+use Rattle.ee_bench.specs.declared.event.Answer.{Answer}
+use Rattle.ee_bench.specs.declared.event.Answer.TheVariants.{Cleaned, Done, NotForgotten, NotOpened, Off, Opened, Refused, Value}
+use Rattle.ee_bench.specs.declared.event.Event.{Event}
+use Rattle.ee_bench.specs.declared.event.Event.TheVariants.{Clean, Forget, Get, Put, Reopen}
+
+-- ---- a change that met a cut
+
+put_again : (map : Map) (named value address : ℕ) → map named ≡ Some value → map address ≡ map_after (meaning.Put named value) map address
+put_again map named value address there = elim (cases_eq address named) [
+  | inl same ↦ ap map same ∙ there ∙ sym (put-at map named value address same)
+  | inr other ↦ sym (put-other map named value address other)
+]
+
+forget_again : (map : Map) (named address : ℕ) → map named ≡ None → map address ≡ map_after (meaning.Forget named) map address
+forget_again map named address gone = elim (cases_eq address named) [
+  | inl same ↦ ap map same ∙ gone ∙ sym (forget-at map named address same)
+  | inr other ↦ sym (forget-other map named address other)
+]
+
+-- a map that is as before or changed, and has the change, is changed
+put_found : (old new : Map) (named value : ℕ) → (new ≡ old) ⊎ (new ≡ map_after (meaning.Put named value) old) → new named ≡ Some value → new ≡ map_after (meaning.Put named value) old
+put_found old new named value (inr done) there = done
+put_found old new named value (inl same) there = same ∙ fun_ext (λ (address : ℕ). put_again old named value address (sym (ap (λ (map : Map). map named) same) ∙ there))
+
+put_lost : (old new : Map) (named value : ℕ) → (new ≡ old) ⊎ (new ≡ map_after (meaning.Put named value) old) → (new named ≡ Some value → ⊥) → new ≡ old
+put_lost old new named value (inl same) lost = same
+put_lost old new named value (inr done) lost = absurd (lost (ap (λ (map : Map). map named) done ∙ put-at old named value named refl))
+
+forget_found : (old new : Map) (named : ℕ) → (new ≡ old) ⊎ (new ≡ map_after (meaning.Forget named) old) → new named ≡ None → new ≡ map_after (meaning.Forget named) old
+forget_found old new named (inr done) gone = done
+forget_found old new named (inl same) gone = same ∙ fun_ext (λ (address : ℕ). forget_again old named address (sym (ap (λ (map : Map). map named) same) ∙ gone))
+
+forget_lost : (old new : Map) (named : ℕ) → (new ≡ old) ⊎ (new ≡ map_after (meaning.Forget named) old) → (new named ≡ None → ⊥) → new ≡ old
+forget_lost old new named (inl same) lost = same
+forget_lost old new named (inr done) lost = absurd (lost (ap (λ (map : Map). map named) done ∙ forget-at old named named refl))
+
+-- ---- one turn
+
+-- the changes that a turn kept
+abbrev kept_by : Event → Answer → Option Bool → List Change
+kept_by event answer found = kept_changes (record { event = event; answer = answer; found = found } ∷ [])
+
+-- what a turn does, from an image that is legal where it matters
+pub record Does (serving : Bool) (event : Event) (answer : Answer) (found : Option Bool) (old new : Device) : Type 0 where
+  pub cuts_are : new.cuts ≡ cond (tells_of_a_cut answer) (one_more old.cuts) old.cuts
+  pub serves : serves_after serving answer ≡ true → IsOn new × IsStore new
+  pub legal : IsLegal old → IsLegal new
+  pub no_scan_fault : IsLegal old → is_scan_fault answer ≡ false
+  pub value : IsValueIn (state_of old).map event answer
+  pub map_is : IsLegal old → (state_of new).map ≡ changed_by (kept_by event answer found) (state_of old).map
+
+-- a call in which power was not cut
+whole : (call : Call) (event : Event) (answer : Answer) (found : Option Bool) (old new : Device) → is_cut call ≡ false → IsOn old × Follows call old new × IsStore new
+    → found ≡ None → changes_of_call call ≡ kept_by event answer None → tells_of_a_cut answer ≡ false → is_scan_fault answer ≡ false → IsValueIn (state_of old).map event answer
+    → Does true event answer found old new
+whole call event answer found old new is_whole called looked same not_cut good value =
+    let went = goes call old new is_whole called.1 in
+    let made : changes_of_call call ≡ kept_by event answer found = same ∙ ap (kept_by event answer) (sym looked) in
+    record {
+      cuts_are = went.power.same_cuts ∙ sym (ap (λ (cut : Bool). cond cut (one_more old.cuts) old.cuts) not_cut);
+      serves = λ serving. (went.power.same_power ∙ called.0, called.2);
+      legal = λ legal. called.2.legal;
+      no_scan_fault = λ legal. good;
+      value = value;
+      map_is = λ legal. went.map_is ∙ ap (λ (changes : List Change). changed_by changes (state_of old).map) made;
+    }
+
+put_kept : (address value : ℕ) (held : Bool) (old new : Device) → IsLegal old → IsCutChange old (meaning.Put address value) new
+    → (held ≡ true → (state_of new).map address ≡ Some value) → ((state_of new).map address ≡ Some value → held ≡ true)
+    → (state_of new).map ≡ changed_by (kept_by (Put address value) (Refused write.Cut) (Some held)) (state_of old).map
+put_kept address value true old new legal cut there found = put_found (state_of old).map (state_of new).map address value (cut_map old new (meaning.Put address value) cut) (there refl)
+put_kept address value false old new legal cut there found =
+    put_lost (state_of old).map (state_of new).map address value (cut_map old new (meaning.Put address value) cut) (λ e. let wrong = found e in absurd (cc wrong))
+
+forget_kept : (address : ℕ) (held : Bool) (old new : Device) → IsLegal old → IsCutChange old (meaning.Forget address) new
+    → (held ≡ true → (state_of new).map address ≡ None) → ((state_of new).map address ≡ None → held ≡ true)
+    → (state_of new).map ≡ changed_by (kept_by (Forget address) (NotForgotten forget.Cut) (Some held)) (state_of old).map
+forget_kept address true old new legal cut gone found = forget_found (state_of old).map (state_of new).map address (cut_map old new (meaning.Forget address) cut) (gone refl)
+forget_kept address false old new legal cut gone found =
+    forget_lost (state_of old).map (state_of new).map address (cut_map old new (meaning.Forget address) cut) (λ e. let wrong = found e in absurd (cc wrong))
+
+put_done : (address value : ℕ) (held : Bool) (old new : Device) → IsOn old × IsCutChange old (meaning.Put address value) new × IsStore new
+    → (held ≡ true → (state_of new).map address ≡ Some value) → ((state_of new).map address ≡ Some value → held ≡ true)
+    → Does true (Put address value) (Refused write.Cut) (Some held) old new
+put_done address value held old new called there found = record {
+  cuts_are = called.1.cut.one_more_cut;
+  serves = λ serving. absurd (cc serving);
+  legal = λ legal. called.2.legal;
+  no_scan_fault = λ legal. refl;
+  value = tt;
+  map_is = λ legal. put_kept address value held old new legal called.1 there found;
+}
+
+forget_done : (address : ℕ) (held : Bool) (old new : Device) → IsOn old × IsCutChange old (meaning.Forget address) new × IsStore new
+    → (held ≡ true → (state_of new).map address ≡ None) → ((state_of new).map address ≡ None → held ≡ true)
+    → Does true (Forget address) (NotForgotten forget.Cut) (Some held) old new
+forget_done address held old new called gone found = record {
+  cuts_are = called.1.cut.one_more_cut;
+  serves = λ serving. absurd (cc serving);
+  legal = λ legal. called.2.legal;
+  no_scan_fault = λ legal. refl;
+  value = tt;
+  map_is = λ legal. forget_kept address held old new legal called.1 gone found;
+}
+
+clean_cut : (found : Option Bool) (old new : Device) → IsOn old × IsCutClean old new × IsStore new → found ≡ None → Does true Clean (Refused write.Cut) found old new
+clean_cut found old new called looked = record {
+  cuts_are = called.1.cut.one_more_cut;
+  serves = λ serving. absurd (cc serving);
+  legal = λ legal. called.2.legal;
+  no_scan_fault = λ legal. refl;
+  value = tt;
+  map_is = λ legal. elim called.1.state_is [
+    | inl same ↦ ap (λ (state : State). state.map) same
+    | inr one_less ↦ ap (λ (state : State). state.map) one_less
+  ];
+}
+
+-- a call of an open store
+put_turn : (address value : ℕ) (answer : Answer) (found : Option Bool) (old new : Device) → IsCalled (call_of_event (Put address value) answer) old new
+    → IsLookedFor (Put address value) answer found new → Does true (Put address value) answer found old new
+put_turn address value (Done written) found old new called looked = whole (Wrote address value (Ok written)) (Put address value) (Done written) found old new refl called looked refl refl refl tt
+put_turn address value (Refused write.Off) found old new called looked = whole (Wrote address value (Err write.Off)) (Put address value) (Refused write.Off) found old new refl called looked refl refl refl tt
+put_turn address value (Refused write.Full) found old new called looked = whole (Wrote address value (Err write.Full)) (Put address value) (Refused write.Full) found old new refl called looked refl refl refl tt
+put_turn address value (Refused write.Spent) found old new called looked = whole (Wrote address value (Err write.Spent)) (Put address value) (Refused write.Spent) found old new refl called looked refl refl refl tt
+put_turn address value (Refused write.Memory) found old new called looked = absurd called
+put_turn address value (Refused write.Cut) None old new called looked = absurd looked
+put_turn address value (Refused write.Cut) (Some held) old new called looked = put_done address value held old new called looked.0 looked.1
+put_turn address value answer found old new called looked = absurd called
+
+forget_turn : (address : ℕ) (answer : Answer) (found : Option Bool) (old new : Device) → IsCalled (call_of_event (Forget address) answer) old new
+    → IsLookedFor (Forget address) answer found new → Does true (Forget address) answer found old new
+forget_turn address (Done written) found old new called looked = whole (Forgot address (Ok written)) (Forget address) (Done written) found old new refl called looked refl refl refl tt
+forget_turn address (NotForgotten forget.Off) found old new called looked = whole (Forgot address (Err forget.Off)) (Forget address) (NotForgotten forget.Off) found old new refl called looked refl refl refl tt
+forget_turn address (NotForgotten forget.Absent) found old new called looked = whole (Forgot address (Err forget.Absent)) (Forget address) (NotForgotten forget.Absent) found old new refl called looked refl refl refl tt
+forget_turn address (NotForgotten forget.Spent) found old new called looked = whole (Forgot address (Err forget.Spent)) (Forget address) (NotForgotten forget.Spent) found old new refl called looked refl refl refl tt
+forget_turn address (NotForgotten forget.Cut) None old new called looked = absurd looked
+forget_turn address (NotForgotten forget.Cut) (Some held) old new called looked = forget_done address held old new called looked.0 looked.1
+forget_turn address answer found old new called looked = absurd called
+
+get_turn : (address : ℕ) (answer : Answer) (found : Option Bool) (old new : Device) → IsCalled (call_of_event (Get address) answer) old new
+    → IsLookedFor (Get address) answer found new → Does true (Get address) answer found old new
+get_turn address (Value value) found old new called looked = whole (DidRead address (Ok value)) (Get address) (Value value) found old new refl called looked refl refl refl called.1.0.1
+get_turn address answer found old new called looked = absurd called
+
+clean_turn : (answer : Answer) (found : Option Bool) (old new : Device) → IsCalled (call_of_event Clean answer) old new → IsLookedFor Clean answer found new → Does true Clean answer found old new
+clean_turn (Cleaned erased) found old new called looked = whole (DidClean (Ok erased)) Clean (Cleaned erased) found old new refl called looked refl refl refl tt
+clean_turn (Refused write.Off) found old new called looked = whole (DidClean (Err write.Off)) Clean (Refused write.Off) found old new refl called looked refl refl refl tt
+clean_turn (Refused write.Full) found old new called looked = absurd called.1
+clean_turn (Refused write.Spent) found old new called looked = absurd called.1
+clean_turn (Refused write.Memory) found old new called looked = absurd called.1
+clean_turn (Refused write.Cut) found old new called looked = clean_cut found old new called looked
+clean_turn answer found old new called looked = absurd called
+
+-- without an open store
+off_turn : (event : Event) (answer : Answer) (found : Option Bool) (old new : Device) → Idles answer old new → IsLookedFor event Off found new → IsValueIn (state_of old).map event Off
+    → ([] ≡ kept_by event Off found) → Does false event answer found old new
+off_turn event Off found old new same looked value none = record {
+  cuts_are = ap (λ (device : Device). device.cuts) same;
+  serves = λ serving. absurd (cc serving);
+  legal = subst IsLegal (sym same);
+  no_scan_fault = λ legal. refl;
+  value = value;
+  map_is = λ legal. ap (λ (device : Device). (state_of device).map) same ∙ ap (λ (changes : List Change). changed_by changes (state_of old).map) none;
+}
+off_turn event answer found old new idles looked value none = absurd idles
+
+-- ---- reopening
+
+-- the image says the same with the power on
+map_on : (device : Device) → (state_of (with_power_on device)).map ≡ (state_of device).map
+map_on device = ap (λ (state : State). state.map) (state_in_on device (live_of device))
+
+-- an opening keeps no change
+nothing_kept : (answer : Answer) (found : Option Bool) (old new : Device) → found ≡ None → (state_of new).map ≡ (state_of old).map
+    → (state_of new).map ≡ changed_by (kept_by Reopen answer found) (state_of old).map
+nothing_kept answer found old new looked same = same ∙ ap (λ (one : Option Bool). changed_by (kept_by Reopen answer one) (state_of old).map) (sym looked)
+
+reopened : (serving : Bool) (found : Option Bool) (old new : Device) → Opens (with_power_on old) new → found ≡ None → Does serving Reopen Opened found old new
+reopened serving found old new opens looked = record {
+  cuts_are = opens.goes_on.same_cuts;
+  serves = λ serves. (opens.goes_on.same_power, opens.store);
+  legal = λ legal. opens.store.legal;
+  no_scan_fault = λ legal. refl;
+  value = tt;
+  map_is = λ legal. nothing_kept Opened found old new looked (ap (λ (state : State). state.map) opens.state_is ∙ map_on old);
+}
+
+reopening_cut : (serving : Bool) (found : Option Bool) (old new : Device) → IsCutOpening (with_power_on old) new → found ≡ None → Does serving Reopen (NotOpened opening.Cut) found old new
+reopening_cut serving found old new cut looked = record {
+  cuts_are = cut.cut.one_more_cut;
+  serves = λ serves. absurd (cc serves);
+  legal = λ legal. cut.legal;
+  no_scan_fault = λ legal. refl;
+  value = tt;
+  map_is = λ legal. nothing_kept (NotOpened opening.Cut) found old new looked (ap (λ (state : State). state.map) cut.state_is ∙ map_on old);
+}
+
+reopen_turn : (serving : Bool) (answer : Answer) (found : Option Bool) (old new : Device) → Reopens answer old new → found ≡ None → Does serving Reopen answer found old new
+reopen_turn serving Opened found old new opens looked = reopened serving found old new opens looked
+reopen_turn serving (NotOpened opening.Cut) found old new cut looked = reopening_cut serving found old new cut looked
+reopen_turn serving (NotOpened (opening.Scan fault)) found old new fails looked = record {
+  cuts_are = ap (λ (device : Device). device.cuts) fails.1;
+  serves = λ serves. absurd (cc serves);
+  legal = λ legal. absurd (legal_is_good (with_power_on old) fault (legal_on old legal) fails.0);
+  no_scan_fault = λ legal. absurd (legal_is_good (with_power_on old) fault (legal_on old legal) fails.0);
+  value = tt;
+  map_is = λ legal. absurd (legal_is_good (with_power_on old) fault (legal_on old legal) fails.0);
+}
+reopen_turn serving answer found old new reopens looked = absurd reopens
+
+does : (serving : Bool) (event : Event) (answer : Answer) (found : Option Bool) (old new : Device) → Happens serving event answer old new → IsLookedFor event answer found new
+    → Does serving event answer found old new
+does serving Reopen answer found old new happens looked = reopen_turn serving answer found old new happens looked
+does true (Put address value) answer found old new happens looked = put_turn address value answer found old new happens looked
+does true (Forget address) answer found old new happens looked = forget_turn address answer found old new happens looked
+does true (Get address) answer found old new happens looked = get_turn address answer found old new happens looked
+does true Clean answer found old new happens looked = clean_turn answer found old new happens looked
+does false (Put address value) Off found old new same looked = off_turn (Put address value) Off found old new same looked tt refl
+does false (Forget address) Off found old new same looked = off_turn (Forget address) Off found old new same looked tt refl
+does false (Get address) Off found old new same looked = off_turn (Get address) Off found old new same looked tt refl
+does false Clean Off found old new same looked = off_turn Clean Off found old new same looked tt refl
+does false event answer found old new idles looked = absurd idles
+
+does_turn : (turn : Turn) (old new : Point) → IsTurn turn old new → Does old.serving turn.event turn.answer turn.found old.device new.device
+does_turn turn old new taken = does old.serving turn.event turn.answer turn.found old.device new.device taken.happens taken.looked
+
+-- ---- turns one after another
+
+pub kept_changes-cons : (turn : Turn) (turns : List Turn) → kept_changes (turn ∷ turns) ≡ kept_changes (turn ∷ []) ++ kept_changes turns
+kept_changes-cons turn turns = filter_map-append (λ (one : Turn). change_kept one.event one.answer one.found) (turn ∷ []) turns
+
+kept : (turns : List Turn) (old new : Point) → AreTurns turns old new → IsLegal old.device → WasKept turns old.device new.device
+kept [] old new same legal = record {
+  no_scan_fault = All-nil (λ (turn : Turn). is_scan_fault turn.answer ≡ false);
+  values = tt;
+  legal = subst (λ (point : Point). IsLegal point.device) (sym same) legal;
+  map_is = ap (λ (point : Point). (state_of point.device).map) same;
+}
+kept (turn ∷ turns) old new run legal =
+    let one = does_turn turn old run.0 run.1 in
+    let map_is = one.map_is legal in
+    let rest = kept turns run.0 new run.2 (one.legal legal) in
+    record {
+      no_scan_fault = All-cons (λ (turn : Turn). is_scan_fault turn.answer ≡ false) turn turns (one.no_scan_fault legal) rest.no_scan_fault;
+      values = (one.value, subst (λ (map : Map). AreValuesFrom map turns) map_is rest.values);
+      legal = rest.legal;
+      map_is = rest.map_is ∙ ap (changed_by (kept_changes turns)) map_is ∙ sym (changed_by-append (kept_changes (turn ∷ [])) (kept_changes turns) (state_of old.device).map)
+          ∙ ap (λ (changes : List Change). changed_by changes (state_of old.device).map) (sym (kept_changes-cons turn turns));
+    }
+
+pub no_answered_change_is_lost_lem : (turns : List Turn) (old new : Point) → AreTurns turns old new → IsLegal old.device → WasKept turns old.device new.device
+no_answered_change_is_lost_lem turns old new run legal = kept turns old new run legal
+
+-- an open store stays so to the end, or a cut or an opening that fails ends it
+open_at_end : (turns : List Turn) (old new : Point) → AreTurns turns old new → (old.serving ≡ true → IsOn old.device × IsStore old.device)
+    → new.serving ≡ true → IsOn new.device × IsStore new.device
+open_at_end [] old new same stands = subst (λ (point : Point). point.serving ≡ true → IsOn point.device × IsStore point.device) (sym same) stands
+open_at_end (turn ∷ turns) old new run stands = open_at_end turns run.0 new run.2 (λ serving. (does_turn turn old run.0 run.1).serves (sym run.1.serving_is ∙ serving))
+
+-- the cuts so far, and one more or none
+cuts_fit : (cut : Bool) (start between : ℕ) → start ≤ all_ones → between ≡ cond cut (one_more start) start → between ≤ all_ones
+cuts_fit true start between fits is = omega arith
+cuts_fit false start between fits is = omega arith
+
+one_cut : (cut : Bool) (start between end rest all : ℕ) → start ≤ all_ones → between ≡ cond cut (one_more start) start → end ≡ min (between + rest) all_ones
+    → all ≡ cond cut 1 0 + rest → end ≡ min (start + all) all_ones
+one_cut true start between end rest all fits is ends sum = omega arith
+one_cut false start between end rest all fits is ends sum = omega arith
+
+all_cuts : (turns : List Turn) (old new : Point) → AreTurns turns old new → old.device.cuts ≤ all_ones
+    → new.device.cuts ≡ min (old.device.cuts + count_by (λ (turn : Turn). tells_of_a_cut turn.answer) turns) all_ones
+all_cuts [] old new same fits = let e : new.device.cuts ≡ old.device.cuts = ap (λ (point : Point). point.device.cuts) same in omega arith
+all_cuts (turn ∷ turns) old new run fits =
+    let one = does_turn turn old run.0 run.1 in
+    one_cut (tells_of_a_cut turn.answer) old.device.cuts run.0.device.cuts new.device.cuts (count_by (λ (turn : Turn). tells_of_a_cut turn.answer) turns) _ fits one.cuts_are
+    (all_cuts turns run.0 new run.2 (cuts_fit (tells_of_a_cut turn.answer) old.device.cuts run.0.device.cuts fits one.cuts_are))
+    (sum_by-cons (λ (one : Turn). cond (tells_of_a_cut one.answer) 1 0) turn turns)
+
+pub was_done : (turns : List Turn) (old new : Device) (end : Point) → AreTurns turns (closed_point old) end → end.device ≡ new → old.cuts ≤ all_ones → WasDone turns old new
+was_done turns old new end run same fits = record {
+  end = end;
+  turns_are = run;
+  ends_at = same;
+  serves = λ serving. subst (λ (device : Device). IsOn device × IsStore device) same (open_at_end turns (closed_point old) end run (λ never. absurd (cc never)) serving);
+  cuts_are = ap (λ (device : Device). device.cuts) (sym same) ∙ all_cuts turns (closed_point old) end run fits;
+}

@@ -1,0 +1,5 @@
+pub mod TurnByTurn
+pub mod KeptChanges
+pub mod WholeDrives
+pub mod StayingChanges
+pub mod Premises

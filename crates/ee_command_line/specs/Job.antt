@@ -1,0 +1,158 @@
+-- The commands of the program, and the words that spell them.
+use Rattle.std.specs.Prelude.{◌≡◌, ◌≢◌, ◌<◌, ◌≤◌, ◌+◌, ◌*◌, ◌%◌, ◌^◌, ◌⊎◌, ℕ, List, [], ◌∷◌, map, codes, decimal}
+use Rattle.std.specs.Prelude.{Bool, true, false, Option, Some, None, IfSome, option_map, Ok}
+use Rattle.std.specs.Int.{to_be_bytes, w32}
+use Rattle.std.specs.Borrow.{Bor}
+use Rattle.hex.specs.Hex.{decode_of}
+use Rattle.ee_flash.specs.Size.{IsWithinLimits, Size, size_of}
+use Rattle.ee_command_line.specs.declared.jobs.Job.{Job}
+use Rattle.ee_command_line.specs.declared.jobs.Job.TheVariants as job
+
+-- a row of the table of commands, with its size, its paths, the name and the value of a setting
+pub data Row : Type 0 where
+  Try : Size → Row
+  Format : Size → List ℕ → Row
+  Import : Size → List ℕ → List ℕ → Row
+  Export : List ℕ → List ℕ → Row
+  ImportHex : Size → ℕ → List ℕ → List ℕ → Row
+  ExportHex : List ℕ → ℕ → List ℕ → Row
+  Inspect : List ℕ → Row
+  Run : Bool → List ℕ → List ℕ → Row
+  Get : List ℕ → List ℕ → List ℕ → Row
+  Set : List ℕ → List ℕ → List ℕ → ℕ → Row
+  Apply : List ℕ → List ℕ → List ℕ → Row
+  Header : Bool → List ℕ → Row
+  Plan : List ℕ → List ℕ → Row
+  Check : List ℕ → List ℕ → List ℕ → Row
+  Wear : List ℕ → Option (List ℕ) → Row
+  States : List ℕ → Row
+  Clean : List ℕ → Row
+  Stale : List ℕ → List ℕ → Row
+  Tidy : List ℕ → List ℕ → Row
+  Listing : List ℕ → Option (List ℕ) → Row
+  Sizing : ℕ → List ℕ → ℕ → ℕ → Row
+  Help : Row
+  Version : Row
+
+-- the row of a job: its words as texts
+abbrev pub row_of : Job → Row
+row_of (job.Try size) = Try size
+row_of (job.Format size image) = Format size image.now
+row_of (job.Import size dump image) = Import size dump.now image.now
+row_of (job.Export image dump) = Export image.now dump.now
+row_of (job.ImportHex size base dump image) = ImportHex size base dump.now image.now
+row_of (job.ExportHex image base dump) = ExportHex image.now base dump.now
+row_of (job.Inspect image) = Inspect image.now
+row_of (job.Run indexed image script) = Run indexed image.now script.now
+row_of (job.Get image settings name) = Get image.now settings.now name.now
+row_of (job.Set image settings name value) = Set image.now settings.now name.now value
+row_of (job.Apply image settings values) = Apply image.now settings.now values.now
+row_of (job.Header rust settings) = Header rust settings.now
+row_of (job.Plan image script) = Plan image.now script.now
+row_of (job.Check image script certificate) = Check image.now script.now certificate.now
+row_of (job.Wear image before) = Wear image.now (option_map (λ path. path.now) before)
+row_of (job.States image) = States image.now
+row_of (job.Clean image) = Clean image.now
+row_of (job.Stale image settings) = Stale image.now settings.now
+row_of (job.Tidy image settings) = Tidy image.now settings.now
+row_of (job.List image settings) = Listing image.now (option_map (λ path. path.now) settings)
+row_of (job.Size words script cycles runs) = Sizing words script.now cycles runs
+row_of job.Help = Help
+row_of job.Version = Version
+
+-- the texts of the words
+abbrev pub texts_of : List (Bor (List ℕ)) → List (List ℕ)
+texts_of words = map (λ word. word.now) words
+
+-- how many words a page can have
+abbrev pub ArePageWords : ℕ → Type 0
+ArePageWords words = (5 ≤ words) × (words ≤ 512)
+
+-- one at least, and of 32 bits
+abbrev pub IsCount : ℕ → Type 0
+IsCount count = (1 ≤ count) × (count < 2 ^ 32)
+
+-- an address of 32 bits at which a word of flash begins
+unfoldable pub IsBase : ℕ → Type 0
+IsBase base = (base < 2 ^ 32) × (base % 8 ≡ 0)
+
+-- a part of this size that begins there ends within the addresses of 32 bits
+unfoldable pub EndsWithin : Size → ℕ → Type 0
+EndsWithin size base = base + 16 * (size.pages * size.words) ≤ 2 ^ 32
+
+-- eight hexadecimal digits in either case: the four bytes of the base, the greatest first
+unfoldable pub HasBase : List ℕ → ℕ → Type 0
+HasBase word base = decode_of word ≡ Ok (to_be_bytes w32 base)
+
+-- its size is within the limits, its value has 32 bits, its base is one, from which a part that is imported ends within 32 bits,
+-- an image to run on is not named `--indexed`, settings to tell are not named `--rust`, and cycles and runs are counts
+abbrev pub IsRow : Row → Type 0
+IsRow (Try size) = IsWithinLimits size
+IsRow (Format size image) = IsWithinLimits size
+IsRow (Import size dump image) = IsWithinLimits size
+IsRow (Export image dump) = Unit {0}
+IsRow (ImportHex size base dump image) = IsWithinLimits size × IsBase base × EndsWithin size base
+IsRow (ExportHex image base dump) = IsBase base
+IsRow (Inspect image) = Unit {0}
+IsRow (Run indexed image script) = image ≢ codes "--indexed"
+IsRow (Get image settings name) = Unit {0}
+IsRow (Set image settings name value) = value < 2 ^ 32
+IsRow (Apply image settings values) = Unit {0}
+IsRow (Header rust settings) = settings ≢ codes "--rust"
+IsRow (Plan image script) = Unit {0}
+IsRow (Check image script certificate) = Unit {0}
+IsRow (Wear image before) = Unit {0}
+IsRow (States image) = Unit {0}
+IsRow (Clean image) = Unit {0}
+IsRow (Stale image settings) = Unit {0}
+IsRow (Tidy image settings) = Unit {0}
+IsRow (Listing image settings) = Unit {0}
+IsRow (Sizing words script cycles runs) = ArePageWords words × IsCount cycles × IsCount runs
+IsRow Help = Unit {0}
+IsRow Version = Unit {0}
+
+-- the words say this row; no words say `try 1 6`
+abbrev pub AreWordsOf : List (List ℕ) → Row → Type 0
+AreWordsOf words (Try size) = (words ≡ codes "try" ∷ decimal size.pages ∷ decimal size.words ∷ [])
+    ⊎ ((words ≡ []) × (size ≡ size_of 1 6))
+AreWordsOf words (Format size image) = words ≡ codes "format" ∷ decimal size.pages ∷ decimal size.words ∷ image ∷ []
+AreWordsOf words (Import size dump image) =
+    words ≡ codes "import" ∷ decimal size.pages ∷ decimal size.words ∷ dump ∷ image ∷ []
+AreWordsOf words (Export image dump) = words ≡ codes "export" ∷ image ∷ dump ∷ []
+AreWordsOf words (ImportHex size base dump image) = (digits : List ℕ) × HasBase digits base
+    × (words ≡ codes "import-hex" ∷ decimal size.pages ∷ decimal size.words ∷ digits ∷ dump ∷ image ∷ [])
+AreWordsOf words (ExportHex image base dump) = (digits : List ℕ) × HasBase digits base
+    × (words ≡ codes "export-hex" ∷ image ∷ digits ∷ dump ∷ [])
+AreWordsOf words (Inspect image) = words ≡ codes "inspect" ∷ image ∷ []
+AreWordsOf words (Run false image script) = words ≡ codes "run" ∷ image ∷ script ∷ []
+AreWordsOf words (Run true image script) = words ≡ codes "run" ∷ codes "--indexed" ∷ image ∷ script ∷ []
+AreWordsOf words (Get image settings name) = words ≡ codes "get" ∷ image ∷ settings ∷ name ∷ []
+AreWordsOf words (Set image settings name value) =
+    words ≡ codes "set" ∷ image ∷ settings ∷ name ∷ decimal value ∷ []
+AreWordsOf words (Apply image settings values) = words ≡ codes "apply" ∷ image ∷ settings ∷ values ∷ []
+AreWordsOf words (Header false settings) = words ≡ codes "header" ∷ settings ∷ []
+AreWordsOf words (Header true settings) = words ≡ codes "header" ∷ codes "--rust" ∷ settings ∷ []
+AreWordsOf words (Plan image script) = words ≡ codes "plan" ∷ image ∷ script ∷ []
+AreWordsOf words (Check image script certificate) =
+    words ≡ codes "check" ∷ image ∷ script ∷ certificate ∷ []
+AreWordsOf words (Wear image None) = words ≡ codes "wear" ∷ image ∷ []
+AreWordsOf words (Wear image (Some before)) = words ≡ codes "wear" ∷ image ∷ before ∷ []
+AreWordsOf words (States image) = words ≡ codes "states" ∷ image ∷ []
+AreWordsOf words (Clean image) = words ≡ codes "clean" ∷ image ∷ []
+AreWordsOf words (Stale image settings) = words ≡ codes "stale" ∷ image ∷ settings ∷ []
+AreWordsOf words (Tidy image settings) = words ≡ codes "tidy" ∷ image ∷ settings ∷ []
+AreWordsOf words (Listing image None) = words ≡ codes "list" ∷ image ∷ []
+AreWordsOf words (Listing image (Some settings)) = words ≡ codes "list" ∷ image ∷ settings ∷ []
+AreWordsOf words (Sizing page_words script cycles runs) =
+    words ≡ codes "size" ∷ decimal page_words ∷ script ∷ decimal cycles ∷ decimal runs ∷ []
+AreWordsOf words Help =
+    (words ≡ codes "--help" ∷ []) ⊎ (words ≡ codes "-h" ∷ []) ⊎ (words ≡ codes "help" ∷ [])
+AreWordsOf words Version = words ≡ codes "--version" ∷ []
+
+-- a job that is given is a row, which the words say
+abbrev pub IsSaid : List (List ℕ) → Option Job → Type 0
+IsSaid words given = IfSome given (λ job. IsRow (row_of job) × AreWordsOf words (row_of job))
+
+-- a row that the words say is given
+abbrev pub IsFound : List (List ℕ) → Option Job → Type 0
+IsFound words given = (row : Row) → IsRow row → AreWordsOf words row → option_map row_of given ≡ Some row

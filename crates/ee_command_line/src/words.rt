@@ -1,0 +1,316 @@
+//! The words behind the program's name, read.
+ghost use Rattle.std.specs.Prelude.{◌≡◌, [], ◌∷◌, ◌<◌, ◌^◌, ℕ, Some, IfSome, decimal};
+ghost use Rattle.ee_flash.specs.Size.{IsWithinLimits, Size};
+ghost use Rattle.ee_command_line.specs.Job.{ArePageWords, EndsWithin, HasBase, IsBase, IsCount, IsFound, IsSaid, texts_of};
+
+use super::jobs::Job;
+use ee_flash::Shape;
+use ee_text::number_up_to;
+use hex::FromHex;
+
+/// The job that the words ask for. None where they spell no command. Pages are 1 to 64, words of a
+/// page 5 to 512 and a value 0 to 4294967295, in decimal, with no sign and no zero in front. A base is a
+/// multiple of 8 of 32 bits, in eight hexadecimal digits.
+///
+/// Source: ours.
+pub fn job<'a>(words: &[&'a str]) -> Option<Job<'a>>
+    // What is given is spelled so.
+    ensures found { IsSaid (texts_of words.now) result }
+    // What is spelled so is given.
+    ensures only { IsFound (texts_of words.now) result }
+{
+    match *words {
+        [] => Some(Job::Try {
+            shape: Shape::new(1, 6)?,
+        }),
+        [command] => job_of_one(command),
+        [command, first] => job_of_two(command, first),
+        [command, first, second] => job_of_three(command, first, second),
+        [command, first, second, third] => job_of_four(command, first, second, third),
+        [command, first, second, third, fourth] => {
+            job_of_five(command, first, second, third, fourth)
+        }
+        [command, first, second, third, fourth, fifth] => {
+            job_of_six(command, first, second, third, fourth, fifth)
+        }
+        _ => None,
+    }
+}
+
+/// The job that a word alone asks for.
+fn job_of_one<'a>(command: &'a str) -> Option<Job<'a>>
+    ensures found { IsSaid (command.now ∷ []) result }
+    ensures only { IsFound (command.now ∷ []) result }
+{
+    match command {
+        "--help" | "-h" | "help" => Some(Job::Help),
+        "--version" => Some(Job::Version),
+        _ => None,
+    }
+}
+
+/// The job of a command on one text.
+fn job_of_two<'a>(command: &'a str, first: &'a str) -> Option<Job<'a>>
+    ensures found { IsSaid (command.now ∷ first.now ∷ []) result }
+    ensures only { IsFound (command.now ∷ first.now ∷ []) result }
+{
+    match command {
+        "list" => Some(Job::List {
+            image: first,
+            settings: None,
+        }),
+        "wear" => Some(Job::Wear {
+            image: first,
+            before: None,
+        }),
+        "states" => Some(Job::States { image: first }),
+        "inspect" => Some(Job::Inspect { image: first }),
+        "clean" => Some(Job::Clean { image: first }),
+        // This word says which constants, and names no settings.
+        "header" if first != "--rust" => Some(Job::Header {
+            rust: false,
+            settings: first,
+        }),
+        _ => None,
+    }
+}
+
+/// The job of a command on two texts.
+fn job_of_three<'a>(command: &'a str, first: &'a str, second: &'a str) -> Option<Job<'a>>
+    ensures found { IsSaid (command.now ∷ first.now ∷ second.now ∷ []) result }
+    ensures only { IsFound (command.now ∷ first.now ∷ second.now ∷ []) result }
+{
+    match command {
+        "try" => Some(Job::Try {
+            shape: shape_of(first, second)?,
+        }),
+        // This word says how to run, and names no image.
+        "run" if first != "--indexed" => Some(Job::Run {
+            indexed: false,
+            image: first,
+            script: second,
+        }),
+        "export" => Some(Job::Export {
+            image: first,
+            dump: second,
+        }),
+        "plan" => Some(Job::Plan {
+            image: first,
+            script: second,
+        }),
+        "list" => Some(Job::List {
+            image: first,
+            settings: Some(second),
+        }),
+        "wear" => Some(Job::Wear {
+            image: first,
+            before: Some(second),
+        }),
+        "stale" => Some(Job::Stale {
+            image: first,
+            settings: second,
+        }),
+        "tidy" => Some(Job::Tidy {
+            image: first,
+            settings: second,
+        }),
+        "header" if first == "--rust" && second != "--rust" => Some(Job::Header {
+            rust: true,
+            settings: second,
+        }),
+        _ => None,
+    }
+}
+
+/// The job of a command on three texts.
+fn job_of_four<'a>(
+    command: &'a str,
+    first: &'a str,
+    second: &'a str,
+    third: &'a str,
+) -> Option<Job<'a>>
+    ensures found { IsSaid (command.now ∷ first.now ∷ second.now ∷ third.now ∷ []) result }
+    ensures only { IsFound (command.now ∷ first.now ∷ second.now ∷ third.now ∷ []) result }
+{
+    match command {
+        "format" => Some(Job::Format {
+            shape: shape_of(first, second)?,
+            image: third,
+        }),
+        "run" if first == "--indexed" && second != "--indexed" => Some(Job::Run {
+            indexed: true,
+            image: second,
+            script: third,
+        }),
+        "get" => Some(Job::Get {
+            image: first,
+            settings: second,
+            name: third,
+        }),
+        "apply" => Some(Job::Apply {
+            image: first,
+            settings: second,
+            values: third,
+        }),
+        "check" => Some(Job::Check {
+            image: first,
+            script: second,
+            certificate: third,
+        }),
+        "export-hex" => Some(Job::ExportHex {
+            image: first,
+            base: base_of(second)?,
+            dump: third,
+        }),
+        _ => None,
+    }
+}
+
+/// The job of a command on four texts.
+fn job_of_five<'a>(
+    command: &'a str,
+    first: &'a str,
+    second: &'a str,
+    third: &'a str,
+    fourth: &'a str,
+) -> Option<Job<'a>>
+    ensures found { IsSaid (command.now ∷ first.now ∷ second.now ∷ third.now ∷ fourth.now ∷ []) result }
+    ensures only { IsFound (command.now ∷ first.now ∷ second.now ∷ third.now ∷ fourth.now ∷ []) result }
+{
+    match command {
+        "import" => Some(Job::Import {
+            shape: shape_of(first, second)?,
+            dump: third,
+            image: fourth,
+        }),
+        "set" => Some(Job::Set {
+            image: first,
+            settings: second,
+            name: third,
+            value: value_of(fourth)?,
+        }),
+        "size" => Some(Job::Size {
+            words: page_words_of(first)?,
+            script: second,
+            cycles: count_of(third)?,
+            runs: count_of(fourth)?,
+        }),
+        _ => None,
+    }
+}
+
+/// The job of a command on five texts.
+fn job_of_six<'a>(
+    command: &'a str,
+    first: &'a str,
+    second: &'a str,
+    third: &'a str,
+    fourth: &'a str,
+    fifth: &'a str,
+) -> Option<Job<'a>>
+    ensures found { IsSaid
+        (command.now ∷ first.now ∷ second.now ∷ third.now ∷ fourth.now ∷ fifth.now ∷ []) result }
+    ensures only { IsFound
+        (command.now ∷ first.now ∷ second.now ∷ third.now ∷ fourth.now ∷ fifth.now ∷ []) result }
+{
+    match command {
+        "import-hex" => {
+            let shape = shape_of(first, second)?;
+            Some(Job::ImportHex {
+                shape,
+                base: base_for(shape, third)?,
+                dump: fourth,
+                image: fifth,
+            })
+        }
+        _ => None,
+    }
+}
+
+/// The words of a page that a word spells.
+fn page_words_of(word: &str) -> Option<u16>
+    ensures found { IfSome result (λ words. ArePageWords words × (word.now ≡ decimal words)) }
+    ensures only { (words : ℕ) → ArePageWords words → word.now ≡ decimal words
+        → result ≡ Some words }
+{
+    let words = number_up_to(word.as_bytes(), 512)?;
+    if words < 5 {
+        return None;
+    }
+    Some(words as u16)
+}
+
+/// The count, one at least, that a word spells.
+fn count_of(word: &str) -> Option<u32>
+    ensures found { IfSome result (λ count. IsCount count × (word.now ≡ decimal count)) }
+    ensures only { (count : ℕ) → IsCount count → word.now ≡ decimal count
+        → result ≡ Some count }
+{
+    let count = value_of(word)?;
+    if count == 0 {
+        return None;
+    }
+    Some(count)
+}
+
+/// The base that a word spells: a multiple of 8.
+#[tactic(auto, unfolding(crate::specs::Job::IsBase))]
+fn base_of(word: &str) -> Option<u32>
+    ensures found { IfSome result (λ base. IsBase base × HasBase word.now base) }
+    ensures only { (base : ℕ) → IsBase base → HasBase word.now base → result ≡ Some base }
+{
+    let base = digits_of(word)?;
+    if base % 8 != 0 {
+        return None;
+    }
+    Some(base)
+}
+
+/// The number that a word of eight hexadecimal digits, in either case, spells.
+#[tactic(auto, using(crate::proofs::Bases::base_read, crate::proofs::Bases::one_base))]
+fn digits_of(word: &str) -> Option<u32>
+    ensures found { IfSome result (λ base. (base < 2 ^ 32) × HasBase word.now base) }
+    ensures only { (base : ℕ) → base < 2 ^ 32 → HasBase word.now base → result ≡ Some base }
+{
+    match <[u8; 4]>::from_hex(word) {
+        Ok(bytes) => Some(u32::from_be_bytes(bytes)),
+        Err(_) => None,
+    }
+}
+
+/// The base that a word spells, where a part of this size that begins there ends within the addresses of 32 bits.
+#[tactic(auto, unfolding(crate::specs::Job::EndsWithin))]
+fn base_for(shape: Shape, word: &str) -> Option<u32>
+    ensures found { IfSome result (λ base. IsBase base × EndsWithin shape base × HasBase word.now base) }
+    ensures only { (base : ℕ) → IsBase base → EndsWithin shape base → HasBase word.now base
+        → result ≡ Some base }
+{
+    let base = base_of(word)?;
+    // 16 bytes for each word of one set, which the shape keeps below 2 ^ 20.
+    let bytes = 16 * (shape.pages() * shape.words()) as u64;
+    if u64::from(base) + bytes > 1 << 32 {
+        return None;
+    }
+    Some(base)
+}
+
+/// The shape that two words spell.
+fn shape_of(pages: &str, words: &str) -> Option<Shape>
+    ensures found { IfSome result (λ size. IsWithinLimits size
+        × (pages.now ≡ decimal size.pages) × (words.now ≡ decimal size.words)) }
+    ensures only { (size : Size) → IsWithinLimits size → pages.now ≡ decimal size.pages
+        → words.now ≡ decimal size.words → result ≡ Some size }
+{
+    let pages = number_up_to(pages.as_bytes(), 64)?;
+    let words = number_up_to(words.as_bytes(), 512)?;
+    Shape::new(pages as usize, words as usize)
+}
+
+/// The value that a word spells.
+fn value_of(word: &str) -> Option<u32>
+    ensures found { IfSome result (λ value. (value < 2 ^ 32) × (word.now ≡ decimal value)) }
+    ensures only { (value : ℕ) → value < 2 ^ 32 → word.now ≡ decimal value
+        → result ≡ Some value }
+{
+    Some(number_up_to(word.as_bytes(), u64::from(u32::MAX))? as u32)
+}

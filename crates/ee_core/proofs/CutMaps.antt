@@ -1,0 +1,45 @@
+-- What a cut in a change leaves of the map.
+use Rattle.std.proofs.Common.{◌⊎◌, inl, inr, ◌≤◌, length, filter, ◌≡◌, ℕ, Option, Some, None, ap, arith}
+use Rattle.std.proofs.lemmas.Bool.{cases_lt}
+use Rattle.std.proofs.lemmas.List.Sums.{count_by-le-length, length-filter}
+use Rattle.ee_flash.specs.Device.{Device, IsFormed}
+use Rattle.ee_flash.specs.Size.{slot_count}
+use Rattle.ee_pages.proofs.Slots.{length-slots}
+use Rattle.ee_pages.specs.Meaning.{Change, map_after}
+use Rattle.ee_pages.specs.Page.{is_written}
+use Rattle.ee_pages.specs.Sets.{live_of, set_of, slots_of}
+use Rattle.ee_pages.specs.declared.side.Side.{Side}
+use Rattle.ee_core.specs.Changes.{IsCutAppend, IsCutChange, IsCutMove}
+use Rattle.ee_core.specs.State.{State, capacity, state_in, state_of}
+
+fill_in : (device : Device) (live : Option (Side × ℕ)) → IsFormed device → (state_in device live).fill ≤ capacity device
+fill_in device None formed = omega arith
+fill_in device (Some live) formed =
+    let slots = slots_of (set_of live.0 device) in
+    let whole : length slots ≡ slot_count device.size = length-slots live.0 device formed in
+    let some : length (filter is_written slots) ≤ length slots = rw (length-filter is_written slots) (count_by-le-length is_written slots) in
+    omega arith
+
+-- no more slots are used than there are
+pub fill_within : (device : Device) → IsFormed device → (state_of device).fill ≤ capacity device
+fill_within device formed = fill_in device (live_of device) formed
+
+cut_cases : (old new : Device) (change : Change) → IsCutChange old change new
+    → IsCutAppend (state_of old) change (state_of new) ⊎ IsCutMove old.size.pages (state_of old) change (state_of new)
+cut_cases old new change cut =
+    elim (cases_lt (state_of old).fill (capacity old)) [
+      | inl h ↦ inl (cut.free h)
+      | inr h ↦ (let e : (state_of old).fill ≡ capacity old = omega (arith, cut.within) in inr (cut.all_used e))
+    ]
+
+cut_state : (old new : State) (pages : ℕ) (change : Change) → IsCutAppend old change new ⊎ IsCutMove pages old change new → (new.map ≡ old.map) ⊎ (new.map ≡ map_after change old.map)
+cut_state old new pages change (inl (inl e)) = inl (ap (λ (s : State). s.map) e)
+cut_state old new pages change (inl (inr (inl e))) = inl (ap (λ (s : State). s.map) e)
+cut_state old new pages change (inl (inr (inr e))) = inr (ap (λ (s : State). s.map) e)
+cut_state old new pages change (inr (inl e)) = inl (ap (λ (s : State). s.map) e.2)
+cut_state old new pages change (inr (inr e)) = inr (ap (λ (s : State). s.map) e)
+
+-- after a cut the map is as it was or has the change
+pub cut_map : (old new : Device) (change : Change) → IsCutChange old change new
+    → ((state_of new).map ≡ (state_of old).map) ⊎ ((state_of new).map ≡ map_after change (state_of old).map)
+cut_map old new change cut = cut_state (state_of old) (state_of new) old.size.pages change (cut_cases old new change cut)

@@ -1,0 +1,135 @@
+-- What is drawn where power was cut in setting marks, and in an append.
+use Rattle.std.proofs.Common.{◌≡◌, inl, inr, ℕ, ◌+◌, ◌<◌, ◌≤◌, Bool, true, List, get_or, refl, sym, subst, ap, ◌∙◌, arith}
+use Rattle.std.specs.Prelude.{◌&&◌, not, nat_lt}
+use Rattle.std.proofs.lemmas.Bool.{cases_eq, cases_lt, eq-eqb, le-ltb, lt-ltb, ne_eqb}
+use Rattle.ee_flash.specs.Device.{Device, IsFormed}
+use Rattle.ee_flash.specs.Size.{Size}
+use Rattle.ee_flash.specs.declared.word.Word.{Word}
+use Rattle.ee_flash.specs.declared.word.Word.TheVariants.{Erased, Held}
+use Rattle.ee_pages.specs.Page.{is_blank, is_marked}
+use Rattle.ee_pages.specs.Sets.{first_page, other, page_of_slot, place_of_slot}
+use Rattle.ee_pages.specs.declared.side.Side.{Side}
+use Rattle.ee_pages.specs.declared.state.Mark.TheVariants.{Active, Erasing, Valid}
+use Rattle.ee_core.proofs.Cuts.{IsOnTheWay, drawn_before, drawn_between, drawn_whole, mark_drawn_partly, put_partly}
+use Rattle.ee_core.proofs.Drawings.{active_last, mark_drawn, drawn_as, retired_more, same_drawn, valid_drawn, valid_more, valid_to, with_mark, with_word-elsewhere}
+use Rattle.ee_core.proofs.MarkedSets.{retired_to, waits}
+use Rattle.ee_core.proofs.SetPages.{same_page}
+use Rattle.ee_core.specs.Cuts.{IsDrawnPartly, IsPartlyDone, PutsPartly, SetsPartly}
+use Rattle.ee_core.specs.Finished.{last_used}
+use Rattle.ee_core.specs.Openings.{ShowsCutMarks}
+use Rattle.ee_core.specs.Parts.{IsSameSet, SetsMark}
+use Rattle.ee_core.specs.Picture.{IsDrawn, Picture, marked_to, picture_of, retired_pages, with_change}
+
+-- ---- the marks that are set so far are on the way
+
+valid_way : (k last : ℕ) (picture : Picture) (page at : ℕ) → k ≤ last → IsOnTheWay (picture page at) (marked_to last picture page at) (valid_to k picture page at)
+valid_way k last picture page at h = elim (cases_eq at 2) [
+  | inr away ↦ inl (rw (ne_eqb at 2 away) refl)
+  | inl two ↦ elim (cases_lt page k) [
+    | inl below ↦ inr (rw (eq-eqb at 2 two, lt-ltb page k below, lt-ltb page last (omega arith)) refl)
+    | inr above ↦ inl (rw (eq-eqb at 2 two, le-ltb page k above) refl)
+  ]
+]
+
+retired_way : (k : ℕ) (waiting : ℕ → Bool) (picture : Picture) (page at : ℕ) → IsOnTheWay (picture page at) (retired_pages waiting picture page at) (retired_pages (λ p. nat_lt p k && waiting p) picture page at)
+retired_way k waiting picture page at = elim (cases_eq at 3) [
+  | inr away ↦ inl (rw (ne_eqb at 3 away) refl)
+  | inl three ↦ elim (cases_lt page k) [
+    | inl below ↦ inr (rw (lt-ltb page k below) refl)
+    | inr above ↦ inl (rw (eq-eqb at 3 three, le-ltb page k above) refl)
+  ]
+]
+
+-- ---- a mark that was cut, in the set that is drawn with the marks before it
+
+pub valid_partly : (side : Side) (mid new : Device) (k last : ℕ) (picture : Picture) → IsFormed mid → new.size ≡ mid.size → k < mid.size.pages → k < last → SetsPartly (first_page mid.size side + k) Valid mid new → IsDrawn side mid (valid_to k picture) → IsDrawnPartly side new picture (marked_to last picture)
+valid_partly side mid new k last picture formed sizes h before sets drawn =
+    drawn_between side new picture (marked_to last picture) (valid_to k picture) (with_mark k Valid (valid_to k picture))
+    (λ page at _ _. (
+      valid_way k last picture page at (omega arith),
+      subst (λ (word : Word). IsOnTheWay (picture page at) (marked_to last picture page at) word) (sym (valid_more k picture page at)) (valid_way (k + 1) last picture page at (omega arith)),
+    ))
+    (mark_drawn_partly side mid new k Valid (valid_to k picture) formed sizes h drawn sets)
+
+pub active_partly : (side : Side) (mid new : Device) (last : ℕ) (picture : Picture) → IsFormed mid → new.size ≡ mid.size → last < mid.size.pages → SetsPartly (first_page mid.size side + last) Active mid new → IsDrawn side mid (valid_to last picture) → IsDrawnPartly side new picture (marked_to last picture)
+active_partly side mid new last picture formed sizes h sets drawn =
+    drawn_between side new picture (marked_to last picture) (valid_to last picture) (with_mark last Active (valid_to last picture))
+    (λ page at _ _. (valid_way last last picture page at (omega arith), inr (active_last last picture page at)))
+    (mark_drawn_partly side mid new last Active (valid_to last picture) formed sizes h drawn sets)
+
+pub retired_partly : (side : Side) (old mid new : Device) (k : ℕ) → IsFormed mid → new.size ≡ mid.size → k < mid.size.pages → waits side old k ≡ true → SetsPartly (first_page mid.size side + k) Erasing mid new → IsDrawn side mid (retired_to side old k) → IsDrawnPartly side new (picture_of side old) (retired_pages (waits side old) (picture_of side old))
+retired_partly side old mid new k formed sizes h waiting sets drawn =
+    let picture = picture_of side old in
+    drawn_between side new picture (retired_pages (waits side old) picture) (retired_to side old k) (with_mark k Erasing (retired_to side old k))
+    (λ page at _ _. (
+      retired_way k (waits side old) picture page at,
+      subst (λ (word : Word). IsOnTheWay (picture page at) (retired_pages (waits side old) picture page at) word) (sym (retired_more k (waits side old) picture page at waiting)) (retired_way (k + 1) (waits side old) picture page at),
+    ))
+    (mark_drawn_partly side mid new k Erasing (retired_to side old k) formed sizes h drawn sets)
+
+-- ---- an opening
+
+-- cut in the marks of the live set
+pub cut_live : (side : Side) (old new : Device) → new.size ≡ old.size → IsDrawnPartly side new (picture_of side old) (marked_to (last_used old side) (picture_of side old)) → IsSameSet (other side) old new → ShowsCutMarks old new side
+cut_live side old new sizes live same = record {
+  live_pages = live;
+  old_pages = drawn_before (other side) new (picture_of (other side) old) _ (same_drawn (other side) old new sizes same);
+}
+
+-- or of the other one
+pub cut_old : (side : Side) (old mid new : Device) → mid.size ≡ old.size → new.size ≡ mid.size → IsDrawn side mid (marked_to (last_used old side) (picture_of side old)) → IsSameSet (other side) old mid → IsSameSet side mid new
+    → IsDrawnPartly (other side) new (picture_of (other side) mid) (retired_pages (waits (other side) mid) (picture_of (other side) mid)) → ShowsCutMarks old new side
+cut_old side old mid new first_sizes second_sizes live_first old_first live_then old_then = record {
+  live_pages = drawn_whole side new (picture_of side old) (marked_to (last_used old side) (picture_of side old)) (λ page at h within.
+      same_drawn side mid new second_sizes live_then page at h within
+      ∙ live_first page at (omega (arith, ap (λ (size : Size). size.pages) second_sizes)) (omega (arith, ap (λ (size : Size). size.words) second_sizes)));
+  old_pages = λ page at h within.
+      let below : page < old.size.pages = omega (arith, ap (λ (size : Size). size.pages) second_sizes, ap (λ (size : Size). size.pages) first_sizes) in
+      let words = same_page (other side) old mid page first_sizes old_first below in
+      subst (λ (found : List Word). IsPartlyDone (get_or found at Erased) (retired_pages (λ p. not (is_blank found)) (λ p k. get_or found at Erased) page at) (picture_of (other side) new page at)) words (old_then page at h within);
+}
+
+-- ---- an append
+
+-- cut in the marks of a further page: in the valid mark of the page before it
+pub opens_partly : (side : Side) (old new : Device) (k : ℕ) → IsFormed old → new.size ≡ old.size → k + 1 < old.size.pages → ((page : ℕ) → page < k → is_marked old (first_page old.size side + page) Valid ≡ true)
+    → SetsPartly (first_page old.size side + k) Valid old new → IsDrawnPartly side new (picture_of side old) (marked_to (k + 1) (picture_of side old))
+opens_partly side old new k formed sizes h before valid =
+    valid_partly side old new k (k + 1) (picture_of side old) formed sizes (omega arith) (omega arith) valid (valid_drawn side old k before)
+
+-- or in its active mark
+pub opens_partly_then : (side : Side) (old mid new : Device) (k : ℕ) → IsFormed old → IsFormed mid → mid.size ≡ old.size → new.size ≡ mid.size → k + 1 < old.size.pages → ((page : ℕ) → page < k → is_marked old (first_page old.size side + page) Valid ≡ true)
+    → SetsMark (first_page old.size side + k) Valid old mid → SetsPartly (first_page old.size side + (k + 1)) Active mid new → IsDrawnPartly side new (picture_of side old) (marked_to (k + 1) (picture_of side old))
+opens_partly_then side old mid new k formed mid_formed first_sizes second_sizes h before valid active =
+    let picture = picture_of side old in
+    let used : IsDrawn side mid (valid_to (k + 1) picture) =
+    drawn_as side mid (with_mark k Valid (valid_to k picture)) (valid_to (k + 1) picture)
+    (mark_drawn side old mid k Valid (valid_to k picture) formed first_sizes (omega arith) (valid_drawn side old k before) valid)
+    (λ p at _ _. valid_more k picture p at) in
+    let there = subst (λ (size : Size). SetsPartly (first_page size side + (k + 1)) Active mid new) (sym first_sizes) active in
+    active_partly side mid new (k + 1) picture mid_formed second_sizes (omega (arith, ap (λ (size : Size). size.pages) first_sizes)) there used
+
+-- the marks are on the way to the change
+marks_way : (size : Size) (fill number : ℕ) (picture : Picture) (page at : ℕ) → IsOnTheWay (picture page at) (with_change size fill number picture page at) (marked_to (page_of_slot size fill) picture page at)
+marks_way size fill number picture page at = elim (cases_eq at (place_of_slot size fill)) [
+  | inr away ↦ inr (sym (with_word-elsewhere (page_of_slot size fill) (place_of_slot size fill) (Held number) (marked_to (page_of_slot size fill) picture) page at (inr away)))
+  | inl there ↦ inl (rw (ne_eqb at 2 (λ e. omega (arith, e, there)), ne_eqb at 1 (λ e. omega (arith, e, there))) refl)
+]
+
+pub cut_marks : (side : Side) (old new : Device) (fill number : ℕ) → IsDrawnPartly side new (picture_of side old) (marked_to (page_of_slot old.size fill) (picture_of side old)) → IsDrawnPartly side new (picture_of side old) (with_change old.size fill number (picture_of side old))
+cut_marks side old new fill number drawn =
+    let picture = picture_of side old in
+    drawn_between side new picture (with_change old.size fill number picture) picture (marked_to (page_of_slot old.size fill) picture)
+    (λ page at _ _. (inl refl, marks_way old.size fill number picture page at)) drawn
+
+pub cut_word : (side : Side) (old mid new : Device) (fill number : ℕ) → mid.size ≡ old.size → new.size ≡ mid.size → page_of_slot old.size fill < old.size.pages → place_of_slot old.size fill < old.size.words → IsDrawn side mid (marked_to (page_of_slot old.size fill) (picture_of side old))
+    → PutsPartly (first_page mid.size side + page_of_slot mid.size fill) (place_of_slot mid.size fill) (Held number) mid new
+    → IsDrawnPartly side new (picture_of side old) (with_change old.size fill number (picture_of side old))
+cut_word side old mid new fill number first_sizes second_sizes h inside drawn puts =
+    let picture = picture_of side old in
+    let at = place_of_slot old.size fill in
+    let k = page_of_slot old.size fill in
+    let there = subst (λ (size : Size). PutsPartly (first_page mid.size side + page_of_slot size fill) (place_of_slot size fill) (Held number) mid new) first_sizes puts in
+    drawn_between side new picture (with_change old.size fill number picture) (marked_to k picture) (with_change old.size fill number picture)
+    (λ page place _ _. (marks_way old.size fill number picture page place, inr refl))
+    (put_partly side mid new k at (Held number) (marked_to k picture) second_sizes drawn (omega (arith, ap (λ (size : Size). size.pages) first_sizes)) (omega (arith, ap (λ (size : Size). size.words) first_sizes)) there)

@@ -1,0 +1,299 @@
+-- What is drawn where power was cut in filling a set, and in committing it.
+use Rattle.std.proofs.Common.{◌≡◌, ◌≢◌, Some, suc, zero, append-nil, inl, inr, ℕ, ◌+◌, ◌-◌, ◌<◌, ◌≤◌, ◌/◌, true, List, [], ◌∷◌, ◌++◌, length, refl, sym, subst, ap, ◌∙◌, arith, append_assoc, length-append}
+use Rattle.std.proofs.Math.Nat.{div-mul-le_self}
+use Rattle.std.proofs.lemmas.Bool.{cases_eq, cases_lt, le-leb, le-ltb, lt-leb, lt-ltb, ne_eqb}
+use Rattle.std.proofs.lemmas.List.{get_or_append_left, get_or_past}
+use Rattle.std.proofs.lemmas.Nat.{le-div}
+use Rattle.ee_flash.specs.Device.{Device, IsFormed}
+use Rattle.ee_flash.specs.Size.{Size, slot_count}
+use Rattle.ee_flash.specs.declared.word.Word.{Word}
+use Rattle.ee_flash.specs.declared.word.Word.TheVariants.{Erased, Held}
+use Rattle.ee_pages.specs.Legal.{IsLive, slots_before}
+use Rattle.ee_core.proofs.MarkedSets.{waits}
+use Rattle.ee_pages.specs.Sets.{fill_of, first_page, other, page_of_slot, place_of_slot, set_of, slots_of}
+use Rattle.ee_pages.specs.declared.side.Side.{Side}
+use Rattle.ee_pages.specs.declared.side.Side.TheVariants.{First, Second}
+use Rattle.ee_pages.specs.Laws.{IsPageOf}
+use Rattle.ee_pages.specs.Page.{is_blank}
+use Rattle.std.specs.List.{All}
+use Rattle.std.proofs.lemmas.List.Elements.{All-drop, All-take}
+use Rattle.ee_core.specs.Openings.{ShowsCutFormat}
+use Rattle.ee_pages.specs.declared.state.Mark.TheVariants.{Active, Receive}
+use Rattle.ee_core.proofs.Cuts.{IsOnTheWay, drawn_between, mark_drawn_partly, put_apart_partly, put_partly}
+use Rattle.ee_core.proofs.Drawings.{drawn_both, page_of_its_set, put_apart, with_mark}
+use Rattle.ee_core.proofs.FilledSets.{OpensForSlot, near, one_word_more, opens_further}
+use Rattle.ee_core.proofs.MovedSets.{all_marked, all_waiting, blank_drawn, committed, first_opened, opens_blank}
+use Rattle.ee_core.specs.Cuts.{AddsPartly, FillsPartly, IsDrawnPartly, PutsPartly, SetsPartly}
+use Rattle.ee_core.specs.Parts.{AddsWords, Holds, SetsMark, opened_set, put_words}
+use Rattle.ee_core.proofs.CopiedWords.{all_moved, copied_word, one_further, others}
+use Rattle.ee_codec.specs.Words.{element}
+use Rattle.ee_pages.specs.Meaning.{Change, IsNextLive, Map}
+use Rattle.ee_pages.specs.Pending.{address_of}
+use Rattle.ee_core.specs.Picture.{IsDrawn, blank, element_at, elements_of, elements_to, filled_set, marked_to, moved_words, picture_of, retired_pages}
+
+page_later : (size : Size) (n m : ℕ) → 0 < size.words - 4 → n ≤ m → page_of_slot size n ≤ page_of_slot size m
+page_later size n m some h = let fits = div-mul-le_self n (size.words - 4) in le-div (n / (size.words - 4)) m (size.words - 4) some (omega (arith, fits))
+
+-- ---- a set that is being filled is on the way
+
+-- with more words, and as many pages open or more
+opened_front : (size : Size) (generation last later : ℕ) (words more : List Word) (page at : ℕ) → last ≤ later → IsOnTheWay Erased (opened_set size generation later (words ++ more) page at) (opened_set size generation last words page at)
+opened_front size generation last later words more page at h = elim (cases_lt 3 at) [
+  | inl slot ↦ elim (cases_lt (slots_before size page at) (length words)) [
+    | inl earlier ↦ inr (rw (lt-ltb 3 at slot) (sym (get_or_append_left words more Erased (slots_before size page at) earlier)))
+    | inr past ↦ inl (rw (lt-ltb 3 at slot) (get_or_past words (slots_before size page at) Erased past))
+  ]
+  | inr low ↦ elim (cases_eq at 0) [
+    | inr away ↦ inl (rw (le-ltb 3 at low, ne_eqb at 0 away) refl)
+    | inl zeroth ↦ elim (cases_lt last page) [
+      | inl above ↦ inl (rw (zeroth, lt-leb page last above) refl)
+      | inr below ↦ inr (rw (zeroth, le-leb page last below, le-leb page later (omega arith)) refl)
+    ]
+  ]
+]
+
+-- to the set that is live afterwards
+opened_way : (size : Size) (generation : ℕ) (words : List Word) (page at : ℕ) → IsOnTheWay Erased (filled_set size generation words page at) (opened_set size generation (page_of_slot size (length words - 1)) words page at)
+opened_way size generation words page at = elim (cases_lt 3 at) [
+  | inl slot ↦ inr (rw (lt-ltb 3 at slot) refl)
+  | inr low ↦ elim (cases_eq at 0) [
+    | inl zeroth ↦ inr (rw zeroth refl)
+    | inr away ↦ inl (rw (le-ltb 3 at low, ne_eqb at 0 away) refl)
+  ]
+]
+
+committed_way : (size : Size) (generation : ℕ) (words : List Word) (page at : ℕ) → IsOnTheWay Erased (filled_set size generation words page at) (committed size generation words page at)
+committed_way size generation words page at =
+    let before = opened_set size generation (page_of_slot size (length words - 1)) words page at in
+    elim (cases_eq page 0) [
+      | inr further ↦
+          let same : committed size generation words page at ≡ before = rw (ne_eqb page 0 further) refl in
+          subst (λ (word : Word). IsOnTheWay Erased (filled_set size generation words page at) word) (sym same) (opened_way size generation words page at)
+      | inl first ↦ elim (cases_eq at 1) [
+        | inl one ↦ inr (rw (first, one) refl)
+        | inr away ↦
+            let same : committed size generation words page at ≡ before = rw (first, ne_eqb at 1 away) refl in
+            subst (λ (word : Word). IsOnTheWay Erased (filled_set size generation words page at) word) (sym same) (opened_way size generation words page at)
+      ]
+    ]
+
+-- ---- a set that was filled in part
+
+-- is part of what it is filled with in the end
+pub partly_longer : (old new : Device) (side : Side) (generation count : ℕ) (more rest : List Word) → IsFormed new → AddsPartly old new side generation count more → AddsPartly old new side generation count (more ++ rest)
+partly_longer old new side generation count more rest formed adds = record {
+  live_pages = adds.live_pages;
+  new_pages = λ words long holds.
+      let all = words ++ more in
+      let some : 0 < new.size.words - 4 = omega (arith, formed.within_limits.some_words) in
+      let last = page_of_slot new.size (length all - 1) in
+      let later = page_of_slot new.size (length (all ++ rest) - 1) in
+      let before : last ≤ later = page_later new.size (length all - 1) (length (all ++ rest) - 1) some (omega (arith, length-append all rest)) in
+      let longer : FillsPartly new (other side) generation (all ++ rest) =
+      drawn_between (other side) new blank (opened_set new.size generation later (all ++ rest)) blank (opened_set new.size generation last all)
+      (λ page at _ _. (inl refl, opened_front new.size generation last later all rest page at before)) (adds.new_pages words long holds) in
+      subst (λ (found : List Word). FillsPartly new (other side) generation found) (append_assoc words more rest) longer;
+}
+
+-- more words, and then some in part
+pub adds_then : (old mid new : Device) (side : Side) (generation count : ℕ) (more further : List Word) → mid.size ≡ old.size → new.size ≡ mid.size → AddsWords old mid side generation count more → AddsPartly mid new side generation (count + length more) further → AddsPartly old new side generation count (more ++ further)
+adds_then old mid new side generation count more further first_sizes second_sizes first second = record {
+  live_pages = drawn_both side old mid new first_sizes second_sizes first.live_pages second.live_pages;
+  new_pages = λ words long holds.
+      subst (λ (all : List Word). FillsPartly new (other side) generation all) (append_assoc words more further)
+      (second.new_pages (words ++ more) (length-append words more ∙ ap (λ n. n + length more) long) (first.new_pages words long holds));
+}
+
+-- ---- one word more
+
+-- cut in the receive word of its page
+pub receive_partly : (old new : Device) (side : Side) (generation count : ℕ) (word : Word) → IsFormed old → new.size ≡ old.size → page_of_slot old.size count < old.size.pages → IsDrawn side new (picture_of side old)
+    → SetsPartly (first_page old.size (other side) + page_of_slot old.size count) (Receive generation) old new → AddsPartly old new side generation count (word ∷ [])
+receive_partly old new side generation count word formed sizes h live sets = record {
+  live_pages = live;
+  new_pages = λ words long holds.
+      let k = page_of_slot old.size count in
+      let last = page_of_slot old.size (count - 1) in
+      let all = words ++ (word ∷ []) in
+      let some : 0 < old.size.words - 4 = omega (arith, formed.within_limits.some_words) in
+      let before : IsDrawn (other side) old (opened_set old.size generation last words) = subst (λ n. IsDrawn (other side) old (opened_set old.size generation (page_of_slot old.size (n - 1)) words)) long holds in
+      let drawn = mark_drawn_partly (other side) old new k (Receive generation) (opened_set old.size generation last words) formed sizes h before sets in
+      let lower : last ≤ k = page_later old.size (count - 1) count some (omega arith) in
+      let fills : IsDrawnPartly (other side) new blank (opened_set old.size generation k all) =
+      drawn_between (other side) new blank (opened_set old.size generation k all) (opened_set old.size generation last words) (with_mark k (Receive generation) (opened_set old.size generation last words))
+      (λ page at _ _. (
+        opened_front old.size generation last k words (word ∷ []) page at lower,
+        subst (λ (found : Word). IsOnTheWay Erased (opened_set old.size generation k all page at) found) (sym (opens_further old.size generation last k words page at (near old.size count some)))
+            (opened_front old.size generation k k words (word ∷ []) page at (omega arith)),
+      )) drawn in
+      let counted : count ≡ length all - 1 = omega (arith, length-append words (word ∷ []), long) in
+      let there : IsDrawnPartly (other side) new blank (opened_set old.size generation (page_of_slot old.size (length all - 1)) all) =
+      subst (λ n. IsDrawnPartly (other side) new blank (opened_set old.size generation (page_of_slot old.size n) all)) counted fills in
+      subst (λ (size : Size). IsDrawnPartly (other side) new blank (opened_set size generation (page_of_slot size (length all - 1)) all)) (sym sizes) there;
+}
+
+-- or in itself, in a page that is open
+pub word_partly : (old new : Device) (side : Side) (generation count : ℕ) (word : Word) → IsFormed old → new.size ≡ old.size → page_of_slot old.size count < old.size.pages → place_of_slot old.size count < old.size.words
+    → PutsPartly (first_page old.size (other side) + page_of_slot old.size count) (place_of_slot old.size count) word old new
+    → (words : List Word) → length words ≡ count → IsDrawn (other side) old (opened_set old.size generation (page_of_slot old.size count) words) → FillsPartly new (other side) generation (words ++ (word ∷ []))
+word_partly old new side generation count word formed sizes h inside puts words long before =
+    let k = page_of_slot old.size count in
+    let all = words ++ (word ∷ []) in
+    let drawn = put_partly (other side) old new k (place_of_slot old.size count) word (opened_set old.size generation k words) sizes before h inside puts in
+    let fills : IsDrawnPartly (other side) new blank (opened_set old.size generation k all) =
+    drawn_between (other side) new blank (opened_set old.size generation k all) (opened_set old.size generation k words) _
+    (λ page at _ within. (
+      opened_front old.size generation k k words (word ∷ []) page at (omega arith),
+      inr (one_word_more old.size generation k count words word page at long (omega (arith, ap (λ (size : Size). size.words) sizes))),
+    )) drawn in
+    let counted : count ≡ length all - 1 = omega (arith, length-append words (word ∷ []), long) in
+    let there : IsDrawnPartly (other side) new blank (opened_set old.size generation (page_of_slot old.size (length all - 1)) all) =
+    subst (λ n. IsDrawnPartly (other side) new blank (opened_set old.size generation (page_of_slot old.size n) all)) counted fills in
+    subst (λ (size : Size). IsDrawnPartly (other side) new blank (opened_set size generation (page_of_slot size (length all - 1)) all)) (sym sizes) there
+
+-- ---- the set as a whole
+
+pub filled_partly : (side : Side) (new : Device) (generation : ℕ) (words : List Word) → FillsPartly new side generation words → IsDrawnPartly side new blank (filled_set new.size generation words)
+filled_partly side new generation words fills =
+    drawn_between side new blank (filled_set new.size generation words) blank (opened_set new.size generation (page_of_slot new.size (length words - 1)) words)
+    (λ page at _ _. (inl refl, opened_way new.size generation words page at)) fills
+
+-- cut in the mark that commits it
+pub commit_partly : (side : Side) (old new : Device) (generation : ℕ) (words : List Word) → IsFormed old → new.size ≡ old.size → SetsPartly (first_page old.size side) Active old new → Holds old side generation words → IsDrawnPartly side new blank (filled_set old.size generation words)
+commit_partly side old new generation words formed sizes sets holds =
+    let e : first_page old.size side ≡ first_page old.size side + 0 = omega arith in
+    let there = subst (λ n. SetsPartly n Active old new) e sets in
+    let before = opened_set old.size generation (page_of_slot old.size (length words - 1)) words in
+    drawn_between side new blank (filled_set old.size generation words) before (with_mark 0 Active before)
+    (λ page at _ _. (opened_way old.size generation words page at, committed_way old.size generation words page at))
+    (mark_drawn_partly side old new 0 Active before formed sizes (omega (arith, formed.within_limits.some_pages)) holds there)
+
+-- or in a mark behind that
+pub marked_partly : (side : Side) (mid new : Device) (generation last : ℕ) (words : List Word) → new.size ≡ mid.size → IsDrawn side mid (committed mid.size generation words) → last ≡ page_of_slot mid.size (length words - 1)
+    → IsDrawnPartly side new (picture_of side mid) (marked_to last (picture_of side mid)) → IsDrawnPartly side new blank (filled_set mid.size generation words)
+marked_partly side mid new generation last words sizes held last_is drawn =
+    drawn_between side new blank (filled_set mid.size generation words) (picture_of side mid) (marked_to last (picture_of side mid))
+    (λ page at h within.
+    let word : picture_of side mid page at ≡ committed mid.size generation words page at =
+    held page at (omega (arith, ap (λ (size : Size). size.pages) sizes)) (omega (arith, ap (λ (size : Size). size.words) sizes)) in
+    let whole : marked_to last (picture_of side mid) page at ≡ filled_set mid.size generation words page at =
+    ap (λ n. marked_to n (picture_of side mid) page at) last_is
+    ∙ ap (λ (found : Word). marked_to (page_of_slot mid.size (length words - 1)) (λ p a. found) page at) word
+    ∙ all_marked mid.size generation words page at in (
+      subst (λ (found : Word). IsOnTheWay Erased (filled_set mid.size generation words page at) found) (sym word) (committed_way mid.size generation words page at),
+      inr whole,
+    )) drawn
+
+-- the first mark of blank pages
+pub open_partly : (side : Side) (old new : Device) (generation : ℕ) (words : List Word) → IsFormed old → new.size ≡ old.size → IsDrawn side old blank → SetsPartly (first_page old.size side) (Receive generation) old new → FillsPartly new side generation words
+open_partly side old new generation words formed sizes all sets =
+    let e : first_page old.size side ≡ first_page old.size side + 0 = omega arith in
+    let there = subst (λ n. SetsPartly n (Receive generation) old new) e sets in
+    let first = page_of_slot new.size (0 - 1) in
+    let last = page_of_slot new.size (length words - 1) in
+    let some : 0 < new.size.words - 4 = omega (arith, formed.within_limits.some_words, ap (λ (size : Size). size.words) sizes) in
+    let before : first ≤ last = page_later new.size (0 - 1) (length words - 1) some (omega arith) in
+    drawn_between side new blank (opened_set new.size generation last words) blank (with_mark 0 (Receive generation) blank)
+    (λ page at _ _. (
+      inl refl,
+      subst (λ (found : Word). IsOnTheWay Erased (opened_set new.size generation last words page at) found) (sym (first_opened new.size generation page at)) (opened_front new.size generation first last [] words page at before),
+    ))
+    (mark_drawn_partly side old new 0 (Receive generation) blank formed sizes (omega (arith, formed.within_limits.some_pages)) all there)
+
+-- ---- a format
+
+first_page_of : (device : Device) → IsFormed device → IsPageOf device.size First 0
+first_page_of device formed = record { from = omega arith; below = omega (arith, formed.within_limits.some_pages) }
+
+pub format_cut : (old new : Device) → IsFormed old → new.size ≡ old.size → All (λ page. is_blank page ≡ true) old.image → SetsPartly 0 (Receive 1) old new → ShowsCutFormat new
+format_cut old new formed sizes all sets = record {
+  first_set = filled_partly First new 1 [] (open_partly First old new 1 [] formed sizes (blank_drawn First old formed (All-take (λ (page : List Word). is_blank page ≡ true) old.size.pages old.image all)) sets);
+  second_set = λ page at h within.
+      put_apart_partly Second old new 0 0 _ sizes (first_page_of old formed) sets page at h within
+      ∙ blank_drawn Second old formed (All-drop (λ (page : List Word). is_blank page ≡ true) old.size.pages old.image all) page at (omega (arith, ap (λ (size : Size). size.pages) sizes)) (omega (arith, ap (λ (size : Size). size.words) sizes));
+}
+
+pub format_cut_then : (old mid new : Device) → IsFormed old → IsFormed mid → mid.size ≡ old.size → new.size ≡ mid.size → All (λ page. is_blank page ≡ true) old.image → SetsMark 0 (Receive 1) old mid → SetsPartly 0 Active mid new → ShowsCutFormat new
+format_cut_then old mid new formed mid_formed first_sizes second_sizes all receives active =
+    let holds = opens_blank First old mid 1 formed first_sizes (All-take (λ (page : List Word). is_blank page ≡ true) old.size.pages old.image all) receives in
+    record {
+      first_set = subst (λ (size : Size). IsDrawnPartly First new blank (filled_set size 1 [])) (sym second_sizes) (commit_partly First mid new 1 [] mid_formed second_sizes active holds);
+      second_set = λ page at h within.
+          let below : page < old.size.pages = omega (arith, ap (λ (size : Size). size.pages) second_sizes, ap (λ (size : Size). size.pages) first_sizes) in
+          let inside : at < old.size.words = omega (arith, ap (λ (size : Size). size.words) second_sizes, ap (λ (size : Size). size.words) first_sizes) in
+          drawn_both Second old mid new first_sizes second_sizes
+          (put_apart Second old mid 0 0 _ first_sizes (first_page_of old formed) receives)
+          (put_apart_partly Second mid new 0 1 _ second_sizes (first_page_of mid mid_formed) active) page at h within
+          ∙ blank_drawn Second old formed (All-drop (λ (page : List Word). is_blank page ≡ true) old.size.pages old.image all) page at below inside;
+    }
+
+-- ---- a transfer
+
+-- the word behind the receive word of its page
+pub stage_partly : (old mid new : Device) (side : Side) (generation count : ℕ) (word : Word) → OpensForSlot old mid side generation count → IsFormed mid → new.size ≡ mid.size → page_of_slot mid.size count < mid.size.pages → place_of_slot mid.size count < mid.size.words
+    → PutsPartly (first_page mid.size (other side) + page_of_slot mid.size count) (place_of_slot mid.size count) word mid new → AddsPartly old new side generation count (word ∷ [])
+stage_partly old mid new side generation count word first formed sizes h inside puts = record {
+  live_pages = drawn_both side old mid new first.sizes sizes first.live_pages (put_apart_partly side mid new _ _ word sizes (page_of_its_set mid.size (other side) (page_of_slot mid.size count) h) puts);
+  new_pages = λ words long holds.
+      let before : IsDrawn (other side) old (opened_set old.size generation (page_of_slot old.size (count - 1)) words) = subst (λ n. IsDrawn (other side) old (opened_set old.size generation (page_of_slot old.size (n - 1)) words)) long holds in
+      let open_now : IsDrawn (other side) mid (opened_set mid.size generation (page_of_slot mid.size count) words) =
+      subst (λ (size : Size). IsDrawn (other side) mid (opened_set size generation (page_of_slot size count) words)) (sym first.sizes) (first.opens words long before) in
+      word_partly mid new side generation count word formed sizes h inside puts words long open_now;
+}
+
+-- the elements up to an address come first
+elements_front : (map : Map) (n m : ℕ) → n ≤ m → (rest : List Word) × (elements_to map m ≡ elements_to map n ++ rest)
+elements_front map n zero h = let e : zero ≡ n = omega arith in ([], ap (elements_to map) e ∙ sym (append-nil (elements_to map n)))
+elements_front map n (suc m) h = elim (cases_lt n (suc m)) [
+  | inr last ↦ let e : suc m ≡ n = omega arith in ([], ap (elements_to map) e ∙ sym (append-nil (elements_to map n)))
+  | inl more ↦
+      let front = elements_front map n m (omega arith) in
+      let next = element_at (suc m) (map (suc m)) in (
+        front.0 ++ next,
+        one_further map m ∙ ap (λ words. words ++ next) front.1 ∙ append_assoc (elements_to map n) front.0 next,
+      )
+]
+
+-- cut in copying the next address that has a value
+pub copies_partly : (map : Map) (except above next value : ℕ) (old mid new : Device) (side : Side) (generation count so_far : ℕ) → IsFormed new → mid.size ≡ old.size → new.size ≡ mid.size → IsNextLive map above (Some (next, value)) → next < 65535
+    → AddsWords old mid side generation count (elements_to (others map except) above) → so_far ≡ count + length (elements_to (others map except) above)
+    → (next ≢ except) × AddsPartly mid new side generation so_far (Held (element next value) ∷ [])
+    → AddsPartly old new side generation count (elements_of (others map except))
+copies_partly map except above next value old mid new side generation count so_far formed first_sizes second_sizes is proper adds counted copying =
+    let one = copied_word map except above next value is copying.0 in
+    let further : AddsPartly mid new side generation (count + length (elements_to (others map except) above)) (Held (element next value) ∷ []) =
+    subst (λ n. AddsPartly mid new side generation n (Held (element next value) ∷ [])) counted copying.1 in
+    let both = adds_then old mid new side generation count (elements_to (others map except) above) (Held (element next value) ∷ []) first_sizes second_sizes adds further in
+    let there : AddsPartly old new side generation count (elements_to (others map except) next) = subst (λ (words : List Word). AddsPartly old new side generation count words) (sym one) both in
+    let front = elements_front (others map except) next 65534 (omega arith) in
+    subst (λ (words : List Word). AddsPartly old new side generation count words) (sym front.1) (partly_longer old new side generation count (elements_to (others map except) next) front.0 formed there)
+
+-- cut in the change that comes first
+pub first_partly : (change : Change) (old new : Device) (side : Side) (generation : ℕ) (map : Map) → IsFormed new → AddsPartly old new side generation 0 (put_words change) → AddsPartly old new side generation 0 (moved_words change map)
+first_partly change old new side generation map formed adds =
+    subst (λ (words : List Word). AddsPartly old new side generation 0 words) (all_moved change map)
+    (partly_longer old new side generation 0 (put_words change) (elements_of (others map (address_of change))) formed adds)
+
+-- or in the others
+pub others_partly : (change : Change) (old mid new : Device) (side : Side) (generation count except : ℕ) (map now : Map) → mid.size ≡ old.size → new.size ≡ mid.size → except ≡ address_of change → now ≡ map → count ≡ length (put_words change)
+    → AddsWords old mid side generation 0 (put_words change) → AddsPartly mid new side generation count (elements_of (others now except)) → AddsPartly old new side generation 0 (moved_words change map)
+others_partly change old mid new side generation count except map now first_sizes second_sizes named same counted first second =
+    let there : AddsPartly mid new side generation count (elements_of (others map except)) = subst (λ (said : Map). AddsPartly mid new side generation count (elements_of (others said except))) same second in
+    let of_change : AddsPartly mid new side generation count (elements_of (others map (address_of change))) = subst (λ n. AddsPartly mid new side generation count (elements_of (others map n))) named there in
+    let from : count ≡ 0 + length (put_words change) = omega arith in
+    let further : AddsPartly mid new side generation (0 + length (put_words change)) (elements_of (others map (address_of change))) = subst (λ n. AddsPartly mid new side generation n (elements_of (others map (address_of change)))) from of_change in
+    subst (λ (words : List Word). AddsPartly old new side generation 0 words) (all_moved change map)
+    (adds_then old mid new side generation 0 (put_words change) (elements_of (others map (address_of change))) first_sizes second_sizes first further)
+
+-- cut in a mark of the set that was left
+pub retires_partly : (side : Side) (old mid new : Device) (generation : ℕ) → IsLive old side generation → fill_of (slots_of (set_of side old)) ≡ slot_count old.size → IsFormed mid → mid.size ≡ old.size → new.size ≡ mid.size → IsDrawn side mid (picture_of side old)
+    → IsDrawnPartly side new (picture_of side mid) (retired_pages (waits side mid) (picture_of side mid)) → IsDrawnPartly side new (picture_of side old) (retired_pages (λ page. true) (picture_of side old))
+retires_partly side old mid new generation live full formed first_sizes second_sizes same drawn =
+    let picture = picture_of side old in
+    drawn_between side new picture (retired_pages (λ page. true) picture) (picture_of side mid) (retired_pages (waits side mid) (picture_of side mid))
+    (λ page at h within.
+    let below : page < mid.size.pages = omega (arith, ap (λ (size : Size). size.pages) second_sizes) in
+    let inside : at < mid.size.words = omega (arith, ap (λ (size : Size). size.words) second_sizes) in (
+      inl (same page at below inside),
+      inr (all_waiting side old mid generation live full formed first_sizes same page at below inside),
+    )) drawn

@@ -1,0 +1,159 @@
+-- How the picture of a set that a transfer fills grows, to that of the set that is live afterwards.
+use Rattle.std.proofs.Common.{◌≡◌, ◌≢◌, ◌⊎◌, inl, inr, ℕ, ◌+◌, ◌-◌, ◌*◌, ◌/◌, ◌%◌, ◌<◌, ◌≤◌, List, [], ◌∷◌, ◌++◌, length, get_or, refl, sym, subst, ap, ◌∙◌, arith, append_assoc, append-nil, length-append}
+use Rattle.std.proofs.Math.Seq.{get_or-append_seam}
+use Rattle.std.proofs.lemmas.Bool.{cases_eq, cases_lt, le-leb, le-ltb, lt-leb, lt-ltb, ne_eqb}
+use Rattle.std.proofs.lemmas.List.{get_or_append_left, get_or_past}
+use Rattle.std.proofs.lemmas.Nat.{div-mul-add, mod-mul-add}
+use Rattle.ee_flash.specs.Device.{Device, IsFormed}
+use Rattle.ee_flash.specs.Size.{Size}
+use Rattle.ee_flash.specs.declared.word.Word.{Word}
+use Rattle.ee_flash.specs.declared.word.Word.TheVariants.{Erased}
+use Rattle.ee_pages.specs.Legal.{slots_before}
+use Rattle.ee_pages.specs.Sets.{first_page, other, page_of_slot, place_of_slot}
+use Rattle.ee_pages.specs.declared.side.Side.{Side}
+use Rattle.ee_pages.specs.declared.state.Mark.TheVariants.{Receive}
+use Rattle.ee_pages.proofs.Slots.{split_by}
+use Rattle.ee_core.proofs.Drawings.{drawn_as, drawn_both, drawn_same, mark_drawn, put_drawn, with_mark, with_word-elsewhere, with_word-there}
+use Rattle.ee_core.proofs.OpenedPages.{next_place, same_place}
+use Rattle.ee_core.specs.Parts.{AddsWords, Holds, PutsWord, SetsMark, opened_set}
+use Rattle.ee_core.specs.Picture.{IsDrawn, picture_of, picture_with_word}
+
+-- the receive word of the page up to which the set is open, or of the next one
+pub opens_further : (size : Size) (generation last k : ℕ) (words : List Word) (page at : ℕ) → (k ≡ last) ⊎ (k ≡ last + 1) → with_mark k (Receive generation) (opened_set size generation last words) page at ≡ opened_set size generation k words page at
+opens_further size generation last k words page at near = elim (cases_eq at 0) [
+  | inr away ↦ with_word-elsewhere k 0 _ (opened_set size generation last words) page at (inr away) ∙ rw (ne_eqb at 0 away) refl
+  | inl zeroth ↦ elim (cases_eq page k) [
+    | inl here ↦
+        with_word-there k 0 _ (opened_set size generation last words) page at here zeroth
+        ∙ elim (cases_lt last k) [
+          | inl further ↦ rw (lt-leb k last further, zeroth, here, le-leb k k (omega arith)) refl
+          | inr within ↦ rw (le-leb k last within, zeroth, here, le-leb k k (omega arith)) refl
+        ]
+    | inr away ↦
+        with_word-elsewhere k 0 _ (opened_set size generation last words) page at (inl away)
+        ∙ elim (cases_lt last page) [
+          | inl above ↦
+              let beyond : k < page = elim near [ inl same ↦ omega arith | inr next ↦ omega arith ] in
+              rw (lt-leb page last above, lt-leb page k beyond) refl
+          | inr below ↦
+              let within : page ≤ k = elim near [ inl same ↦ omega arith | inr next ↦ omega arith ] in
+              rw (le-leb page last below, le-leb page k within) refl
+        ]
+  ]
+]
+
+-- the word of the first free slot
+slot_is : (size : Size) (page at count : ℕ) → 3 < at → at < size.words → slots_before size page at ≡ count → (page ≡ page_of_slot size count) × (at ≡ place_of_slot size count)
+slot_is size page at count slot within e =
+    let below : at - 4 < size.words - 4 = omega arith in (
+      sym (ap (λ n. n / (size.words - 4)) (sym e) ∙ div-mul-add page (size.words - 4) (at - 4) below),
+      (let rest : count % (size.words - 4) ≡ at - 4 = ap (λ n. n % (size.words - 4)) (sym e) ∙ mod-mul-add page (size.words - 4) (at - 4) below in omega (arith, rest)),
+    )
+
+slot_of : (size : Size) (page at count : ℕ) → page ≡ page_of_slot size count → at ≡ place_of_slot size count → slots_before size page at ≡ count
+slot_of size page at count here there =
+    let split = split_by count (size.words - 4) in
+    let rest : at - 4 ≡ count % (size.words - 4) = omega arith in
+    ap (λ n. n * (size.words - 4) + (at - 4)) here ∙ ap (λ n. count / (size.words - 4) * (size.words - 4) + n) rest ∙ sym split
+
+pub one_word_more : (size : Size) (generation last count : ℕ) (words : List Word) (word : Word) (page at : ℕ) → length words ≡ count → at < size.words → picture_with_word (page_of_slot size count) (place_of_slot size count) word (opened_set size generation last words) page at ≡ opened_set size generation last (words ++ (word ∷ [])) page at
+one_word_more size generation last count words word page at long within =
+    let before = opened_set size generation last words in
+    elim (cases_lt 3 at) [
+      | inr low ↦
+          with_word-elsewhere (page_of_slot size count) (place_of_slot size count) word before page at (inr (λ e. omega (arith, e)))
+          ∙ rw (le-ltb 3 at low) refl
+      | inl slot ↦ elim (cases_eq (slots_before size page at) count) [
+        | inl same ↦
+            let place = slot_is size page at count slot within same in
+            with_word-there (page_of_slot size count) (place_of_slot size count) word before page at place.0 place.1
+            ∙ sym (get_or-append_seam words word [] Erased)
+            ∙ ap (λ n. get_or (words ++ (word ∷ [])) n Erased) (long ∙ sym same)
+            ∙ rw (lt-ltb 3 at slot) refl
+        | inr away ↦
+            let apart : (page ≢ page_of_slot size count) ⊎ (at ≢ place_of_slot size count) = elim (cases_eq page (page_of_slot size count)) [
+              | inl here ↦ inr (λ there. away (slot_of size page at count here there))
+              | inr elsewhere ↦ inl elsewhere
+            ] in
+            let same : get_or words (slots_before size page at) Erased ≡ get_or (words ++ (word ∷ [])) (slots_before size page at) Erased = elim (cases_lt (slots_before size page at) (length words)) [
+              | inl earlier ↦ sym (get_or_append_left words (word ∷ []) Erased (slots_before size page at) earlier)
+              | inr later ↦
+                  let long_too : length (words ++ (word ∷ [])) ≡ length words + 1 = length-append words (word ∷ []) in
+                  get_or_past words (slots_before size page at) Erased later
+                  ∙ sym (get_or_past (words ++ (word ∷ [])) (slots_before size page at) Erased (omega (arith, away)))
+            ] in
+            with_word-elsewhere (page_of_slot size count) (place_of_slot size count) word before page at apart
+            ∙ rw (lt-ltb 3 at slot) same
+      ]
+    ]
+
+-- the page of the first free slot is the one up to which the set is open, or the next one
+pub near : (size : Size) (count : ℕ) → 0 < size.words - 4 → (page_of_slot size count ≡ page_of_slot size (count - 1)) ⊎ (page_of_slot size count ≡ page_of_slot size (count - 1) + 1)
+near size count some = elim (cases_eq count 0) [
+  | inl none ↦ inl (same_place count (size.words - 4) some (inl none))
+  | inr more ↦ elim (cases_eq (count % (size.words - 4)) 0) [
+    | inl whole ↦ inr (next_place count (size.words - 4) some (omega arith) whole)
+    | inr inside ↦ inl (same_place count (size.words - 4) some (inr inside))
+  ]
+]
+
+-- the receive word and the word of a slot, in the device
+pub receive_opens : (side : Side) (old new : Device) (generation count : ℕ) (words : List Word) → IsFormed old → new.size ≡ old.size → page_of_slot old.size count < old.size.pages → SetsMark (first_page old.size side + page_of_slot old.size count) (Receive generation) old new → IsDrawn side old (opened_set old.size generation (page_of_slot old.size (count - 1)) words) → IsDrawn side new (opened_set old.size generation (page_of_slot old.size count) words)
+receive_opens side old new generation count words formed sizes h sets drawn =
+    drawn_as side new (with_mark (page_of_slot old.size count) (Receive generation) (opened_set old.size generation (page_of_slot old.size (count - 1)) words)) (opened_set old.size generation (page_of_slot old.size count) words)
+    (mark_drawn side old new (page_of_slot old.size count) (Receive generation) (opened_set old.size generation (page_of_slot old.size (count - 1)) words) formed sizes h drawn sets)
+    (λ page at _ _. opens_further old.size generation (page_of_slot old.size (count - 1)) (page_of_slot old.size count) words page at (near old.size count (omega (arith, formed.within_limits.some_words))))
+
+pub slot_holds : (side : Side) (old new : Device) (generation last count : ℕ) (words : List Word) (word : Word) → length words ≡ count → new.size ≡ old.size → PutsWord (first_page old.size side + page_of_slot old.size count) (place_of_slot old.size count) word old new → IsDrawn side old (opened_set old.size generation last words) → IsDrawn side new (opened_set old.size generation last (words ++ (word ∷ [])))
+slot_holds side old new generation last count words word long sizes puts drawn =
+    drawn_as side new (picture_with_word (page_of_slot old.size count) (place_of_slot old.size count) word (opened_set old.size generation last words)) (opened_set old.size generation last (words ++ (word ∷ [])))
+    (put_drawn side old new (page_of_slot old.size count) (place_of_slot old.size count) word (opened_set old.size generation last words) sizes drawn puts)
+    (λ page at _ within. one_word_more old.size generation last count words word page at long (omega (arith, ap (λ (size : Size). size.words) sizes)))
+
+-- more words after some
+pub adds_both : (old mid new : Device) (side : Side) (generation count : ℕ) (more further : List Word) → mid.size ≡ old.size → new.size ≡ mid.size → AddsWords old mid side generation count more → AddsWords mid new side generation (count + length more) further → AddsWords old new side generation count (more ++ further)
+adds_both old mid new side generation count more further first_sizes second_sizes first second = record {
+  live_pages = drawn_both side old mid new first_sizes second_sizes first.live_pages second.live_pages;
+  new_pages = λ words long holds.
+      subst (λ (all : List Word). Holds new (other side) generation all) (append_assoc words more further)
+      (second.new_pages (words ++ more) (length-append words more ∙ ap (λ n. n + length more) long) (first.new_pages words long holds));
+}
+
+-- the page of the first free slot is open
+pub record OpensForSlot (old mid : Device) (side : Side) (generation count : ℕ) : Type 0 where
+  pub sizes : mid.size ≡ old.size
+  pub live_pages : IsDrawn side mid (picture_of side old)
+  pub opens : (words : List Word) → length words ≡ count
+      → IsDrawn (other side) old (opened_set old.size generation (page_of_slot old.size (count - 1)) words)
+      → IsDrawn (other side) mid (opened_set old.size generation (page_of_slot old.size count) words)
+
+pub open_already : (device : Device) (side : Side) (generation count : ℕ) → IsFormed device → count % (device.size.words - 4) ≢ 0 → OpensForSlot device device side generation count
+open_already device side generation count formed inside = record {
+  sizes = refl;
+  live_pages = drawn_same side device;
+  opens = λ words long drawn.
+      subst (λ last. IsDrawn (other side) device (opened_set device.size generation last words))
+      (sym (same_place count (device.size.words - 4) (omega (arith, formed.within_limits.some_words)) (inr inside))) drawn;
+}
+
+-- and then a word stands in it
+pub stages : (old mid new : Device) (side : Side) (generation count : ℕ) (word : Word) → OpensForSlot old mid side generation count → new.size ≡ mid.size → IsDrawn side new (picture_of side mid)
+    → ((words : List Word) → length words ≡ count → IsDrawn (other side) mid (opened_set mid.size generation (page_of_slot mid.size count) words) → IsDrawn (other side) new (opened_set mid.size generation (page_of_slot mid.size count) (words ++ (word ∷ []))))
+    → AddsWords old new side generation count (word ∷ [])
+stages old mid new side generation count word first sizes live_pages puts = record {
+  live_pages = drawn_both side old mid new first.sizes sizes first.live_pages live_pages;
+  new_pages = λ words long holds.
+      let before : IsDrawn (other side) old (opened_set old.size generation (page_of_slot old.size (count - 1)) words) = subst (λ n. IsDrawn (other side) old (opened_set old.size generation (page_of_slot old.size (n - 1)) words)) long holds in
+      let open_now : IsDrawn (other side) mid (opened_set mid.size generation (page_of_slot mid.size count) words) =
+      subst (λ (size : Size). IsDrawn (other side) mid (opened_set size generation (page_of_slot size count) words)) (sym first.sizes) (first.opens words long before) in
+      let last : count ≡ length (words ++ (word ∷ [])) - 1 = omega (arith, length-append words (word ∷ []), long) in
+      let there : IsDrawn (other side) new (opened_set mid.size generation (page_of_slot mid.size (length (words ++ (word ∷ [])) - 1)) (words ++ (word ∷ []))) =
+      subst (λ n. IsDrawn (other side) new (opened_set mid.size generation (page_of_slot mid.size n) (words ++ (word ∷ [])))) last (puts words long open_now) in
+      subst (λ (size : Size). IsDrawn (other side) new (opened_set size generation (page_of_slot size (length (words ++ (word ∷ [])) - 1)) (words ++ (word ∷ [])))) (sym sizes) there;
+}
+
+pub adds_none : (device : Device) (side : Side) (generation count : ℕ) → AddsWords device device side generation count []
+adds_none device side generation count = record {
+  live_pages = drawn_same side device;
+  new_pages = λ words long holds. subst (λ (all : List Word). Holds device (other side) generation all) (sym (append-nil words)) holds;
+}

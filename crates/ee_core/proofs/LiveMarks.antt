@@ -1,0 +1,168 @@
+-- The marks that an opening sets in the live set and in the other one, page after page.
+use Rattle.std.proofs.Common.{◌≡◌, ◌≢◌, ◌⊎◌, inl, inr, ℕ, ◌+◌, ◌-◌, ◌*◌, ◌/◌, ◌<◌, ◌≤◌, true, false, not, refl, sym, subst, ap, ◌∙◌, arith}
+use Rattle.std.proofs.lemmas.Bool.{cases_lt, true≢false}
+use Rattle.std.proofs.lemmas.List.Filters.{length-filter_both}
+use Rattle.std.proofs.Math.Nat.{div-mul-le_self, mul-le-mul_right}
+use Rattle.ee_flash.specs.Device.{Device, IsFormed, page_at}
+use Rattle.ee_flash.specs.Power.{GoesOn}
+use Rattle.ee_flash.specs.Size.{Size, slot_count}
+use Rattle.ee_flash.specs.declared.word.Word.TheVariants.{Erased}
+use Rattle.std.specs.Prelude.{slice_index_or}
+use Rattle.ee_pages.specs.Layout.{IsLayout}
+use Rattle.ee_pages.specs.Legal.{IsLive}
+use Rattle.ee_pages.specs.Page.{is_blank, is_marked, is_written}
+use Rattle.ee_pages.specs.Pushing.{IsMarkBehind}
+use Rattle.ee_pages.specs.Sets.{fill_of, first_page, page_of_slot, set_of, slots_of}
+use Rattle.ee_pages.specs.declared.find.Layout.{Layout}
+use Rattle.ee_pages.specs.declared.side.Side.{Side}
+use Rattle.ee_pages.specs.declared.state.Mark.{Mark}
+use Rattle.ee_pages.specs.declared.state.Mark.TheVariants.{Active, Valid, Erasing}
+use Rattle.ee_pages.proofs.Slots.{length-slots, page_in_range, slot_below}
+use Rattle.ee_core.proofs.AfterCalls.{goes_on_same}
+use Rattle.ee_core.proofs.Marks.{same_stays}
+use Rattle.ee_core.specs.Finished.{IsLiveMarked, IsOldMarked, last_used}
+use Rattle.ee_core.specs.Parts.{IsSameBut, KeepsMarks, Stays}
+
+-- after what keeps the live set, the layout is still right
+pub layout_stays : (layout : Layout) (old new : Device) → IsLayout old layout → Stays old new layout.side layout.generation → IsLayout new layout
+layout_stays layout old new is stays = record {
+  live = stays.keeps.live;
+  fill = is.fill ∙ sym stays.keeps.same_fill;
+  current = is.current ∙ ap (λ (size : Size). first_page size layout.side + page_of_slot size (layout.fill - 1)) (sym stays.keeps.same_size);
+}
+
+pub stays_both : (old mid new : Device) (side : Side) (generation : ℕ) → Stays old mid side generation → Stays mid new side generation → Stays old new side generation
+stays_both old mid new side generation first second = record {
+  keeps = record {
+    live = second.keeps.live;
+    same_size = second.keeps.same_size ∙ first.keeps.same_size;
+    same_slots = second.keeps.same_slots ∙ first.keeps.same_slots;
+    same_fill = second.keeps.same_fill ∙ first.keeps.same_fill;
+    same_map = λ address. second.keeps.same_map address ∙ first.keeps.same_map address;
+  };
+  same_pending = second.same_pending ∙ first.same_pending;
+  same_wear = second.same_wear ∙ first.same_wear;
+}
+
+-- as many slots are written as there are, or less
+fill_fits : (side : Side) (device : Device) → IsFormed device → fill_of (slots_of (set_of side device)) ≤ slot_count device.size
+fill_fits side device formed =
+    let all = length-filter_both is_written (λ word. not (is_written word)) (λ word. refl) (slots_of (set_of side device)) in
+    omega (arith, all, length-slots side device formed)
+
+-- the page of the last used slot, counted from the set's first
+pub last_is : (layout : Layout) (device : Device) → IsLayout device layout → layout.current ≡ first_page device.size layout.side + last_used device layout.side
+last_is layout device is = is.current ∙ ap (λ fill. first_page device.size layout.side + page_of_slot device.size (fill - 1)) is.fill
+
+pub last_in_range : (layout : Layout) (device : Device) → IsLayout device layout → last_used device layout.side < device.size.pages
+last_in_range layout device is =
+    let fill = fill_of (slots_of (set_of layout.side device)) in
+    page_in_range device (fill - 1) (slot_below device fill is.live.formed (fill_fits layout.side device is.live.formed))
+
+-- a page up to that one stands behind written slots
+mark_behind : (layout : Layout) (device : Device) (page : ℕ) (mark : Mark) → IsLayout device layout → page ≤ last_used device layout.side → (mark ≡ Active) ⊎ (mark ≡ Valid) → IsMarkBehind device layout.side page mark
+mark_behind layout device page mark is h kind =
+    let words = device.size.words - 4 in
+    let fill = fill_of (slots_of (set_of layout.side device)) in
+    let below = last_in_range layout device is in
+    let row : page * words ≤ (fill - 1) / words * words = mul-le-mul_right words h in
+    let floor : (fill - 1) / words * words ≤ fill - 1 = div-mul-le_self (fill - 1) words in
+    record { in_range = omega (arith, below, h); behind = omega (arith, row, floor); active_or_valid = kind }
+
+pub valid_behind : (layout : Layout) (device : Device) (page : ℕ) → IsLayout device layout → first_page device.size layout.side ≤ page → page < layout.current → IsMarkBehind device layout.side (page - first_page device.size layout.side) Valid
+valid_behind layout device page is from below =
+    mark_behind layout device (page - first_page device.size layout.side) Valid is (omega (arith, last_is layout device is, from, below)) (inr refl)
+
+pub active_behind : (layout : Layout) (device : Device) → IsLayout device layout → IsMarkBehind device layout.side (layout.current - first_page device.size layout.side) Active
+active_behind layout device is =
+    mark_behind layout device (layout.current - first_page device.size layout.side) Active is (omega (arith, last_is layout device is)) (inl refl)
+
+-- where the live set is marked, each mark is set
+pub valid_already : (layout : Layout) (device : Device) (page : ℕ) → IsLayout device layout → IsLiveMarked device layout.side → first_page device.size layout.side ≤ page → page < layout.current → is_marked device page Valid ≡ true
+valid_already layout device page is marked from below =
+    let place : page ≡ first_page device.size layout.side + (page - first_page device.size layout.side) = omega (arith, from) in
+    ap (λ n. is_marked device n Valid) place
+    ∙ marked.valid (page - first_page device.size layout.side) (omega (arith, last_is layout device is, from, below))
+
+-- one page more is marked
+pub valid_more : (first page : ℕ) (mid new : Device) → first ≤ page → ((k : ℕ) → k < page - first → is_marked mid (first + k) Valid ≡ true) → KeepsMarks mid new → is_marked new page Valid ≡ true → (k : ℕ) → k < page + 1 - first → is_marked new (first + k) Valid ≡ true
+valid_more first page mid new from before keeps here k h = elim (cases_lt k (page - first)) [
+  | inl earlier ↦ keeps (first + k) Valid (before k earlier)
+  | inr last ↦ let e : first + k ≡ page = omega (arith, from) in ap (λ n. is_marked new n Valid) e ∙ here
+]
+
+-- the marks of the live set, said of the device as it was
+pub live_marked : (layout : Layout) (old mid new : Device) → IsLayout old layout → Stays old new layout.side layout.generation → ((k : ℕ) → k < layout.current - first_page old.size layout.side → is_marked mid (first_page old.size layout.side + k) Valid ≡ true) → KeepsMarks mid new → is_marked new layout.current Active ≡ true → IsLiveMarked new layout.side
+live_marked layout old mid new is stays valid keeps active =
+    let new_is = layout_stays layout old new is stays in
+    let first : first_page new.size layout.side ≡ first_page old.size layout.side = ap (λ (size : Size). first_page size layout.side) stays.keeps.same_size in
+    let place : first_page new.size layout.side + last_used new layout.side ≡ layout.current = sym (last_is layout new new_is) in
+    record {
+      valid = λ page below.
+          ap (λ n. is_marked new (n + page) Valid) first
+          ∙ keeps (first_page old.size layout.side + page) Valid (valid page (omega (arith, first, place, below)));
+      active = ap (λ n. is_marked new n Active) place ∙ active;
+    }
+
+-- marks that a further call keeps
+pub live_marks_kept : (side : Side) (old new : Device) (generation : ℕ) → Stays old new side generation → KeepsMarks old new → IsLiveMarked old side → IsLiveMarked new side
+live_marks_kept side old new generation stays keeps marked =
+    let first : first_page new.size side ≡ first_page old.size side = ap (λ (size : Size). first_page size side) stays.keeps.same_size in
+    let last : last_used new side ≡ last_used old side =
+    ap (λ (size : Size). page_of_slot size (fill_of (slots_of (set_of side new)) - 1)) stays.keeps.same_size
+    ∙ ap (λ fill. page_of_slot old.size (fill - 1)) stays.keeps.same_fill in
+    record {
+      valid = λ page below. ap (λ n. is_marked new (n + page) Valid) first ∙ keeps (first_page old.size side + page) Valid (marked.valid page (subst (λ n. page < n) last below));
+      active = ap (λ n. is_marked new (n + last_used new side) Active) first ∙ ap (λ n. is_marked new (first_page old.size side + n) Active) last ∙ keeps (first_page old.size side + last_used old side) Active marked.active;
+    }
+
+-- a page of the other set is done
+abbrev pub IsPageDone : Device → ℕ → Type 0
+IsPageDone device page = (is_blank (page_at device page) ≡ true) ⊎ (is_marked device page Erasing ≡ true)
+
+-- one page more is done, and the others are as before
+pub done_more : (first page : ℕ) (mid new : Device) → first ≤ page → ((k : ℕ) → k < page - first → IsPageDone mid (first + k)) → IsSameBut page mid new → IsPageDone new page → (k : ℕ) → k < page + 1 - first → IsPageDone new (first + k)
+done_more first page mid new from before same here k h = elim (cases_lt k (page - first)) [
+  | inl earlier ↦
+      let apart : first + k ≢ page = λ e. omega (arith, e, from, earlier) in
+      let words = same (first + k) apart in
+      elim (before k earlier) [
+        | inl blank ↦ inl (ap is_blank words ∙ blank)
+        | inr marked ↦ inr (ap (λ page. is_written (slice_index_or page 3 Erased)) words ∙ marked)
+      ]
+  | inr last ↦ let e : page ≡ first + k = omega (arith, from) in subst (λ n. IsPageDone new n) e here
+]
+
+-- what marking a page of the other set leaves, if it was not done
+pub record MarksPage (mid new : Device) (side : Side) (generation page : ℕ) : Type 0 where
+  pub stays : Stays mid new side generation
+  pub marks : KeepsMarks mid new
+  pub others : IsSameBut page mid new
+  pub done : IsPageDone new page
+  pub no_step : IsPageDone mid page → new ≡ mid
+  pub power : GoesOn mid new
+
+pub marks_none : (device : Device) (side : Side) (generation page : ℕ) → IsLive device side generation → is_blank (page_at device page) ≡ true → MarksPage device device side generation page
+marks_none device side generation page live blank = record {
+  stays = same_stays device device side generation live refl;
+  marks = λ p mark was. was;
+  others = λ p apart. refl;
+  done = inl blank;
+  no_step = λ done. refl;
+  power = goes_on_same device;
+}
+
+-- a page that is not blank is done only by its mark
+pub marked_from : (device : Device) (page : ℕ) → is_blank (page_at device page) ≡ false → IsPageDone device page → is_marked device page Erasing ≡ true
+marked_from device page written (inl blank) = absurd (true≢false (sym blank ∙ written))
+marked_from device page written (inr marked) = marked
+
+-- where the other set is marked, each page of it is done
+pub done_already : (device : Device) (side : Side) (page : ℕ) → IsOldMarked device side → first_page device.size side ≤ page → page < first_page device.size side + device.size.pages → IsPageDone device page
+done_already device side page marked from below =
+    let place : first_page device.size side + (page - first_page device.size side) ≡ page = omega (arith, from) in
+    subst (λ n. IsPageDone device n) place (marked (page - first_page device.size side) (omega (arith, from, below)))
+
+-- in a device that is as before
+pub old_marks_kept : (side : Side) (old new : Device) → new ≡ old → IsOldMarked old side → IsOldMarked new side
+old_marks_kept side old new same marked = subst (λ device. IsOldMarked device side) (sym same) marked

@@ -1,0 +1,92 @@
+-- What calls in the other set leave together.
+use Rattle.std.proofs.Common.{◌≡◌, ◌≤◌, ◌<◌, ◌-◌, ℕ, ◌+◌, true, List, [], get_or, refl, sym, subst, ap, ◌∙◌, arith}
+use Rattle.std.specs.List.{All}
+use Rattle.std.proofs.lemmas.List.{get_or-drop, get_or-take}
+use Rattle.std.proofs.lemmas.List.Elements.{All-from_get_or}
+use Rattle.std.proofs.Math.Path.{fun_ext}
+use Rattle.std.proofs.lemmas.Nat.{mul-le}
+use Rattle.ee_flash.specs.Device.{Device, IsFormed, page_at}
+use Rattle.ee_flash.specs.Power.{GoesOn}
+use Rattle.ee_flash.specs.Size.{Size, slot_count}
+use Rattle.ee_flash.specs.declared.word.Word.{Word}
+use Rattle.ee_pages.specs.Filling.{IsCommitted, IsFilling}
+use Rattle.ee_pages.specs.Laws.{KeepsLiveSet}
+use Rattle.ee_pages.specs.Layout.{IsLayout}
+use Rattle.ee_pages.specs.Meaning.{Change, Map, map_after, live_in, meaning}
+use Rattle.ee_pages.specs.Page.{is_blank}
+use Rattle.ee_pages.specs.Sets.{fill_of, first_page, other, page_of_slot, pending_of, set_of, slots_of}
+use Rattle.ee_pages.specs.declared.find.Layout.{Layout}
+use Rattle.ee_pages.specs.declared.side.Side.{Side}
+use Rattle.ee_pages.specs.declared.side.Side.TheVariants.{First, Second}
+use Rattle.ee_pages.proofs.Slots.{length-set_of}
+use Rattle.ee_pages.proofs.BlankPages.{full_set_has_no_blank_page}
+use Rattle.ee_core.specs.Parts.{HasMoved, Stays}
+use Rattle.ee_core.specs.State.{not_blank_in}
+use Rattle.ee_core.proofs.PendingPages.{as_many_not_blank}
+
+pub goes_on-same : (device : Device) → GoesOn device device
+goes_on-same device = record { same_size = refl; same_power = refl; same_cuts = refl; same_cuts_left = refl; same_while_off = λ off. refl }
+
+pub keeps_same : (device : Device) (layout : Layout) → IsLayout device layout → KeepsLiveSet device device layout.side layout.generation
+keeps_same device layout found = record { live = found.live; same_size = refl; same_slots = refl; same_fill = refl; same_map = λ address. refl }
+
+pub keeps_both : (first second third : Device) (side : Side) (generation : ℕ) → KeepsLiveSet first second side generation → KeepsLiveSet second third side generation → KeepsLiveSet first third side generation
+keeps_both first second third side generation one two = record {
+  live = two.live;
+  same_size = two.same_size ∙ one.same_size;
+  same_slots = two.same_slots ∙ one.same_slots;
+  same_fill = two.same_fill ∙ one.same_fill;
+  same_map = λ address. two.same_map address ∙ one.same_map address;
+}
+
+pub layout_kept : (old new : Device) (layout : Layout) → IsLayout old layout → KeepsLiveSet old new layout.side layout.generation → IsLayout new layout
+layout_kept old new layout found keeps = record {
+  live = keeps.live;
+  fill = found.fill ∙ sym keeps.same_fill;
+  current = found.current ∙ ap (λ size. first_page size layout.side + page_of_slot size (layout.fill - 1)) (sym keeps.same_size);
+}
+
+pub few_slots : (device : Device) → IsFormed device → slot_count device.size ≤ 32512
+few_slots device formed =
+    let few : device.size.words - 4 ≤ 508 = omega (arith, formed.within_limits.few_words) in
+    mul-le _ _ 64 508 formed.within_limits.few_pages few
+
+page_there : (side : Side) (device : Device) (page : ℕ) → page < device.size.pages → get_or (set_of side device) page [] ≡ page_at device (first_page device.size side + page)
+page_there First device page h =
+    let e : page ≡ 0 + page = omega arith in
+    get_or-take device.size.pages device.image page [] h ∙ ap (page_at device) e
+page_there Second device page h = get_or-drop device.size.pages device.image page []
+
+pub all_blank : (side : Side) (device : Device) → IsFormed device → ((page : ℕ) → first_page device.size side ≤ page → page < first_page device.size side + device.size.pages → is_blank (page_at device page) ≡ true) → All (λ page. is_blank page ≡ true) (set_of side device)
+all_blank side device formed each = All-from_get_or (λ page. is_blank page ≡ true) (set_of side device) [] (λ k h.
+    let within : k < device.size.pages = omega (arith, length-set_of side device formed) in
+    ap is_blank (page_there side device k within) ∙ each (first_page device.size side + k) (omega arith) (omega arith))
+
+-- the set that was filled is live, and the other has no blank page
+pub has_moved : (old opened filled new : Device) (side : Side) (generation count : ℕ) (change : Change) → KeepsLiveSet old opened side generation → KeepsLiveSet opened filled side generation → fill_of (slots_of (set_of side old)) ≡ slot_count old.size → IsFilling filled (other side) (generation + 1) count → ((address : ℕ) → meaning (slots_of (set_of (other side) filled)) address ≡ map_after change (meaning (slots_of (set_of side opened))) address) → count ≡ live_in (map_after change (meaning (slots_of (set_of side opened)))) → set_of side new ≡ set_of side filled → IsCommitted filled new (other side) (generation + 1) → HasMoved old new side generation change
+has_moved old opened filled new side generation count change first second full filling map each_once same committed =
+    let keeps = keeps_both old opened filled side generation first second in
+    let later : meaning (slots_of (set_of side opened)) ≡ meaning (slots_of (set_of side old)) = fun_ext first.same_map in
+    let filled_up : fill_of (slots_of (set_of side filled)) ≡ slot_count filled.size = keeps.same_fill ∙ full ∙ ap slot_count (sym keeps.same_size) in
+    record {
+      live = committed.live;
+      same_size = committed.same_size ∙ keeps.same_size;
+      map_is = λ address. ap (λ (slots : List Word). meaning slots address) committed.same_slots ∙ map address ∙ ap (λ (said : Map). map_after change said address) later;
+      fill_is = ap fill_of committed.same_slots ∙ filling.fill ∙ each_once ∙ ap (λ (said : Map). live_in (map_after change said)) later;
+      pending_is = ap pending_of same ∙ full_set_has_no_blank_page filled side generation keeps.live filled_up ∙ ap (λ (size : Size). size.pages) keeps.same_size;
+    }
+
+pub other_other : (side : Side) → other (other side) ≡ side
+other_other First = refl
+other_other Second = refl
+
+pub moved_stays : (old moved new : Device) (side : Side) (generation : ℕ) (change : Change) → HasMoved old moved side generation change → Stays moved new (other side) (generation + 1) → HasMoved old new side generation change
+moved_stays old moved new side generation change has stays =
+    let pending : pending_of (set_of side new) ≡ pending_of (set_of side moved) = as_many_not_blank side moved new (subst (λ (set : Side). not_blank_in set new ≡ not_blank_in set moved) (other_other side) stays.same_pending) in
+    record {
+      live = stays.keeps.live;
+      same_size = stays.keeps.same_size ∙ has.same_size;
+      map_is = λ address. stays.keeps.same_map address ∙ has.map_is address;
+      fill_is = stays.keeps.same_fill ∙ has.fill_is;
+      pending_is = pending ∙ has.pending_is;
+    }

@@ -1,0 +1,136 @@
+-- The page of the first free slot, and what marks it.
+use Rattle.std.proofs.Common.{◌≡◌, ◌≢◌, ◌⊎◌, inl, inr, ℕ, ◌+◌, ◌-◌, ◌*◌, ◌<◌, ◌≤◌, ◌/◌, ◌%◌, true, refl, sym, subst, ap, ◌∙◌, arith}
+use Rattle.std.proofs.Math.Nat.{div-add-mod, div-mul-le_self}
+use Rattle.std.proofs.lemmas.Bool.{cases_lt}
+use Rattle.std.proofs.lemmas.Nat.{div-mul-add}
+use Rattle.ee_flash.specs.Device.{Device, IsFormed}
+use Rattle.ee_flash.specs.Size.{Size, slot_count}
+use Rattle.ee_pages.specs.Laws.{IsPageOf}
+use Rattle.ee_pages.specs.Layout.{IsLayout}
+use Rattle.ee_pages.specs.Page.{is_marked}
+use Rattle.ee_pages.specs.Pushing.{IsMarkBehind}
+use Rattle.ee_pages.specs.Sets.{first_page, other, page_of_slot}
+use Rattle.ee_pages.specs.declared.find.Layout.{Layout}
+use Rattle.ee_pages.specs.declared.state.Mark.TheVariants.{Active, Valid}
+use Rattle.ee_pages.proofs.Slots.{page_in_range, slot_below}
+use Rattle.ee_core.specs.Finished.{IsLiveMarked, last_used}
+use Rattle.ee_core.specs.Parts.{IsReady, IsSameBut, IsSameSet, KeepsMarks, Stays}
+use Rattle.ee_core.proofs.SetPages.{same_other}
+
+-- within a page the slot before stands in the same page
+same_row : (n m q r : ℕ) → n ≡ q * m + r → 0 < r → r < m → (n - 1) / m ≡ q
+same_row n m q r e some below =
+    let split : n - 1 ≡ q * m + (r - 1) = omega (arith, e) in
+    ap (λ k. k / m) split ∙ div-mul-add q m (r - 1) (omega arith)
+
+pub same_place : (n m : ℕ) → 0 < m → (n ≡ 0) ⊎ (n % m ≢ 0) → n / m ≡ (n - 1) / m
+same_place n m some (inl none) = let e : n ≡ n - 1 = omega arith in ap (λ k. k / m) e
+same_place n m some (inr inside) =
+    let split : n ≡ n / m * m + n % m = omega (arith, div-add-mod n m) in
+    let below : n % m < m = omega (arith, some) in
+    sym (same_row n m (n / m) (n % m) split (omega (arith, inside)) below)
+
+-- the first slot of a page stands one page behind the slot before
+after_row : (n m p : ℕ) → n ≡ p * m + m → 0 < m → (n - 1) / m ≡ p
+after_row n m p e some =
+    let split : n - 1 ≡ p * m + (m - 1) = omega (arith, e) in
+    ap (λ k. k / m) split ∙ div-mul-add p m (m - 1) (omega arith)
+
+one_row_more : (n m p : ℕ) → n ≡ (p + 1) * m → n ≡ p * m + m
+one_row_more n m p e = omega (arith, e)
+
+pub next_place : (n m : ℕ) → 0 < m → 0 < n → n % m ≡ 0 → n / m ≡ (n - 1) / m + 1
+next_place n m some many whole =
+    let split : n ≡ n / m * m = omega (arith, div-add-mod n m, whole) in
+    elim (cases_lt 0 (n / m)) [
+      | inl positive ↦
+          let p : ℕ = n / m - 1 in
+          let quotient : n / m ≡ p + 1 = omega arith in
+          let rows : n ≡ (p + 1) * m = split ∙ ap (λ k. k * m) quotient in
+          quotient ∙ ap (λ k. k + 1) (sym (after_row n m p (one_row_more n m p rows) some))
+      | inr none ↦
+          let zero : n / m ≡ 0 = omega arith in
+          let nothing : n ≡ 0 * m = split ∙ ap (λ k. k * m) zero in
+          absurd (omega (arith, nothing))
+    ]
+
+module _ (old : Device) (layout : Layout) (found : IsLayout old layout) (free : layout.fill < slot_count old.size) (words : ℕ) (words_is : words ≡ old.size.words) where
+  some_slots : 0 < old.size.words - 4
+  some_slots = omega (arith, found.live.formed.within_limits.some_words)
+
+  pub last_is : page_of_slot old.size (layout.fill - 1) ≡ last_used old layout.side
+  last_is = ap (λ n. page_of_slot old.size (n - 1)) found.fill
+
+  -- the marks of a page that is in use already
+  pub ready_already : (layout.fill ≡ 0) ⊎ (layout.fill % (words - 4) ≢ 0) → IsLiveMarked old layout.side → IsReady old layout.side layout.fill
+  ready_already within was =
+      let inside : (layout.fill ≡ 0) ⊎ (layout.fill % (old.size.words - 4) ≢ 0) = subst (λ n. (layout.fill ≡ 0) ⊎ (layout.fill % (n - 4) ≢ 0)) words_is within in
+      let e : page_of_slot old.size layout.fill ≡ last_used old layout.side = same_place layout.fill (old.size.words - 4) some_slots inside ∙ last_is in
+      record {
+        valid = λ page below. was.valid page (subst (λ n. page < n) e below);
+        active = ap (λ n. is_marked old (first_page old.size layout.side + n) Active) e ∙ was.active;
+      }
+
+  pub current_of : IsPageOf old.size layout.side layout.current
+  current_of =
+      let within = page_in_range old (layout.fill - 1) (slot_below old layout.fill found.live.formed (omega (arith, free))) in
+      record { from = omega (arith, found.current); below = omega (arith, found.current, within) }
+
+  module _ (some : 0 < layout.fill) (whole : layout.fill % (words - 4) ≡ 0) where
+    pub further : page_of_slot old.size layout.fill ≡ page_of_slot old.size (layout.fill - 1) + 1
+    further = next_place layout.fill (old.size.words - 4) some_slots some (subst (λ n. layout.fill % (n - 4) ≡ 0) words_is whole)
+
+    next_is : layout.current + 1 ≡ first_page old.size layout.side + page_of_slot old.size layout.fill
+    next_is = omega (arith, found.current, further)
+
+    pub next_of : IsPageOf old.size layout.side (layout.current + 1)
+    next_of =
+        let within = page_in_range old layout.fill free in
+        record { from = omega (arith, next_is); below = omega (arith, next_is, within) }
+
+    -- the further page may be marked
+    pub next_behind : (mid : Device) → Stays old mid layout.side layout.generation → IsMarkBehind mid layout.side (layout.current + 1 - first_page mid.size layout.side) Active
+    next_behind mid stays =
+        let keeps = stays.keeps in
+        let first : first_page mid.size layout.side ≡ first_page old.size layout.side = ap (λ (size : Size). first_page size layout.side) keeps.same_size in
+        let e : page_of_slot old.size layout.fill ≡ layout.current + 1 - first_page mid.size layout.side = omega (arith, next_is, first) in
+        let pages : mid.size.pages ≡ old.size.pages = ap (λ (size : Size). size.pages) keeps.same_size in
+        let rows : mid.size.words - 4 ≡ old.size.words - 4 = ap (λ (size : Size). size.words - 4) keeps.same_size in
+        let within = page_in_range old layout.fill free in
+        let most : page_of_slot old.size layout.fill * (mid.size.words - 4) ≤ layout.fill =
+        subst (λ n. page_of_slot old.size layout.fill * n ≤ layout.fill) (sym rows) (div-mul-le_self layout.fill (old.size.words - 4)) in
+        subst (λ page. IsMarkBehind mid layout.side page Active) e (record {
+          in_range = omega (arith, within, pages);
+          behind = omega (arith, most, keeps.same_fill, found.fill);
+          active_or_valid = inl refl;
+        })
+
+    -- both marks are set
+    pub ready_now : (mid new : Device) → new.size ≡ old.size → IsLiveMarked old layout.side → KeepsMarks old mid → KeepsMarks mid new → is_marked mid layout.current Valid ≡ true → is_marked new (layout.current + 1) Active ≡ true → IsReady new layout.side layout.fill
+    ready_now mid new sizes was first_marks second_marks used opened =
+        let first : first_page new.size layout.side ≡ first_page old.size layout.side = ap (λ (size : Size). first_page size layout.side) sizes in
+        let place : page_of_slot new.size layout.fill ≡ page_of_slot old.size layout.fill = ap (λ (size : Size). page_of_slot size layout.fill) sizes in
+        record {
+          valid = λ page below. elim (cases_lt page (page_of_slot old.size (layout.fill - 1))) [
+            | inl earlier ↦
+                let before : page < last_used old layout.side = subst (λ n. page < n) last_is earlier in
+                let same : first_page new.size layout.side + page ≡ first_page old.size layout.side + page = omega (arith, first) in
+                subst (λ n. is_marked new n Valid ≡ true) (sym same) (second_marks _ Valid (first_marks (first_page old.size layout.side + page) Valid (was.valid page before)))
+            | inr last ↦
+                let same : first_page new.size layout.side + page ≡ layout.current = omega (arith, first, place, further, found.current) in
+                subst (λ n. is_marked new n Valid ≡ true) (sym same) (second_marks layout.current Valid used)
+          ];
+          active =
+              let same : first_page new.size layout.side + page_of_slot new.size layout.fill ≡ layout.current + 1 = omega (arith, first, place, next_is) in
+              subst (λ n. is_marked new n Active ≡ true) (sym same) opened;
+        }
+
+    -- and the other set is as before
+    pub second_other : (mid new : Device) → IsFormed new → Stays old mid layout.side layout.generation → new.size ≡ mid.size → IsSameSet (other layout.side) old mid → IsSameBut (layout.current + 1) mid new → IsSameSet (other layout.side) old new
+    second_other mid new formed stays sizes same others =
+        let there : IsPageOf mid.size layout.side (layout.current + 1) = subst (λ (size : Size). IsPageOf size layout.side (layout.current + 1)) (sym stays.keeps.same_size) next_of in
+        same_other layout.side mid new (layout.current + 1) stays.keeps.live.formed formed sizes there others ∙ same
+
+  pub first_other : (mid : Device) → Stays old mid layout.side layout.generation → IsSameBut layout.current old mid → IsSameSet (other layout.side) old mid
+  first_other mid stays others =
+      same_other layout.side old mid layout.current found.live.formed stays.keeps.live.formed stays.keeps.same_size current_of others

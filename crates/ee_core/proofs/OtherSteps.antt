@@ -1,0 +1,217 @@
+-- Steps in the set that a transfer fills.
+use Rattle.std.proofs.Common.{◌≡◌, ◌⊎◌, inl, inr, ℕ, ◌+◌, ◌-◌, ◌<◌, Bool, true, false, None, List, [], length, refl, sym, subst, ap, ◌∙◌, arith}
+use Rattle.std.specs.List.{All}
+use Rattle.std.specs.Prelude.{Result, Ok, Err, slice_set}
+use Rattle.std.proofs.lemmas.Bool.{cases_Bool}
+use Rattle.std.proofs.lemmas.List.{get_or-drop, get_or-take}
+use Rattle.std.proofs.lemmas.List.Elements.{All-get_or}
+use Rattle.std.proofs.Math.Nat.{div-mul-le_self}
+use Rattle.ee_codec.specs.Words.{IsGeneration}
+use Rattle.ee_flash.specs.Device.{Device, IsFormed, IsOn, all_ones, word_at}
+use Rattle.ee_flash.specs.Laws.{IsStep}
+use Rattle.ee_flash.specs.Size.{page_count, slot_count}
+use Rattle.ee_flash.specs.Step.{Program, IsCutIn, IsUntouched, MayFollow, device_after}
+use Rattle.ee_flash.specs.declared.word.Word.{Word}
+use Rattle.ee_flash.specs.declared.word.Word.TheVariants.{Erased, Held}
+use Rattle.ee_pages.specs.Filling.{IsCommitted, IsFilling}
+use Rattle.ee_pages.specs.Laws.{IsPageOf, KeepsLiveSet}
+use Rattle.ee_pages.specs.Legal.{IsLive}
+use Rattle.ee_pages.specs.Meaning.{Change, SpellsChange, map_after, meaning}
+use Rattle.ee_pages.specs.Page.{is_blank, is_marked, is_written, marking, number_of_mark, place_of_mark, word_in}
+use Rattle.ee_pages.specs.Pushing.{slot_step}
+use Rattle.ee_pages.specs.Sets.{first_page, front, other, page_of_slot, place_of_slot, set_of, slots_of, word_of}
+use Rattle.ee_pages.specs.declared.side.Side.{Side}
+use Rattle.ee_pages.specs.declared.side.Side.TheVariants.{First, Second}
+use Rattle.ee_pages.specs.declared.state.Mark.{Mark}
+use Rattle.ee_pages.specs.declared.state.Mark.TheVariants.{Active, Erasing, Receive, Valid}
+use Rattle.ee_pages.proofs.BlankWords.{blank_word, erased_word}
+use Rattle.ee_pages.proofs.Legal.{fill-front, slots_behind}
+use Rattle.ee_pages.proofs.OtherSet.{other_set_keeps_live}
+use Rattle.ee_pages.proofs.Slots.{length-set_of, page_in_range, place_in_range, slot_at}
+use Rattle.ee_pages.proofs.Commits.{commit_commits, whole_commit_commits}
+use Rattle.ee_pages.proofs.FillingSteps.{opens_page, opens_set, stages_change}
+
+-- a word of a set, by its page's number in the device
+word_there : (side : Side) (device : Device) (page at : ℕ) → page < device.size.pages → word_of (set_of side device) page at ≡ word_at device (first_page device.size side + page) at
+word_there First device page at h =
+    let e : page ≡ 0 + page = omega arith in
+    ap (λ (words : List Word). word_in words at) (get_or-take device.size.pages device.image page [] h) ∙ ap (λ n. word_at device n at) e
+word_there Second device page at h = ap (λ (words : List Word). word_in words at) (get_or-drop device.size.pages device.image page [])
+
+in_device : (side : Side) (device : Device) (page : ℕ) → page < device.size.pages → first_page device.size side + page < page_count device.size
+in_device First device page h = omega arith
+in_device Second device page h = omega arith
+
+in_set : (side : Side) (device : Device) (page : ℕ) → page < device.size.pages → IsPageOf device.size side (first_page device.size side + page)
+in_set side device page h = record { from = omega arith; below = omega arith }
+
+-- the first word of the first page, and the one behind it
+first_there : (side : Side) (device : Device) (at : ℕ) → IsFormed device → word_of (set_of side device) 0 at ≡ word_at device (first_page device.size side) at
+first_there side device at formed =
+    let e : first_page device.size side + 0 ≡ first_page device.size side = omega arith in
+    word_there side device 0 at (omega (arith, formed.within_limits.some_pages)) ∙ ap (λ n. word_at device n at) e
+
+first_in_device : (side : Side) (device : Device) → IsFormed device → first_page device.size side < page_count device.size
+first_in_device First device formed = omega (arith, formed.within_limits.some_pages)
+first_in_device Second device formed = omega (arith, formed.within_limits.some_pages)
+
+pub first_in_set : (side : Side) (device : Device) → IsFormed device → IsPageOf device.size side (first_page device.size side)
+first_in_set side device formed = record { from = omega arith; below = omega (arith, formed.within_limits.some_pages) }
+
+-- the first free slot is erased
+pub free_slot : (device : Device) (side : Side) (generation count : ℕ) → IsFilling device side generation count → count < slot_count device.size → word_at device (first_page device.size side + page_of_slot device.size count) (place_of_slot device.size count) ≡ Erased
+free_slot device side generation count filling free =
+    let reached : front (slots_of (set_of side device)) ≡ count = fill-front side device generation filling.formed filling.allowed ∙ filling.fill in
+    let erased = slots_behind side device generation filling.formed filling.allowed count (omega arith) in
+    sym (word_there side device (page_of_slot device.size count) (place_of_slot device.size count) (page_in_range device count free))
+    ∙ sym (slot_at side device count filling.formed free)
+    ∙ erased_word _ erased
+
+module _ (old new : Device) (side : Side) (generation count number : ℕ) (live : IsLive old side generation) (filling : IsFilling old (other side) (generation + 1) count) (free : count < slot_count old.size) (below : number < all_ones) (follows : MayFollow (slot_step old.size (other side) count number) old new) where
+  pub slot_taken : IsStep (slot_step old.size (other side) count number) old new
+  slot_taken = record {
+    formed = live.formed;
+    may = (in_device (other side) old _ (page_in_range old count free), place_in_range old count live.formed, free_slot old (other side) (generation + 1) count filling free, below);
+    follows = follows;
+  }
+
+  pub slot_keeps : KeepsLiveSet old new side generation
+  slot_keeps = (other_set_keeps_live _ old new side generation live slot_taken (in_set (other side) old _ (page_in_range old count free)) ((λ here e. omega arith), (λ here e. absurd (omega arith)))).0
+
+place_below : (mark : Mark) → place_of_mark mark < 4
+place_below (Receive generation) = omega arith
+place_below Active = omega arith
+place_below Valid = omega arith
+place_below Erasing = omega arith
+
+pub receive_below : (generation : ℕ) → IsGeneration generation → number_of_mark (Receive generation) < all_ones
+receive_below generation proper = omega (arith, proper.1)
+
+pub active_below : number_of_mark Active < all_ones
+active_below = omega arith
+
+module _ (old new : Device) (page : ℕ) (mark : Mark) (formed : IsFormed old) (in_range : page < page_count old.size) (below : number_of_mark mark < all_ones) (erased : is_marked old page mark ≡ false) (follows : MayFollow (marking page mark) old new) where
+  mark_taken : IsStep (marking page mark) old new
+  mark_taken = record {
+    formed = formed;
+    may = (in_range, omega (arith, place_below mark, formed.within_limits.some_words), erased_word _ erased, below);
+    follows = follows;
+  }
+
+-- a mark that is written takes no step, so none is cut
+unmarked : {T E Q : Type 0} (b : Bool) (result : Result T E) (x : T) (e : E) → result ≡ Err e → (b ≡ true → (result ≡ Ok x) × Q) → b ≡ false
+unmarked true result x e is present = let no : Err e ≡ Ok x = sym is ∙ (present refl).0 in cc no
+unmarked false result x e is present = refl
+
+same_kept : (old new : Device) (side : Side) (generation : ℕ) → IsLive old side generation → new ≡ old → KeepsLiveSet old new side generation
+same_kept old new side generation live same = rw same (record { live = live; same_size = refl; same_slots = refl; same_fill = refl; same_map = λ address. refl })
+
+-- the receive word of a further page
+module _ (old new : Device) (side : Side) (generation count : ℕ) (live : IsLive old side generation) (filling : IsFilling old (other side) (generation + 1) count) (free : count < slot_count old.size) (proper : IsGeneration (generation + 1)) where
+  abbrev word : Mark
+  word = Receive (generation + 1)
+
+  abbrev here : ℕ
+  here = first_page old.size (other side) + page_of_slot old.size count
+
+  receive_taken : is_marked old here word ≡ false → MayFollow (marking here word) old new → IsStep (marking here word) old new
+  receive_taken erased follows = mark_taken old new here word live.formed (in_device (other side) old _ (page_in_range old count free)) (receive_below (generation + 1) proper) erased follows
+
+  receive_keeps : is_marked old here word ≡ false → MayFollow (marking here word) old new → KeepsLiveSet old new side generation
+  receive_keeps erased follows =
+      let uncommitted : word_at old (first_page old.size (other side)) 1 ≡ Erased = sym (first_there (other side) old 1 live.formed) ∙ filling.uncommitted in
+      (other_set_keeps_live _ old new side generation live (receive_taken erased follows) (in_set (other side) old _ (page_in_range old count free)) ((λ at e. absurd (cc e)), (λ at e. uncommitted))).0
+
+  pub receive_cut : {T E : Type 0} (result : Result T E) (x : T) (e : E) → result ≡ Err e → (page : ℕ) → page ≡ here → (is_marked old page word ≡ true → (result ≡ Ok x) × (new ≡ old)) → (IsCutIn (marking page word) old new ⊎ IsUntouched old new) → KeepsLiveSet old new side generation
+  receive_cut result x e failed page is = subst (λ (n : ℕ). (is_marked old n word ≡ true → (result ≡ Ok x) × (new ≡ old)) → (IsCutIn (marking n word) old new ⊎ IsUntouched old new) → KeepsLiveSet old new side generation) (sym is) (λ present cut. receive_keeps (unmarked _ result x e failed present) (inr cut))
+
+  abbrev Received : Type 0
+  Received = KeepsLiveSet old new side generation × IsFilling new (other side) (generation + 1) count × (slots_of (set_of (other side) new) ≡ slots_of (set_of (other side) old))
+
+  received : (is_marked old here word ≡ true → new ≡ old) → (is_marked old here word ≡ false → IsOn old) → (is_marked old here word ≡ false → new ≡ device_after (marking here word) old) → Received
+  received present on done = elim (cases_Bool (is_marked old here word)) [
+    | inl marked ↦
+        let same = present marked in
+        (same_kept old new side generation live same, rw same filling, ap (λ (device : Device). slots_of (set_of (other side) device)) same)
+    | inr erased ↦
+        let follows : MayFollow (marking here word) old new = inl (record { was_on = on erased; done = done erased }) in
+        let taken = receive_taken erased follows in
+        let opened = opens_page (page_of_slot old.size count) old new (other side) (generation + 1) count proper filling (page_in_range old count free) (div-mul-le_self count (old.size.words - 4)) taken (done erased) in
+        (receive_keeps erased follows, opened.0, opened.1)
+  ]
+
+  pub receive_done : (page : ℕ) → page ≡ here → (is_marked old page word ≡ true → new ≡ old) → (is_marked old page word ≡ false → IsOn old) → (is_marked old page word ≡ false → new ≡ device_after (marking page word) old) → Received
+  receive_done page is = subst (λ (n : ℕ). (is_marked old n word ≡ true → new ≡ old) → (is_marked old n word ≡ false → IsOn old) → (is_marked old n word ≡ false → new ≡ device_after (marking n word) old) → Received) (sym is) received
+
+-- a change in the first free slot
+module _ (old new : Device) (side : Side) (generation count number : ℕ) (live : IsLive old side generation) (filling : IsFilling old (other side) (generation + 1) count) (free : count < slot_count old.size) (below : number < all_ones) where
+  abbrev slot_page : ℕ
+  slot_page = first_page old.size (other side) + page_of_slot old.size count
+
+  pub put_cut : (page at : ℕ) → page ≡ slot_page → at ≡ place_of_slot old.size count → MayFollow (Program page at number) old new → KeepsLiveSet old new side generation
+  put_cut page at page_is at_is follows =
+      let here : MayFollow (Program slot_page (place_of_slot old.size count) number) old new = subst (λ (n : ℕ). MayFollow (Program n (place_of_slot old.size count) number) old new) page_is (subst (λ (k : ℕ). MayFollow (Program page k number) old new) at_is follows) in
+      slot_keeps old new side generation count number live filling free below here
+
+  abbrev Staged : Change → Type 0
+  Staged change =
+      IsFilling new (other side) (generation + 1) (count + 1)
+      × (slots_of (set_of (other side) new) ≡ slice_set (slots_of (set_of (other side) old)) count (Held number))
+      × ((address : ℕ) → meaning (slots_of (set_of (other side) new)) address ≡ map_after change (meaning (slots_of (set_of (other side) old))) address)
+
+  put_whole : (change : Change) → SpellsChange number change → MayFollow (slot_step old.size (other side) count number) old new → new ≡ device_after (slot_step old.size (other side) count number) old → Staged change
+  put_whole change spells follows done = stages_change change number old new (other side) (generation + 1) count filling free spells (slot_taken old new side generation count number live filling free below follows) done
+
+  pub put_done : (change : Change) (page at : ℕ) → page ≡ slot_page → at ≡ place_of_slot old.size count → SpellsChange number change → IsOn old → new ≡ device_after (Program page at number) old → Staged change
+  put_done change page at page_is at_is spells on done =
+      let here : new ≡ device_after (slot_step old.size (other side) count number) old = done ∙ ap (λ (n : ℕ). device_after (Program n at number) old) page_is ∙ ap (λ (k : ℕ). device_after (Program slot_page k number) old) at_is in
+      put_whole change spells (inl (record { was_on = on; done = here })) here
+
+-- the receive word that opens the set
+module _ (old new : Device) (side : Side) (generation : ℕ) (live : IsLive old side generation) (proper : IsGeneration (generation + 1)) (blank : All (λ page. is_blank page ≡ true) (set_of (other side) old)) where
+  abbrev opening : Mark
+  opening = Receive (generation + 1)
+
+  abbrev first : ℕ
+  first = first_page old.size (other side)
+
+  first_erased : (at : ℕ) → word_at old first at ≡ Erased
+  first_erased at =
+      let some : 0 < length (set_of (other side) old) = omega (arith, length-set_of (other side) old live.formed, live.formed.within_limits.some_pages) in
+      sym (first_there (other side) old at live.formed) ∙ blank_word _ at (All-get_or (λ page. is_blank page ≡ true) (set_of (other side) old) 0 [] some blank)
+
+  pub opening_unmarked : (page : ℕ) → page ≡ first → is_marked old page opening ≡ false
+  opening_unmarked page is = ap (λ (n : ℕ). is_marked old n opening) is ∙ ap is_written (first_erased 0)
+
+  opening_taken : MayFollow (marking first opening) old new → IsStep (marking first opening) old new
+  opening_taken follows = mark_taken old new first opening live.formed (first_in_device (other side) old live.formed) (receive_below (generation + 1) proper) (opening_unmarked first refl) follows
+
+  pub opening_keeps : (page : ℕ) → page ≡ first → MayFollow (marking page opening) old new → KeepsLiveSet old new side generation
+  opening_keeps page is follows =
+      let here : MayFollow (marking first opening) old new = subst (λ (n : ℕ). MayFollow (marking n opening) old new) is follows in
+      (other_set_keeps_live _ old new side generation live (opening_taken here) (first_in_set (other side) old live.formed) ((λ at e. absurd (cc e)), (λ at e. first_erased 1))).0
+
+  pub opening_done : (page : ℕ) → page ≡ first → IsOn old → new ≡ device_after (marking page opening) old → IsFilling new (other side) (generation + 1) 0 × ((address : ℕ) → meaning (slots_of (set_of (other side) new)) address ≡ None)
+  opening_done page is on done =
+      let here : new ≡ device_after (marking first opening) old = done ∙ ap (λ (n : ℕ). device_after (marking n opening) old) is in
+      opens_set old new (other side) (generation + 1) proper blank (opening_taken (inl (record { was_on = on; done = here }))) here
+
+-- the mark that commits the set
+module _ (old new : Device) (side : Side) (generation count : ℕ) (live : IsLive old side generation) (proper : IsGeneration (generation + 1)) (filling : IsFilling old (other side) (generation + 1) count) where
+  abbrev front_page : ℕ
+  front_page = first_page old.size (other side)
+
+  pub active_unmarked : (page : ℕ) → page ≡ front_page → is_marked old page Active ≡ false
+  active_unmarked page is = ap (λ (n : ℕ). is_marked old n Active) is ∙ ap is_written (sym (first_there (other side) old 1 live.formed) ∙ filling.uncommitted)
+
+  active_taken : MayFollow (marking front_page Active) old new → IsStep (marking front_page Active) old new
+  active_taken follows = mark_taken old new front_page Active live.formed (first_in_device (other side) old live.formed) active_below (active_unmarked front_page refl) follows
+
+  pub active_commits : (page : ℕ) → page ≡ front_page → MayFollow (marking page Active) old new → (set_of side new ≡ set_of side old) × (KeepsLiveSet old new side generation ⊎ IsCommitted old new (other side) (generation + 1))
+  active_commits page is follows =
+      commit_commits old new side generation count live filling proper (active_taken (subst (λ (n : ℕ). MayFollow (marking n Active) old new) is follows))
+
+  pub active_done : (page : ℕ) → page ≡ front_page → IsOn old → new ≡ device_after (marking page Active) old → IsCommitted old new (other side) (generation + 1)
+  active_done page is on done =
+      let here : new ≡ device_after (marking front_page Active) old = done ∙ ap (λ (n : ℕ). device_after (marking n Active) old) is in
+      whole_commit_commits old new side generation count live filling proper (active_taken (inl (record { was_on = on; done = here }))) here

@@ -1,0 +1,177 @@
+-- What each call of a run does to power, wear, pending pages and the map, and so what a run does.
+use Rattle.std.proofs.Common.{◌≡◌, ℕ, ◌+◌, ◌-◌, ◌*◌, ◌++◌, Bool, true, false, cond, Ok, Err, List, [], ◌∷◌, refl, sym, ◌∙◌, ap, subst, arith}
+use Rattle.std.specs.List.{All, flat_map}
+use Rattle.std.proofs.lemmas.List.Elements.{All-tail}
+use Rattle.std.proofs.lemmas.List.Sums.{sum_by-cons}
+use Rattle.ee_flash.proofs.Outcomes.{calls_compose}
+use Rattle.ee_flash.specs.Device.{Device}
+use Rattle.ee_flash.specs.Power.{GoesOn}
+use Rattle.ee_flash.specs.Size.{Size}
+use Rattle.ee_flash.specs.Wear.{total_wear_of}
+use Rattle.ee_pages.specs.Meaning.{Change, Put, Forget, Map, map_after, changed_by}
+use Rattle.ee_core.proofs.PendingPages.{length-pending_pages}
+use Rattle.ee_core.proofs.Wears.{no_wear, total_rises, wears_rise}
+use Rattle.ee_core.specs.Calls.{ErasesOne}
+use Rattle.ee_core.specs.Changes.{Appends, Moves}
+use Rattle.ee_core.specs.Runs.{Call, Wrote, Forgot, Cleaned, DidRead, AreAnsweredFrom, Follows, IsAnsweredBy, IsRun, changes_of_call, is_cut, is_transfer, transfers, IsWholeRun}
+use Rattle.ee_core.specs.State.{CountsWear, State, pending_pages, state_of}
+use Rattle.ee_core.specs.declared.variables.ForgetFault.TheVariants as forget
+use Rattle.ee_core.specs.declared.variables.WriteFault.TheVariants as write
+use Rattle.ee_core.specs.declared.variables.Written.TheVariants.{Appended, Moved}
+
+-- ---- one call
+
+-- so many pages more are erased or wait, where wear is counted
+abbrev pub Adds : ℕ → Device → Device → Type 0
+Adds more old new = CountsWear new → CountsWear old × (total_wear_of new + (state_of new).pending ≡ total_wear_of old + (state_of old).pending + more)
+
+-- the pages of a set for a transfer, none for another call
+abbrev pub cost : Bool → Device → ℕ
+cost transfer device = cond transfer device.size.pages 0
+
+-- what a call does where power is not cut in it
+pub record Goes (transfer : Bool) (changes : List Change) (old new : Device) : Type 0 where
+  pub power : GoesOn old new
+  pub adds : Adds (cost transfer old) old new
+  pub map_is : (state_of new).map ≡ changed_by changes (state_of old).map
+
+nothing : (old new : Device) → new ≡ old → Goes false [] old new
+nothing old new same = record {
+  power = record {
+    same_size = ap (λ (device : Device). device.size) same;
+    same_power = ap (λ (device : Device). device.on) same;
+    same_cuts = ap (λ (device : Device). device.cuts) same;
+    same_cuts_left = ap (λ (device : Device). device.cuts_left) same;
+    same_while_off = λ off. same;
+  };
+  adds = rw same (λ counts. (counts, omega arith));
+  map_is = ap (λ (device : Device). (state_of device).map) same;
+}
+
+appends : (old new : Device) (change : Change) → Appends old change new → Goes false (change ∷ []) old new
+appends old new change done = record {
+  power = done.goes_on;
+  adds = λ counts.
+      let wear = total_rises 0 old new (no_wear old new done.no_wear) counts in
+      let pending : (state_of new).pending ≡ (state_of old).pending = ap (λ (state : State). state.pending) done.state_is in
+      (wear.0, omega (arith, wear.1, pending));
+  map_is = ap (λ (state : State). state.map) done.state_is;
+}
+
+moves : (old new : Device) (change : Change) → Moves old change new → Goes true (change ∷ []) old new
+moves old new change done = record {
+  power = done.goes_on;
+  adds = λ counts.
+      let wear = total_rises (state_of old).pending old new (wears_rise (pending_pages old) (state_of old).pending old new done.wear (length-pending_pages old)) counts in
+      let pending : (state_of new).pending ≡ old.size.pages = ap (λ (state : State). state.pending) done.state_is in
+      (wear.0, omega (arith, wear.1, pending));
+  map_is = ap (λ (state : State). state.map) done.state_is;
+}
+
+erases : (old new : Device) → ErasesOne old new → Goes false [] old new
+erases old new done = record {
+  power = done.goes_on;
+  adds = λ counts.
+      let wear = total_rises 1 old new (wears_rise (done.lowest.page ∷ []) 1 old new done.lowest.wear refl) counts in
+      let pending : (state_of new).pending ≡ (state_of old).pending - 1 = ap (λ (state : State). state.pending) done.state_is in
+      (wear.0, omega (arith, wear.1, pending, done.some));
+  map_is = ap (λ (state : State). state.map) done.state_is;
+}
+
+pub goes : (call : Call) (old new : Device) → is_cut call ≡ false → Follows call old new → Goes (is_transfer call) (changes_of_call call) old new
+goes (Wrote address value (Ok Appended)) old new whole done = assumption (appends old new (Put address value) done)
+goes (Wrote address value (Ok Moved)) old new whole done = assumption (moves old new (Put address value) done)
+goes (Wrote address value (Err write.Off)) old new whole done = nothing old new done.1
+goes (Wrote address value (Err write.Full)) old new whole done = nothing old new done.2
+goes (Wrote address value (Err write.Spent)) old new whole done = nothing old new done.3
+goes (Wrote address value (Err write.Memory)) old new whole done = nothing old new done.2
+goes (Wrote address value (Err write.Cut)) old new whole done = cc
+goes (Forgot address (Ok Appended)) old new whole done = assumption (appends old new (Forget address) done)
+goes (Forgot address (Ok Moved)) old new whole done = assumption (moves old new (Forget address) done)
+goes (Forgot address (Err forget.Off)) old new whole done = nothing old new done.1
+goes (Forgot address (Err forget.Absent)) old new whole done = nothing old new done.2
+goes (Forgot address (Err forget.Spent)) old new whole done = nothing old new done.3
+goes (Forgot address (Err forget.Cut)) old new whole done = cc
+goes (Cleaned (Ok true)) old new whole done = erases old new done
+goes (Cleaned (Ok false)) old new whole done = nothing old new done.2
+goes (Cleaned (Err write.Off)) old new whole done = nothing old new done.1
+goes (Cleaned (Err write.Full)) old new whole done = absurd done
+goes (Cleaned (Err write.Spent)) old new whole done = absurd done
+goes (Cleaned (Err write.Memory)) old new whole done = absurd done
+goes (Cleaned (Err write.Cut)) old new whole done = cc
+goes (DidRead address (Ok value)) old new whole done = nothing old new done.1
+goes (DidRead address (Err off)) old new whole done = nothing old new done.1
+
+answered : (call : Call) (old new : Device) → Follows call old new → IsAnsweredBy (state_of old).map call
+answered (Wrote address value answer) old new done = tt
+answered (Forgot address answer) old new done = tt
+answered (Cleaned answer) old new done = tt
+answered (DidRead address (Ok value)) old new done = done.0.1
+answered (DidRead address (Err off)) old new done = tt
+
+-- ---- a run
+
+-- what a run does where power is not cut in it
+record Went (calls : List Call) (old new : Device) : Type 0 where
+  pub power : GoesOn old new
+  pub adds : Adds (transfers calls * old.size.pages) old new
+  pub map_is : (state_of new).map ≡ changed_by (flat_map changes_of_call calls) (state_of old).map
+  pub answers : AreAnsweredFrom (state_of old).map calls
+
+-- what a call adds, and then what the calls after it add
+sum_of_more : (transfer : Bool) (pages later_pages rest all start middle end : ℕ) → later_pages ≡ pages → all ≡ cond transfer 1 0 + rest
+    → middle ≡ start + cond transfer pages 0 → end ≡ middle + rest * later_pages → end ≡ start + all * pages
+sum_of_more true pages later_pages rest all start middle end same is first more = rw (more, first, is, same) (grind arith)
+sum_of_more false pages later_pages rest all start middle end same is first more = rw (more, first, is, same) (grind arith)
+
+pub changed_by-append : (changes more : List Change) (map : Map) → changed_by (changes ++ more) map ≡ changed_by more (changed_by changes map)
+changed_by-append [] more map = refl
+changed_by-append (change ∷ changes) more map = changed_by-append changes more (map_after change map)
+
+went : (calls : List Call) (old new : Device) → IsRun calls old new → All (λ call. is_cut call ≡ false) calls → Went calls old new
+went [] old new run whole =
+    let done = nothing old new run in
+    record {
+      power = done.power;
+      adds = λ counts.
+          let none = done.adds counts in
+          (none.0, omega (arith, none.1));
+      map_is = done.map_is;
+      answers = tt;
+    }
+went (call ∷ calls) old new run whole =
+    let first = goes call old run.0 (whole 0 call (omega arith)) run.1 in
+    let rest = went calls run.0 new run.2 (All-tail (λ (one : Call). is_cut one ≡ false) call calls whole) in
+    record {
+      power = (calls_compose old run.0 new first.power).0 rest.power;
+      adds = λ counts.
+          let later = rest.adds counts in
+          let sooner = first.adds later.0 in (
+            sooner.0,
+            sum_of_more (is_transfer call) old.size.pages run.0.size.pages (transfers calls) (transfers (call ∷ calls)) _ _ _
+                (ap (λ (size : Size). size.pages) first.power.same_size) (sum_by-cons (λ (one : Call). cond (is_transfer one) 1 0) call calls) sooner.1 later.1,
+          );
+      map_is = rest.map_is ∙ ap (changed_by (flat_map changes_of_call calls)) first.map_is ∙ sym (changed_by-append (changes_of_call call) (flat_map changes_of_call calls) (state_of old).map);
+      answers = (answered call old run.0 run.1, subst (λ (map : Map). AreAnsweredFrom map calls) first.map_is rest.answers);
+    }
+
+pub runs_go_on_lem : (calls : List Call) (old new : Device) → IsWholeRun calls old new → GoesOn old new
+runs_go_on_lem calls old new whole = assumption (went calls old new whole.run whole.without_cuts)
+
+pub each_transfer_erases_a_set_lem : (calls : List Call) (old new : Device) → IsWholeRun calls old new → CountsWear new
+    → total_wear_of new + (state_of new).pending ≡ total_wear_of old + (state_of old).pending + transfers calls * old.size.pages
+each_transfer_erases_a_set_lem calls old new whole counts =
+    let counted : CountsWear new = assumption counts in
+    let sum = (went calls old new whole.run whole.without_cuts).adds counted in
+    omega (arith, sum.1)
+
+pub clean_runs_erase_sets_lem : (calls : List Call) (old new : Device) → IsWholeRun calls old new → CountsWear new → (state_of old).pending ≡ 0
+    → (state_of new).pending ≡ 0 → total_wear_of new ≡ total_wear_of old + transfers calls * old.size.pages
+clean_runs_erase_sets_lem calls old new whole counts clean cleaned =
+    let counted : CountsWear new = assumption counts in
+    let sum = (went calls old new whole.run whole.without_cuts).adds counted in
+    omega (arith, sum.1, clean, cleaned)
+
+pub the_store_is_a_map_lem : (calls : List Call) (old new : Device) → IsWholeRun calls old new
+    → ((state_of new).map ≡ changed_by (flat_map changes_of_call calls) (state_of old).map) × AreAnsweredFrom (state_of old).map calls
+the_store_is_a_map_lem calls old new whole = assumption (went calls old new whole.run whole.without_cuts)

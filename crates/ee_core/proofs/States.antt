@@ -1,0 +1,61 @@
+-- What a live set says is the state of its device.
+use Rattle.std.proofs.Common.{◌≡◌, ℕ, ◌+◌, refl, sym, ap, ◌∙◌}
+use Rattle.std.proofs.Math.Path.{fun_ext}
+use Rattle.ee_flash.specs.Device.{Device}
+use Rattle.ee_pages.specs.Laws.{KeepsLiveSet}
+use Rattle.ee_pages.specs.Legal.{IsLive}
+use Rattle.ee_pages.specs.Meaning.{Change, Map}
+use Rattle.ee_pages.specs.Pushing.{TakesSlot}
+use Rattle.ee_pages.specs.Sets.{other, pending_of, set_of}
+use Rattle.ee_pages.specs.declared.side.Side.{Side}
+use Rattle.ee_pages.specs.declared.side.Side.TheVariants.{First, Second}
+use Rattle.ee_core.proofs.PendingPages.{as_many_not_blank}
+use Rattle.ee_core.specs.Parts.{HasMoved, Stays}
+use Rattle.ee_core.specs.State.{State, moved_state, state_in, state_of, state_with, with_pending}
+
+pub state_is : (device : Device) (side : Side) (generation : ℕ) → IsLive device side generation → state_of device ≡ state_with device side generation
+state_is device side generation live = ap (state_in device) live.live
+
+-- a state is what it says
+abbrev pub state_from : Map → ℕ → ℕ → ℕ → State
+state_from map fill generation pending = record { map = map; fill = fill; generation = generation; pending = pending }
+
+pub same_states : (map new_map : Map) (fill new_fill generation new_generation pending new_pending : ℕ) → ((address : ℕ) → new_map address ≡ map address) → new_fill ≡ fill → new_generation ≡ generation → new_pending ≡ pending → state_from new_map new_fill new_generation new_pending ≡ state_from map fill generation pending
+same_states map new_map fill new_fill generation new_generation pending new_pending maps fills generations pendings =
+    let map_is : new_map ≡ map = fun_ext maps in
+    rw (map_is, fills, generations, pendings) refl
+
+-- the other set of the other is the set
+pub other_twice : (side : Side) → other (other side) ≡ side
+other_twice First = refl
+other_twice Second = refl
+
+module _ (old new : Device) (side : Side) (generation : ℕ) (live : IsLive old side generation) where
+  -- the live set is as before, and so many pages of the other wait
+  pub state_kept : KeepsLiveSet old new side generation → (pending : ℕ) → pending_of (set_of (other side) new) ≡ pending → state_of new ≡ with_pending pending (state_of old)
+  state_kept keeps pending e =
+      state_is new side generation keeps.live
+      ∙ same_states _ _ _ _ generation generation pending _ keeps.same_map keeps.same_fill refl e
+      ∙ ap (with_pending pending) (sym (state_is old side generation live))
+
+  -- all is as before
+  pub state_stays : Stays old new side generation → state_of new ≡ state_of old
+  state_stays stays =
+      state_is new side generation stays.keeps.live
+      ∙ same_states _ _ _ _ generation generation _ _ stays.keeps.same_map stays.keeps.same_fill refl (as_many_not_blank (other side) old new stays.same_pending)
+      ∙ sym (state_is old side generation live)
+
+  -- one slot more is written
+  pub state_taken : (map : Map) → TakesSlot old new side generation map → set_of (other side) new ≡ set_of (other side) old → state_of new ≡ record (state_of old) { map = map; fill = (state_of old).fill + 1 }
+  state_taken map takes same =
+      state_is new side generation takes.live
+      ∙ same_states _ _ _ _ generation generation _ _ takes.map_is takes.one_more refl (ap pending_of same)
+      ∙ ap (λ (state : State). record state { map = map; fill = state.fill + 1 }) (sym (state_is old side generation live))
+
+  -- the map was moved
+  pub state_moved : (change : Change) → HasMoved old new side generation change → state_of new ≡ moved_state old.size.pages change (state_of old)
+  state_moved change has =
+      let was = state_is old side generation live in
+      state_is new (other side) (generation + 1) has.live
+      ∙ same_states _ _ _ _ (generation + 1) (generation + 1) _ _ has.map_is has.fill_is refl (ap (λ (side : Side). pending_of (set_of side new)) (other_twice side) ∙ has.pending_is)
+      ∙ ap (moved_state old.size.pages change) (sym was)

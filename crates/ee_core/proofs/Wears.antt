@@ -1,0 +1,184 @@
+-- How wear rises over several steps, page by page and in all.
+use Rattle.std.proofs.Common.{◌≡◌, ◌⊎◌, inl, inr, ℕ, ◌+◌, ◌<◌, ◌++◌, List, [], ◌∷◌, ◌≤◌, Bool, true, false, cond, eqb, length, get_or, set, min, refl, sym, subst, ap, ◌∙◌, arith}
+use Rattle.std.specs.List.{All, sum}
+use Rattle.std.proofs.lemmas.Bool.{cases_Bool, cases_eq, cases_lt, eq-eqb, ne_eqb, true≢false}
+use Rattle.std.proofs.lemmas.List.{append-nil, append_assoc, get_or-set_other, get_or-set_same, get_or_past, length-append, length-set}
+use Rattle.std.proofs.lemmas.List.Elements.{All-append, All-cons, All-from_get_or, All-get_or, All-head, All-nil, All-tail}
+use Rattle.std.proofs.lemmas.List.Sums.{sum_by-set}
+use Rattle.ee_flash.specs.Device.{Device, IsOff, IsOn, all_ones}
+use Rattle.ee_flash.specs.Step.{Erase, IsCutIn, IsUntouched, with_page_erased, one_more}
+use Rattle.ee_flash.specs.Wear.{total_wear_of}
+use Rattle.ee_core.specs.State.{CountsWear, WearRises, Wears, WearsFront, worn_by}
+
+-- ---- wears as lists
+
+-- no count stands at all ones
+abbrev IsCounted : List ℕ → Type 0
+IsCounted wear = All (λ count. count < all_ones) wear
+
+-- each page of a list has a wear
+abbrev AreThere : List ℕ → List ℕ → Type 0
+AreThere pages wear = All (λ page. page < length wear) pages
+
+length-worn_by : (pages wear : List ℕ) → length (worn_by pages wear) ≡ length wear
+length-worn_by [] wear = refl
+length-worn_by (page ∷ pages) wear = length-worn_by pages (set wear page (one_more (get_or wear page 0))) ∙ length-set wear page (one_more (get_or wear page 0))
+
+worn_by-append : (pages more wear : List ℕ) → worn_by (pages ++ more) wear ≡ worn_by more (worn_by pages wear)
+worn_by-append [] more wear = refl
+worn_by-append (page ∷ pages) more wear = worn_by-append pages more (set wear page (one_more (get_or wear page 0)))
+
+-- a count that is one more, below all ones
+below_more : (count top : ℕ) → min (count + 1) top < top → (count < top) × (min (count + 1) top ≡ count + 1)
+below_more count top h = (omega arith, omega arith)
+
+more_counts : (wear : List ℕ) (page : ℕ) → page < length wear → IsCounted (set wear page (one_more (get_or wear page 0))) → IsCounted wear × (sum (set wear page (one_more (get_or wear page 0))) ≡ sum wear + 1)
+more_counts wear page h counts =
+    let more = one_more (get_or wear page 0) in
+    let long = length-set wear page more in
+    let below : more < all_ones = subst (λ count. count < all_ones) (get_or-set_same wear page more 0 h) (All-get_or (λ count. count < all_ones) (set wear page more) page 0 (omega (arith, long)) counts) in
+    let here = below_more (get_or wear page 0) all_ones below in
+    let each : IsCounted wear = All-from_get_or (λ count. count < all_ones) wear 0 (λ k in_range. elim (cases_eq k page) [
+      | inl same ↦ subst (λ n. get_or wear n 0 < all_ones) (sym same) here.0
+      | inr other ↦ subst (λ count. count < all_ones) (get_or-set_other wear page k more 0 other) (All-get_or (λ count. count < all_ones) (set wear page more) k 0 (omega (arith, long)) counts)
+    ]) in
+    (each, omega (arith, sum_by-set (λ count. count) wear page more 0 h, here.1))
+
+all_count : (pages wear : List ℕ) → AreThere pages wear → IsCounted (worn_by pages wear) → IsCounted wear × (sum (worn_by pages wear) ≡ sum wear + length pages)
+all_count [] wear there counts = (counts, omega arith)
+all_count (page ∷ pages) wear there counts =
+    let next = set wear page (one_more (get_or wear page 0)) in
+    let long : length next ≡ length wear = length-set wear page (one_more (get_or wear page 0)) in
+    let rest : AreThere pages next = subst (λ n. All (λ page. page < n) pages) (sym long) (All-tail (λ page. page < length wear) page pages there) in
+    let later = all_count pages next rest counts in
+    let now = more_counts wear page (All-head (λ page. page < length wear) page pages there) later.0 in
+    (now.0, omega (arith, later.1, now.1))
+
+-- ---- how often a page is worn
+
+-- how often a list names a page
+abbrev pub times : ℕ → List ℕ → ℕ
+times page [] = 0
+times page (here ∷ pages) = cond (eqb here page) 1 0 + times page pages
+
+-- one more, of a page that may be past the end
+worn_once : (wear : List ℕ) (page : ℕ) → get_or (set wear page (one_more (get_or wear page 0))) page 0 ≤ get_or wear page 0 + 1
+worn_once wear page = elim (cases_lt page (length wear)) [
+  | inl within ↦ rw (get_or-set_same wear page (one_more (get_or wear page 0)) 0 within) (omega arith)
+  | inr past ↦
+      let long = length-set wear page (one_more (get_or wear page 0)) in
+      rw (get_or_past (set wear page (one_more (get_or wear page 0))) page 0 (omega (arith, long))) (omega arith)
+]
+
+worn_one : (wear : List ℕ) (here page : ℕ) → get_or (set wear here (one_more (get_or wear here 0))) page 0 ≤ get_or wear page 0 + cond (eqb here page) 1 0
+worn_one wear here page = elim (cases_eq page here) [
+  | inl same ↦ rw (same, eq-eqb here here refl) (worn_once wear here)
+  | inr other ↦ rw (get_or-set_other wear here page (one_more (get_or wear here 0)) 0 other, ne_eqb here page (λ same. other (sym same))) (omega arith)
+]
+
+-- a page wears no more often than the list names it
+pub worn_at_most : (pages wear : List ℕ) (page : ℕ) → get_or (worn_by pages wear) page 0 ≤ get_or wear page 0 + times page pages
+worn_at_most [] wear page = omega arith
+worn_at_most (here ∷ pages) wear page =
+    let later = worn_at_most pages (set wear here (one_more (get_or wear here 0))) page in
+    let now = worn_one wear here page in
+    omega (arith, later, now)
+
+one_few : (same : Bool) (times count : ℕ) → times ≤ count → cond same 1 0 + times ≤ count + 1
+one_few true times count h = omega arith
+one_few false times count h = omega arith
+
+pub times_few : (pages : List ℕ) (page : ℕ) → times page pages ≤ length pages
+times_few [] page = omega arith
+times_few (here ∷ pages) page = let rest = one_few (eqb here page) (times page pages) (length pages) (times_few pages page) in omega (arith, rest)
+
+-- ---- wears of devices
+
+pub wears_none : (old new : Device) → new.wear ≡ old.wear → Wears [] old new
+wears_none old new same = record { there = All-nil (λ page. page < length old.wear); wear_is = same }
+
+-- an erase of a page that was begun
+pub page_wears : (page : ℕ) (old new : Device) → page < length old.wear → new.wear ≡ (with_page_erased page old).wear → Wears (page ∷ []) old new
+page_wears page old new h wear = record {
+  there = All-cons (λ page. page < length old.wear) page [] h (All-nil (λ page. page < length old.wear));
+  wear_is = wear;
+}
+
+-- so is an erase that was cut with the power on
+pub cut_page_wears : (page : ℕ) (old new : Device) → page < length old.wear → IsCutIn (Erase page) old new ⊎ IsUntouched old new → IsOn old → Wears (page ∷ []) old new
+cut_page_wears page old new h (inl cut) on = page_wears page old new h cut.wear
+cut_page_wears page old new h (inr untouched) on = absurd (true≢false (sym on ∙ untouched.was_off))
+
+pub wears_both : (pages more : List ℕ) (old mid new : Device) → Wears pages old mid → Wears more mid new → Wears (pages ++ more) old new
+wears_both pages more old mid new first second =
+    let long : length mid.wear ≡ length old.wear = ap length first.wear_is ∙ length-worn_by pages old.wear in
+    record {
+      there = All-append (λ page. page < length old.wear) pages more first.there (subst (λ n. All (λ page. page < n) more) long second.there);
+      wear_is = second.wear_is ∙ ap (worn_by more) first.wear_is ∙ sym (worn_by-append pages more old.wear);
+    }
+
+-- what wears nothing more
+pub wears_still : (pages : List ℕ) (old mid new : Device) → Wears pages old mid → new.wear ≡ mid.wear → Wears pages old new
+wears_still pages old mid new wears same = record { there = wears.there; wear_is = same ∙ wears.wear_is }
+
+-- none of them so far, or all
+pub front_none : (pages : List ℕ) (old new : Device) → new.wear ≡ old.wear → WearsFront pages old new
+front_none pages old new same = record { front = []; rest = pages; pages_are = refl; wears = wears_none old new same }
+
+pub front_all : (pages : List ℕ) (old new : Device) → Wears pages old new → WearsFront pages old new
+front_all pages old new wears = record { front = pages; rest = []; pages_are = sym (append-nil pages); wears = wears }
+
+-- none of them with the power off, or all
+pub front_begun : (pages : List ℕ) (old new : Device) → (IsOn old → Wears pages old new) → (IsOff old → new ≡ old) → WearsFront pages old new
+front_begun pages old new on off = elim (cases_Bool old.on) [
+  | inl is_on ↦ front_all pages old new (on is_on)
+  | inr is_off ↦ front_none pages old new (ap (λ (device : Device). device.wear) (off is_off))
+]
+
+-- some, and then a front of the others
+pub front_more : (pages more all : List ℕ) (old mid new : Device) → Wears pages old mid → WearsFront more mid new → all ≡ pages ++ more → WearsFront all old new
+front_more pages more all old mid new first second e = record {
+  front = pages ++ second.front;
+  rest = second.rest;
+  pages_are = e ∙ ap (λ list. pages ++ list) second.pages_are ∙ sym (append_assoc pages second.front second.rest);
+  wears = wears_both pages second.front old mid new first second.wears;
+}
+
+-- and others that were not begun
+pub front_longer : (pages more all : List ℕ) (old new : Device) → WearsFront pages old new → all ≡ pages ++ more → WearsFront all old new
+front_longer pages more all old new some e = record {
+  front = some.front;
+  rest = some.rest ++ more;
+  pages_are = e ∙ ap (λ list. list ++ more) some.pages_are ∙ append_assoc some.front some.rest more;
+  wears = some.wears;
+}
+
+pub front_still : (pages : List ℕ) (old mid new : Device) → WearsFront pages old mid → new.wear ≡ mid.wear → WearsFront pages old new
+front_still pages old mid new some same = record {
+  front = some.front;
+  rest = some.rest;
+  pages_are = some.pages_are;
+  wears = wears_still some.front old mid new some.wears same;
+}
+
+-- ---- so many erases
+
+pub wears_rise : (pages : List ℕ) (erases : ℕ) (old new : Device) → Wears pages old new → length pages ≡ erases → WearRises erases old new
+wears_rise pages erases old new wears count = record { pages = pages; count = count; wears = wears }
+
+pub no_wear : (old new : Device) → new.wear ≡ old.wear → WearRises 0 old new
+no_wear old new same = wears_rise [] 0 old new (wears_none old new same) refl
+
+pub wear_adds : (a b : ℕ) (old mid new : Device) → WearRises a old mid → WearRises b mid new → WearRises (a + b) old new
+wear_adds a b old mid new first second = record {
+  pages = first.pages ++ second.pages;
+  count = omega (arith, length-append first.pages second.pages, first.count, second.count);
+  wears = wears_both first.pages second.pages old mid new first.wears second.wears;
+}
+
+-- In all, wear rose by as many as were erased, where no page of the device now was erased as often as can be counted.
+pub total_rises : (erases : ℕ) (old new : Device) → WearRises erases old new → CountsWear new → CountsWear old × (total_wear_of new ≡ total_wear_of old + erases)
+total_rises erases old new rises counts =
+    let all = all_count rises.pages old.wear rises.wears.there (subst IsCounted rises.wears.wear_is counts) in
+    let total : total_wear_of new ≡ sum (worn_by rises.pages old.wear) = ap sum rises.wears.wear_is in
+    (all.0, omega (arith, total, all.1, rises.count))

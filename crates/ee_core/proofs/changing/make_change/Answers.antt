@@ -1,0 +1,11 @@
+use Rattle.std.proofs.Common.{◌≡◌, ap, ◌∙◌, arith}
+use Rattle.ee_flash.specs.Size.{slot_count}
+use Rattle.ee_core.specs.State.{capacity}
+use Rattle.ee_core.proofs.Making.{few_within}
+use Rattle.ee_core.proofs.changing.make_change.Goals as goal
+
+pub move_change-requires-clause-all_used : goal.move_change-requires-clause-all_used
+move_change-requires-clause-all_used g c =
+    let old = g.F.Flash.device c.args.flash.now in
+    let slots : c.slots.result ≡ capacity old = c.slots.ensures.value ∙ ap slot_count c.shape.ensures in
+    search (arith, slots, c.if-layout-slots.false, c.requires.layout.fill, few_within old c.args.layout.now.side (g.met.F.Flash.formed c.args.flash.now))

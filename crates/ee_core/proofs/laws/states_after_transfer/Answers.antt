@@ -1,0 +1,5 @@
+use Rattle.ee_core.proofs.ShownStates.{states_after_transfer_lem}
+use Rattle.ee_core.proofs.laws.states_after_transfer.Goals as goal
+
+pub returns : goal.returns
+returns c = states_after_transfer_lem

@@ -1,0 +1,174 @@
+use Rattle.std.proofs.Common.{◌≡◌, ◌≤◌, ◌<◌, ◌+◌, ◌-◌, true, ap, arith, ◌∙◌, refl, subst}
+use Rattle.ee_flash.specs.Size.{Size}
+use Rattle.ee_pages.specs.Page.{is_marked}
+use Rattle.ee_pages.specs.Sets.{first_page}
+use Rattle.ee_pages.specs.declared.state.Mark.TheVariants.{Active, Valid}
+use Rattle.ee_core.proofs.AfterCalls.{goes_on_both, goes_on_same}
+use Rattle.ee_core.proofs.Drawings.{valid_to}
+use Rattle.ee_core.proofs.MarkedSets.{active_then, other_stays, valid_next, valid_start}
+use Rattle.ee_core.proofs.Marks.{same_stays}
+use Rattle.ee_core.specs.Finished.{last_used}
+use Rattle.ee_core.specs.Picture.{IsDrawn, picture_of}
+use Rattle.ee_core.proofs.LiveMarks.{active_behind, last_in_range, last_is, layout_stays, live_marked, stays_both, valid_already, valid_behind, valid_more}
+use Rattle.ee_core.proofs.CutMarks.{active_partly, valid_partly}
+use Rattle.ee_core.proofs.Making.{always_on_err}
+use Rattle.ee_core.specs.Cuts.{SetsPartly}
+use Rattle.ee_core.proofs.marking.mark_live_set.Goals as goal
+
+pub mark_live-requires-clause-behind : goal.mark_live-requires-clause-behind
+mark_live-requires-clause-behind g c =
+    let old = g.F.Flash.device c.args.flash.now in
+    let mid = g.F.Flash.device c.pages.flash in
+    let layout = c.args.layout.now in
+    let first : first_page mid.size layout.side ≡ first_page old.size layout.side = ap (λ size. first_page size layout.side) c.pages.invariant.stays.keeps.same_size in
+    valid_behind layout mid c.pages.page (layout_stays layout old mid c.requires c.pages.invariant.stays) (omega (arith, first, c.first_page-first.ensures, c.pages.auto.page)) c.pages-test.true
+
+pub returns-in_err-mark_live-clause-no_step : goal.returns-in_err-mark_live-clause-no_step
+returns-in_err-mark_live-clause-no_step g c marked =
+    let old = g.F.Flash.device c.args.flash.now in
+    let mid = g.F.Flash.device c.pages.flash in
+    let same = c.pages.invariant.no_step marked in
+    let set : is_marked old c.pages.page Valid ≡ true = valid_already c.args.layout.now old c.pages.page c.requires marked (omega (arith, c.first_page-first.ensures, c.pages.auto.page)) c.pages-test.true in
+    let none = c.mark_live.ensures.no_step (ap (λ device. is_marked device c.pages.page Valid) same ∙ set) in
+    absurd (cc (none.0, c.in_err-mark_live.was))
+
+pub pages-preserved : goal.pages-preserved
+pages-preserved g c =
+    let old = g.F.Flash.device c.args.flash.now in
+    let mid = g.F.Flash.device c.pages.flash in
+    let new = g.F.Flash.device c.mark_live.new.flash in
+    let layout = c.args.layout.now in
+    let from : first_page old.size layout.side ≤ c.pages.page = omega (arith, c.first_page-first.ensures, c.pages.auto.page) in
+    let sizes = ap (λ (size : Size). size.pages) c.pages.invariant.stays.keeps.same_size in
+    let behind : c.pages.page - c.first_page-first.result < mid.size.pages =
+    omega (arith, sizes, c.pages-test.true, c.pages.auto.page, c.first_page-first.ensures, last_is layout old c.requires, last_in_range layout old c.requires) in
+    record {
+      stays = stays_both old mid new layout.side layout.generation c.pages.invariant.stays c.mark_live.ensures.stays;
+      valid = valid_more (first_page old.size layout.side) c.pages.page mid new from c.pages.invariant.valid c.mark_live.ensures.marks c.in_ok-mark_live.ensures.marked;
+      no_step = λ marked.
+          let same = c.pages.invariant.no_step marked in
+          let set : is_marked old c.pages.page Valid ≡ true = valid_already layout old c.pages.page c.requires marked from c.pages-test.true in
+          (c.mark_live.ensures.no_step (ap (λ device. is_marked device c.pages.page Valid) same ∙ set)).1 ∙ same;
+      drawn = valid_next layout.side old c.first_page-first.result c.first_page-first.ensures mid new c.pages.page
+          (g.met.F.Flash.formed c.pages.flash) c.pages.invariant.stays.keeps.same_size c.mark_live.ensures.stays.keeps.same_size c.pages.auto.page behind c.in_ok-mark_live.ensures.sets c.pages.invariant.drawn;
+      other = other_stays layout.side old c.first_page-first.result c.first_page-first.ensures mid new c.pages.page
+          (g.met.F.Flash.formed c.pages.flash) (g.met.F.Flash.formed c.mark_live.new.flash) c.pages.invariant.stays.keeps.same_size c.mark_live.ensures.stays.keeps.same_size c.pages.auto.page behind c.mark_live.ensures.others c.pages.invariant.other;
+      power = goes_on_both old mid new c.pages.invariant.power c.in_ok-mark_live.ensures.power.ok;
+    }
+
+pub mark_live-requires-2-clause-behind : goal.mark_live-requires-2-clause-behind
+mark_live-requires-2-clause-behind g c =
+    let old = g.F.Flash.device c.args.flash.now in
+    let mid = g.F.Flash.device c.pages.flash in
+    active_behind c.args.layout.now mid (layout_stays c.args.layout.now old mid c.requires c.pages.invariant.stays)
+
+pub mark_live-requires-clause-layout : goal.mark_live-requires-clause-layout
+mark_live-requires-clause-layout g c = layout_stays c.args.layout.now (g.F.Flash.device c.args.flash.now) (g.F.Flash.device c.pages.flash) c.requires c.pages.invariant.stays
+
+pub mark_live-requires-2-clause-layout : goal.mark_live-requires-2-clause-layout
+mark_live-requires-2-clause-layout g c = layout_stays c.args.layout.now (g.F.Flash.device c.args.flash.now) (g.F.Flash.device c.pages.flash) c.requires c.pages.invariant.stays
+
+pub returns-clause-marked : goal.returns-clause-marked
+returns-clause-marked g c =
+    let old = g.F.Flash.device c.args.flash.now in
+    let mid = g.F.Flash.device c.pages.flash in
+    let new = g.F.Flash.device c.mark_live-2.new.flash in
+    let layout = c.args.layout.now in
+    let all = stays_both old mid new layout.side layout.generation c.pages.invariant.stays c.mark_live-2.ensures.stays in
+    live_marked layout old mid new c.requires all (λ k below. c.pages.invariant.valid k (omega (arith, c.pages-test.false, below))) c.mark_live-2.ensures.marks c.in_ok-mark_live-2.ensures.marked
+
+pub pages-init : goal.pages-init
+pages-init g c =
+    let old = g.F.Flash.device c.args.flash.now in
+    let layout = c.args.layout.now in
+    record {
+      stays = same_stays old old layout.side layout.generation c.requires.live refl;
+      valid = λ k below. absurd (omega (arith, c.first_page-first.ensures, below));
+      no_step = λ marked. refl;
+      drawn = valid_start layout.side old c.first_page-first.result c.first_page-first.ensures c.first_page-first.result refl;
+      other = refl;
+      power = goes_on_same old;
+    }
+
+pub returns-clause-live_pages : goal.returns-clause-live_pages
+returns-clause-live_pages g c =
+    let old = g.F.Flash.device c.args.flash.now in
+    let mid = g.F.Flash.device c.pages.flash in
+    let new = g.F.Flash.device c.mark_live-2.new.flash in
+    let layout = c.args.layout.now in
+    let last = last_is layout old c.requires in
+    let reached : c.pages.page - c.first_page-first.result ≡ last_used old layout.side = omega (arith, last, c.first_page-first.ensures, c.pages-test.false, c.pages.auto.page-end) in
+    let below : last_used old layout.side < mid.size.pages = omega (arith, last_in_range layout old c.requires, ap (λ (size : Size). size.pages) c.pages.invariant.stays.keeps.same_size) in
+    let drawn = subst (λ n. IsDrawn layout.side mid (valid_to n (picture_of layout.side old))) reached c.pages.invariant.drawn in
+    active_then layout.side old c.first_page-first.result c.first_page-first.ensures mid new layout.current (last_used old layout.side)
+    (g.met.F.Flash.formed c.pages.flash) c.pages.invariant.stays.keeps.same_size c.mark_live-2.ensures.stays.keeps.same_size (omega (arith, last, c.first_page-first.ensures)) below c.in_ok-mark_live-2.ensures.sets drawn
+
+pub returns-clause-old_pages : goal.returns-clause-old_pages
+returns-clause-old_pages g c =
+    let old = g.F.Flash.device c.args.flash.now in
+    let mid = g.F.Flash.device c.pages.flash in
+    let new = g.F.Flash.device c.mark_live-2.new.flash in
+    let layout = c.args.layout.now in
+    let last = last_is layout old c.requires in
+    let below : layout.current - c.first_page-first.result < mid.size.pages =
+    omega (arith, last, c.first_page-first.ensures, last_in_range layout old c.requires, ap (λ (size : Size). size.pages) c.pages.invariant.stays.keeps.same_size) in
+    other_stays layout.side old c.first_page-first.result c.first_page-first.ensures mid new layout.current
+    (g.met.F.Flash.formed c.pages.flash) (g.met.F.Flash.formed c.mark_live-2.new.flash) c.pages.invariant.stays.keeps.same_size c.mark_live-2.ensures.stays.keeps.same_size (omega (arith, last, c.first_page-first.ensures)) below c.mark_live-2.ensures.others c.pages.invariant.other
+
+pub returns-in_err-mark_live-clause-begun : goal.returns-in_err-mark_live-clause-begun
+returns-in_err-mark_live-clause-begun g c =
+    let old = g.F.Flash.device c.args.flash.now in
+    let mid = g.F.Flash.device c.pages.flash in
+    let new = g.F.Flash.device c.mark_live.new.flash in
+    let layout = c.args.layout.now in
+    let sizes = c.pages.invariant.stays.keeps.same_size in
+    let last = last_is layout old c.requires in
+    let k = c.pages.page - c.first_page-first.result in
+    let at : c.pages.page ≡ first_page mid.size layout.side + k = omega (arith, c.first_page-first.ensures, c.pages.auto.page, ap (λ (size : Size). first_page size layout.side) sizes) in
+    let before : k < last_used old layout.side = omega (arith, last, c.first_page-first.ensures, c.pages.auto.page, c.pages-test.true) in
+    let inside : k < mid.size.pages = omega (arith, before, last_in_range layout old c.requires, ap (λ (size : Size). size.pages) sizes) in
+    always_on_err c.from_residual.result
+    (valid_partly layout.side mid new k (last_used old layout.side) (picture_of layout.side old) (g.met.F.Flash.formed c.pages.flash) c.mark_live.ensures.stays.keeps.same_size inside before
+    (subst (λ n. SetsPartly n Valid mid new) at c.in_err-mark_live.ensures.begun) c.pages.invariant.drawn)
+
+pub returns-in_err-mark_live-clause-old_pages_stay : goal.returns-in_err-mark_live-clause-old_pages_stay
+returns-in_err-mark_live-clause-old_pages_stay g c =
+    let old = g.F.Flash.device c.args.flash.now in
+    let mid = g.F.Flash.device c.pages.flash in
+    let new = g.F.Flash.device c.mark_live.new.flash in
+    let layout = c.args.layout.now in
+    let sizes = ap (λ (size : Size). size.pages) c.pages.invariant.stays.keeps.same_size in
+    let behind : c.pages.page - c.first_page-first.result < mid.size.pages =
+    omega (arith, sizes, c.pages-test.true, c.pages.auto.page, c.first_page-first.ensures, last_is layout old c.requires, last_in_range layout old c.requires) in
+    always_on_err c.from_residual.result
+    (other_stays layout.side old c.first_page-first.result c.first_page-first.ensures mid new c.pages.page
+    (g.met.F.Flash.formed c.pages.flash) (g.met.F.Flash.formed c.mark_live.new.flash) c.pages.invariant.stays.keeps.same_size c.mark_live.ensures.stays.keeps.same_size c.pages.auto.page behind c.mark_live.ensures.others c.pages.invariant.other)
+
+pub returns-in_err-mark_live-2-clause-begun : goal.returns-in_err-mark_live-2-clause-begun
+returns-in_err-mark_live-2-clause-begun g c =
+    let old = g.F.Flash.device c.args.flash.now in
+    let mid = g.F.Flash.device c.pages.flash in
+    let new = g.F.Flash.device c.mark_live-2.new.flash in
+    let layout = c.args.layout.now in
+    let sizes = c.pages.invariant.stays.keeps.same_size in
+    let last = last_is layout old c.requires in
+    let reached : c.pages.page - c.first_page-first.result ≡ last_used old layout.side = omega (arith, last, c.first_page-first.ensures, c.pages-test.false, c.pages.auto.page-end) in
+    let below : last_used old layout.side < mid.size.pages = omega (arith, last_in_range layout old c.requires, ap (λ (size : Size). size.pages) sizes) in
+    let drawn = subst (λ n. IsDrawn layout.side mid (valid_to n (picture_of layout.side old))) reached c.pages.invariant.drawn in
+    let at : layout.current ≡ first_page mid.size layout.side + last_used old layout.side = omega (arith, last, ap (λ (size : Size). first_page size layout.side) sizes) in
+    always_on_err c.from_residual-in_err-mark_live-2.result
+    (active_partly layout.side mid new (last_used old layout.side) (picture_of layout.side old) (g.met.F.Flash.formed c.pages.flash) c.mark_live-2.ensures.stays.keeps.same_size below
+    (subst (λ n. SetsPartly n Active mid new) at c.in_err-mark_live-2.ensures.begun) drawn)
+
+pub returns-in_err-mark_live-2-clause-old_pages_stay : goal.returns-in_err-mark_live-2-clause-old_pages_stay
+returns-in_err-mark_live-2-clause-old_pages_stay g c =
+    let old = g.F.Flash.device c.args.flash.now in
+    let mid = g.F.Flash.device c.pages.flash in
+    let new = g.F.Flash.device c.mark_live-2.new.flash in
+    let layout = c.args.layout.now in
+    let last = last_is layout old c.requires in
+    let below : layout.current - c.first_page-first.result < mid.size.pages =
+    omega (arith, last, c.first_page-first.ensures, last_in_range layout old c.requires, ap (λ (size : Size). size.pages) c.pages.invariant.stays.keeps.same_size) in
+    always_on_err c.from_residual-in_err-mark_live-2.result
+    (other_stays layout.side old c.first_page-first.result c.first_page-first.ensures mid new layout.current
+    (g.met.F.Flash.formed c.pages.flash) (g.met.F.Flash.formed c.mark_live-2.new.flash) c.pages.invariant.stays.keeps.same_size c.mark_live-2.ensures.stays.keeps.same_size (omega (arith, last, c.first_page-first.ensures)) below c.mark_live-2.ensures.others c.pages.invariant.other)

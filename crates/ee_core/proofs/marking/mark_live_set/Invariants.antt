@@ -1,0 +1,23 @@
+use Rattle.std.proofs.Common.{◌≡◌, ℕ, ◌<◌, ◌+◌, ◌-◌, true}
+use Rattle.ee_flash.specs.Power.{GoesOn}
+use Rattle.ee_pages.specs.Page.{is_marked}
+use Rattle.ee_pages.specs.Sets.{first_page, other}
+use Rattle.ee_pages.specs.declared.state.Mark.TheVariants.{Valid}
+use Rattle.ee_core.specs.Finished.{IsLiveMarked}
+use Rattle.ee_core.specs.Parts.{IsSameSet, Stays}
+use Rattle.ee_core.specs.Picture.{IsDrawn, picture_of}
+use Rattle.ee_core.proofs.Drawings.{valid_to}
+use Rattle.ee_core.proofs.marking.mark_live_set.Given as goal
+
+abbrev pub invariant-pages : goal.invariant-pages
+invariant-pages g l =
+    let old = g.F.Flash.device l.fn.flash in
+    let now = g.F.Flash.device l.flash in
+    record {
+      stays : Stays old now l.layout.side l.layout.generation;
+      valid : (k : ℕ) → k < l.page - first_page old.size l.layout.side → is_marked now (first_page old.size l.layout.side + k) Valid ≡ true;
+      no_step : IsLiveMarked old l.layout.side → now ≡ old;
+      drawn : IsDrawn l.layout.side now (valid_to (l.page - l.first) (picture_of l.layout.side old));
+      other : IsSameSet (other l.layout.side) old now;
+      power : GoesOn old now;
+    }

@@ -1,0 +1,137 @@
+use Rattle.std.proofs.Common.{◌≡◌, ◌≤◌, ◌<◌, ◌+◌, ◌-◌, ap, false, length, get_or, true, [], ◌∷◌, take, refl, sym, subst, ◌∙◌, arith, inl, inr}
+use Rattle.std.proofs.lemmas.Bool.{cases_eq}
+use Rattle.std.proofs.lemmas.Result.{err_from_is_err_and}
+use Rattle.ee_flash.specs.Device.{page_at}
+use Rattle.ee_flash.specs.Size.{Size}
+use Rattle.ee_flash.proofs.Outcomes.{calls_compose}
+use Rattle.ee_pages.specs.Page.{is_blank}
+use Rattle.ee_pages.specs.Sets.{first_page, other as other_of, set_of}
+use Rattle.ee_pages.proofs.Slots.{length-set_of}
+use Rattle.ee_core.specs.State.{Wears, WearsFront, not_blank_from}
+use Rattle.ee_core.proofs.ErasedPages.{all_wear, blank_wears, front_wears, none_wears, wears_next, written_wears}
+use Rattle.ee_core.proofs.MovingFacts.{all_blank, goes_on-same, keeps_both, keeps_same}
+use Rattle.ee_core.proofs.PendingCounts.{page_there}
+use Rattle.ee_core.proofs.Wears.{front_begun}
+use Rattle.ee_core.proofs.moving.clear.Goals.{then-not-is_blank+in_ok-erase_other, else-not-is_blank}
+use Rattle.ee_core.proofs.Cuts.{erases_partly}
+use Rattle.ee_core.proofs.moving.clear.Goals as goal
+
+pub pages-init : goal.pages-init
+pages-init g c =
+    let device = g.F.Flash.device c.args.flash.now in
+    record {
+      keeps = keeps_same device c.args.layout.now c.requires;
+      blank = λ page from below. absurd (omega (arith, from, below));
+      rest = λ page either. refl;
+      wear = none_wears (set_of (other_of c.args.layout.now.side) device) _ _ device (omega arith);
+      same = refl;
+      goes = goes_on-same device;
+    }
+
+pub pages-preserved : goal.pages-preserved
+pages-preserved g c =
+    let old = g.F.Flash.device c.args.flash.now in
+    let mid = g.F.Flash.device c.pages.flash in
+    let set = other_of c.args.layout.now.side in
+    let formed = g.met.F.Flash.formed c.args.flash.now in
+    let first : c.first_page-first.result ≡ first_page old.size set = cc (c.first_page-first.ensures, c.other.ensures) in
+    let pages : c.pages-2.result ≡ old.size.pages = c.pages-2.ensures.value ∙ ap (λ (size : Size). size.pages) c.shape.ensures in
+    let from : c.first_page-first.result ≤ c.pages.page = c.pages.auto.page in
+    let below : c.pages.page < c.first_page-first.result + old.size.pages = omega (arith, pages) in
+    let k = c.pages.page - c.first_page-first.result in
+    let at : c.first_page-first.result + k ≡ c.pages.page = omega arith in
+    let next : k + 1 ≡ c.pages.page + 1 - c.first_page-first.result = omega arith in
+    let within : k < length (set_of set old) = omega (arith, length-set_of set old formed) in
+    let same : get_or (set_of set old) k [] ≡ page_at mid c.pages.page = page_there set old formed _ first c.pages.page from below ∙ sym (c.pages.invariant.rest c.pages.page (inr (omega arith))) in
+    let so_far = c.pages.invariant.wear in
+    elim c.if-not-is_blank.branch [
+      | then-not-is_blank+in_ok-erase_other w ↦
+          let written : is_blank (page_at mid c.pages.page) ≡ false = sym c.is_blank.ensures ∙ w.if-not-is_blank.true in
+          rw w.flash-is (record {
+            keeps = keeps_both _ _ _ _ _ c.pages.invariant.keeps w.in_ok-erase_other.ensures.keeps;
+            blank = λ page from below. elim (cases_eq page c.pages.page) [
+              | inl same ↦ rw same w.in_ok-erase_other.ensures.blank
+              | inr other ↦ ap is_blank (w.in_ok-erase_other.ensures.others page other) ∙ c.pages.invariant.blank page from (omega arith)
+            ];
+            rest = λ page either. elim either [
+              | inl low ↦ w.in_ok-erase_other.ensures.others page (λ e. omega (arith, e, low, from)) ∙ c.pages.invariant.rest page (inl low)
+              | inr high ↦ w.in_ok-erase_other.ensures.others page (λ e. omega (arith, e, high)) ∙ c.pages.invariant.rest page (inr (omega (arith, high)))
+            ];
+            wear = subst (λ n. Wears (not_blank_from c.first_page-first.result (take n (set_of set old))) old (g.F.Flash.device w.erase_other.new.flash)) next
+                (wears_next (set_of set old) c.first_page-first.result k c.pages.page old mid (g.F.Flash.device w.erase_other.new.flash) at within same so_far (written_wears c.pages.page (page_at mid c.pages.page) mid (g.F.Flash.device w.erase_other.new.flash) written w.in_ok-erase_other.ensures.wear));
+            same = w.in_ok-erase_other.ensures.same_set ∙ c.pages.invariant.same;
+            goes = (calls_compose _ _ _ c.pages.invariant.goes).0 w.in_ok-erase_other.ensures.power.ok;
+          })
+      | else-not-is_blank w ↦
+          let blank : is_blank (page_at mid c.pages.page) ≡ true = sym c.is_blank.ensures ∙ w.if-not-is_blank.false in
+          rw w.flash-is (record {
+            keeps = c.pages.invariant.keeps;
+            blank = λ page from below. elim (cases_eq page c.pages.page) [
+              | inl same ↦ ap (λ n. is_blank (page_at mid n)) same ∙ blank
+              | inr other ↦ c.pages.invariant.blank page from (omega arith)
+            ];
+            rest = λ page either. c.pages.invariant.rest page (elim either [ inl low ↦ inl low | inr high ↦ inr (omega (arith, high)) ]);
+            wear = subst (λ n. Wears (not_blank_from c.first_page-first.result (take n (set_of set old))) old mid) next
+                (wears_next (set_of set old) c.first_page-first.result k c.pages.page old mid mid at within same so_far (blank_wears c.pages.page (page_at mid c.pages.page) mid blank));
+            same = c.pages.invariant.same;
+            goes = c.pages.invariant.goes;
+          })
+    ]
+
+pub returns-in_err-erase_other-clause-begun : goal.returns-in_err-erase_other-clause-begun
+returns-in_err-erase_other-clause-begun g c =
+    let old = g.F.Flash.device c.args.flash.now in
+    let mid = g.F.Flash.device c.pages.flash in
+    let new = g.F.Flash.device c.erase_other.new.flash in
+    let set = other_of c.args.layout.now.side in
+    let formed = g.met.F.Flash.formed c.args.flash.now in
+    let first : c.first_page-first.result ≡ first_page old.size set = cc (c.first_page-first.ensures, c.other.ensures) in
+    let pages : c.pages-2.result ≡ old.size.pages = c.pages-2.ensures.value ∙ ap (λ (size : Size). size.pages) c.shape.ensures in
+    let from : c.first_page-first.result ≤ c.pages.page = c.pages.auto.page in
+    let below : c.pages.page < c.first_page-first.result + old.size.pages = omega (arith, pages) in
+    let k = c.pages.page - c.first_page-first.result in
+    let at : c.first_page-first.result + k ≡ c.pages.page = omega arith in
+    let within : k < length (set_of set old) = omega (arith, length-set_of set old formed) in
+    let same : get_or (set_of set old) k [] ≡ page_at mid c.pages.page = page_there set old formed _ first c.pages.page from below ∙ sym (c.pages.invariant.rest c.pages.page (inr (omega arith))) in
+    let written : is_blank (page_at mid c.pages.page) ≡ false = sym c.is_blank.ensures ∙ c.if-not-is_blank.true in
+    let failed = err_from_is_err_and c.from_residual.result c.from_residual.ensures.1 in
+    let begun : WearsFront (not_blank_from c.first_page-first.result (set_of set old)) old new =
+    front_wears (set_of set old) _ k c.pages.page old mid new at within same c.pages.invariant.wear written
+    (front_begun (c.pages.page ∷ []) mid new c.in_err-erase_other.ensures.begun c.in_err-erase_other.ensures.power.off) in
+    rw failed.1 (subst (λ n. WearsFront (not_blank_from n (set_of set old)) old new) first begun)
+
+pub returns-clause-blank : goal.returns-clause-blank
+returns-clause-blank g c =
+    let first = c.first_page-first.ensures in
+    let same = ap (λ size. first_page size (other_of c.args.layout.now.side)) c.pages.invariant.keeps.same_size in
+    let pages = ap (λ size. size.pages) c.pages.invariant.keeps.same_size in
+    let shape = c.pages-2.ensures.value ∙ ap (λ size. size.pages) c.shape.ensures in
+    let start : c.first_page-first.result ≡ first_page (g.F.Flash.device c.args.flash.now).size (other_of c.args.layout.now.side) = cc (c.first_page-first.ensures, c.other.ensures) in
+    all_blank (other_of c.args.layout.now.side) (g.F.Flash.device c.pages.flash) (g.met.F.Flash.formed c.pages.flash) (λ page from below. c.pages.invariant.blank page (omega arith) (omega (arith, c.pages-test.false)))
+
+pub returns-clause-wear : goal.returns-clause-wear
+returns-clause-wear g c =
+    let old = g.F.Flash.device c.args.flash.now in
+    let new = g.F.Flash.device c.pages.flash in
+    let set = other_of c.args.layout.now.side in
+    let first : c.first_page-first.result ≡ first_page old.size set = cc (c.first_page-first.ensures, c.other.ensures) in
+    let pages : c.pages-2.result ≡ old.size.pages = c.pages-2.ensures.value ∙ ap (λ (size : Size). size.pages) c.shape.ensures in
+    let all : c.pages.page - c.first_page-first.result ≡ length (set_of set old) = omega (arith, pages, c.pages.auto.page-end, c.pages-test.false, length-set_of set old (g.met.F.Flash.formed c.args.flash.now)) in
+    subst (λ n. Wears (not_blank_from n (set_of set old)) old new) first (all_wear (set_of set old) _ _ old new all c.pages.invariant.wear)
+
+pub returns-in_err-erase_other-clause-partly : goal.returns-in_err-erase_other-clause-partly
+returns-in_err-erase_other-clause-partly g c =
+    let old = g.F.Flash.device c.args.flash.now in
+    let mid = g.F.Flash.device c.pages.flash in
+    let new = g.F.Flash.device c.erase_other.new.flash in
+    let set = other_of c.args.layout.now.side in
+    let first : c.first_page-first.result ≡ first_page old.size set = cc (c.first_page-first.ensures, c.other.ensures) in
+    let pages : c.pages-2.result ≡ old.size.pages = c.pages-2.ensures.value ∙ ap (λ (size : Size). size.pages) c.shape.ensures in
+    let from : first_page old.size set ≤ c.pages.page = omega (arith, first, c.pages.auto.page) in
+    let below : c.pages.page < first_page old.size set + old.size.pages = omega (arith, first, pages, c.pages-test.true) in
+    let written : is_blank (page_at mid c.pages.page) ≡ false = sym c.is_blank.ensures ∙ c.if-not-is_blank.true in
+    let failed = err_from_is_err_and c.from_residual.result c.from_residual.ensures.1 in
+    rw failed.1 (erases_partly (first_page old.size set) (first_page old.size set + old.size.pages) c.pages.page old mid new from below written
+    (λ k low high. c.pages.invariant.blank k (omega (arith, first, low)) high)
+    (λ k either. c.pages.invariant.rest k (elim either [ inl low ↦ inl (omega (arith, first, low)) | inr high ↦ inr high ]))
+    c.erase_other.ensures.others c.in_err-erase_other.ensures.partly)

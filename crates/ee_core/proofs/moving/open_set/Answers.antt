@@ -1,0 +1,79 @@
+use Rattle.std.proofs.Common.{◌≡◌, ◌+◌, inl, inr}
+use Rattle.ee_pages.specs.declared.state.Mark.TheVariants.{Receive}
+use Rattle.ee_pages.specs.Sets.{first_page, other as other_of}
+use Rattle.ee_core.proofs.Drawings.{sets_mark_at}
+use Rattle.ee_core.proofs.MovedSets.{blank_drawn, opens_blank}
+use Rattle.ee_core.proofs.SetPages.{page_of_device}
+use Rattle.ee_core.proofs.OtherSteps.{first_in_set, opening_done, opening_keeps, opening_unmarked}
+use Rattle.ee_core.proofs.Cuts.{mark_partly_at, put_apart_partly}
+use Rattle.ee_core.proofs.CutMoves.{open_partly}
+use Rattle.ee_core.proofs.Making.{always_on_err}
+use Rattle.ee_core.specs.Cuts.{SetsPartly}
+use Rattle.ee_core.proofs.moving.open_set.Goals as goal
+
+pub returns-in_err-mark-clause-keeps : goal.returns-in_err-mark-clause-keeps
+returns-in_err-mark-clause-keeps g c =
+    opening_keeps (g.F.Flash.device c.args.flash.now) _ c.args.layout.now.side c.args.layout.now.generation c.requires.layout.live c.requires.generation c.requires.blank _
+    (cc (c.first_page-first.ensures, c.other.ensures))
+    (inr c.in_err-mark.ensures.cut)
+
+pub returns-clause-keeps : goal.returns-clause-keeps
+returns-clause-keeps g c =
+    let device = g.F.Flash.device c.args.flash.now in
+    let page : c.first_page-first.result ≡ first_page device.size (other_of c.args.layout.now.side) = cc (c.first_page-first.ensures, c.other.ensures) in
+    let unmarked = opening_unmarked device device c.args.layout.now.side c.args.layout.now.generation c.requires.layout.live c.requires.generation c.requires.blank _ page in
+    opening_keeps device _ c.args.layout.now.side c.args.layout.now.generation c.requires.layout.live c.requires.generation c.requires.blank _ page
+    (inl (record { was_on = c.in_ok-mark.ensures.on unmarked; done = c.in_ok-mark.ensures.done unmarked }))
+
+pub returns-clause-filling : goal.returns-clause-filling
+returns-clause-filling g c =
+    let device = g.F.Flash.device c.args.flash.now in
+    let page : c.first_page-first.result ≡ first_page device.size (other_of c.args.layout.now.side) = cc (c.first_page-first.ensures, c.other.ensures) in
+    let unmarked = opening_unmarked device device c.args.layout.now.side c.args.layout.now.generation c.requires.layout.live c.requires.generation c.requires.blank _ page in
+    (opening_done device _ c.args.layout.now.side c.args.layout.now.generation c.requires.layout.live c.requires.generation c.requires.blank _ page
+    (c.in_ok-mark.ensures.on unmarked) (c.in_ok-mark.ensures.done unmarked)).0
+
+pub returns-clause-nothing : goal.returns-clause-nothing
+returns-clause-nothing g c =
+    let device = g.F.Flash.device c.args.flash.now in
+    let page : c.first_page-first.result ≡ first_page device.size (other_of c.args.layout.now.side) = cc (c.first_page-first.ensures, c.other.ensures) in
+    let unmarked = opening_unmarked device device c.args.layout.now.side c.args.layout.now.generation c.requires.layout.live c.requires.generation c.requires.blank _ page in
+    (opening_done device _ c.args.layout.now.side c.args.layout.now.generation c.requires.layout.live c.requires.generation c.requires.blank _ page
+    (c.in_ok-mark.ensures.on unmarked) (c.in_ok-mark.ensures.done unmarked)).1
+
+pub returns-clause-holds : goal.returns-clause-holds
+returns-clause-holds g c =
+    let old = g.F.Flash.device c.args.flash.now in
+    let new = g.F.Flash.device c.mark.new.flash in
+    let side = other_of c.args.layout.now.side in
+    let formed = c.requires.layout.live.formed in
+    let sets = sets_mark_at _ (first_page old.size side) (Receive (c.args.layout.now.generation + 1)) old new formed
+    (page_of_device old.size side (first_page old.size side) (first_in_set side old formed)) (cc (c.first_page-first.ensures, c.other.ensures))
+    (λ set. (c.in_ok-mark.ensures.present set).1) c.in_ok-mark.ensures.done in
+    opens_blank side old new (c.args.layout.now.generation + 1) formed (returns-clause-keeps g c).same_size c.requires.blank sets
+
+pub returns-in_err-mark-clause-begun : goal.returns-in_err-mark-clause-begun
+returns-in_err-mark-clause-begun g c =
+    let old = g.F.Flash.device c.args.flash.now in
+    let new = g.F.Flash.device c.mark.new.flash in
+    let side = other_of c.args.layout.now.side in
+    let formed = c.requires.layout.live.formed in
+    let sets : SetsPartly (first_page old.size side) (Receive (c.args.layout.now.generation + 1)) old new =
+    mark_partly_at _ (first_page old.size side) (Receive (c.args.layout.now.generation + 1)) old new formed
+    (page_of_device old.size side (first_page old.size side) (first_in_set side old formed)) (cc (c.first_page-first.ensures, c.other.ensures))
+    (λ set. (c.mark.ensures.present set).1) c.in_err-mark.ensures.cut in
+    always_on_err c.from_residual.result
+    (λ words. open_partly side old new (c.args.layout.now.generation + 1) words formed (returns-in_err-mark-clause-keeps g c).same_size (blank_drawn side old formed c.requires.blank) sets)
+
+pub returns-in_err-mark-clause-live_pages_stay : goal.returns-in_err-mark-clause-live_pages_stay
+returns-in_err-mark-clause-live_pages_stay g c =
+    let old = g.F.Flash.device c.args.flash.now in
+    let new = g.F.Flash.device c.mark.new.flash in
+    let side = other_of c.args.layout.now.side in
+    let formed = c.requires.layout.live.formed in
+    let sets : SetsPartly (first_page old.size side) (Receive (c.args.layout.now.generation + 1)) old new =
+    mark_partly_at _ (first_page old.size side) (Receive (c.args.layout.now.generation + 1)) old new formed
+    (page_of_device old.size side (first_page old.size side) (first_in_set side old formed)) (cc (c.first_page-first.ensures, c.other.ensures))
+    (λ set. (c.mark.ensures.present set).1) c.in_err-mark.ensures.cut in
+    always_on_err c.from_residual.result
+    (put_apart_partly c.args.layout.now.side old new (first_page old.size side) _ _ (returns-in_err-mark-clause-keeps g c).same_size (first_in_set side old formed) sets)

@@ -1,0 +1,101 @@
+use Rattle.std.proofs.Common.{◌≡◌, ◌+◌, ◌-◌, ap, inl, inr, true, length, sym, subst, ◌∙◌}
+use Rattle.std.proofs.lemmas.Result.{err_from_is_err_and}
+use Rattle.ee_flash.specs.Size.{Size}
+use Rattle.ee_pages.specs.declared.side.Side.{Side}
+use Rattle.ee_pages.specs.Sets.{fill_of, other as other_of, set_of, slots_of, page_of_slot}
+use Rattle.ee_core.proofs.MarkedSets.{waits}
+use Rattle.ee_core.proofs.MovedSets.{all_retired, filled_up}
+use Rattle.ee_core.specs.Picture.{IsDrawn, blank, filled_set, moved_words, picture_of, retired_pages}
+use Rattle.ee_core.specs.Parts.{map_in, meant}
+use Rattle.ee_core.proofs.MovingFacts.{moved_stays, other_other}
+use Rattle.ee_core.proofs.Wears.{front_all, wears_still}
+use Rattle.ee_core.specs.State.{not_blank_in}
+use Rattle.ee_core.proofs.Cuts.{drawn_before}
+use Rattle.ee_core.proofs.CutMoves.{marked_partly, retires_partly}
+use Rattle.ee_core.proofs.Making.{always_on_err}
+use Rattle.ee_core.specs.Cuts.{IsDrawnPartly}
+use Rattle.ee_core.specs.Finished.{last_used}
+use Rattle.ee_core.proofs.moving.transfer.Goals as goal
+
+pub returns-in_err-finish-clause-cut : goal.returns-in_err-finish-clause-cut
+returns-in_err-finish-clause-cut g c =
+    let failed = err_from_is_err_and c.from_residual-in_err-finish.result c.from_residual-in_err-finish.ensures.1 in
+    let stays = rw c.other.ensures at c.in_err-finish.ensures.stays in
+    rw failed.1 (inr (moved_stays (g.F.Flash.device c.args.flash.now) (g.F.Flash.device c.move_map.new.flash) (g.F.Flash.device c.finish.new.flash) c.args.layout.now.side c.args.layout.now.generation (meant c.args.change) c.in_ok-count.ensures.moved stays))
+
+pub returns-clause-moved : goal.returns-clause-moved
+returns-clause-moved g c =
+    let stays = rw c.other.ensures at c.in_ok-finish.ensures.stays in
+    moved_stays (g.F.Flash.device c.args.flash.now) (g.F.Flash.device c.move_map.new.flash) (g.F.Flash.device c.finish.new.flash) c.args.layout.now.side c.args.layout.now.generation (meant c.args.change) c.in_ok-count.ensures.moved stays
+
+pub returns-clause-wear : goal.returns-clause-wear
+returns-clause-wear g c =
+    let old = g.F.Flash.device c.args.flash.now in
+    wears_still (not_blank_in (other_of c.args.layout.now.side) old) old (g.F.Flash.device c.move_map.new.flash) (g.F.Flash.device c.finish.new.flash) c.in_ok-count.ensures.wear c.in_ok-finish.ensures.stays.same_wear
+
+pub returns-in_err-finish-clause-begun : goal.returns-in_err-finish-clause-begun
+returns-in_err-finish-clause-begun g c =
+    let old = g.F.Flash.device c.args.flash.now in
+    let new = g.F.Flash.device c.finish.new.flash in
+    let failed = err_from_is_err_and c.from_residual-in_err-finish.result c.from_residual-in_err-finish.ensures.1 in
+    let pages = not_blank_in (other_of c.args.layout.now.side) old in
+    rw failed.1 (front_all pages old new (wears_still pages old (g.F.Flash.device c.move_map.new.flash) new c.in_ok-count.ensures.wear c.in_err-finish.ensures.stays.same_wear))
+
+pub returns-clause-new_pages : goal.returns-clause-new_pages
+returns-clause-new_pages g c =
+    let old = g.F.Flash.device c.args.flash.now in
+    let mid = g.F.Flash.device c.move_map.new.flash in
+    let new = g.F.Flash.device c.finish.new.flash in
+    let side = c.args.layout.now.side in
+    let words = moved_words (meant c.args.change) (map_in side old) in
+    let moved = c.in_ok-count.ensures.moved in
+    let stays = rw c.other.ensures at c.in_ok-finish.ensures.stays in
+    let shows = rw c.other.ensures at c.in_ok-finish.ensures.shows in
+    let fill : fill_of (slots_of (set_of (other_of side) mid)) ≡ length words = moved.fill_is ∙ sym c.in_ok-count.ensures.each_once ∙ c.in_ok-count.ensures.as_many in
+    subst (λ (size : Size). IsDrawn (other_of side) new (filled_set size (c.args.layout.now.generation + 1) words)) moved.same_size
+    (filled_up (other_of side) mid new (c.args.layout.now.generation + 1) words stays.keeps.same_size c.in_ok-count.ensures.new_pages fill shows.live_pages)
+
+pub returns-clause-old_pages : goal.returns-clause-old_pages
+returns-clause-old_pages g c =
+    let old = g.F.Flash.device c.args.flash.now in
+    let mid = g.F.Flash.device c.move_map.new.flash in
+    let new = g.F.Flash.device c.finish.new.flash in
+    let side = c.args.layout.now.side in
+    let moved = c.in_ok-count.ensures.moved in
+    let stays = rw c.other.ensures at c.in_ok-finish.ensures.stays in
+    let shows = rw c.other.ensures at c.in_ok-finish.ensures.shows in
+    let drawn : IsDrawn side new (retired_pages (waits side mid) (picture_of side mid)) =
+    subst (λ (set : Side). IsDrawn set new (retired_pages (waits set mid) (picture_of set mid))) (other_other side) shows.old_pages in
+    all_retired side old mid new c.args.layout.now.generation c.requires.layout.live (sym c.requires.layout.fill ∙ c.requires.all_used) moved.live.formed moved.same_size stays.keeps.same_size
+    c.in_ok-count.ensures.live_pages drawn
+
+pub returns-in_err-count-clause-words : goal.returns-in_err-count-clause-words
+returns-in_err-count-clause-words g c =
+    let old = g.F.Flash.device c.args.flash.now in
+    let new = g.F.Flash.device c.move_map.new.flash in
+    let side = c.args.layout.now.side in
+    always_on_err c.from_residual.result (elim c.in_err-count.ensures.words [
+      | inl erasing ↦ inl erasing
+      | inr moving ↦ inr (record { new_pages = moving.new_pages; old_pages = drawn_before side new (picture_of side old) (retired_pages (λ page. true) (picture_of side old)) moving.live_pages })
+    ])
+
+pub returns-in_err-finish-clause-words : goal.returns-in_err-finish-clause-words
+returns-in_err-finish-clause-words g c =
+    let old = g.F.Flash.device c.args.flash.now in
+    let mid = g.F.Flash.device c.move_map.new.flash in
+    let new = g.F.Flash.device c.finish.new.flash in
+    let side = c.args.layout.now.side in
+    let words = moved_words (meant c.args.change) (map_in side old) in
+    let moved = c.in_ok-count.ensures.moved in
+    let stays = rw c.other.ensures at c.in_err-finish.ensures.stays in
+    let shows = rw c.other.ensures at c.in_err-finish.ensures.begun in
+    let fill : fill_of (slots_of (set_of (other_of side) mid)) ≡ length words = moved.fill_is ∙ sym c.in_ok-count.ensures.each_once ∙ c.in_ok-count.ensures.as_many in
+    let last : last_used mid (other_of side) ≡ page_of_slot mid.size (length words - 1) = ap (λ n. page_of_slot mid.size (n - 1)) fill in
+    let drawn : IsDrawnPartly side new (picture_of side mid) (retired_pages (waits side mid) (picture_of side mid)) =
+    subst (λ (set : Side). IsDrawnPartly set new (picture_of set mid) (retired_pages (waits set mid) (picture_of set mid))) (other_other side) shows.old_pages in
+    always_on_err c.from_residual-in_err-finish.result (inr (record {
+      new_pages = subst (λ (size : Size). IsDrawnPartly (other_of side) new blank (filled_set size (c.args.layout.now.generation + 1) words)) moved.same_size
+          (marked_partly (other_of side) mid new (c.args.layout.now.generation + 1) (last_used mid (other_of side)) words stays.keeps.same_size c.in_ok-count.ensures.new_pages last shows.live_pages);
+      old_pages = retires_partly side old mid new c.args.layout.now.generation c.requires.layout.live (sym c.requires.layout.fill ∙ c.requires.all_used) moved.live.formed moved.same_size stays.keeps.same_size
+          c.in_ok-count.ensures.live_pages drawn;
+    }))

@@ -1,0 +1,10 @@
+use Rattle.std.proofs.Common.{sym}
+use Rattle.ee_core.proofs.Making.{store_marked}
+use Rattle.ee_core.proofs.store.StoreVariables.forget.Goals as goal
+
+pub make_change-requires-clause-marked : goal.make_change-requires-clause-marked
+make_change-requires-clause-marked g c =
+    let device = g.F.Flash.device c.self.inside.flash in
+    let layout = c.self.inside.layout in
+    let on = sym (c.if-not-is_on.ensures) in
+    store_marked device layout.side layout.generation c.self.invariant.0 on (c.self.invariant.1 on).live

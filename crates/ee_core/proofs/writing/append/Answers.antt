@@ -1,0 +1,66 @@
+use Rattle.std.proofs.Common.{rules, ◌≡◌, ◌+◌, inl, inr, sym, ap, ◌∙◌}
+use Rattle.std.proofs.Math.Path.{fun_ext}
+use Rattle.ee_pages.specs.Meaning.{Map, map_after}
+use Rattle.ee_core.proofs.Appending.{taken_after}
+use Rattle.ee_core.proofs.MarkedSets.{appends_word}
+use Rattle.ee_core.proofs.MovingFacts.{keeps_both}
+use Rattle.ee_core.specs.Parts.{map_in, meant, number_written}
+use Rattle.ee_core.proofs.KeptMarks.{appended_marked}
+use Rattle.ee_core.proofs.CutMarks.{cut_marks, cut_word}
+use Rattle.ee_core.proofs.Making.{always_on_err}
+use Rattle.ee_pages.proofs.Slots.{page_in_range, place_in_range}
+use Rattle.ee_core.proofs.writing.append.Goals as goal
+
+pub returns-clause-marked : goal.returns-clause-marked
+returns-clause-marked g c =
+    let opened = c.open_page.ensures in
+    let pushed = c.in_ok-page.ensures in
+    let one_more = pushed.takes.one_more ∙ ap (λ n. n + 1) (opened.stays.keeps.same_fill ∙ sym c.requires.layout.fill) in
+    appended_marked c.args.layout.now.side c.args.layout.now.fill (g.F.Flash.device c.args.flash.now) (g.F.Flash.device c.open_page.new.flash) (g.F.Flash.device c.push.new.flash) c.requires.layout.live.formed opened.stays.keeps.same_size pushed.takes.same_size one_more c.in_ok-open_page.ensures.ready c.push.ensures.marks opened.other c.push.ensures.other c.requires.marked
+
+pub returns-clause-takes : goal.returns-clause-takes
+returns-clause-takes g c =
+    let keeps = c.open_page.ensures.stays.keeps in
+    let takes = c.in_ok-page.ensures.takes in
+    record {
+      live = takes.live;
+      same_size = takes.same_size ∙ keeps.same_size;
+      one_more = takes.one_more ∙ ap (λ n. n + 1) keeps.same_fill;
+      map_is = λ address. takes.map_is address ∙ ap (λ (map : Map). map_after (meant c.args.change) map address) (fun_ext keeps.same_map);
+    }
+
+pub returns-clause-drawn : goal.returns-clause-drawn
+returns-clause-drawn g c =
+    let layout = c.args.layout.now in
+    appends_word layout.side (g.F.Flash.device c.args.flash.now) (g.F.Flash.device c.open_page.new.flash) (g.F.Flash.device c.push.new.flash) layout.fill (number_written c.args.change)
+    c.open_page.ensures.stays.keeps.same_size c.in_ok-page.ensures.takes.same_size c.in_ok-open_page.ensures.drawn c.in_ok-page.ensures.puts
+
+pub returns-in_err-open_page-clause-begun : goal.returns-in_err-open_page-clause-begun
+returns-in_err-open_page-clause-begun g c =
+    let layout = c.args.layout.now in
+    always_on_err c.from_residual.result
+    (cut_marks layout.side (g.F.Flash.device c.args.flash.now) (g.F.Flash.device c.open_page.new.flash) layout.fill (number_written c.args.change) c.in_err-open_page.ensures.begun)
+
+pub returns-in_err-page-clause-begun : goal.returns-in_err-page-clause-begun
+returns-in_err-page-clause-begun g c =
+    let old = g.F.Flash.device c.args.flash.now in
+    let layout = c.args.layout.now in
+    always_on_err c.from_residual-in_err-page.result
+    (cut_word layout.side old (g.F.Flash.device c.open_page.new.flash) (g.F.Flash.device c.push.new.flash) layout.fill (number_written c.args.change)
+    c.open_page.ensures.stays.keeps.same_size (search rules)
+    (page_in_range old layout.fill c.requires.free) (place_in_range old layout.fill c.requires.layout.live.formed) c.in_ok-open_page.ensures.drawn c.in_err-page.ensures.begun)
+
+pub returns-in_err-page-clause-cut : goal.returns-in_err-page-clause-cut
+returns-in_err-page-clause-cut g c =
+    let old = g.F.Flash.device c.args.flash.now in
+    let mid = g.F.Flash.device c.open_page.new.flash in
+    let new = g.F.Flash.device c.push.new.flash in
+    let side = c.args.layout.now.side in
+    let generation = c.args.layout.now.generation in
+    let keeps = c.open_page.ensures.stays.keeps in
+    let same : map_in side mid ≡ map_in side old = fun_ext keeps.same_map in
+    always_on_err c.from_residual-in_err-page.result (elim c.in_err-page.ensures.cut [
+      | inl kept ↦ inl (keeps_both old mid new side generation keeps kept)
+      | inr (inl torn) ↦ inr (inl (taken_after old mid new side generation (map_in side mid) (map_in side old) keeps same torn))
+      | inr (inr whole) ↦ inr (inr (taken_after old mid new side generation (map_after (meant c.args.change) (map_in side mid)) (map_after (meant c.args.change) (map_in side old)) keeps (ap (map_after (meant c.args.change)) same) whole))
+    ])

@@ -1,0 +1,127 @@
+use Rattle.std.proofs.Common.{◌≡◌, ◌+◌, ◌-◌, inl, inr, ap, ◌∙◌, ◌<◌, arith, sym, subst}
+use Rattle.ee_flash.specs.Size.{Size}
+use Rattle.ee_pages.proofs.Slots.{page_in_range}
+use Rattle.ee_pages.specs.Sets.{first_page, page_of_slot}
+use Rattle.ee_pages.specs.declared.state.Mark.TheVariants.{Active, Valid}
+use Rattle.ee_core.proofs.Drawings.{marks_drawn}
+use Rattle.ee_core.proofs.MarkedSets.{opens_next}
+use Rattle.ee_core.specs.Parts.{SetsMark}
+use Rattle.ee_core.specs.Picture.{IsDrawn, marked_to, picture_of}
+use Rattle.ee_core.proofs.OpenedPages.{first_other, further, last_is, next_behind, ready_already, ready_now, second_other}
+use Rattle.ee_core.proofs.writing.open_page.Goals.{then-layout-eq0-via-then-layout-eq0, then-layout-eq0-via-else-layout-eq0+then-layout-slots-ne0}
+use Rattle.ee_core.proofs.CutMarks.{opens_partly, opens_partly_then}
+use Rattle.ee_core.proofs.Making.{always_on_err}
+use Rattle.ee_core.specs.Cuts.{IsDrawnPartly, SetsPartly}
+use Rattle.ee_core.proofs.writing.open_page.Goals as goal
+
+pub returns-then-layout-eq0-clause-ready : goal.returns-then-layout-eq0-clause-ready
+returns-then-layout-eq0-clause-ready g c =
+    let words = c.words-slots.ensures.value ∙ ap (λ (size : Size). size.words) c.shape.ensures in
+    let marked = c.requires.marked.live in
+    elim c.then-layout-eq0.branch [
+      | then-layout-eq0-via-then-layout-eq0 w ↦ ready_already (g.F.Flash.device c.args.flash.now) c.args.layout.now c.requires.layout c.requires.free _ words (inl w.if-layout-eq0.true) marked
+      | then-layout-eq0-via-else-layout-eq0+then-layout-slots-ne0 w ↦ ready_already (g.F.Flash.device c.args.flash.now) c.args.layout.now c.requires.layout c.requires.free _ words (inr w.if-layout-slots-ne0.true) marked
+    ]
+
+pub returns-in_err-mark_live-clause-other : goal.returns-in_err-mark_live-clause-other
+returns-in_err-mark_live-clause-other g c =
+    let words = c.words-slots.ensures.value ∙ ap (λ (size : Size). size.words) c.shape.ensures in
+    let first = c.mark_live.ensures in
+    first_other (g.F.Flash.device c.args.flash.now) c.args.layout.now c.requires.layout c.requires.free _ words _ first.stays first.others
+
+pub mark_live-requires-2-clause-behind : goal.mark_live-requires-2-clause-behind
+mark_live-requires-2-clause-behind g c =
+    let words = c.words-slots.ensures.value ∙ ap (λ (size : Size). size.words) c.shape.ensures in
+    let some : 0 < c.args.layout.now.fill = omega (arith, c.if-layout-eq0.false) in
+    next_behind (g.F.Flash.device c.args.flash.now) c.args.layout.now c.requires.layout c.requires.free _ words some c.if-layout-slots-ne0.false _ c.mark_live.ensures.stays
+
+pub returns-in_err-mark_live-2-clause-other : goal.returns-in_err-mark_live-2-clause-other
+returns-in_err-mark_live-2-clause-other g c =
+    let words = c.words-slots.ensures.value ∙ ap (λ (size : Size). size.words) c.shape.ensures in
+    let some : 0 < c.args.layout.now.fill = omega (arith, c.if-layout-eq0.false) in
+    let first = c.mark_live.ensures in
+    let second = c.mark_live-2.ensures in
+    let same = first_other (g.F.Flash.device c.args.flash.now) c.args.layout.now c.requires.layout c.requires.free _ words _ first.stays first.others in
+    second_other (g.F.Flash.device c.args.flash.now) c.args.layout.now c.requires.layout c.requires.free _ words some c.if-layout-slots-ne0.false _ _ second.stays.keeps.live.formed first.stays second.stays.keeps.same_size same second.others
+
+pub returns-clause-other : goal.returns-clause-other
+returns-clause-other g c =
+    let words = c.words-slots.ensures.value ∙ ap (λ (size : Size). size.words) c.shape.ensures in
+    let some : 0 < c.args.layout.now.fill = omega (arith, c.if-layout-eq0.false) in
+    let first = c.mark_live.ensures in
+    let second = c.mark_live-2.ensures in
+    let same = first_other (g.F.Flash.device c.args.flash.now) c.args.layout.now c.requires.layout c.requires.free _ words _ first.stays first.others in
+    second_other (g.F.Flash.device c.args.flash.now) c.args.layout.now c.requires.layout c.requires.free _ words some c.if-layout-slots-ne0.false _ _ second.stays.keeps.live.formed first.stays second.stays.keeps.same_size same second.others
+
+pub returns-clause-ready : goal.returns-clause-ready
+returns-clause-ready g c =
+    let words = c.words-slots.ensures.value ∙ ap (λ (size : Size). size.words) c.shape.ensures in
+    let some : 0 < c.args.layout.now.fill = omega (arith, c.if-layout-eq0.false) in
+    let first = c.mark_live.ensures in
+    let second = c.mark_live-2.ensures in
+    ready_now (g.F.Flash.device c.args.flash.now) c.args.layout.now c.requires.layout c.requires.free _ words some c.if-layout-slots-ne0.false (g.F.Flash.device c.mark_live.new.flash) (g.F.Flash.device c.mark_live-2.new.flash) (second.stays.keeps.same_size ∙ first.stays.keeps.same_size) c.requires.marked.live first.marks second.marks (cc c.in_ok-mark_live.ensures.marked) (cc c.in_ok-mark_live-2.ensures.marked)
+
+pub returns-then-layout-eq0-clause-drawn : goal.returns-then-layout-eq0-clause-drawn
+returns-then-layout-eq0-clause-drawn g c =
+    let old = g.F.Flash.device c.args.flash.now in
+    let ready = returns-then-layout-eq0-clause-ready g c in
+    marks_drawn c.args.layout.now.side old (page_of_slot old.size c.args.layout.now.fill) ready.valid ready.active
+
+pub returns-clause-drawn : goal.returns-clause-drawn
+returns-clause-drawn g c =
+    let old = g.F.Flash.device c.args.flash.now in
+    let mid = g.F.Flash.device c.mark_live.new.flash in
+    let new = g.F.Flash.device c.mark_live-2.new.flash in
+    let layout = c.args.layout.now in
+    let words = c.words-slots.ensures.value ∙ ap (λ (size : Size). size.words) c.shape.ensures in
+    let some : 0 < layout.fill = omega (arith, c.if-layout-eq0.false) in
+    let k = page_of_slot old.size (layout.fill - 1) in
+    let next : page_of_slot old.size layout.fill ≡ k + 1 = further old layout c.requires.layout c.requires.free _ words some c.if-layout-slots-ne0.false in
+    let last = last_is old layout c.requires.layout c.requires.free _ words in
+    let here : layout.current ≡ first_page old.size layout.side + k = c.requires.layout.current in
+    let there : layout.current + 1 ≡ first_page old.size layout.side + (k + 1) = omega arith in
+    subst (λ n. IsDrawn layout.side new (marked_to n (picture_of layout.side old))) (sym next)
+    (opens_next layout.side old mid new k c.requires.layout.live.formed c.mark_live.ensures.stays.keeps.live.formed c.mark_live.ensures.stays.keeps.same_size c.mark_live-2.ensures.stays.keeps.same_size
+    (omega (arith, next, page_in_range old layout.fill c.requires.free))
+    (λ page below. c.requires.marked.live.valid page (subst (λ n. page < n) last below))
+    (subst (λ n. SetsMark n Valid old mid) here c.in_ok-mark_live.ensures.sets)
+    (subst (λ n. SetsMark n Active mid new) there c.in_ok-mark_live-2.ensures.sets))
+
+pub returns-in_err-mark_live-clause-begun : goal.returns-in_err-mark_live-clause-begun
+returns-in_err-mark_live-clause-begun g c =
+    let old = g.F.Flash.device c.args.flash.now in
+    let new = g.F.Flash.device c.mark_live.new.flash in
+    let layout = c.args.layout.now in
+    let words = c.words-slots.ensures.value ∙ ap (λ (size : Size). size.words) c.shape.ensures in
+    let some : 0 < layout.fill = omega (arith, c.if-layout-eq0.false) in
+    let k = page_of_slot old.size (layout.fill - 1) in
+    let next : page_of_slot old.size layout.fill ≡ k + 1 = further old layout c.requires.layout c.requires.free _ words some c.if-layout-slots-ne0.false in
+    let last = last_is old layout c.requires.layout c.requires.free _ words in
+    let here : layout.current ≡ first_page old.size layout.side + k = c.requires.layout.current in
+    always_on_err c.from_residual.result
+    (subst (λ n. IsDrawnPartly layout.side new (picture_of layout.side old) (marked_to n (picture_of layout.side old))) (sym next)
+    (opens_partly layout.side old new k c.requires.layout.live.formed c.mark_live.ensures.stays.keeps.same_size
+    (omega (arith, next, page_in_range old layout.fill c.requires.free))
+    (λ page below. c.requires.marked.live.valid page (subst (λ n. page < n) last below))
+    (subst (λ n. SetsPartly n Valid old new) here c.in_err-mark_live.ensures.begun)))
+
+pub returns-in_err-mark_live-2-clause-begun : goal.returns-in_err-mark_live-2-clause-begun
+returns-in_err-mark_live-2-clause-begun g c =
+    let old = g.F.Flash.device c.args.flash.now in
+    let mid = g.F.Flash.device c.mark_live.new.flash in
+    let new = g.F.Flash.device c.mark_live-2.new.flash in
+    let layout = c.args.layout.now in
+    let words = c.words-slots.ensures.value ∙ ap (λ (size : Size). size.words) c.shape.ensures in
+    let some : 0 < layout.fill = omega (arith, c.if-layout-eq0.false) in
+    let k = page_of_slot old.size (layout.fill - 1) in
+    let next : page_of_slot old.size layout.fill ≡ k + 1 = further old layout c.requires.layout c.requires.free _ words some c.if-layout-slots-ne0.false in
+    let last = last_is old layout c.requires.layout c.requires.free _ words in
+    let here : layout.current ≡ first_page old.size layout.side + k = c.requires.layout.current in
+    let there : layout.current + 1 ≡ first_page old.size layout.side + (k + 1) = omega arith in
+    always_on_err c.from_residual-in_err-mark_live-2.result
+    (subst (λ n. IsDrawnPartly layout.side new (picture_of layout.side old) (marked_to n (picture_of layout.side old))) (sym next)
+    (opens_partly_then layout.side old mid new k c.requires.layout.live.formed c.mark_live.ensures.stays.keeps.live.formed c.mark_live.ensures.stays.keeps.same_size c.mark_live-2.ensures.stays.keeps.same_size
+    (omega (arith, next, page_in_range old layout.fill c.requires.free))
+    (λ page below. c.requires.marked.live.valid page (subst (λ n. page < n) last below))
+    (subst (λ n. SetsMark n Valid old mid) here c.in_ok-mark_live.ensures.sets)
+    (subst (λ n. SetsPartly n Active mid new) there c.in_err-mark_live-2.ensures.begun)))

@@ -1,0 +1,13 @@
+pub mod State
+pub mod Picture
+pub mod Finished
+pub mod Changes
+pub mod Calls
+pub mod Openings
+pub mod Points
+pub mod Parts
+pub mod Cuts
+pub mod Course
+pub mod Runs
+pub mod PageStates
+pub mod Starts

@@ -1,0 +1,122 @@
+-- What the parts of a call leave: a call is one after another of them.
+use Rattle.std.specs.Prelude.{◌≡◌, ◌≢◌, ◌<◌, ◌⊎◌, ℕ, ◌+◌, ◌-◌, ◌==◌, ◌&&◌, nat_le, nat_lt, if◌then◌else◌, true, Some, None, List, [], ◌∷◌, ◌++◌, length, slice_index_or}
+use Rattle.ee_codec.specs.Words.{element, forgetting}
+use Rattle.ee_flash.specs.Device.{Device, page_at, word_at}
+use Rattle.ee_flash.specs.Size.{Size}
+use Rattle.ee_flash.specs.declared.word.Word.{Word}
+use Rattle.ee_flash.specs.declared.word.Word.TheVariants.{Erased, Held}
+use Rattle.ee_pages.specs.Laws.{KeepsLiveSet}
+use Rattle.ee_pages.specs.Legal.{IsLive, slots_before}
+use Rattle.ee_pages.specs.Meaning.{Change, Map, Put, Forget, map_after, live_in, meaning}
+use Rattle.ee_pages.specs.Page.{is_marked, place_of_mark}
+use Rattle.ee_pages.specs.Sets.{fill_of, first_page, other, page_of_slot, pending_of, place_of_slot, set_of, slots_of}
+use Rattle.ee_pages.specs.declared.side.Side.{Side}
+use Rattle.ee_pages.specs.declared.state.Mark.{Mark}
+use Rattle.ee_pages.specs.declared.state.Mark.TheVariants.{Active, Receive, Valid}
+use Rattle.ee_core.specs.Picture.{IsDrawn, Picture, mark_where, marked_word, picture_of}
+use Rattle.ee_core.specs.State.{not_blank_in}
+use Rattle.ee_core.specs.declared.change.Change as declared
+use Rattle.ee_core.specs.declared.change.Change.TheVariants as kinds
+use Rattle.ee_core.specs.declared.copying.Place.{Place}
+
+-- what a change of the program means; the value that is forgotten means nothing
+abbrev pub meant : declared.Change → Change
+meant (kinds.Put address value) = Put address value
+meant (kinds.Forget address value) = Forget address
+
+-- the number of its word
+abbrev pub number_written : declared.Change → ℕ
+number_written (kinds.Put address value) = element address value
+number_written (kinds.Forget address value) = forgetting address value
+
+-- a value that it forgets is the one that the map has
+abbrev pub ForgetsHeld : Map → declared.Change → Type 0
+ForgetsHeld map (kinds.Put address value) = Unit {0}
+ForgetsHeld map (kinds.Forget address value) = map address ≡ Some value
+
+-- the map that the slots of a set hold
+abbrev pub map_in : Side → Device → Map
+map_in side device = meaning (slots_of (set_of side device))
+
+-- the live set, the pages of the other set that are not blank and all wear are as before
+pub record Stays (old new : Device) (side : Side) (generation : ℕ) : Type 0 where
+  pub keeps : KeepsLiveSet old new side generation
+  pub same_pending : not_blank_in (other side) new ≡ not_blank_in (other side) old
+  pub same_wear : new.wear ≡ old.wear
+
+-- no mark is lost
+abbrev pub KeepsMarks : Device → Device → Type 0
+KeepsMarks old new = (page : ℕ) (mark : Mark) → is_marked old page mark ≡ true → is_marked new page mark ≡ true
+
+-- each page but this one is as before
+abbrev pub IsSameBut : ℕ → Device → Device → Type 0
+IsSameBut map_after old new = (page : ℕ) → page ≢ map_after → page_at new page ≡ page_at old page
+
+-- the pages of a set are as before
+abbrev pub IsSameSet : Side → Device → Device → Type 0
+IsSameSet side old new = set_of side new ≡ set_of side old
+
+-- the page of this slot is marked as the one that is used, and those before it as used up
+pub record IsReady (device : Device) (side : Side) (slot : ℕ) : Type 0 where
+  pub valid : (page : ℕ) → page < page_of_slot device.size slot → is_marked device (first_page device.size side + page) Valid ≡ true
+  pub active : is_marked device (first_page device.size side + page_of_slot device.size slot) Active ≡ true
+
+-- a map in which this address has what the other one says of it
+abbrev pub replaced_map : Map → ℕ → Map → Map
+replaced_map start named map address = if named == address then start address else map address
+
+-- a map up to an address
+abbrev pub map_to : Map → ℕ → Map
+map_to map last address = if nat_le address last then map address else None
+
+-- The map moved to the other set with a change: each address with a value takes a slot there, the set's generation is one
+-- more, and no page of the set that was live is blank.
+pub record HasMoved (old new : Device) (side : Side) (generation : ℕ) (change : Change) : Type 0 where
+  pub live : IsLive new (other side) (generation + 1)
+  pub same_size : new.size ≡ old.size
+  pub map_is : (address : ℕ) → map_in (other side) new address ≡ map_after change (map_in side old) address
+  pub fill_is : fill_of (slots_of (set_of (other side) new)) ≡ live_in (map_after change (map_in side old))
+  pub pending_is : pending_of (set_of side new) ≡ old.size.pages
+
+-- one word of the device is this one, and each other is as before
+pub record PutsWord (page at : ℕ) (word : Word) (old new : Device) : Type 0 where
+  pub there : word_at new page at ≡ word
+  pub elsewhere : (other_page place : ℕ) → (other_page ≢ page) ⊎ (place ≢ at) → word_at new other_page place ≡ word_at old other_page place
+
+-- a mark is set, and each other word is as before
+abbrev pub SetsMark : ℕ → Mark → Device → Device → Type 0
+SetsMark page mark old new = PutsWord page (place_of_mark mark) (marked_word mark (word_at old page (place_of_mark mark))) old new
+
+-- The page and the place in it are those of the slot with this number, in this set. Behind the last slot the page is none
+-- of the set's.
+pub record Stands (size : Size) (side : Side) (place : Place) : Type 0 where
+  pub page : place.page ≡ first_page size side + page_of_slot size place.slot
+  pub at : place.at ≡ place_of_slot size place.slot
+
+-- a set that a transfer fills: receive words on the pages up to this one, the words in its slots, and all else erased
+abbrev pub opened_set : Size → ℕ → ℕ → List Word → Picture
+opened_set size generation last words page at =
+    if nat_lt 3 at then slice_index_or words (slots_before size page at) Erased
+    else mark_where ((at == 0) && nat_le page last) (Receive generation)
+
+-- the set holds these words, and is open up to the page of the last of them
+abbrev pub Holds : Device → Side → ℕ → List Word → Type 0
+Holds device side generation words =
+    IsDrawn side device (opened_set device.size generation (page_of_slot device.size (length words - 1)) words)
+
+-- the live set is as before, and the other set, which held so many words, holds some more
+pub record AddsWords (old new : Device) (side : Side) (generation count : ℕ) (more : List Word) : Type 0 where
+  pub live_pages : IsDrawn side new (picture_of side old)
+  pub new_pages : (words : List Word) → length words ≡ count → Holds old (other side) generation words → Holds new (other side) generation (words ++ more)
+
+-- the words that a change puts into the new set before those that are copied
+abbrev pub put_words : Change → List Word
+put_words (Put address value) = Held (element address value) ∷ []
+put_words (Forget address) = []
+
+-- the set holds these words, and the mark that commits it
+abbrev pub IsCommittedWith : Device → Side → ℕ → List Word → Type 0
+IsCommittedWith device side generation words =
+    IsDrawn side device (λ page at.
+    if (page == 0) && (at == 1) then mark_where true Active
+    else opened_set device.size generation (page_of_slot device.size (length words - 1)) words page at)

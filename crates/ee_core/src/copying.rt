@@ -1,0 +1,458 @@
+ghost use Rattle.std.specs.Prelude.{◌≡◌, ◌≢◌, ◌<◌, ◌≤◌, ℕ, ◌+◌, ◌-◌, IfOk, IfSome, List, [], ◌∷◌, ◌++◌, None, Ok, OnErr, OnOk, OnSome, length, slice_set};
+ghost use Rattle.std.specs.List.{All};
+ghost use Rattle.ee_codec.specs.Words.{IsAddress, IsGeneration, element};
+ghost use Rattle.ee_flash.specs.Power.{Ends};
+ghost use Rattle.ee_flash.specs.Size.{slot_count};
+ghost use Rattle.ee_flash.specs.declared.word.Word.{Word};
+ghost use Rattle.ee_flash.specs.declared.word.Word.TheVariants.{Held};
+ghost use Rattle.ee_pages.specs.Filling.{IsFilling};
+ghost use Rattle.ee_pages.specs.Laws.{KeepsLiveSet};
+ghost use Rattle.ee_pages.specs.Layout.{IsLayout};
+ghost use Rattle.ee_pages.specs.Meaning.{AreLiveThrough, Forget, IsNextLive, Put, SpellsChange, map_after, live_in};
+ghost use Rattle.ee_pages.specs.Sets.{first_page as first_of, other as other_of, page_of_slot, place_of_slot, set_of, slots_of};
+ghost use Rattle.ee_core.specs.Course.{GoesOver, course_of, last_given};
+ghost use Rattle.ee_core.specs.Cuts.{AddsPartly, PutsPartly, SetsPartly};
+ghost use Rattle.ee_core.specs.Parts.{AddsWords, Stands, map_in, meant, number_written, opened_set, put_words, replaced_map};
+ghost use Rattle.ee_core.specs.Picture.{IsDrawn, elements_of, moved_words, picture_of};
+
+use crate::change::Change;
+use crate::live_cursor::LiveCursor;
+use ee_codec::Address;
+use ee_flash::{Cut, Flash, HEADER_WORDS};
+use ee_pages::{Layout, LiveBatch, Mark, first_page, mark, next_batch};
+use std::marker::Model;
+
+/// Goes over the live addresses of a set, by rising address. It looks through the slots once for each
+/// batch.
+#[derive(Drop)]
+pub(crate) struct Cursor {
+    batch: LiveBatch,
+    /// How many of the batch it gave.
+    given: usize,
+}
+
+impl Model for Cursor {
+    ghost use Rattle.ee_core.specs.Course.{Course, course_of};
+
+    ghost Value = { Course };
+
+    ghost view = { λ cursor. course_of cursor.batch.found.items cursor.batch.through cursor.given };
+}
+
+impl Cursor {
+    /// Before the first.
+    pub(crate) fn new<F: Flash>(flash: &F, layout: &Layout) -> Cursor
+        requires { IsLayout (F.device flash.now) layout.now }
+        ensures first { result.after ≡ 0 }
+        ensures over { GoesOver (map_in layout.now.side (F.device flash.now)) result }
+    {
+        let mut cursor = Cursor {
+            batch: LiveBatch::new(),
+            given: 0,
+        };
+        next_batch(flash, layout, None, &mut cursor.batch);
+        cursor
+    }
+}
+
+impl LiveCursor for Cursor {
+    ghost use Rattle.ee_pages.specs.Meaning.{meaning};
+    ghost use Rattle.ee_core.specs.Course.{GoesOver};
+
+    ghost behind = { λ cursor. cursor.after };
+
+    ghost goes_over = { λ cursor slots. GoesOver (meaning slots) cursor };
+
+    fn next<F: Flash>(&mut self, flash: &F, layout: &Layout) -> Option<(Address, u32)> {
+        next_given(flash, layout, &mut self.batch, &mut self.given)
+    }
+}
+
+// The next live address behind those that were given of a batch. Where all were, the batch becomes
+// the next one with an address.
+fn next_given<F: Flash>(
+    flash: &F,
+    layout: &Layout,
+    batch: &mut LiveBatch,
+    given: &mut usize,
+) -> Option<(Address, u32)>
+    requires layout { IsLayout (F.device flash.now) layout.now }
+    requires over { GoesOver (map_in layout.now.side (F.device flash.now))
+        (course_of batch.old.found.items batch.old.through given.old) }
+    ensures next { IsNextLive (map_in layout.now.side (F.device flash.now))
+        (last_given batch.old.found.items given.old) result }
+    ensures proper { IfSome result (λ found. IsAddress found.0) }
+    ensures moved { IfSome result
+        (λ found. last_given batch.new.found.items given.new ≡ found.0) }
+    ensures over { OnSome result (GoesOver (map_in layout.now.side (F.device flash.now))
+        (course_of batch.new.found.items batch.new.through given.new)) }
+{
+    'batches: loop {
+        let found = batch.found.as_slice();
+        if *given < found.len() {
+            let live = found[*given];
+            *given += 1;
+            return Some(live);
+        }
+        let Some(through) = batch.through else {
+            return None;
+        };
+        next_batch(flash, layout, Some(through), batch);
+        *given = 0;
+    }
+}
+
+/// Where the next word goes. A transfer goes on from place to place, so that no word takes a
+/// division.
+#[derive(Clone, Copy)]
+struct Place {
+    /// The number of the slot, counted from 0.
+    slot: usize,
+    /// Its page, counted from the device's first.
+    page: usize,
+    /// Its place in the page, behind the header.
+    at: usize,
+}
+
+/// Fills the other set, which was opened, with the map after a change: a value that is written
+/// comes first, and then each other live address, rising. Gives how many slots that takes.
+pub(crate) fn fill_set<F: Flash, C: LiveCursor>(
+    flash: &mut F,
+    layout: &Layout,
+    change: Change,
+    cursor: &mut C,
+) -> Result<usize, Cut>
+    requires layout { IsLayout (F.device flash.old) layout.now }
+    requires first { C.behind cursor.old ≡ 0 }
+    requires over { C.goes_over cursor.old (slots_of (set_of layout.now.side (F.device flash.old))) }
+    requires generation { IsGeneration (layout.now.generation + 1) }
+    requires filling { IsFilling (F.device flash.old) (other_of layout.now.side)
+        (layout.now.generation + 1) 0 }
+    requires nothing { (address : ℕ)
+        → map_in (other_of layout.now.side) (F.device flash.old) address ≡ None }
+    requires fits { live_in (map_after (meant change) (map_in layout.now.side (F.device flash.old)))
+        ≤ slot_count (F.device flash.old).size }
+    ensures keeps { KeepsLiveSet (F.device flash.old)
+        (F.device flash.new) layout.now.side layout.now.generation }
+    ensures filling { IfOk result
+        (IsFilling (F.device flash.new) (other_of layout.now.side) (layout.now.generation + 1)) }
+    ensures map { OnOk result ((address : ℕ)
+        → map_in (other_of layout.now.side) (F.device flash.new) address
+        ≡ map_after (meant change) (map_in layout.now.side (F.device flash.old)) address) }
+    ensures each_once { IfOk result (λ count. count
+        ≡ live_in (map_after (meant change) (map_in layout.now.side (F.device flash.old)))) }
+    ensures adds { OnOk result
+        (AddsWords (F.device flash.old) (F.device flash.new) layout.now.side
+        (layout.now.generation + 1) 0
+        (moved_words (meant change) (map_in layout.now.side (F.device flash.old)))) }
+    ensures as_many { IfOk result (λ count. count ≡ length
+        (moved_words (meant change) (map_in layout.now.side (F.device flash.old)))) }
+    ensures begun { OnErr result
+        (AddsPartly (F.device flash.old) (F.device flash.new) layout.now.side
+        (layout.now.generation + 1) 0
+        (moved_words (meant change) (map_in layout.now.side (F.device flash.old)))) }
+    ensures wear { (F.device flash.new).wear ≡ (F.device flash.old).wear }
+    ensures power { Ends result (F.device flash.old) (F.device flash.new) }
+{
+    let address = change.address();
+    let first = put_first(flash, layout, change)?;
+    let count = copy_others(flash, layout, address, first, cursor)?;
+    Ok(count)
+}
+
+// Writes a value that is put into the first slot of the other set; a forgetting takes no slot.
+// Gives the place of the next slot.
+fn put_first<F: Flash>(flash: &mut F, layout: &Layout, change: Change) -> Result<Place, Cut>
+    requires layout { IsLayout (F.device flash.old) layout.now }
+    requires generation { IsGeneration (layout.now.generation + 1) }
+    requires filling { IsFilling (F.device flash.old) (other_of layout.now.side)
+        (layout.now.generation + 1) 0 }
+    requires nothing { (address : ℕ)
+        → map_in (other_of layout.now.side) (F.device flash.old) address ≡ None }
+    ensures keeps { KeepsLiveSet (F.device flash.old)
+        (F.device flash.new) layout.now.side layout.now.generation }
+    ensures filling { IfOk result (λ place.
+        IsFilling (F.device flash.new) (other_of layout.now.side)
+        (layout.now.generation + 1) place.slot) }
+    ensures map { OnOk result ((address : ℕ)
+        → map_in (other_of layout.now.side) (F.device flash.new) address
+        ≡ map_after (meant change) (λ address. None) address) }
+    ensures each_once { IfOk result (λ place. place.slot
+        ≡ live_in (map_in (other_of layout.now.side) (F.device flash.new))) }
+    ensures adds { OnOk result
+        (AddsWords (F.device flash.old) (F.device flash.new) layout.now.side
+        (layout.now.generation + 1) 0 (put_words (meant change))) }
+    ensures as_many { IfOk result (λ place. place.slot ≡ length (put_words (meant change))) }
+    ensures stands { IfOk result
+        (Stands (F.device flash.new).size (other_of layout.now.side)) }
+    ensures begun { OnErr result
+        (AddsPartly (F.device flash.old) (F.device flash.new) layout.now.side
+        (layout.now.generation + 1) 0 (put_words (meant change))) }
+    ensures wear { (F.device flash.new).wear ≡ (F.device flash.old).wear }
+    ensures power { Ends result (F.device flash.old) (F.device flash.new) }
+{
+    let mut place = first_place(flash, layout);
+    if let Change::Forget { .. } = change {
+        return Ok(place);
+    }
+    stage(flash, layout, &mut place, change)?;
+    Ok(place)
+}
+
+// Copies each live address but this one to the other set, from this place on. Gives how many of its
+// slots are written then.
+fn copy_others<F: Flash, C: LiveCursor>(
+    flash: &mut F,
+    layout: &Layout,
+    except: Address,
+    place: Place,
+    cursor: &mut C,
+) -> Result<usize, Cut>
+    requires layout { IsLayout (F.device flash.old) layout.now }
+    requires first { C.behind cursor.old ≡ 0 }
+    requires over { C.goes_over cursor.old (slots_of (set_of layout.now.side (F.device flash.old))) }
+    requires generation { IsGeneration (layout.now.generation + 1) }
+    requires filling { IsFilling (F.device flash.old) (other_of layout.now.side)
+        (layout.now.generation + 1) place.slot }
+    requires stands { Stands (F.device flash.old).size (other_of layout.now.side) place }
+    requires only { (address : ℕ) → address ≢ except
+        → map_in (other_of layout.now.side) (F.device flash.old) address ≡ None }
+    requires each_once { place.slot
+        ≡ live_in (map_in (other_of layout.now.side) (F.device flash.old)) }
+    requires fits { live_in (replaced_map
+        (map_in (other_of layout.now.side) (F.device flash.old)) except
+        (map_in layout.now.side (F.device flash.old))) ≤ slot_count (F.device flash.old).size }
+    ensures keeps { KeepsLiveSet (F.device flash.old)
+        (F.device flash.new) layout.now.side layout.now.generation }
+    ensures filling { IfOk result
+        (IsFilling (F.device flash.new) (other_of layout.now.side) (layout.now.generation + 1)) }
+    ensures map { OnOk result ((address : ℕ)
+        → map_in (other_of layout.now.side) (F.device flash.new) address
+        ≡ replaced_map (map_in (other_of layout.now.side) (F.device flash.old)) except
+        (map_in layout.now.side (F.device flash.old)) address) }
+    ensures each_once { IfOk result (λ all. all
+        ≡ live_in (replaced_map (map_in (other_of layout.now.side) (F.device flash.old)) except
+        (map_in layout.now.side (F.device flash.old)))) }
+    ensures adds { OnOk result
+        (AddsWords (F.device flash.old) (F.device flash.new) layout.now.side
+        (layout.now.generation + 1) place.slot
+        (elements_of
+        (map_after (Forget except) (map_in layout.now.side (F.device flash.old))))) }
+    ensures as_many { IfOk result (λ all. all ≡ place.slot + length
+        (elements_of
+        (map_after (Forget except) (map_in layout.now.side (F.device flash.old))))) }
+    ensures begun { OnErr result
+        (AddsPartly (F.device flash.old) (F.device flash.new) layout.now.side
+        (layout.now.generation + 1) place.slot
+        (elements_of
+        (map_after (Forget except) (map_in layout.now.side (F.device flash.old))))) }
+    ensures wear { (F.device flash.new).wear ≡ (F.device flash.old).wear }
+    ensures power { Ends result (F.device flash.old) (F.device flash.new) }
+{
+    let mut place = place;
+    'live: while let Some((address, value)) = cursor.next(flash, layout) {
+        copy_one(flash, layout, except, &mut place, address, value)?;
+    }
+    Ok(place.slot)
+}
+
+// Copies a live address to this place of the other set, unless it is the one that is not copied.
+// The place becomes that of the next free slot.
+fn copy_one<F: Flash>(
+    flash: &mut F,
+    layout: &Layout,
+    except: Address,
+    place: &mut Place,
+    address: Address,
+    value: u32,
+) -> Result<(), Cut>
+    requires layout { IsLayout (F.device flash.old) layout.now }
+    requires generation { IsGeneration (layout.now.generation + 1) }
+    requires filling { IsFilling (F.device flash.old) (other_of layout.now.side)
+        (layout.now.generation + 1) place.old.slot }
+    requires stands { Stands (F.device flash.old).size (other_of layout.now.side) place.old }
+    requires free { address ≢ except → place.old.slot < slot_count (F.device flash.old).size }
+    ensures keeps { KeepsLiveSet (F.device flash.old)
+        (F.device flash.new) layout.now.side layout.now.generation }
+    ensures filling { OnOk result
+        (IsFilling (F.device flash.new) (other_of layout.now.side)
+        (layout.now.generation + 1) place.new.slot) }
+    ensures stands { OnOk result
+        (Stands (F.device flash.new).size (other_of layout.now.side) place.new) }
+    ensures passed { address ≡ except → (result ≡ Ok tt) × (place.new ≡ place.old)
+        × (F.device flash.new ≡ F.device flash.old) }
+    ensures one_more { address ≢ except → OnOk result (place.new.slot ≡ place.old.slot + 1) }
+    ensures map { address ≢ except → OnOk result ((named : ℕ)
+        → map_in (other_of layout.now.side) (F.device flash.new) named
+        ≡ map_after (Put address value)
+        (map_in (other_of layout.now.side) (F.device flash.old)) named) }
+    ensures adds { address ≢ except → OnOk result
+        (AddsWords (F.device flash.old) (F.device flash.new) layout.now.side
+        (layout.now.generation + 1) place.old.slot (Held (element address value) ∷ [])) }
+    ensures begun { OnErr result ((address ≢ except)
+        × AddsPartly (F.device flash.old) (F.device flash.new) layout.now.side
+        (layout.now.generation + 1) place.old.slot (Held (element address value) ∷ [])) }
+    ensures wear { (F.device flash.new).wear ≡ (F.device flash.old).wear }
+    ensures power { Ends result (F.device flash.old) (F.device flash.new) }
+{
+    if address == except {
+        return Ok(());
+    }
+    stage(flash, layout, place, Change::Put { address, value })?;
+    Ok(())
+}
+
+// Writes a change into this place of the other set, its first free slot. A further page gets its
+// receive word first. The place becomes that of the next slot.
+fn stage<F: Flash>(
+    flash: &mut F,
+    layout: &Layout,
+    place: &mut Place,
+    change: Change,
+) -> Result<(), Cut>
+    requires layout { IsLayout (F.device flash.old) layout.now }
+    requires generation { IsGeneration (layout.now.generation + 1) }
+    requires filling { IsFilling (F.device flash.old) (other_of layout.now.side)
+        (layout.now.generation + 1) place.old.slot }
+    requires stands { Stands (F.device flash.old).size (other_of layout.now.side) place.old }
+    requires free { place.old.slot < slot_count (F.device flash.old).size }
+    ensures keeps { KeepsLiveSet (F.device flash.old)
+        (F.device flash.new) layout.now.side layout.now.generation }
+    ensures filling { OnOk result
+        (IsFilling (F.device flash.new) (other_of layout.now.side) (layout.now.generation + 1)
+        (place.old.slot + 1)) }
+    ensures next { OnOk result (place.new.slot ≡ place.old.slot + 1) }
+    ensures stands { OnOk result
+        (Stands (F.device flash.new).size (other_of layout.now.side) place.new) }
+    // The change stands in the slot of this number.
+    ensures slot { OnOk result ((number : ℕ) × SpellsChange number (meant change)
+        × (slots_of (set_of (other_of layout.now.side) (F.device flash.new))
+        ≡ slice_set (slots_of (set_of (other_of layout.now.side) (F.device flash.old))) place.old.slot
+        (Held number))) }
+    ensures map { OnOk result ((address : ℕ)
+        → map_in (other_of layout.now.side) (F.device flash.new) address
+        ≡ map_after (meant change) (map_in (other_of layout.now.side) (F.device flash.old)) address) }
+    ensures adds { OnOk result
+        (AddsWords (F.device flash.old) (F.device flash.new) layout.now.side
+        (layout.now.generation + 1) place.old.slot (Held (number_written change) ∷ [])) }
+    ensures begun { OnErr result
+        (AddsPartly (F.device flash.old) (F.device flash.new) layout.now.side
+        (layout.now.generation + 1) place.old.slot (Held (number_written change) ∷ [])) }
+    ensures wear { (F.device flash.new).wear ≡ (F.device flash.old).wear }
+    ensures power { Ends result (F.device flash.old) (F.device flash.new) }
+{
+    if place.at == HEADER_WORDS {
+        receive(flash, layout, *place)?;
+    }
+    put_in(flash, layout, *place, change)?;
+    step(flash, layout, place);
+    Ok(())
+}
+
+// Gives the page of this place of the other set the receive word, if it has none.
+fn receive<F: Flash>(flash: &mut F, layout: &Layout, place: Place) -> Result<(), Cut>
+    requires layout { IsLayout (F.device flash.old) layout.now }
+    requires generation { IsGeneration (layout.now.generation + 1) }
+    requires filling { IsFilling (F.device flash.old) (other_of layout.now.side)
+        (layout.now.generation + 1) place.slot }
+    requires stands { Stands (F.device flash.old).size (other_of layout.now.side) place }
+    requires free { place.slot < slot_count (F.device flash.old).size }
+    ensures keeps { KeepsLiveSet (F.device flash.old)
+        (F.device flash.new) layout.now.side layout.now.generation }
+    ensures filling { OnOk result
+        (IsFilling (F.device flash.new) (other_of layout.now.side)
+        (layout.now.generation + 1) place.slot) }
+    ensures same_slots { OnOk result
+        (slots_of (set_of (other_of layout.now.side) (F.device flash.new))
+        ≡ slots_of (set_of (other_of layout.now.side) (F.device flash.old))) }
+    ensures live_pages { OnOk result
+        (IsDrawn layout.now.side (F.device flash.new)
+        (picture_of layout.now.side (F.device flash.old))) }
+    ensures opens { let side = other_of layout.now.side in OnOk result
+        ((words : List Word) → length words ≡ place.slot
+        → IsDrawn side (F.device flash.old)
+        (opened_set (F.device flash.old).size (layout.now.generation + 1)
+        (page_of_slot (F.device flash.old).size (place.slot - 1)) words)
+        → IsDrawn side (F.device flash.new)
+        (opened_set (F.device flash.old).size (layout.now.generation + 1)
+        (page_of_slot (F.device flash.old).size place.slot) words)) }
+    ensures begun { let old = F.device flash.old in OnErr result
+        (SetsPartly (first_of old.size (other_of layout.now.side)
+        + page_of_slot old.size place.slot) (Mark.Receive (layout.now.generation + 1))
+        old (F.device flash.new)) }
+    ensures wear { (F.device flash.new).wear ≡ (F.device flash.old).wear }
+    ensures power { Ends result (F.device flash.old) (F.device flash.new) }
+{
+    mark(flash, place.page, Mark::Receive(layout.generation + 1))?;
+    Ok(())
+}
+
+// Programs a change into this place of the other set, its first free slot.
+fn put_in<F: Flash>(flash: &mut F, layout: &Layout, place: Place, change: Change) -> Result<(), Cut>
+    requires layout { IsLayout (F.device flash.old) layout.now }
+    requires filling { IsFilling (F.device flash.old) (other_of layout.now.side)
+        (layout.now.generation + 1) place.slot }
+    requires stands { Stands (F.device flash.old).size (other_of layout.now.side) place }
+    requires free { place.slot < slot_count (F.device flash.old).size }
+    ensures keeps { KeepsLiveSet (F.device flash.old)
+        (F.device flash.new) layout.now.side layout.now.generation }
+    ensures filling { OnOk result
+        (IsFilling (F.device flash.new) (other_of layout.now.side) (layout.now.generation + 1)
+        (place.slot + 1)) }
+    ensures slot { OnOk result ((number : ℕ) × SpellsChange number (meant change)
+        × (slots_of (set_of (other_of layout.now.side) (F.device flash.new))
+        ≡ slice_set (slots_of (set_of (other_of layout.now.side) (F.device flash.old))) place.slot
+        (Held number))) }
+    ensures map { OnOk result ((address : ℕ)
+        → map_in (other_of layout.now.side) (F.device flash.new) address
+        ≡ map_after (meant change) (map_in (other_of layout.now.side) (F.device flash.old)) address) }
+    ensures live_pages { OnOk result
+        (IsDrawn layout.now.side (F.device flash.new)
+        (picture_of layout.now.side (F.device flash.old))) }
+    ensures puts { let side = other_of layout.now.side in OnOk result
+        ((words : List Word) → length words ≡ place.slot
+        → IsDrawn side (F.device flash.old)
+        (opened_set (F.device flash.old).size (layout.now.generation + 1)
+        (page_of_slot (F.device flash.old).size place.slot) words)
+        → IsDrawn side (F.device flash.new)
+        (opened_set (F.device flash.old).size (layout.now.generation + 1)
+        (page_of_slot (F.device flash.old).size place.slot)
+        (words ++ (Held (number_written change) ∷ [])))) }
+    ensures begun { let old = F.device flash.old in OnErr result
+        (PutsPartly (first_of old.size (other_of layout.now.side)
+        + page_of_slot old.size place.slot) (place_of_slot old.size place.slot)
+        (Held (number_written change)) old (F.device flash.new)) }
+    ensures wear { (F.device flash.new).wear ≡ (F.device flash.old).wear }
+    ensures power { Ends result (F.device flash.old) (F.device flash.new) }
+{
+    flash.program(place.page, place.at, change.word())?;
+    Ok(())
+}
+
+// The place of the first slot of the other set.
+fn first_place<F: Flash>(flash: &F, layout: &Layout) -> Place
+    ensures first { result.slot ≡ 0 }
+    ensures stands { Stands (F.device flash.now).size (other_of layout.now.side) result }
+{
+    Place {
+        slot: 0,
+        page: first_page(flash, layout.side.other()),
+        at: HEADER_WORDS,
+    }
+}
+
+// Goes on to the next slot of the other set: one further in the page, or the first one of the next
+// page. Behind the set's last slot it is in no page of the set.
+fn step<F: Flash>(flash: &F, layout: &Layout, place: &mut Place)
+    requires free { place.old.slot < slot_count (F.device flash.now).size }
+    requires stands { Stands (F.device flash.now).size (other_of layout.now.side) place.old }
+    ensures next { place.new.slot ≡ place.old.slot + 1 }
+    ensures stands { Stands (F.device flash.now).size (other_of layout.now.side) place.new }
+{
+    place.slot += 1;
+    place.at += 1;
+    if place.at == flash.shape().words() {
+        place.page += 1;
+        place.at = HEADER_WORDS;
+    }
+}

@@ -1,0 +1,101 @@
+ghost use Rattle.std.specs.Prelude.{◌≡◌, ◌≢◌, ◌<◌, ◌≤◌, ℕ, IfErr, IfOk, false, true};
+ghost use Rattle.ee_flash.specs.Device.{IsOn, word_at};
+ghost use Rattle.ee_flash.specs.Size.{page_count};
+ghost use Rattle.ee_pages.specs.Layout.{IsScanFault};
+ghost use Rattle.ee_core.specs.Openings.{IsFormatted};
+ghost use Rattle.ee_core.specs.Starts.{HoldsNone, IsCutStart, IsStartable, StartFails, Starts};
+
+use crate::formatting::write_format;
+use crate::opening::{OpenFault, open};
+use crate::store::Store;
+use ee_flash::{Cut, Flash, HEADER_WORDS, Word};
+use ee_pages::ScanFault;
+
+/// Opens the store of a device that is on, as `open` does, or makes the first one, as `format` does: on
+/// a device in which no set is committed and no word behind a page's header can be read, torn words
+/// or not. So it is the call to make whenever the device is switched on: a first start in which power
+/// is cut is made again, and no word that may be a value is ever erased.
+///
+/// Source: ours.
+///
+/// # Errors
+///
+/// The device and the first `OpenFault` that applies. At a fault of the scan nothing changed. After a
+/// cut the variables are as before: in a first start there are none.
+pub fn start<F: Flash + Drop>(flash: F) -> Result<Store<F>, (F, OpenFault)>
+    requires { IsOn (F.device flash) }
+    ensures started { IfOk result (Starts (F.device flash)) }
+    ensures failed { IfErr result
+        (λ failed. StartFails (F.device flash) failed.1 (F.device failed.0)) }
+{
+    let (flash, fault) = match open(flash) {
+        Ok(store) => return Ok(store),
+        Err(failed) => failed,
+    };
+    let OpenFault::Scan(scan) = fault else {
+        return Err((flash, fault));
+    };
+    if !is_startable(&flash, scan) {
+        return Err((flash, fault));
+    }
+    start_anew(flash)
+}
+
+// Whether a device of which a scan says this can be started.
+fn is_startable<F: Flash>(flash: &F, fault: ScanFault) -> bool
+    requires { IsScanFault (F.device flash.now) fault }
+    ensures yes { result ≡ true → IsStartable (F.device flash.now) }
+    ensures no { result ≡ false → ¬ IsStartable (F.device flash.now) }
+{
+    match fault {
+        ScanFault::Unformatted => true,
+        ScanFault::NoLiveSet => holds_none(flash),
+        ScanFault::TwoLive => false,
+        ScanFault::Foreign { .. } => false,
+    }
+}
+
+// Whether no word behind a page's header can be read.
+fn holds_none<F: Flash>(flash: &F) -> bool
+    ensures yes { result ≡ true → HoldsNone (F.device flash.now) }
+    ensures no { result ≡ false → ¬ HoldsNone (F.device flash.now) }
+{
+    for page in 0..2 * flash.shape().pages() {
+        if page_holds(flash, page) {
+            return false;
+        }
+    }
+    true
+}
+
+// Whether a word behind the header of a page can be read.
+fn page_holds<F: Flash>(flash: &F, page: usize) -> bool
+    requires { page < page_count (F.device flash.now).size }
+    ensures yes { result ≡ true → (at : ℕ) × (number : ℕ) × (4 ≤ at)
+        × (word_at (F.device flash.now) page at ≡ Word.Held number) }
+    ensures no { result ≡ false → (at number : ℕ) → 4 ≤ at
+        → at < (F.device flash.now).size.words
+        → word_at (F.device flash.now) page at ≢ Word.Held number }
+{
+    for at in HEADER_WORDS..flash.shape().words() {
+        if let Word::Held(_) = flash.word(page, at) {
+            return true;
+        }
+    }
+    false
+}
+
+// Makes the first store.
+fn start_anew<F: Flash + Drop>(flash: F) -> Result<Store<F>, (F, OpenFault)>
+    requires on { IsOn (F.device flash) }
+    requires startable { IsStartable (F.device flash) }
+    ensures formatted { IfOk result (IsFormatted (F.device flash)) }
+    ensures fault { IfErr result (λ failed. failed.1 ≡ OpenFault.Cut) }
+    ensures cut { IfErr result (λ failed. IsCutStart (F.device flash) (F.device failed.0)) }
+{
+    let mut flash = flash;
+    match write_format(&mut flash) {
+        Ok(layout) => Ok(Store::of(flash, layout)),
+        Err(Cut) => Err((flash, OpenFault::Cut)),
+    }
+}

@@ -1,0 +1,87 @@
+//! Laws of calls of any `Variables` in which power is not cut, over any run of them and of the images
+//! that they leave, and of starts; each the contract of a function that does nothing.
+ghost use Rattle.ee_core.specs.PageStates.{MovedWordsAreLive, PicturesTellImages, StatesAfterAppend, StatesAfterClean, StatesAfterFormat, StatesAfterOpening, StatesAfterTransfer};
+ghost use Rattle.ee_core.specs.Starts.{StartsEnd};
+ghost use Rattle.ee_core.specs.Runs.{CleanRunsEraseSets, EachPageWearsEverySecondTransfer, EachTransferErasesASet, NoPageWearsMore, NoPageWearsMuchMore, RunsGoOn, TheStoreIsAMap};
+
+/// Size, power and cuts are as before.
+pub fn runs_go_on()
+    ensures { RunsGoOn }
+{}
+
+/// Every transfer costs the erases of one set, now or in a later clean step, and no other call
+/// costs any.
+pub fn each_transfer_erases_a_set()
+    ensures { EachTransferErasesASet }
+{}
+
+/// A run that begins and ends with no page that waits to be erased has erased one set for every
+/// transfer.
+pub fn clean_runs_erase_sets()
+    ensures { CleanRunsEraseSets }
+{}
+
+/// With T transfers a page of the live set is erased (T + 1) / 2 times at the most, one of the other
+/// set T / 2 times if it is blank at the start, and T / 2 + 1 times if it waits to be erased.
+pub fn each_page_wears_every_second_transfer()
+    ensures { EachPageWearsEverySecondTransfer }
+{}
+
+/// From an image in which no page waits to be erased, no page is erased more often than every second
+/// transfer, rounded up.
+pub fn no_page_wears_more()
+    ensures { NoPageWearsMore }
+{}
+
+/// From any legal image, no page is erased more than once more often than every second transfer.
+pub fn no_page_wears_much_more()
+    ensures { NoPageWearsMuchMore }
+{}
+
+/// The map is the changes that were answered, in their order, and every read is answered by it.
+pub fn the_store_is_a_map()
+    ensures { TheStoreIsAMap }
+{}
+
+/// After an append each page before that of its slot is valid, and that one is active, unless a mark
+/// says that it is valid already.
+pub fn states_after_append()
+    ensures { StatesAfterAppend }
+{}
+
+/// After a transfer the used pages of the new set are valid, the last of them is active and the
+/// others are erased; each page of the set that was left may be erased.
+pub fn states_after_transfer()
+    ensures { StatesAfterTransfer }
+{}
+
+/// After a clean step the lowest page that waited is erased, and each other one is as before.
+pub fn states_after_clean()
+    ensures { StatesAfterClean }
+{}
+
+/// After an opening the live set is marked as after an append, and each page of the other set is
+/// erased as a whole or may be erased.
+pub fn states_after_opening()
+    ensures { StatesAfterOpening }
+{}
+
+/// After format the first page is active and each other one erased.
+pub fn states_after_format()
+    ensures { StatesAfterFormat }
+{}
+
+/// A transfer writes one word for each address that has a value.
+pub fn moved_words_are_live()
+    ensures { MovedWordsAreLive }
+{}
+
+/// The pictures of its two sets say all of a device's image.
+pub fn pictures_tell_images()
+    ensures { PicturesTellImages }
+{}
+
+/// A device with no word programmed gets an empty store by `start`, however often power is cut in it.
+pub fn starts_end()
+    ensures { StartsEnd }
+{}

@@ -1,0 +1,205 @@
+ghost use Rattle.std.specs.Bool.{MatchBool};
+ghost use Rattle.std.specs.Prelude.{◌≡◌, ◌≢◌, ◌<◌, IfErr, IfOk, IfSome, OnErr, OnOk};
+ghost use Rattle.ee_codec.specs.Words.{IsAddress};
+ghost use Rattle.ee_flash.specs.Device.{IsOn};
+ghost use Rattle.ee_flash.specs.Size.{slot_count};
+ghost use Rattle.ee_pages.specs.Layout.{IsLayout};
+ghost use Rattle.ee_pages.specs.Meaning.{IsNextLive, above_of, live_in};
+ghost use Rattle.ee_core.specs.Calls.{Cleans, Forgets, Reads, Writes};
+ghost use Rattle.ee_core.specs.Changes.{IsFull, IsSpent};
+ghost use Rattle.ee_core.specs.Finished.{IsStore};
+ghost use Rattle.ee_core.specs.State.{capacity, state_of, torn_slots_of};
+
+use crate::change::Change;
+use crate::changing::make_change;
+use crate::cleaning::{clean, count_pending};
+use crate::variables::{ForgetFault, Off, Variables, WriteFault, Written};
+use ee_codec::Address;
+use ee_flash::{Cut, Flash};
+use ee_pages::{Layout, LiveBatch, latest, live_count, next_batch, next_live, torn_slots};
+use std::marker::Model;
+
+/// The greatest generation of a set.
+pub const GREATEST_GENERATION: u32 = 4_294_967_294;
+
+/// Variables in a flash device. It keeps in memory where the live set is and how far it is used, and
+/// reads all else from the flash.
+///
+/// Source: two sets, of which one takes the writes, AN4894; the rest is ours.
+#[derive(Drop)]
+pub struct Store<F: Flash + Drop> {
+    flash: F,
+    layout: Layout,
+}
+
+impl<F: Flash + Drop> Model for Store<F> {
+    ghost use Rattle.ee_flash.specs.Device.{Device, IsOn};
+    ghost use Rattle.ee_pages.specs.Layout.{IsLayout};
+    ghost use Rattle.ee_core.specs.Finished.{IsStore};
+
+    ghost Value = { Device };
+
+    ghost view = { λ store. F.device store.flash };
+
+    ghost invariant = { λ store. IsStore (F.device store.flash)
+        × (IsOn (F.device store.flash) → IsLayout (F.device store.flash) store.layout) };
+}
+
+impl<F: Flash + Drop> Store<F> {
+    /// A store of this device, of which this is the layout.
+    pub(crate) fn of(flash: F, layout: Layout) -> Store<F>
+        requires store { IsStore (F.device flash) }
+        requires layout { IsLayout (F.device flash) layout }
+        ensures { result ≡ F.device flash }
+    {
+        Store { flash, layout }
+    }
+
+    /// The device, as it is.
+    pub fn into_flash(self) -> F
+        ensures device { F.device result ≡ self }
+        ensures store { IsStore self }
+    {
+        self.flash
+    }
+
+    /// How many slots of the live set are torn, 0 to its fill: words in whose step power was cut. It
+    /// reads each slot once.
+    ///
+    /// Source: ours.
+    pub fn torn_slots(&self) -> usize
+        requires { IsOn self.now }
+        ensures { result ≡ torn_slots_of self.now }
+    {
+        torn_slots(&self.flash, &self.layout)
+    }
+
+    /// Whether a write or forgetting must be refused since no generation is left for the transfer
+    /// that it needs.
+    fn is_spent(&self) -> bool
+        requires { IsOn self.now }
+        ensures { MatchBool result (IsSpent (capacity self.now) (state_of self.now))
+            (¬ IsSpent (capacity self.now) (state_of self.now)) }
+    {
+        self.layout.fill == self.flash.shape().slots()
+            && self.layout.generation == GREATEST_GENERATION
+    }
+
+    /// Whether the address has no value and there is no slot for one more. Live addresses are counted
+    /// only where every slot is used.
+    fn is_full_for(&self, address: Address) -> bool
+        requires { IsOn self.now }
+        ensures { MatchBool result (IsFull (capacity self.now) (state_of self.now) address)
+            (¬ IsFull (capacity self.now) (state_of self.now) address) }
+    {
+        let slots = self.flash.shape().slots();
+        if self.layout.fill < slots {
+            return false;
+        }
+        match latest(&self.flash, &self.layout, address) {
+            Some(_) => false,
+            None => live_count(&self.flash, &self.layout) == slots,
+        }
+    }
+}
+
+impl<F: Flash + Drop> Variables for Store<F> {
+    ghost use Rattle.ee_flash.specs.Device.{Device};
+
+    ghost device = { λ store. store };
+
+    fn slots(&self) -> usize {
+        self.flash.shape().slots()
+    }
+
+    fn is_on(&self) -> bool {
+        self.flash.is_on()
+    }
+
+    fn read(&self, address: Address) -> Result<Option<u32>, Off> {
+        if !self.flash.is_on() {
+            return Err(Off);
+        }
+        Ok(latest(&self.flash, &self.layout, address))
+    }
+
+    fn write(&mut self, address: Address, value: u32) -> Result<Written, WriteFault>
+        ensures writes { Writes self.old address value result self.new }
+        // It keeps no index, and never runs out of memory.
+        ensures no_memory { result ≢ Err WriteFault.Memory }
+    {
+        if !self.flash.is_on() {
+            return Err(WriteFault::Off);
+        }
+        if self.is_full_for(address) {
+            return Err(WriteFault::Full);
+        }
+        if self.is_spent() {
+            return Err(WriteFault::Spent);
+        }
+        match make_change(
+            &mut self.flash,
+            &mut self.layout,
+            Change::Put { address, value },
+        ) {
+            Ok(written) => Ok(written),
+            Err(Cut) => Err(WriteFault::Cut),
+        }
+    }
+
+    fn forget(&mut self, address: Address) -> Result<Written, ForgetFault> {
+        if !self.flash.is_on() {
+            return Err(ForgetFault::Off);
+        }
+        let Some(value) = latest(&self.flash, &self.layout, address) else {
+            return Err(ForgetFault::Absent);
+        };
+        if self.is_spent() {
+            return Err(ForgetFault::Spent);
+        }
+        match make_change(
+            &mut self.flash,
+            &mut self.layout,
+            Change::Forget { address, value },
+        ) {
+            Ok(written) => Ok(written),
+            Err(Cut) => Err(ForgetFault::Cut),
+        }
+    }
+
+    fn clean_step(&mut self) -> Result<bool, WriteFault> {
+        if !self.flash.is_on() {
+            return Err(WriteFault::Off);
+        }
+        match clean(&mut self.flash, &self.layout) {
+            Ok(erased) => Ok(erased),
+            Err(Cut) => Err(WriteFault::Cut),
+        }
+    }
+
+    fn pending(&self) -> usize {
+        count_pending(&self.flash, self.layout.side.other())
+    }
+
+    fn fill(&self) -> usize {
+        self.layout.fill
+    }
+
+    fn generation(&self) -> u32 {
+        self.layout.generation
+    }
+
+    fn live_count(&self) -> usize {
+        live_count(&self.flash, &self.layout)
+    }
+
+    fn next_live(&self, after: Option<Address>) -> Option<(Address, u32)> {
+        next_live(&self.flash, &self.layout, after)
+    }
+
+    fn next_batch(&self, after: Option<Address>) -> LiveBatch {
+        let mut batch = LiveBatch::new();
+        next_batch(&self.flash, &self.layout, after, &mut batch);
+        batch
+    }
+}

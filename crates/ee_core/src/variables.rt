@@ -1,0 +1,152 @@
+ghost use Rattle.std.specs.Prelude.{◌≡◌, IfSome};
+ghost use Rattle.std.specs.List.{All};
+ghost use Rattle.ee_codec.specs.Words.{IsAddress};
+ghost use Rattle.ee_flash.specs.Device.{Device, IsOn};
+ghost use Rattle.ee_flash.specs.Size.{slot_count};
+ghost use Rattle.ee_pages.specs.Meaning.{AreLiveThrough, IsNextLive, above_of, live_in};
+ghost use Rattle.ee_core.specs.Calls.{Cleans, Forgets, Reads, Writes};
+ghost use Rattle.ee_core.specs.Finished.{IsStore};
+ghost use Rattle.ee_core.specs.State.{state_of};
+
+use ee_codec::Address;
+use ee_pages::LiveBatch;
+
+/// The device is off.
+///
+/// Source: ours.
+#[derive(Clone, Copy, Debug, PartialEq, Eq)]
+pub struct Off;
+
+/// How a change was stored.
+///
+/// Source: ours.
+#[derive(Clone, Copy, Debug, PartialEq, Eq)]
+pub enum Written {
+    /// In a free slot.
+    Appended,
+    /// No slot was free: in the other set, to which all live addresses were moved.
+    Moved,
+}
+
+/// Why nothing is written, the first cause that applies. All but `Cut` leave the device as it was.
+///
+/// Source: ours.
+#[derive(Clone, Copy, Debug, PartialEq, Eq)]
+pub enum WriteFault {
+    /// The device is off.
+    Off,
+    /// The address has no value, and as many addresses have one as there are slots.
+    Full,
+    /// Every slot is used, and the generation is the greatest, 4294967294.
+    Spent,
+    /// Memory ran out, in a store that keeps an index, for an address that has no value.
+    Memory,
+    /// Power failed in this call. The device is off; the change is held or not, and nothing else
+    /// changed for any reader.
+    Cut,
+}
+
+/// Why nothing is forgotten, the first cause that applies. All but `Cut` leave the device as it was.
+///
+/// Source: ours.
+#[derive(Clone, Copy, Debug, PartialEq, Eq)]
+pub enum ForgetFault {
+    /// The device is off.
+    Off,
+    /// The address has no value.
+    Absent,
+    /// Every slot is used, and the generation is the greatest, 4294967294.
+    Spent,
+    /// Power failed in this call. The device is off; the address has its value still or has none,
+    /// and nothing else changed for any reader.
+    Cut,
+}
+
+/// Variables of 32 bits, each with an address of 1 to 65534, kept in a flash device.
+///
+/// Source: variables by virtual address, of which the last element written counts, and a clean-up
+/// whose moment the application chooses, AN4894; the rest is ours.
+pub trait Variables {
+    ghost use Rattle.ee_flash.specs.Device.{Device};
+
+    /// The device that keeps them, as a value.
+    ghost device: { Self → Device };
+
+    /// The slots of a set, 1 to 32512: as many changes as it takes, and as many addresses can have a
+    /// value.
+    fn slots(&self) -> usize
+        ensures slots { result ≡ slot_count (device self.now).size }
+        ensures store { IsStore (device self.now) };
+
+    /// Whether the device is on.
+    fn is_on(&self) -> bool
+        ensures on { result ≡ (device self.now).on }
+        ensures store { IsStore (device self.now) };
+
+    /// The value of an address, `None` if it has none.
+    ///
+    /// # Errors
+    ///
+    /// `Off`: the device is off.
+    fn read(&self, address: Address) -> Result<Option<u32>, Off>
+        ensures { Reads (device self.now) address result };
+
+    /// Writes a value, also one that the address has already.
+    ///
+    /// # Errors
+    ///
+    /// The first `WriteFault` that applies.
+    fn write(&mut self, address: Address, value: u32) -> Result<Written, WriteFault>
+        ensures { Writes (device self.old) address value result (device self.new) };
+
+    /// Takes the value of an address away.
+    ///
+    /// # Errors
+    ///
+    /// The first `ForgetFault` that applies.
+    fn forget(&mut self, address: Address) -> Result<Written, ForgetFault>
+        ensures { Forgets (device self.old) address result (device self.new) };
+
+    /// Erases the lowest page of the other set that is not blank. `false` if there is none.
+    ///
+    /// # Errors
+    ///
+    /// `WriteFault::Off` or `WriteFault::Cut`, and no other.
+    fn clean_step(&mut self) -> Result<bool, WriteFault>
+        ensures { Cleans (device self.old) result (device self.new) };
+
+    /// How many pages of the other set are not blank, 0 to 64.
+    fn pending(&self) -> usize
+        requires { IsOn (device self.now) }
+        ensures { result ≡ (state_of (device self.now)).pending };
+
+    /// How many slots are used, torn ones too: 0 to the slots.
+    fn fill(&self) -> usize
+        requires { IsOn (device self.now) }
+        ensures { result ≡ (state_of (device self.now)).fill };
+
+    /// The generation of the live set, 1 to 4294967294: one more with each transfer.
+    fn generation(&self) -> u32
+        requires { IsOn (device self.now) }
+        ensures { result ≡ (state_of (device self.now)).generation };
+
+    /// How many addresses have a value, 0 to the slots.
+    fn live_count(&self) -> usize
+        requires { IsOn (device self.now) }
+        ensures { result ≡ live_in (state_of (device self.now)).map };
+
+    /// The next address above `after`, or of all if `after` is `None`, that has a value, with the
+    /// value. `None` if there is none.
+    fn next_live(&self, after: Option<Address>) -> Option<(Address, u32)>
+        requires { IsOn (device self.now) }
+        ensures next { IsNextLive (state_of (device self.now)).map (above_of after) result }
+        ensures proper { IfSome result (λ found. IsAddress found.0) };
+
+    /// The next addresses above `after`, or the first of all if `after` is `None`, that have a value,
+    /// with their values: as many as one look through the slots gives.
+    fn next_batch(&self, after: Option<Address>) -> LiveBatch
+        requires { IsOn (device self.now) }
+        ensures live { AreLiveThrough (state_of (device self.now)).map (above_of after)
+            result.found.items result.through }
+        ensures proper { All (λ found. IsAddress found.0) result.found.items };
+}

@@ -1,0 +1,2 @@
+pub mod ReplayFault
+pub mod Fault

@@ -1,0 +1,16 @@
+//! How the program `ee` tells a fault: its line, and the status that it ends with.
+//!
+//! `specs/Fault.antt` has each fault's line and status, and what each fault of the layers below is
+//! told as; `specs/ReplayFault.antt` says how a replay names those of images and of scripts. A fault
+//! keeps its cause up to its line and its status.
+//!
+//! # What is proved
+//!
+//! `fault_line`, `status_of` and the conversions to `Fault` are the table of faults.
+#![tactic(auto)]
+
+mod fault;
+mod replay_fault;
+
+pub use fault::{Fault, File, fault_line, status_of};
+pub use replay_fault::ReplayFault;

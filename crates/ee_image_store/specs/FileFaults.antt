@@ -1,0 +1,18 @@
+-- Why no device is found in a file, under the name that the program gives it.
+use Rattle.std.specs.Prelude.{◌≡◌, List, ℕ}
+use Rattle.ee_image.specs.Fault.{IsImageFault}
+use Rattle.ee_image.specs.declared.fault.ImageFault.{ImageFault}
+use Rattle.ee_faults.specs.Fault.{fault_of_image}
+use Rattle.ee_faults.specs.declared.fault.Fault.{Fault}
+use Rattle.ee_faults.specs.declared.fault.File.{File}
+use Rattle.ee_faults.specs.declared.fault.File.TheVariants.{Image}
+
+-- why no device is found in the text of a file
+pub record IsFileFault (file : File) (text : List ℕ) (fault : Fault) : Type 0 where
+  pub cause : ImageFault
+  pub applies : IsImageFault text cause
+  pub fault_is : fault ≡ fault_of_image file cause
+
+-- why a command finds no device in an image
+abbrev pub IsReadingFault : List ℕ → Fault → Type 0
+IsReadingFault text fault = IsFileFault Image text fault

@@ -1,0 +1,137 @@
+-- What a store with an index reads of it.
+use Rattle.std.proofs.Common.{◌==◌, ◌≡◌, inl, inr, ℕ, ◌<◌, Bool, not, true, false, Option, Some, None, is_some, List, [], ◌∷◌, length, get_or, refl, sym, subst, ap, ◌∙◌, arith, suc, zero}
+use Rattle.std.proofs.lemmas.Bool.{cases_eq, eq-eqb, eqb-true}
+use Rattle.std.proofs.lemmas.Bool.Decides.{nat_tests}
+use Rattle.std.proofs.lemmas.Grind.{common_steps}
+use Rattle.std.proofs.lemmas.Map.Keys.{sorted_head, sorted_tail}
+use Rattle.std.specs.Bool.{MatchBool}
+use Rattle.std.specs.List.{AllByRecursion}
+use Rattle.std.specs.List.Sorted.{IsStrictlySortedBy}
+use Rattle.std.specs.Map.{keys_of}
+use Rattle.std.specs.Ordering.{nat_cmp}
+use Rattle.std.specs.declared.cmp.Ordering.TheVariants.{Less}
+use Rattle.ee_flash.specs.Device.{Device}
+use Rattle.ee_flash.specs.Size.{slot_count}
+use Rattle.ee_flash.specs.declared.word.Word.{Word}
+use Rattle.ee_flash.specs.declared.word.Word.TheVariants.{Erased, Held, Torn}
+use Rattle.ee_codec.specs.Words.{IsAddress}
+use Rattle.ee_pages.specs.Laws.{KeepsLiveSet}
+use Rattle.ee_pages.specs.Layout.{IsLayout}
+use Rattle.ee_pages.specs.Meaning.{Map, Put, map_after, live_in, live_to, meaning, says}
+use Rattle.ee_pages.specs.Sets.{set_of, slots_of}
+use Rattle.ee_pages.specs.declared.find.Layout.{Layout}
+use Rattle.ee_pages.proofs.Counts.{live_to-suc, live_to-zero}
+use Rattle.ee_pages.proofs.LiveCounts.{change_counts}
+use Rattle.ee_pages.proofs.Slots.{length-slots}
+use Rattle.ee_core.specs.Changes.{IsFull}
+use Rattle.ee_core.specs.State.{capacity, state_of}
+use Rattle.ee_core.proofs.CopiedMaps.{live_in-nothing, same_counts}
+use Rattle.ee_core.proofs.Making.{map_was}
+use Rattle.ee_index.specs.Index.{IsIndex, IsKept, said_at, says_value, slot_for}
+use Rattle.ee_index.proofs.Indexing.{stands}
+
+-- ---- as many entries as live addresses
+
+alike : (first second : Map) → ((address : ℕ) → is_some (first address) ≡ is_some (second address)) → (n : ℕ) → live_to first n ≡ live_to second n
+alike first second same zero = live_to-zero first ∙ sym (live_to-zero second)
+alike first second same (suc n) =
+    let rest = alike first second same n in
+    live_to-suc first n ∙ rw (rest, same (suc n)) (sym (live_to-suc second n))
+
+pub absent_above : (named : ℕ) (entries : List (ℕ × ℕ)) → AllByRecursion (λ key. nat_cmp named key ≡ Less) (keys_of entries) → slot_for entries named ≡ None
+absent_above named [] above = refl
+absent_above named (first ∷ rest) above = rw above.0 (absent_above named rest above.1)
+
+pub as_put : (first : ℕ × ℕ) (rest : List (ℕ × ℕ)) (address : ℕ) → slot_for (first ∷ rest) address ≡ map_after (Put first.0 first.1) (slot_for rest) address
+as_put first rest address = elim (cases_eq first.0 address) [
+  | inl same ↦ grind (arith, nat_tests, common_steps, same)
+  | inr apart ↦ grind (arith, nat_tests, common_steps, apart)
+]
+
+put_has : (named slot : ℕ) (index : Map) → is_some (map_after (Put named slot) index named) ≡ true
+put_has named slot index = grind (arith, common_steps)
+
+put_keeps : (named slot address : ℕ) (index : Map) → is_some (index address) ≡ true → is_some (map_after (Put named slot) index address) ≡ true
+put_keeps named slot address index held = elim (cases_eq named address) [
+  | inl same ↦ grind (arith, common_steps, same)
+  | inr apart ↦ grind (arith, common_steps, apart, held)
+]
+
+count_of : (entries : List (ℕ × ℕ)) → IsStrictlySortedBy nat_cmp (keys_of entries) → ((address : ℕ) → is_some (slot_for entries address) ≡ true → IsAddress address) → length entries ≡ live_in (slot_for entries)
+count_of [] sorted proper = live_in-nothing (slot_for []) (λ address. refl)
+count_of (first ∷ rest) sorted proper =
+    let new : slot_for rest first.0 ≡ None = absent_above first.0 rest (sorted_head nat_cmp first.0 (keys_of rest) sorted) in
+    let more = count_of rest (sorted_tail nat_cmp first.0 (keys_of rest) sorted) (λ address held. proper address (ap is_some (as_put first rest address) ∙ put_keeps first.0 first.1 address (slot_for rest) held)) in
+    let here = proper first.0 (ap is_some (as_put first rest first.0) ∙ put_has first.0 first.1 (slot_for rest)) in
+    let counts = change_counts (Put first.0 first.1) (slot_for rest) here in
+    let one = rw new at counts in
+    let same = same_counts (slot_for (first ∷ rest)) (map_after (Put first.0 first.1) (slot_for rest)) (as_put first rest) in
+    omega (arith, more, one, same)
+
+-- a word that says something of an address says it of a proper one
+pub says_proper : (word : Word) (address : ℕ) (said : Option ℕ) → says word address ≡ Some said → IsAddress address
+says_proper Erased address said e = absurd (cc e)
+says_proper Torn address said e = absurd (cc e)
+says_proper (Held number) address said e = grind (arith, nat_tests, common_steps, e)
+
+-- ---- what the index says is what the map says
+
+pub alike_held : (slots : List Word) (slot held : Option ℕ) (address : ℕ) → said_at slots slot address ≡ says_value held → is_some slot ≡ is_some held
+alike_held slots None None address e = refl
+alike_held slots None (Some value) address e = absurd (cc e)
+alike_held slots (Some slot) None address e = absurd (cc e)
+alike_held slots (Some slot) (Some value) address e = refl
+
+pub some_is : (slot : Option ℕ) → is_some slot ≡ true → (number : ℕ) × (slot ≡ Some number)
+some_is None e = absurd (cc e)
+some_is (Some number) e = (number, refl)
+
+module _ (device : Device) (layout : Layout) (entries : List (ℕ × ℕ)) (kept : IsKept device layout entries) where
+  map_is : (address : ℕ) → (state_of device).map address ≡ meaning (slots_of (set_of layout.side device)) address
+  map_is address = map_was device device layout.side layout.generation kept.found.live address
+
+  same_live : (address : ℕ) → is_some (slot_for entries address) ≡ is_some ((state_of device).map address)
+  same_live address =
+      alike_held (slots_of (set_of layout.side device)) (slot_for entries address) (meaning (slots_of (set_of layout.side device)) address) address (kept.indexes address)
+      ∙ ap is_some (sym (map_is address))
+
+  keys_proper : (address : ℕ) → is_some (slot_for entries address) ≡ true → IsAddress address
+  keys_proper address held =
+      let slot = some_is (slot_for entries address) held in
+      let here = stands (slots_of (set_of layout.side device)) (slot_for entries) kept.indexes address slot.0 slot.1 in
+      says_proper (get_or (slots_of (set_of layout.side device)) slot.0 Erased) address (Some here.value) here.says_so
+
+  pub entries_live : IsStrictlySortedBy nat_cmp (keys_of entries) → length entries ≡ live_in (state_of device).map
+  entries_live sorted = count_of entries sorted keys_proper ∙ alike (slot_for entries) (state_of device).map same_live 65534
+
+  pub slot_in_range : (address number : ℕ) → slot_for entries address ≡ Some number → number < slot_count device.size
+  slot_in_range address number e =
+      let here = stands (slots_of (set_of layout.side device)) (slot_for entries) kept.indexes address number e in
+      omega (arith, here.listed, length-slots layout.side device kept.found.live.formed)
+
+  pub value_held : (address number value : ℕ) → slot_for entries address ≡ Some number
+      → ((named said : ℕ) → says (get_or (slots_of (set_of layout.side device)) number Erased) named ≡ Some (Some said) → value ≡ said) → Some value ≡ (state_of device).map address
+  value_held address number value e is =
+      let here = stands (slots_of (set_of layout.side device)) (slot_for entries) kept.indexes address number e in
+      ap (λ (n : ℕ). Some n) (is address here.value here.says_so) ∙ sym (map_is address ∙ here.held)
+
+  pub no_value : (address : ℕ) → is_some (slot_for entries address) ≡ false → (state_of device).map address ≡ None
+  no_value address e = none_is ((state_of device).map address) (sym (same_live address) ∙ e)
+    where
+      none_is : (held : Option ℕ) → is_some held ≡ false → held ≡ None
+      none_is None e = refl
+      none_is (Some value) e = absurd (cc e)
+
+  -- the count of the entries says whether there is no slot for one more
+  module _ (address count slots : ℕ) (count_is : count ≡ length entries) (sorted : IsStrictlySortedBy nat_cmp (keys_of entries)) (slots_is : slots ≡ capacity device) where
+    pub full_unless_held : (held : Bool) → held ≡ is_some (slot_for entries address) → (count == slots) ≡ true
+        → MatchBool (not held) (IsFull (capacity device) (state_of device) address) (¬ IsFull (capacity device) (state_of device) address)
+    full_unless_held false absent same = record { new_address = no_value address (sym absent); all_live = sym (entries_live sorted) ∙ sym count_is ∙ eqb-true count slots same ∙ slots_is }
+    full_unless_held true present same = λ full. absurd (cc (present, same_live address, ap is_some full.new_address))
+
+    pub not_full : (count == slots) ≡ false → ¬ IsFull (capacity device) (state_of device) address
+    not_full apart full = absurd (cc (apart, eq-eqb count slots (count_is ∙ entries_live sorted ∙ full.all_live ∙ sym slots_is)))
+
+-- where the live set stays, the index does
+pub kept_on : (old new : Device) (layout : Layout) (entries : List (ℕ × ℕ)) → KeepsLiveSet old new layout.side layout.generation → IsKept old layout entries → IsLayout new layout → IsKept new layout entries
+kept_on old new layout entries keeps kept found = record { found = found; indexes = subst (λ (slots : List Word). IsIndex slots (slot_for entries)) (sym keeps.same_slots) kept.indexes }

@@ -1,0 +1,170 @@
+-- How an index of the live addresses is read, made and kept.
+use Rattle.std.proofs.Common.{◌≡◌, inl, inr, ℕ, ◌+◌, ◌<◌, ◌≤◌, true, Option, Some, None, is_some, List, [], ◌∷◌, length, take, drop, get_or, refl, sym, ap, ◌∙◌, arith, suc}
+use Rattle.std.proofs.Math.Seq.{take-suc}
+use Rattle.std.proofs.lemmas.Bool.{cases_eq, cases_lt}
+use Rattle.std.proofs.lemmas.Grind.{common_steps}
+use Rattle.std.proofs.lemmas.List.{get_or_past, take-append-drop}
+use Rattle.std.proofs.lemmas.Map.Keys.{le_from_not_gt}
+use Rattle.std.specs.BTreeMap.{BTreeMap}
+use Rattle.std.specs.BTreeMap.Range.{IsFromStart, IsRangeOf}
+use Rattle.std.specs.Cmp.{nat_cmp_is, ranked}
+use Rattle.std.specs.Ordering.{nat_cmp}
+use Rattle.std.specs.declared.ops.Bound.{Bound}
+use Rattle.std.specs.declared.ops.Bound.TheVariants.{Unbounded}
+use Rattle.std.specs.declared.cmp.Ordering.TheVariants.{Less}
+use Rattle.ee_flash.specs.Device.{Device}
+use Rattle.ee_flash.specs.Size.{slot_count}
+use Rattle.ee_flash.specs.declared.word.Word.{Word}
+use Rattle.ee_flash.specs.declared.word.Word.TheVariants.{Erased}
+use Rattle.ee_codec.specs.Reading.{slot_of}
+use Rattle.ee_codec.specs.declared.slot.Slot.{Slot}
+use Rattle.ee_codec.specs.declared.slot.Slot.TheVariants.{Free, Spoiled, Element, Forgotten, Foreign}
+use Rattle.ee_pages.specs.Layout.{IsLayout}
+use Rattle.ee_pages.specs.Meaning.{IsNextLive, Map, above_of, later, latest_in, meaning, says, slot_says, value_said}
+use Rattle.ee_pages.specs.Sets.{set_of, slots_of}
+use Rattle.ee_pages.specs.declared.find.Layout.{Layout}
+use Rattle.ee_pages.proofs.LastSaid.{latest_in-append, silent_behind}
+use Rattle.ee_pages.proofs.Slots.{length-slots}
+use Rattle.ee_core.proofs.Making.{few_within}
+use Rattle.ee_index.specs.Index.{IsIndex, bound_above, index_with_slot, said_at, says_value, slot_for}
+
+-- ---- the next entry
+
+less : (x y : ℕ) → x < y → nat_cmp x y ≡ Less
+less x y h = sym (nat_cmp_is x y Less h)
+
+module _ (m : BTreeMap ℕ ℕ) (lo : Bound ℕ) (after : Option ℕ) (lo_is : lo ≡ bound_above after) where
+  lets : (start : Option ℕ) (q : ℕ) → above_of start < q → IsFromStart nat_cmp (bound_above start) q
+  lets None q high = tt
+  lets (Some address) q high = less address q high
+
+  within : (start : Option ℕ) (q : ℕ) → 0 < q → IsFromStart nat_cmp (bound_above start) q → above_of start < q
+  within None q some from = some
+  within (Some address) q some from = ranked address q Less (sym from)
+
+  pub none_above : (found : List (ℕ × ℕ)) → found ≡ [] → IsRangeOf nat_cmp lo Unbounded m found → IsNextLive (slot_for m.entries) (above_of after) None
+  none_above found is range q high = (rw lo_is at range).5 is q (lets after q high, tt)
+
+  nearest : (key q : ℕ) (held : Option ℕ) → (is_some held ≡ true → key ≤ q) → q < key → held ≡ None
+  nearest key q None least low = refl
+  nearest key q (Some slot) least low = absurd (omega (arith, least refl))
+
+  pub first_found : (key slot : ℕ) (rest found : List (ℕ × ℕ)) → found ≡ (key, slot) ∷ rest → 0 < key → IsRangeOf nat_cmp lo Unbounded m found → IsNextLive (slot_for m.entries) (above_of after) (Some (key, slot))
+  first_found key slot rest found is some range =
+      let here = rw (is, lo_is) at range in (
+        within after key some here.1.0.0,
+        here.1.1,
+        λ q high low. nearest key q (slot_for m.entries q) (λ held. le_from_not_gt key q (here.2 q (lets after q high, tt) held)) low,
+      )
+
+-- ---- slot by slot
+
+-- an index of the first slots of these: their numbers are those of all
+abbrev pub IndexesTo : List Word → ℕ → Map → Type 0
+IndexesTo slots count index = (address : ℕ) → said_at slots (index address) address ≡ says_value (meaning (take count slots) address)
+
+latest_further : (slots : List Word) (count address : ℕ) → count < length slots → latest_in (take (count + 1) slots) address ≡ later (latest_in (take count slots) address) (says (get_or slots count Erased) address)
+latest_further slots count address h =
+    let e : count + 1 ≡ suc count = omega arith in
+    rw (e, take-suc slots count Erased h) (latest_in-append (take count slots) (get_or slots count Erased ∷ []) address ∙ ap (later (latest_in (take count slots) address)) (last_alone (says (get_or slots count Erased) address)))
+  where
+    last_alone : (said : Option (Option ℕ)) → later said None ≡ said
+    last_alone said = refl
+
+module _ (slots : List Word) (count address : ℕ) (index : Map) (before : Option (Option ℕ)) (kept : said_at slots (index address) address ≡ says_value (value_said before)) where
+  -- one more slot is entered
+  one_entered : (slot : Slot) → says (get_or slots count Erased) address ≡ slot_says slot address
+      → said_at slots (index_with_slot slot count index address) address ≡ says_value (value_said (later before (slot_says slot address)))
+  one_entered (Element named value) e = elim (cases_eq named address) [
+    | inl same ↦ grind (arith, common_steps, e, kept, same)
+    | inr apart ↦ grind (arith, common_steps, e, kept, apart)
+  ]
+  one_entered (Forgotten named value) e = elim (cases_eq named address) [
+    | inl same ↦ grind (arith, common_steps, e, kept, same)
+    | inr apart ↦ grind (arith, common_steps, e, kept, apart)
+  ]
+  one_entered Free e = kept
+  one_entered Spoiled e = kept
+  one_entered Foreign e = kept
+
+pub enters : (slots : List Word) (count : ℕ) (index after : Map) → count < length slots → ((address : ℕ) → after address ≡ index_with_slot (slot_of (get_or slots count Erased)) count index address) → IndexesTo slots count index → IndexesTo slots (count + 1) after
+enters slots count index after h is kept address =
+    ap (λ slot. said_at slots slot address) (is address)
+    ∙ one_entered slots count address index (latest_in (take count slots) address) (kept address) (slot_of (get_or slots count Erased)) refl
+    ∙ ap (λ said. says_value (value_said said)) (sym (latest_further slots count address h))
+
+module _ (device : Device) (layout : Layout) (found : IsLayout device layout) where
+  pub used_within : layout.fill ≤ slot_count device.size
+  used_within = omega (arith, found.fill, few_within device layout.side found.live.formed)
+
+  -- a slot that is used is one of the slots
+  pub slot_within : (number : ℕ) → number < layout.fill → number < slot_count device.size
+  slot_within number h = omega (arith, used_within)
+
+  pub slot_listed : (number : ℕ) → number < layout.fill → number < length (slots_of (set_of layout.side device))
+  slot_listed number h = omega (arith, used_within, length-slots layout.side device found.live.formed)
+
+  -- the used slots say all
+  pub all_used_said : (address : ℕ) → meaning (take layout.fill (slots_of (set_of layout.side device))) address ≡ meaning (slots_of (set_of layout.side device)) address
+  all_used_said address =
+      let slots = slots_of (set_of layout.side device) in
+      sym (ap (λ (words : List Word). meaning words address) (sym (take-append-drop layout.fill slots))
+      ∙ ap value_said (latest_in-append (take layout.fill slots) (drop layout.fill slots) address)
+      ∙ ap (λ said. value_said (later (latest_in (take layout.fill slots) address) said)) (silent_behind device layout found address))
+
+-- an index of the used slots is one of all
+pub indexes_all : (device : Device) (layout : Layout) (index : Map) (count : ℕ) → IsLayout device layout → count ≡ layout.fill
+    → IndexesTo (slots_of (set_of layout.side device)) count index → IsIndex (slots_of (set_of layout.side device)) index
+indexes_all device layout index count found e kept address =
+    kept address
+    ∙ ap (λ n. says_value (meaning (take n (slots_of (set_of layout.side device))) address)) e
+    ∙ ap says_value (all_used_said device layout found address)
+
+pub indexes_none : (slots : List Word) (entries : List (ℕ × ℕ)) → entries ≡ [] → IndexesTo slots 0 (slot_for entries)
+indexes_none slots entries e address = rw e refl
+
+-- ---- what an index tells of the map
+
+-- a slot that an index has
+pub record Stands (slots : List Word) (address number : ℕ) : Type 0 where
+  pub value : ℕ
+  pub held : meaning slots address ≡ Some value
+  pub says_so : says (get_or slots number Erased) address ≡ Some (Some value)
+  pub listed : number < length slots
+
+listed_if_said : (slots : List Word) (address number value : ℕ) → says (get_or slots number Erased) address ≡ Some (Some value) → number < length slots
+listed_if_said slots address number value e = elim (cases_lt number (length slots)) [
+  | inl within ↦ within
+  | inr past ↦
+      let erased : get_or slots number Erased ≡ Erased = get_or_past slots number Erased past in
+      let silent : says (get_or slots number Erased) address ≡ None = ap (λ (word : Word). says word address) erased in
+      absurd (cc (e, silent))
+]
+
+pub stands_if : (slots : List Word) (address number : ℕ) (held : Option ℕ) → meaning slots address ≡ held → said_at slots (Some number) address ≡ says_value held → Stands slots address number
+stands_if slots address number None is e = absurd (cc e)
+stands_if slots address number (Some value) is e =
+    let said : says (get_or slots number Erased) address ≡ Some (Some value) = cc e in
+    record { value = value; held = is; says_so = said; listed = listed_if_said slots address number value said }
+
+pub nothing_if : (slots : List Word) (address : ℕ) (held : Option ℕ) → said_at slots None address ≡ says_value held → held ≡ None
+nothing_if slots address None e = refl
+nothing_if slots address (Some value) e = absurd (cc e)
+
+module _ (slots : List Word) (index : Map) (indexes : IsIndex slots index) where
+  pub stands : (address number : ℕ) → index address ≡ Some number → Stands slots address number
+  stands address number e = stands_if slots address number (meaning slots address) refl (ap (λ slot. said_at slots slot address) (sym e) ∙ indexes address)
+
+  pub has_none : (address : ℕ) → index address ≡ None → meaning slots address ≡ None
+  has_none address e = nothing_if slots address (meaning slots address) (ap (λ slot. said_at slots slot address) (sym e) ∙ indexes address)
+
+  pub next_none : (above : ℕ) → IsNextLive index above None → IsNextLive (meaning slots) above None
+  next_none above next address high = has_none address (next address high)
+
+  pub next_some : (above address number value : ℕ) → IsNextLive index above (Some (address, number)) → ((named said : ℕ) → says (get_or slots number Erased) named ≡ Some (Some said) → value ≡ said) → IsNextLive (meaning slots) above (Some (address, value))
+  next_some above address number value next is =
+      let here = stands address number next.1 in (
+        next.0,
+        here.held ∙ ap (λ (n : ℕ). Some n) (sym (is address here.value here.says_so)),
+        λ between high low. has_none between (next.2 between high low),
+      )

@@ -1,0 +1,256 @@
+ghost use Rattle.std.specs.Bool.{MatchBool};
+ghost use Rattle.std.specs.Prelude.{◌≡◌, ◌≢◌, ◌<◌, IfErr, IfOk, IfSome, OnErr, OnOk};
+ghost use Rattle.ee_codec.specs.Words.{IsAddress};
+ghost use Rattle.ee_flash.specs.Device.{IsOn};
+ghost use Rattle.ee_flash.specs.Size.{slot_count};
+ghost use Rattle.ee_pages.specs.Meaning.{IsNextLive, above_of, live_in};
+ghost use Rattle.ee_core.specs.Calls.{Cleans, Forgets, Reads, Writes};
+ghost use Rattle.ee_core.specs.Changes.{IsFull, IsSpent};
+ghost use Rattle.ee_core.specs.Finished.{IsStore};
+ghost use Rattle.ee_core.specs.Openings.{Opens};
+ghost use Rattle.ee_core.specs.State.{capacity, state_of};
+ghost use Rattle.ee_index.specs.Index.{IndexedOpenFails};
+
+use crate::index::{Index, batch_indexed, next_indexed, read_index, value_in};
+use crate::index_changing::{append_indexed, enter_slot, make_room, move_indexed};
+use ee_codec::Address;
+use ee_core::inner::{Change, GREATEST_GENERATION, clean, finish};
+use ee_core::{ForgetFault, Off, Variables, WriteFault, Written, count_pending};
+use ee_flash::{Cut, Flash};
+use ee_pages::{Layout, LiveBatch, ScanFault, scan};
+use std::alloc::{Allocator, Global};
+use std::marker::Model;
+
+/// Why a device can't be opened with an index, the first cause that applies.
+///
+/// Source: ours.
+#[derive(Clone, Copy, Debug, PartialEq, Eq)]
+pub enum IndexedFault {
+    /// The image is not legal. Nothing changed.
+    Scan(ScanFault),
+    /// Memory ran out. Nothing changed.
+    Memory,
+    /// Power failed in setting a mark. The device is off; its variables are as before.
+    Cut,
+}
+
+/// Variables in a flash device, with an index in memory: the slot in which each live address stands.
+/// A read is one look in the index and one word of the flash.
+///
+/// Source: two sets, of which one takes the writes, AN4894; the rest is ours.
+#[derive(Drop)]
+pub struct IndexedStore<F: Flash + Drop, A: Allocator = Global> {
+    flash: F,
+    layout: Layout,
+    index: Index<A>,
+}
+
+impl<F: Flash + Drop, A: Allocator> Model for IndexedStore<F, A> {
+    ghost use Rattle.ee_flash.specs.Device.{Device, IsOn};
+    ghost use Rattle.ee_core.specs.Finished.{IsStore};
+    ghost use Rattle.ee_index.specs.Index.{IsKept};
+
+    ghost Value = { Device };
+
+    ghost view = { λ store. F.device store.flash };
+
+    ghost invariant = { λ store. IsStore (F.device store.flash)
+        × (IsOn (F.device store.flash)
+        → IsKept (F.device store.flash) store.layout store.index.entries) };
+}
+
+impl<F: Flash + Drop, A: Allocator> IndexedStore<F, A> {
+    /// Opens the store of a legal image, on a device that is on, and sets the marks that a cut left to
+    /// set. The variables are as before. Where no mark was left it takes no step.
+    ///
+    /// Source: ours.
+    ///
+    /// # Errors
+    ///
+    /// The device and the first `IndexedFault` that applies.
+    pub fn open(alloc: A, flash: F) -> Result<IndexedStore<F, A>, (F, IndexedFault)>
+    where
+        A: Copy,
+        requires { IsOn (F.device flash) }
+        ensures opened { IfOk result (Opens (F.device flash)) }
+        ensures failed { IfErr result
+            (λ failed. IndexedOpenFails (F.device flash) failed.1 (F.device failed.0)) }
+    {
+        let mut flash = flash;
+        let layout = match scan(&flash) {
+            Ok(layout) => layout,
+            Err(fault) => return Err((flash, IndexedFault::Scan(fault))),
+        };
+        // The index is made before the first step, so want of memory leaves the device as it was.
+        let index = match read_index(alloc, &flash, &layout) {
+            Ok(index) => index,
+            Err(_) => return Err((flash, IndexedFault::Memory)),
+        };
+        match finish(&mut flash, &layout) {
+            Ok(()) => Ok(IndexedStore {
+                flash,
+                layout,
+                index,
+            }),
+            Err(Cut) => Err((flash, IndexedFault::Cut)),
+        }
+    }
+
+    /// The device, as it is.
+    pub fn into_flash(self) -> F
+        ensures device { F.device result ≡ self }
+        ensures store { IsStore self }
+    {
+        self.flash
+    }
+
+    /// Whether a write or forgetting must be refused since no generation is left for the transfer
+    /// that it needs.
+    fn is_spent(&self) -> bool
+        requires { IsOn self.now }
+        ensures { MatchBool result (IsSpent (capacity self.now) (state_of self.now))
+            (¬ IsSpent (capacity self.now) (state_of self.now)) }
+    {
+        self.layout.fill == self.flash.shape().slots()
+            && self.layout.generation == GREATEST_GENERATION
+    }
+
+    /// Whether the address has no value and there is no slot for one more.
+    fn is_full_for(&self, address: Address) -> bool
+        requires { IsOn self.now }
+        ensures { MatchBool result (IsFull (capacity self.now) (state_of self.now) address)
+            (¬ IsFull (capacity self.now) (state_of self.now) address) }
+    {
+        self.index.len() == self.flash.shape().slots() && !self.index.contains_key(&address)
+    }
+
+    /// The value of an address, by the index.
+    fn value_of(&self, address: Address) -> Option<u32>
+        requires { IsOn self.now }
+        ensures { result ≡ (state_of self.now).map address }
+    {
+        match self.index.get(&address) {
+            None => None,
+            Some(number) => Some(value_in(&self.flash, &self.layout, *number)),
+        }
+    }
+}
+
+impl<F: Flash + Drop, A: Allocator + Copy> Variables for IndexedStore<F, A> {
+    ghost use Rattle.ee_flash.specs.Device.{Device};
+
+    ghost device = { λ store. store };
+
+    fn slots(&self) -> usize {
+        self.flash.shape().slots()
+    }
+
+    fn is_on(&self) -> bool {
+        self.flash.is_on()
+    }
+
+    fn read(&self, address: Address) -> Result<Option<u32>, Off> {
+        if !self.flash.is_on() {
+            return Err(Off);
+        }
+        Ok(self.value_of(address))
+    }
+
+    fn write(&mut self, address: Address, value: u32) -> Result<Written, WriteFault> {
+        if !self.flash.is_on() {
+            return Err(WriteFault::Off);
+        }
+        if self.is_full_for(address) {
+            return Err(WriteFault::Full);
+        }
+        if self.is_spent() {
+            return Err(WriteFault::Spent);
+        }
+        let Self {
+            flash,
+            layout,
+            index,
+        } = self;
+        let change = Change::Put { address, value };
+        // The index grows before the first step, so want of memory leaves all as it was. An address
+        // that has a value stands in it, and needs none.
+        if layout.fill < flash.shape().slots() {
+            let Ok(()) = enter_slot(index, address, layout.fill) else {
+                return Err(WriteFault::Memory);
+            };
+            return match append_indexed(flash, layout, index, change) {
+                Ok(()) => Ok(Written::Appended),
+                Err(Cut) => Err(WriteFault::Cut),
+            };
+        }
+        let Ok(hidden) = make_room(index, address) else {
+            return Err(WriteFault::Memory);
+        };
+        match move_indexed(flash, layout, index, change, hidden) {
+            Ok(()) => Ok(Written::Moved),
+            Err(Cut) => Err(WriteFault::Cut),
+        }
+    }
+
+    fn forget(&mut self, address: Address) -> Result<Written, ForgetFault> {
+        if !self.flash.is_on() {
+            return Err(ForgetFault::Off);
+        }
+        let Some(value) = self.value_of(address) else {
+            return Err(ForgetFault::Absent);
+        };
+        if self.is_spent() {
+            return Err(ForgetFault::Spent);
+        }
+        let Self {
+            flash,
+            layout,
+            index,
+        } = self;
+        let change = Change::Forget { address, value };
+        if layout.fill < flash.shape().slots() {
+            return match append_indexed(flash, layout, index, change) {
+                Ok(()) => Ok(Written::Appended),
+                Err(Cut) => Err(ForgetFault::Cut),
+            };
+        }
+        match move_indexed(flash, layout, index, change, None) {
+            Ok(()) => Ok(Written::Moved),
+            Err(Cut) => Err(ForgetFault::Cut),
+        }
+    }
+
+    fn clean_step(&mut self) -> Result<bool, WriteFault> {
+        if !self.flash.is_on() {
+            return Err(WriteFault::Off);
+        }
+        match clean(&mut self.flash, &self.layout) {
+            Ok(erased) => Ok(erased),
+            Err(Cut) => Err(WriteFault::Cut),
+        }
+    }
+
+    fn pending(&self) -> usize {
+        count_pending(&self.flash, self.layout.side.other())
+    }
+
+    fn fill(&self) -> usize {
+        self.layout.fill
+    }
+
+    fn generation(&self) -> u32 {
+        self.layout.generation
+    }
+
+    fn live_count(&self) -> usize {
+        self.index.len()
+    }
+
+    fn next_live(&self, after: Option<Address>) -> Option<(Address, u32)> {
+        next_indexed(&self.index, &self.flash, &self.layout, after)
+    }
+
+    fn next_batch(&self, after: Option<Address>) -> LiveBatch {
+        batch_indexed(&self.index, &self.flash, &self.layout, after)
+    }
+}

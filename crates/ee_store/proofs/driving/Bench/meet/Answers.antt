@@ -1,9 +1,0 @@
-use Rattle.std.proofs.Common.{rules}
-use Rattle.ee_store.specs.Bench.{point_of}
-use Rattle.ee_store.proofs.driving.Bench.meet.Goals as goal
-
-pub returns-in-Reopen : goal.returns-in-Reopen
-returns-in-Reopen g c = search (rules, c.reopen.ensures (point_of g.F.Flash.device c.args.self))
-
-pub returns-in-Reopen-event : goal.returns-in-Reopen-event
-returns-in-Reopen-event g c = search (rules, c.reopen-in-Reopen-event.ensures (point_of g.F.Flash.device c.args.self))

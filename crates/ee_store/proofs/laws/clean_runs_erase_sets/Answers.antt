@@ -1,6 +1,0 @@
-use Rattle.std.proofs.Common.{rules}
-use Rattle.ee_store.proofs.Running.{clean_runs_erase_sets_lem}
-use Rattle.ee_store.proofs.laws.clean_runs_erase_sets.Goals as goal
-
-pub returns : goal.returns
-returns c = search (rules, clean_runs_erase_sets_lem)

@@ -1,6 +1,0 @@
-use Rattle.std.proofs.Common.{rules}
-use Rattle.ee_store.proofs.PageWears.{each_page_wears_every_second_transfer_lem}
-use Rattle.ee_store.proofs.laws.each_page_wears_every_second_transfer.Goals as goal
-
-pub returns : goal.returns
-returns c = search (rules, each_page_wears_every_second_transfer_lem)

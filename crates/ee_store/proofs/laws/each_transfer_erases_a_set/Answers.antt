@@ -1,6 +1,0 @@
-use Rattle.std.proofs.Common.{rules}
-use Rattle.ee_store.proofs.Running.{each_transfer_erases_a_set_lem}
-use Rattle.ee_store.proofs.laws.each_transfer_erases_a_set.Goals as goal
-
-pub returns : goal.returns
-returns c = search (rules, each_transfer_erases_a_set_lem)

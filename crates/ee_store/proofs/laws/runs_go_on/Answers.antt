@@ -1,6 +1,0 @@
-use Rattle.std.proofs.Common.{rules}
-use Rattle.ee_store.proofs.Running.{runs_go_on_lem}
-use Rattle.ee_store.proofs.laws.runs_go_on.Goals as goal
-
-pub returns : goal.returns
-returns c = search (rules, runs_go_on_lem)

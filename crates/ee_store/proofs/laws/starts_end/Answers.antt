@@ -1,6 +1,0 @@
-use Rattle.std.proofs.Common.{rules}
-use Rattle.ee_store.proofs.Startable.{starts_end_lem}
-use Rattle.ee_store.proofs.laws.starts_end.Goals as goal
-
-pub returns : goal.returns
-returns c = search (rules, starts_end_lem)

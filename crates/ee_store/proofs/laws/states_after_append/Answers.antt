@@ -1,5 +1,0 @@
-use Rattle.ee_store.proofs.ShownStates.{states_after_append_lem}
-use Rattle.ee_store.proofs.laws.states_after_append.Goals as goal
-
-pub returns : goal.returns
-returns c = states_after_append_lem

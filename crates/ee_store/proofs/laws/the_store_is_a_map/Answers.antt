@@ -1,6 +1,0 @@
-use Rattle.std.proofs.Common.{rules}
-use Rattle.ee_store.proofs.Running.{the_store_is_a_map_lem}
-use Rattle.ee_store.proofs.laws.the_store_is_a_map.Goals as goal
-
-pub returns : goal.returns
-returns c = search (rules, the_store_is_a_map_lem)
