@@ -7,16 +7,16 @@ use Rattle.ee_flash.specs.Size.{Size, slot_count}
 use Rattle.ee_codec.specs.Words.{IsAddress}
 use Rattle.ee_pages.specs.Meaning.{Put}
 use Rattle.ee_pages.specs.Meaning as meaning
-use Rattle.ee_store.specs.Changes.{Appends, IsSpent, Moves, greatest_generation}
-use Rattle.ee_store.specs.Runs.{Call, Wrote, Forgot, Cleaned, DidRead, IsRun, is_cut, is_transfer, transfers}
-use Rattle.ee_store.specs.State.{State, state_of}
-use Rattle.ee_store.specs.declared.variables.ForgetFault.TheVariants as forget
-use Rattle.ee_store.specs.declared.variables.WriteFault.TheVariants as write
-use Rattle.ee_store.specs.declared.variables.Written.TheVariants.{Appended, Moved}
+use Rattle.ee_core.specs.Changes.{Appends, IsSpent, Moves, greatest_generation}
+use Rattle.ee_core.specs.Runs.{Call, Wrote, Forgot, Cleaned, DidRead, IsRun, is_cut, is_transfer, transfers}
+use Rattle.ee_core.specs.State.{State, state_of}
+use Rattle.ee_core.specs.declared.variables.ForgetFault.TheVariants as forget
+use Rattle.ee_core.specs.declared.variables.WriteFault.TheVariants as write
+use Rattle.ee_core.specs.declared.variables.Written.TheVariants.{Appended, Moved}
 use Rattle.ee_check.proofs.Sizes.{changed-le}
 use Rattle.ee_check.specs.declared.change.Change.{Change}
 use Rattle.ee_check.specs.declared.change.Change.TheVariants as changes
-use Rattle.ee_check.specs.Live.{KeepsWithin, changed}
+use Rattle.ee_check.specs.Live.{KeepsWithin, live_after_one}
 use Rattle.ee_check.specs.Schedule.{Append, Carry, Copy, EachMove, IsLate, IsProper, Move, Situation, after_move, changes_of, cost}
 use Rattle.ee_plan.proofs.LiveLists.{live_after_forget, live_after_put}
 use Rattle.ee_plan.specs.Start.{AreLive, IsStartOf}
@@ -57,15 +57,15 @@ next (Carry first ∷ moves) now change later late same =
 
 -- ---- where a store stands beside the late store
 
-keeps_behind : (slots : ℕ) (live : List ℕ) (change : Change) (trace : List Change) → KeepsWithin slots live (change ∷ trace) → KeepsWithin slots (changed live change) trace
+keeps_behind : (slots : ℕ) (live : List ℕ) (change : Change) (trace : List Change) → KeepsWithin slots live (change ∷ trace) → KeepsWithin slots (live_after_one live change) trace
 keeps_behind slots live (changes.Write address) trace keeps = keeps.1
 keeps_behind slots live (changes.Forget address) trace keeps = keeps
 
-held_behind : (live : List ℕ) (change : Change) (trace : List Change) → ForgetsLive live (change ∷ trace) → ForgetsLive (changed live change) trace
+held_behind : (live : List ℕ) (change : Change) (trace : List Change) → ForgetsLive live (change ∷ trace) → ForgetsLive (live_after_one live change) trace
 held_behind live (changes.Write address) trace held = held
 held_behind live (changes.Forget address) trace held = held.1
 
-still_fits : (now : Situation) (change : Change) (trace : List Change) → IsProper now → KeepsWithin now.slots now.live (change ∷ trace) → length (changed now.live change) ≤ now.slots
+still_fits : (now : Situation) (change : Change) (trace : List Change) → IsProper now → KeepsWithin now.slots now.live (change ∷ trace) → length (live_after_one now.live change) ≤ now.slots
 still_fits now (changes.Write address) trace proper keeps = keeps.0
 still_fits now (changes.Forget address) trace proper keeps = forgetting_fits now address proper
 
@@ -125,7 +125,7 @@ module _ (old mid : Device) (call : Call) (calls : List Call) where
 
   module _ (change : Change) (meant : meaning.Change) (asked : asked_by_calls (call ∷ calls) ≡ change ∷ asked_by_calls calls)
       (made : made_by_calls (call ∷ calls) ≡ change ∷ made_by_calls calls)
-      (keeps : (now : Situation) → IsStartOf (slot_count old.size) (state_of old) now → AreLive (meaning.changed meant (state_of old).map) (changed now.live change)) where
+      (keeps : (now : Situation) → IsStartOf (slot_count old.size) (state_of old) now → AreLive (meaning.map_after meant (state_of old).map) (live_after_one now.live change)) where
     appends_all : is_transfer call ≡ false → Appends old meant mid → MakesAll mid calls → MakesAll old (call ∷ calls)
     appends_all still done then = λ now moves before.
         let here = subst (λ l. IsAt old now moves l) asked before in
@@ -189,14 +189,14 @@ none_left (Carry change ∷ moves) now late same = absurd cc
 
 abbrev PutsAt : Device → ℕ → ℕ → Type 0
 PutsAt old address value = (now : Situation) → IsStartOf (slot_count old.size) (state_of old) now
-    → AreLive (meaning.changed (Put address value) (state_of old).map) (changed now.live (changes.Write address))
+    → AreLive (meaning.map_after (Put address value) (state_of old).map) (live_after_one now.live (changes.Write address))
 
 puts : (old : Device) (address value : ℕ) → IsAddress address → PutsAt old address value
 puts old address value proper = λ now start. live_after_put (state_of old).map now.live address value proper start.are_live
 
 abbrev ForgetsAt : Device → ℕ → Type 0
 ForgetsAt old address = (now : Situation) → IsStartOf (slot_count old.size) (state_of old) now
-    → AreLive (meaning.changed (meaning.Forget address) (state_of old).map) (changed now.live (changes.Forget address))
+    → AreLive (meaning.map_after (meaning.Forget address) (state_of old).map) (live_after_one now.live (changes.Forget address))
 
 forgets : (old : Device) (address : ℕ) → ForgetsAt old address
 forgets old address = λ now start. live_after_forget (state_of old).map now.live address start.are_live

@@ -7,17 +7,17 @@ use Rattle.ee_flash.specs.Size.{slot_count}
 use Rattle.ee_pages.specs.Meaning.{Map, Put, live_in, live_to}
 use Rattle.ee_pages.specs.Meaning as meaning
 use Rattle.ee_pages.proofs.Counts.{live_to-suc, live_to-zero}
-use Rattle.ee_store.specs.Calls.{ErasesOne}
-use Rattle.ee_store.specs.Changes.{Appends, IsSpent, Moves}
-use Rattle.ee_store.specs.Runs.{Call, Wrote, Forgot, Cleaned, DidRead, Follows, IsRun, is_cut, is_transfer, transfers}
-use Rattle.ee_store.specs.State.{State, state_of}
-use Rattle.ee_store.specs.declared.variables.ForgetFault.TheVariants as forget
-use Rattle.ee_store.specs.declared.variables.WriteFault.TheVariants as write
-use Rattle.ee_store.specs.declared.variables.Written.TheVariants.{Appended, Moved}
+use Rattle.ee_core.specs.Calls.{ErasesOne}
+use Rattle.ee_core.specs.Changes.{Appends, IsSpent, Moves}
+use Rattle.ee_core.specs.Runs.{Call, Wrote, Forgot, Cleaned, DidRead, Follows, IsRun, is_cut, is_transfer, transfers}
+use Rattle.ee_core.specs.State.{State, state_of}
+use Rattle.ee_core.specs.declared.variables.ForgetFault.TheVariants as forget
+use Rattle.ee_core.specs.declared.variables.WriteFault.TheVariants as write
+use Rattle.ee_core.specs.declared.variables.Written.TheVariants.{Appended, Moved}
 use Rattle.ee_check.proofs.Sizes.{changed-le}
 use Rattle.ee_check.specs.declared.change.Change.{Change}
 use Rattle.ee_check.specs.declared.change.Change.TheVariants as changes
-use Rattle.ee_check.specs.Live.{changed}
+use Rattle.ee_check.specs.Live.{live_after_one}
 use Rattle.ee_check.specs.Schedule.{Append, Carry, Copy, EachMove, IsAllowed, IsProper, Move, Situation, after_move, changes_of, cost}
 use Rattle.ee_plan.proofs.LiveLists.{live_after_forget, live_after_put, live_count_is}
 use Rattle.ee_plan.specs.Start.{AreLive}
@@ -48,7 +48,7 @@ forget_under : (here : Bool) (found wide : Option ℕ) → (found ≢ None → w
 forget_under true found wide under some = some
 forget_under false found wide under some = under some
 
-both_under : (change : meaning.Change) (map wide : Map) → IsUnder map wide → IsUnder (meaning.changed change map) (meaning.changed change wide)
+both_under : (change : meaning.Change) (map wide : Map) → IsUnder map wide → IsUnder (meaning.map_after change map) (meaning.map_after change wide)
 both_under (Put named value) map wide under = λ address some. put_under (eqb named address) value (map address) (wide address) (under address) some
 both_under (meaning.Forget named) map wide under = λ address some. forget_under (eqb named address) (map address) (wide address) (under address) some
 
@@ -57,11 +57,11 @@ put_wider true value wide some = λ e. cc
 put_wider false value wide some = some
 
 -- a value more in the wider map
-still_under : (map wide : Map) (named value : ℕ) → IsUnder map wide → IsUnder map (meaning.changed (Put named value) wide)
+still_under : (map wide : Map) (named value : ℕ) → IsUnder map wide → IsUnder map (meaning.map_after (Put named value) wide)
 still_under map wide named value under = λ address some. put_wider (eqb named address) value (wide address) (under address some)
 
 -- a value less, of an address that has none in the other
-absent_under : (map wide : Map) (named : ℕ) → map named ≡ None → IsUnder map wide → IsUnder map (meaning.changed (meaning.Forget named) wide)
+absent_under : (map wide : Map) (named : ℕ) → map named ≡ None → IsUnder map wide → IsUnder map (meaning.map_after (meaning.Forget named) wide)
 absent_under map wide named absent under = λ address some. elim (cases_eq named address) [
   | inl here ↦ absurd (some (ap map (sym here) ∙ absent))
   | inr apart ↦ rw (ne_eqb named address apart) (under address some)
@@ -133,11 +133,11 @@ record IsTurn (start : Situation) (change : Change) (later : List Change) (moves
   spent : ℕ
   cost_is : cost moves ≡ spent + cost more
   slots : next.slots ≡ start.slots
-  live : next.live ≡ changed start.live change
+  live : next.live ≡ live_after_one start.live change
   proper : IsProper next
   appended : spent ≡ 0 → next.fill ≡ start.fill + 1
 
-pub carried_fits : (start : Situation) (change : Change) → IsAllowed start (Carry change) → IsProper start → length (changed start.live change) ≤ start.slots
+pub carried_fits : (start : Situation) (change : Change) → IsAllowed start (Carry change) → IsProper start → length (live_after_one start.live change) ≤ start.slots
 carried_fits start (changes.Write address) allowed proper = allowed
 carried_fits start (changes.Forget address) allowed proper = forgetting_fits start address proper
 
@@ -171,7 +171,7 @@ turn (Append first ∷ moves) start change later allowed same proper =
       spent = 0;
       cost_is = omega arith;
       slots = refl;
-      live = ap (changed start.live) is;
+      live = ap (live_after_one start.live) is;
       proper = record { held = let a = proper.held in omega arith; fits = let a = allowed.0 in omega arith };
       appended = λ none. refl;
     }
@@ -186,7 +186,7 @@ turn (Carry first ∷ moves) start change later allowed same proper =
       spent = 1;
       cost_is = omega arith;
       slots = refl;
-      live = ap (changed start.live) is;
+      live = ap (live_after_one start.live) is;
       proper = record { held = omega arith; fits = carried_fits start first allowed.0 proper };
       appended = λ none. absurd (omega (arith, none));
     }
@@ -228,7 +228,7 @@ few_moved moved spent more fill was next slots few room one used within = elim (
 
 -- this change, meant so, keeps the live addresses
 abbrev Keeps : Change → meaning.Change → Type 0
-Keeps change meant = (wide : Map) (live : List ℕ) → AreLive wide live → AreLive (meaning.changed meant wide) (changed live change)
+Keeps change meant = (wide : Map) (live : List ℕ) → AreLive wide live → AreLive (meaning.map_after meant wide) (live_after_one live change)
 
 module _ (old mid : Device) (call : Call) (calls : List Call) where
   -- a call that asks for nothing
@@ -258,13 +258,13 @@ module _ (old mid : Device) (call : Call) (calls : List Call) where
 
   module _ (change : Change) (meant : meaning.Change) (asked : asked_by_calls (call ∷ calls) ≡ change ∷ asked_by_calls calls) (keeps : Keeps change meant) where
     -- a change that is refused
-    refused : is_transfer call ≡ false → mid ≡ old → ((wide : Map) → IsUnder (state_of old).map wide → IsUnder (state_of old).map (meaning.changed meant wide))
+    refused : is_transfer call ≡ false → mid ≡ old → ((wide : Map) → IsUnder (state_of old).map wide → IsUnder (state_of old).map (meaning.map_after meant wide))
         → IsBounded mid calls → IsBounded old (call ∷ calls)
     refused still kept wider then = λ now moves moved spent allowed same below.
         let first = turn moves now change (asked_by_calls calls) allowed (same ∙ asked) below.proper in
         let here : IsBelow old moved first.next (spent + first.spent) = record {
-          wide = meaning.changed meant below.wide;
-          live = subst (AreLive (meaning.changed meant below.wide)) (sym first.live) (keeps below.wide now.live below.live);
+          wide = meaning.map_after meant below.wide;
+          live = subst (AreLive (meaning.map_after meant below.wide)) (sym first.live) (keeps below.wide now.live below.live);
           under = wider below.wide below.under;
           proper = first.proper;
           slots = first.slots ∙ below.slots;
@@ -279,12 +279,12 @@ module _ (old mid : Device) (call : Call) (calls : List Call) where
     appended : is_transfer call ≡ false → Appends old meant mid → IsBounded mid calls → IsBounded old (call ∷ calls)
     appended still done then = λ now moves moved spent allowed same below.
         let first = turn moves now change (asked_by_calls calls) allowed (same ∙ asked) below.proper in
-        let map : (state_of mid).map ≡ meaning.changed meant (state_of old).map = ap (λ (s : State). s.map) done.state_is in
+        let map : (state_of mid).map ≡ meaning.map_after meant (state_of old).map = ap (λ (s : State). s.map) done.state_is in
         let fill : (state_of mid).fill ≡ (state_of old).fill + 1 = ap (λ (s : State). s.fill) done.state_is in
         let here : IsBelow mid moved first.next (spent + first.spent) = record {
-          wide = meaning.changed meant below.wide;
-          live = subst (AreLive (meaning.changed meant below.wide)) (sym first.live) (keeps below.wide now.live below.live);
-          under = subst (λ (m : Map). IsUnder m (meaning.changed meant below.wide)) (sym map) (both_under meant (state_of old).map below.wide below.under);
+          wide = meaning.map_after meant below.wide;
+          live = subst (AreLive (meaning.map_after meant below.wide)) (sym first.live) (keeps below.wide now.live below.live);
+          under = subst (λ (m : Map). IsUnder m (meaning.map_after meant below.wide)) (sym map) (both_under meant (state_of old).map below.wide below.under);
           proper = first.proper;
           slots = first.slots ∙ below.slots ∙ sym (ap slot_count done.goes_on.same_size);
           few = let a = below.few in omega (arith, a);
@@ -297,19 +297,19 @@ module _ (old mid : Device) (call : Call) (calls : List Call) where
     carried : is_transfer call ≡ true → Moves old meant mid → IsBounded mid calls → IsBounded old (call ∷ calls)
     carried turns done then = λ now moves moved spent allowed same below.
         let first = turn moves now change (asked_by_calls calls) allowed (same ∙ asked) below.proper in
-        let map : (state_of mid).map ≡ meaning.changed meant (state_of old).map = ap (λ (s : State). s.map) done.state_is in
-        let fill : (state_of mid).fill ≡ live_in (meaning.changed meant (state_of old).map) = ap (λ (s : State). s.fill) done.state_is in
+        let map : (state_of mid).map ≡ meaning.map_after meant (state_of old).map = ap (λ (s : State). s.map) done.state_is in
+        let fill : (state_of mid).fill ≡ live_in (meaning.map_after meant (state_of old).map) = ap (λ (s : State). s.fill) done.state_is in
         let under = both_under meant (state_of old).map below.wide below.under in
-        let live = subst (AreLive (meaning.changed meant below.wide)) (sym first.live) (keeps below.wide now.live below.live) in
-        let fewer = fewer_live (meaning.changed meant (state_of old).map) (meaning.changed meant below.wide) 65534 under in
-        let count = live_count_is (meaning.changed meant below.wide) first.next.live live in
+        let live = subst (AreLive (meaning.map_after meant below.wide)) (sym first.live) (keeps below.wide now.live below.live) in
+        let fewer = fewer_live (meaning.map_after meant (state_of old).map) (meaning.map_after meant below.wide) 65534 under in
+        let count = live_count_is (meaning.map_after meant below.wide) first.next.live live in
         let held = first.proper.held in
         let slots : first.next.slots ≡ slot_count old.size = first.slots ∙ below.slots in
         let within : first.next.fill ≤ slot_count old.size = let a = first.proper.fits in omega (arith, a, slots) in
         let here : IsBelow mid (moved + 1) first.next (spent + first.spent) = record {
-          wide = meaning.changed meant below.wide;
+          wide = meaning.map_after meant below.wide;
           live = live;
-          under = subst (λ (m : Map). IsUnder m (meaning.changed meant below.wide)) (sym map) under;
+          under = subst (λ (m : Map). IsUnder m (meaning.map_after meant below.wide)) (sym map) under;
           proper = first.proper;
           slots = slots ∙ sym (ap slot_count done.goes_on.same_size);
           few = few_moved moved spent first.spent (state_of old).fill now.fill first.next.fill (slot_count old.size) below.few below.room first.appended done.all_used within;

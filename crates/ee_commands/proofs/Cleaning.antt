@@ -2,12 +2,12 @@
 use Rattle.std.proofs.Common.{◌≡◌, ◌∙◌, ◌++◌, ◌+◌, ℕ, zero, suc, List, [], Ok, false, true, ap, arith, refl, replicate, subst}
 use Rattle.std.proofs.lemmas.List.Elements.{All-replicate}
 use Rattle.ee_flash.specs.Device.{Device}
-use Rattle.ee_store.specs.Calls.{Cleans}
-use Rattle.ee_store.specs.Finished.{IsStore}
-use Rattle.ee_store.specs.Runs.{Call, Cleaned, IsRun, IsWholeRun, is_cut}
-use Rattle.ee_store.specs.State.{State, Wears, pending_pages, state_of, with_pending}
+use Rattle.ee_flash.specs.Size.{Size}
+use Rattle.ee_core.specs.Calls.{Cleans}
+use Rattle.ee_core.specs.Runs.{Call, Cleaned, IsRun, IsWholeRun, is_cut}
+use Rattle.ee_core.specs.State.{State, Wears, pending_pages, state_of, with_pending}
 use Rattle.ee_commands.specs.Images.{IsCleaned, cleaned_text}
-use Rattle.ee_image_store.specs.Opening.{IsOpened, Spells, StaysOn}
+use Rattle.ee_image_store.specs.Opening.{IsOpened, IsStoreLeft}
 use Rattle.ee_image_store.proofs.Erasing.{pages_since}
 
 -- clean steps in which a page was erased, as many as this
@@ -32,17 +32,17 @@ cleans_more n old mid new some one =
     let next : suc n ≡ n + 1 = omega arith in
     no_cuts (cleanings (n + 1)) (n + 1) old new refl (subst (λ (m : ℕ). IsRun (cleanings m) old new) next (run_more n old mid new some.run one))
 
-pub is_cleaned : (image new_image empty text : List ℕ) (store new flash : Device) (erased : ℕ) → IsOpened image store → StaysOn new → new.size ≡ store.size
-    → IsWholeRun (cleanings erased) store new → state_of new ≡ with_pending 0 (state_of store) → Wears (pending_pages store) store new → erased ≡ (state_of store).pending → IsStore new → flash ≡ new → Spells new_image flash → empty ≡ [] → text ≡ empty ++ cleaned_text erased
+pub is_cleaned : (image new_image empty text : List ℕ) (store new : Device) (erased : ℕ) → IsOpened image store → new.size ≡ store.size
+    → IsWholeRun (cleanings erased) store new → state_of new ≡ with_pending 0 (state_of store) → Wears (pending_pages store) store new → erased ≡ (state_of store).pending → IsStoreLeft new.size new_image new → empty ≡ [] → text ≡ empty ++ cleaned_text erased
     → IsCleaned image new_image text
-is_cleaned image new_image empty text store new flash erased opened stays_on size cleans state wears count left same spelled none says = record {
+is_cleaned image new_image empty text store new erased opened size cleans state wears count left none says = record {
   device = opened.device;
   store = store;
   last = new;
   old = opened.old;
   opens = opened.opens;
   cleans = subst (λ (n : ℕ). IsWholeRun (cleanings n) store new) (count ∙ ap (λ (s : State). s.pending) opened.state_is) cleans;
-  left = record { spelled = subst (Spells new_image) same spelled; store = left; stays_on = stays_on; same_size = size ∙ opened.same_size };
+  left = subst (λ (size : Size). IsStoreLeft size new_image new) (size ∙ opened.same_size) left;
   state_is = state ∙ ap (with_pending 0) opened.state_is;
   wear = subst (λ (pages : List ℕ). Wears pages opened.device new) opened.same_pending (pages_since opened.device store new (pending_pages store) opened.no_wear wears);
   text_is = says ∙ ap (λ l. l ++ cleaned_text erased) none ∙ ap cleaned_text (count ∙ ap (λ (s : State). s.pending) opened.state_is);

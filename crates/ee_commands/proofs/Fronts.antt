@@ -2,10 +2,10 @@
 use Rattle.std.proofs.Common.{◌≡◌, ◌∙◌, ℕ, ◌++◌, sym, List, [], ◌∷◌, length, ap, refl, subst, arith}
 use Rattle.std.proofs.lemmas.List.{append-nil, append_assoc}
 use Rattle.ee_flash.specs.Device.{Device}
-use Rattle.ee_store.specs.Calls.{ErasesLowest}
-use Rattle.ee_store.specs.State.{Wears, pending_pages, state_of}
-use Rattle.ee_store.proofs.PendingPages.{length-pending_pages}
-use Rattle.ee_store.proofs.Wears.{wears_both, wears_none}
+use Rattle.ee_core.specs.Calls.{ErasesLowest}
+use Rattle.ee_core.specs.State.{Wears, pending_pages, state_of}
+use Rattle.ee_core.proofs.PendingPages.{length-pending_pages}
+use Rattle.ee_core.proofs.Wears.{wears_both, wears_none}
 
 -- a front of the pages that waited was erased, and the others wait
 pub record ErasesFront (old new : Device) : Type 0 where

@@ -1,28 +1,21 @@
 -- The text of a ledger grows by a page at a time; and there is one cause at most for which no wear is told.
-use Rattle.std.proofs.Common.{◌≡◌, ◌≢◌, ◌∙◌, ◌⊎◌, ◌+◌, ◌<◌, ℕ, zero, suc, Option, Some, None, List, [], ◌∷◌, ◌++◌}
-use Rattle.std.proofs.Common.{length, take, inl, inr, refl, sym, ap, subst, arith, add-one, append_assoc}
-use Rattle.std.proofs.Common.{Result, Ok, Err, IfErr, IfOk, MatchResult}
+use Rattle.std.proofs.Common.{◌≡◌, ◌≢◌, ◌∙◌, ◌⊎◌, ◌+◌, ◌<◌, ℕ, zero, suc, Option, Some, None, List, [], ◌∷◌, ◌++◌, length, take, inl, inr, refl, sym, ap, subst, arith, add-one, append_assoc, Result, Ok, Err, IfErr, IfOk, MatchResult}
 use Rattle.std.specs.Prelude.{slice_index}
 use Rattle.std.proofs.lemmas.Bool.{cases_order}
 use Rattle.std.proofs.lemmas.List.{append-nil}
 use Rattle.ee_text.specs.Line.{line_of}
 use Rattle.ee_flash.specs.Device.{Device}
-use Rattle.ee_image.specs.Fault.{IsImageFault}
-use Rattle.ee_image.specs.declared.fault.ImageFault.{ImageFault}
-use Rattle.ee_image.specs.declared.fault.ImageFault.TheVariants as image
-use Rattle.ee_image.proofs.Texts.{one_device_lem, one_fault_lem, short}
+use Rattle.ee_image.proofs.Texts.{one_device_lem}
 use Rattle.ee_wear.specs.Since.{IsFirstFallen, IsSinceFault, NoneFell}
 use Rattle.ee_wear.specs.declared.since.SinceFault.{SinceFault}
 use Rattle.ee_wear.specs.declared.since.SinceFault.TheVariants as since
-use Rattle.ee_words.specs.Fault.{fault_of_image, fault_of_since}
-use Rattle.ee_words.specs.declared.fault.Fault.{Fault}
-use Rattle.ee_words.specs.declared.fault.Fault.TheVariants.{Memory}
-use Rattle.ee_words.specs.declared.fault.File.{File}
-use Rattle.ee_words.specs.declared.fault.File.TheVariants.{Image, Before}
-use Rattle.ee_commands.specs.Images.{IsReadingFault}
-use Rattle.ee_image_store.specs.Opening.{Spells}
-use Rattle.ee_commands.specs.Wear.{IsDifferenceFault, IsFileFault, IsWear, IsWearFault, count_lines, count_text}
-use Rattle.ee_image_store.proofs.OneCause.{is_no_text}
+use Rattle.ee_faults.specs.Fault.{fault_of_since}
+use Rattle.ee_faults.specs.declared.fault.Fault.{Fault}
+use Rattle.ee_faults.specs.declared.fault.Fault.TheVariants.{Memory}
+use Rattle.ee_faults.specs.declared.fault.File.TheVariants.{Image, Before}
+use Rattle.ee_image_store.specs.Opening.{SpellsDevice}
+use Rattle.ee_commands.specs.Wear.{IsDifferenceFault, IsWear, IsWearFault, count_lines, count_text}
+use Rattle.ee_image_store.proofs.FileFaults.{one_file_fault, only_memory}
 
 lines_push : (start : ℕ) (counts : List ℕ) (n number : ℕ) → number ≡ start + n → n < length counts
     → count_lines start (take (suc n) counts)
@@ -46,53 +39,6 @@ counts_grow counts n count old out new within so_far is written =
     rw add-one (lines_push 0 counts n n (omega arith) within)
     ∙ ap (λ k. count_lines 0 (take n counts) ++ line_of (count_text n k)) (sym is) in
     written ∙ ap (λ l. l ++ line) so_far ∙ append_assoc old (count_lines 0 (take n counts)) line ∙ ap (λ l. old ++ l) (sym grown)
-
--- ---- the faults of a file
-
--- memory may run out where a device was read
-pub no_memory_for : (file : File) (text : List ℕ) (device : Device) → Spells text device → IsFileFault file text Memory
-no_memory_for file text device spelled = record {
-  cause = image.Memory;
-  applies = inr (omega (arith, ap length spelled.text_is, short device spelled.formed), refl);
-  fault_is = refl;
-}
-
-memory_alone : (file : File) (text : List ℕ) (device : Device) (fault : Fault) (cause : ImageFault) → Spells text device
-    → IsImageFault text cause → fault ≡ fault_of_image file cause
-    → fault ≡ Memory
-memory_alone file text device fault cause spelled (inl bad) is = absurd (is_no_text text device cause spelled bad)
-memory_alone file text device fault cause spelled (inr none) is = is ∙ ap (fault_of_image file) none.1
-
--- where the text is a device's, nothing but memory was wanting
-only_memory : (file : File) (text : List ℕ) (device : Device) (fault : Fault) → Spells text device → IsFileFault file text fault
-    → fault ≡ Memory
-only_memory file text device fault spelled bad = memory_alone file text device fault bad.cause spelled bad.applies bad.fault_is
-
-one_of_file : (file : File) (text : List ℕ) (cause fault : Fault) (first second : ImageFault) → cause ≢ Memory
-    → IsImageFault text first → cause ≡ fault_of_image file first
-    → IsImageFault text second → fault ≡ fault_of_image file second → (fault ≡ cause) ⊎ (fault ≡ Memory)
-one_of_file file text cause fault first second some (inr none) is h i = absurd (some (is ∙ ap (fault_of_image file) none.1))
-one_of_file file text cause fault first second some (inl bad) is (inr none) i = inr (i ∙ ap (fault_of_image file) none.1)
-one_of_file file text cause fault first second some (inl bad) is (inl other) i =
-    inl (i ∙ ap (fault_of_image file) (one_fault_lem text second first other bad) ∙ sym is)
-
-one_file_fault : (file : File) (text : List ℕ) (cause fault : Fault) → cause ≢ Memory → IsFileFault file text cause
-    → IsFileFault file text fault → (fault ≡ cause) ⊎ (fault ≡ Memory)
-one_file_fault file text cause fault some h i =
-    one_of_file file text cause fault h.cause i.cause some h.applies h.fault_is i.applies i.fault_is
-
--- why a text is read as no device is the cause
-pub reading_named : (text : List ℕ) (why : ImageFault) (fault cause : Fault) → IsImageFault text why
-    → fault ≡ fault_of_image Image why → cause ≢ Memory → IsReadingFault text cause
-    → (fault ≡ cause) ⊎ (fault ≡ Memory)
-reading_named text why fault cause bad told some h =
-    one_of_file Image text cause fault h.cause why some h.applies h.fault_is bad told
-
--- a device's text has no cause
-pub reading_good : (text : List ℕ) (device : Device) (cause : Fault) → Spells text device → cause ≢ Memory
-    → IsReadingFault text cause → ⊥
-reading_good text device cause spelled some h =
-    some (memory_alone Image text device cause h.cause spelled h.applies h.fault_is)
 
 -- ---- the faults of a difference
 
@@ -122,13 +68,13 @@ none_fell_is_good before now (since.Backwards page) none some h =
 none_fell_is_good before now since.Memory none some h = some refl
 
 -- the wear of two devices with one text is one
-same_wear : (text : List ℕ) (device other : Device) → Spells text device → Spells text other → other.wear ≡ device.wear
+same_wear : (text : List ℕ) (device other : Device) → SpellsDevice text device → SpellsDevice text other → other.wear ≡ device.wear
 same_wear text device other spelled again =
     ap (λ (d : Device). d.wear) (one_device_lem other device again.formed spelled.formed (sym again.text_is ∙ spelled.text_is))
 
 -- what is wrong with the difference of two devices, of which the texts spell, is so of those that they spell too
 moved_cause : (image before : List ℕ) (fault : Fault) (device old : Device) (wrong : IsDifferenceFault image before fault)
-    → Spells image device → Spells before old
+    → SpellsDevice image device → SpellsDevice before old
     → IsSinceFault old.wear device.wear wrong.cause
 moved_cause image before fault device old wrong spelled spelled_before =
     subst (λ (wear : List ℕ). IsSinceFault wear device.wear wrong.cause)

@@ -1,9 +1,9 @@
 -- The lines of what an image holds.
 use Rattle.std.proofs.Common.{◌≡◌, ◌∙◌, ℕ, Option, List, [], ◌∷◌, ◌++◌, sym, ap, append_assoc, append-nil, decimal}
 use Rattle.std.proofs.lemmas.Grind.{flat_map-append}
-use Rattle.ee_text.specs.Field.{joined, space}
+use Rattle.ee_text.specs.Field.{joined_fields, space}
 use Rattle.ee_text.specs.Line.{line_feed}
-use Rattle.ee_store.specs.State.{State, state_of}
+use Rattle.ee_core.specs.State.{State, state_of}
 use Rattle.ee_flash.specs.Device.{Device}
 use Rattle.ee_settings.specs.Listing.{listed_in}
 use Rattle.ee_settings.specs.Setting.{Setting}
@@ -11,7 +11,7 @@ use Rattle.ee_settings.specs.declared.listing.Listed.{Listed}
 use Rattle.ee_commands.specs.Listing.{AreNamed, IsList, held_words, listed_line, listed_lines, name_words, words_behind}
 use Rattle.ee_image_store.specs.Opening.{IsOpened}
 
-joined_behind : (word : List ℕ) (words : List (List ℕ)) → joined (word ∷ words) ≡ word ++ words_behind words
+joined_behind : (word : List ℕ) (words : List (List ℕ)) → joined_fields (word ∷ words) ≡ word ++ words_behind words
 joined_behind word [] = sym (append-nil word)
 joined_behind word (next ∷ more) = ap (λ (rest : List ℕ). word ++ (space ∷ rest)) (joined_behind next more)
 
@@ -23,7 +23,7 @@ line_made settings listed out numbered held named done first second third fourth
     let holds = held_words listed.held in
     let names = name_words settings listed.entry in
     let feed = line_feed ∷ [] in
-    let text : joined (number ∷ (holds ++ names)) ≡ number ++ (words_behind holds ++ words_behind names) =
+    let text : joined_fields (number ∷ (holds ++ names)) ≡ number ++ (words_behind holds ++ words_behind names) =
     joined_behind number (holds ++ names) ∙ ap (λ (rest : List ℕ). number ++ rest) (flat_map-append (λ (word : List ℕ). space ∷ word) holds names) in
     fourth ∙ rw (third, second, first, text)
     (append_assoc ((out ++ number) ++ words_behind holds) (words_behind names) feed

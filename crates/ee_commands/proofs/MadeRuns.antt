@@ -8,20 +8,20 @@ use Rattle.ee_flash.specs.Size.{Size, slot_count}
 use Rattle.ee_codec.specs.Words.{IsAddress}
 use Rattle.ee_pages.specs.Meaning.{Put}
 use Rattle.ee_pages.specs.Meaning as meaning
-use Rattle.ee_store.specs.Changes.{Appends, Moves}
-use Rattle.ee_store.specs.Runs.{Call, Wrote, Forgot, Cleaned, DidRead, IsRun, is_cut, is_transfer, transfers}
-use Rattle.ee_store.specs.State.{State, state_of}
-use Rattle.ee_store.specs.declared.variables.ForgetFault.TheVariants as forget
-use Rattle.ee_store.specs.declared.variables.WriteFault.TheVariants as write
-use Rattle.ee_store.specs.declared.variables.Written.TheVariants.{Appended, Moved}
+use Rattle.ee_core.specs.Changes.{Appends, Moves}
+use Rattle.ee_core.specs.Runs.{Call, Wrote, Forgot, Cleaned, DidRead, IsRun, is_cut, is_transfer, transfers}
+use Rattle.ee_core.specs.State.{State, state_of}
+use Rattle.ee_core.specs.declared.variables.ForgetFault.TheVariants as forget
+use Rattle.ee_core.specs.declared.variables.WriteFault.TheVariants as write
+use Rattle.ee_core.specs.declared.variables.Written.TheVariants.{Appended, Moved}
 use Rattle.ee_check.proofs.Sizes.{changed-le}
 use Rattle.ee_check.specs.declared.change.Change.{Change}
 use Rattle.ee_check.specs.declared.change.Change.TheVariants as changes
-use Rattle.ee_check.specs.Live.{KeepsWithin, changed}
+use Rattle.ee_check.specs.Live.{KeepsWithin, live_after_one}
 use Rattle.ee_check.specs.Schedule.{Append, Carry, EachMove, IsLate, IsProper, Move, Situation, after_move, carried_at, changes_of}
 use Rattle.ee_plan.proofs.Fitting.{keeps_more}
 use Rattle.ee_plan.proofs.LiveLists.{live_after_forget, live_after_put}
-use Rattle.ee_plan.specs.Rounds.{repeated}
+use Rattle.ee_plan.specs.Rounds.{repeated_trace}
 use Rattle.ee_plan.specs.Start.{AreLive, IsStartOf}
 use Rattle.ee_script.specs.Script.{AreCommands}
 use Rattle.ee_script.specs.declared.command.Command.{Command}
@@ -52,9 +52,9 @@ both_proper [] more are behind = behind
 both_proper (changes.Write address ∷ trace) more are behind = (are.0, both_proper trace more are.1 behind)
 both_proper (changes.Forget address ∷ trace) more are behind = both_proper trace more are behind
 
-pub repeated_proper : (runs : ℕ) (trace : List Change) → AreProper trace → AreProper (repeated runs trace)
+pub repeated_proper : (runs : ℕ) (trace : List Change) → AreProper trace → AreProper (repeated_trace runs trace)
 repeated_proper zero trace are = tt
-repeated_proper (suc more) trace are = both_proper trace (repeated more trace) are (repeated_proper more trace are)
+repeated_proper (suc more) trace are = both_proper trace (repeated_trace more trace) are (repeated_proper more trace are)
 
 -- ---- calls of a store that transfers when it must
 
@@ -89,7 +89,7 @@ none_first start call calls same still late =
 
 -- an append goes before
 append_first : (start : Situation) (call : Call) (calls : List Call) (change : Change) → made_by_calls (call ∷ calls) ≡ change ∷ made_by_calls calls
-    → is_transfer call ≡ false → start.fill < start.slots → length (changed start.live change) ≤ start.slots
+    → is_transfer call ≡ false → start.fill < start.slots → length (live_after_one start.live change) ≤ start.slots
     → IsLateOf (after_move start (Append change)) calls → IsLateOf start (call ∷ calls)
 append_first start call calls change one still free fits late =
     let count : transfers (call ∷ calls) ≡ transfers calls = not_counted call calls still in
@@ -103,7 +103,7 @@ append_first start call calls change one still free fits late =
 
 -- a move goes before
 carry_first : (start : Situation) (call : Call) (calls : List Call) (change : Change) → made_by_calls (call ∷ calls) ≡ change ∷ made_by_calls calls
-    → is_transfer call ≡ true → start.fill ≡ start.slots → length (changed start.live change) ≤ start.slots
+    → is_transfer call ≡ true → start.fill ≡ start.slots → length (live_after_one start.live change) ≤ start.slots
     → IsLateOf (after_move start (Carry change)) calls → IsLateOf start (call ∷ calls)
 carry_first start call calls change one moved used fits late =
     let count : transfers (call ∷ calls) ≡ 1 + transfers calls = counted call calls ∙ ap (λ b. cond b 1 0 + transfers calls) moved in
@@ -132,7 +132,7 @@ same_then old mid start call calls none still same is proper follows =
 -- an append, and what follows
 append_then : (old mid : Device) (start : Situation) (call : Call) (calls : List Call) (change : Change) (meant : meaning.Change)
     → made_by_calls (call ∷ calls) ≡ change ∷ made_by_calls calls → is_transfer call ≡ false → Appends old meant mid
-    → (is : Starts old start) → AreLive (meaning.changed meant (state_of old).map) (changed start.live change) → IsProper start
+    → (is : Starts old start) → AreLive (meaning.map_after meant (state_of old).map) (live_after_one start.live change) → IsProper start
     → Follows mid (after_move start (Append change)) calls → IsLateOf start (call ∷ calls)
 append_then old mid start call calls change meant one still done is live proper follows =
     let free : start.fill < start.slots = let a = is.fill_is in let b = is.slots_are in let c = done.free in omega arith in
@@ -147,7 +147,7 @@ append_then old mid start call calls change meant one still done is live proper 
 -- a move, and what follows
 carry_then : (old mid : Device) (start : Situation) (call : Call) (calls : List Call) (change : Change) (meant : meaning.Change)
     → made_by_calls (call ∷ calls) ≡ change ∷ made_by_calls calls → is_transfer call ≡ true → Moves old meant mid
-    → (is : Starts old start) → AreLive (meaning.changed meant (state_of old).map) (changed start.live change) → length (changed start.live change) ≤ start.slots
+    → (is : Starts old start) → AreLive (meaning.map_after meant (state_of old).map) (live_after_one start.live change) → length (live_after_one start.live change) ≤ start.slots
     → Follows mid (after_move start (Carry change)) calls → IsLateOf start (call ∷ calls)
 carry_then old mid start call calls change meant one moved done is live fits follows =
     let used : start.fill ≡ start.slots = let a = is.fill_is in let b = is.slots_are in let c = done.all_used in omega arith in

@@ -15,11 +15,10 @@ use Rattle.ee_pages.specs.Meaning.{Put}
 use Rattle.ee_pages.specs.declared.side.Side.{Side}
 use Rattle.ee_pages.specs.declared.side.Side.TheVariants.{First, Second}
 use Rattle.ee_pages.specs.Sets.{live_of}
-use Rattle.ee_store.specs.Changes.{IsAccepted}
-use Rattle.ee_store.specs.Finished.{IsStore}
-use Rattle.ee_store.specs.State.{State, Wears, pending_pages, state_in, state_of, state_with}
-use Rattle.ee_store.specs.declared.variables.Written.{Written}
-use Rattle.ee_store.specs.declared.variables.Written.TheVariants as written
+use Rattle.ee_core.specs.Changes.{IsAccepted}
+use Rattle.ee_core.specs.State.{State, Wears, pending_pages, state_in, state_of, state_with}
+use Rattle.ee_core.specs.declared.variables.Written.{Written}
+use Rattle.ee_core.specs.declared.variables.Written.TheVariants as written
 use Rattle.ee_image.specs.Text.{at_rest}
 use Rattle.ee_image.proofs.Texts.{one_device_lem}
 use Rattle.ee_settings.proofs.First.{one_fault}
@@ -36,19 +35,19 @@ use Rattle.ee_script.specs.declared.answer.Answer.{Answer}
 use Rattle.ee_script.specs.declared.answer.Answer.TheVariants.{Appended, Moved}
 use Rattle.ee_script.specs.declared.command.Command.{Command}
 use Rattle.ee_script.specs.declared.command.Command.TheVariants.{Write}
-use Rattle.ee_words.specs.Fault.{fault_of_replay, fault_of_schema}
-use Rattle.ee_words.specs.declared.fault.Fault.{Fault}
-use Rattle.ee_words.specs.declared.fault.Fault.TheVariants.{UnknownName, Memory}
-use Rattle.ee_words.specs.declared.replay_fault.ReplayFault.{ReplayFault}
-use Rattle.ee_words.specs.declared.replay_fault.ReplayFault.TheVariants as replay
+use Rattle.ee_faults.specs.Fault.{fault_of_replay, fault_of_schema}
+use Rattle.ee_faults.specs.declared.fault.Fault.{Fault}
+use Rattle.ee_faults.specs.declared.fault.Fault.TheVariants.{UnknownName, Memory}
+use Rattle.ee_faults.specs.declared.replay_fault.ReplayFault.{ReplayFault}
+use Rattle.ee_faults.specs.declared.replay_fault.ReplayFault.TheVariants as replay
 use Rattle.ee_image_store.proofs.Erasing.{both, by_append, by_move, pages_since}
 use Rattle.ee_image_store.proofs.OneCause.{one_open_fault, store_is_good}
-use Rattle.ee_image_store.specs.Erases.{ErasesRise, erases_of}
+use Rattle.ee_image_store.specs.Erases.{ErasesRise, erases_left_by}
 use Rattle.ee_commands.specs.Images.{IsOpeningFault}
-use Rattle.ee_image_store.specs.Machine.{Step}
-use Rattle.ee_image_store.specs.Opening.{HasStore, IsOpenFault, IsOpened, IsStoreText, Spells, StaysOn}
+use Rattle.ee_image_store.specs.Machine.{MachineStep}
+use Rattle.ee_image_store.specs.Opening.{HasStore, IsOpenFault, IsOpened, IsStoreLeft, IsStoreText, StaysOn}
 use Rattle.ee_image_store.specs.Steps.{Steps}
-use Rattle.ee_commands.specs.Settings.{HasTree, IsGetFault, IsRead, IsRefused, IsRefusedIn, IsSet, IsSetFault, IsSettingsFault, IsValueRefusal, IsWriteRefusal, IsWriteServed, IsWritten, SpellsSettings}
+use Rattle.ee_commands.specs.Settings.{HasTree, IsGetFault, IsSettingRead, IsSettingRefused, IsRefusedIn, IsSet, IsSetFault, IsSettingsFault, IsValueRefusal, IsWriteRefusal, IsWriteServed, IsWritten, SpellsSettings}
 
 -- ---- the text of the settings
 
@@ -68,7 +67,7 @@ entry_names (e ∷ es) = ap (λ names. string_bytes e.0 ∷ names) (entry_names 
 pub rising_keys : (es : List (String Global × Value)) → IsStrictlySortedBy string_cmp (keys_of es) → HaveRisingKeys (entries_of (members_view es))
 rising_keys es sorted = subst (IsStrictlySortedBy (slice_cmp nat_cmp)) (sym (ap (map (λ (e : Entry). e.0)) (entries_seen es) ∙ entry_names es)) (rising_bytes (keys_of es) sorted)
 
-one_tree : (text : List ℕ) (one other : Members) → HasTree text one → HasTree text other → one ≡ other
+pub one_tree : (text : List ℕ) (one other : Members) → HasTree text one → HasTree text other → one ≡ other
 one_tree text one other h k = cc (h.reads, k.reads)
 
 schema_memory_or : (why : SchemaFault) → (why ≡ schema.Memory) ⊎ (why ≢ schema.Memory)
@@ -170,7 +169,7 @@ get_unknown image text name store settings cause opened spelled some (inl h) = a
 get_unknown image text name store settings cause opened spelled some (inr (inl h)) = absurd (settings_good text settings cause spelled some h.1)
 get_unknown image text name store settings cause opened spelled some (inr (inr h)) = inl (sym h.2)
 
-pub got_good : (image text name : List ℕ) (store : Device) (settings : List Setting) (reading : Reading) (cause : Fault) → IsOpened image store → SpellsSettings text settings → IsRead settings (state_of store) name reading
+pub got_good : (image text name : List ℕ) (store : Device) (settings : List Setting) (reading : Reading) (cause : Fault) → IsOpened image store → SpellsSettings text settings → IsSettingRead settings (state_of store) name reading
     → cause ≢ Memory → IsGetFault image text name cause → ⊥
 got_good image text name store settings reading cause opened spelled read some (inl h) = opening_good image opened.device cause opened.old some h
 got_good image text name store settings reading cause opened spelled read some (inr (inl h)) = settings_good text settings cause spelled some h.1
@@ -216,11 +215,11 @@ is_written settings old new name value written.Moved on set = record {
 -- what was served by an opened store was served by what its text spells
 from_text : (image : List ℕ) (store new : Device) (command : Command) (answer : Answer) (opened : IsOpened image store) → Steps store command answer new → Steps opened.device command answer new
 from_text image store new command answer opened serves = record {
-  step = subst (λ (size : Size). Step size (state_of opened.device) command answer (state_of new)) opened.same_size
-      (subst (λ (state : State). Step store.size state command answer (state_of new)) opened.state_is serves.step);
+  step = subst (λ (size : Size). MachineStep size (state_of opened.device) command answer (state_of new)) opened.same_size
+      (subst (λ (state : State). MachineStep store.size state command answer (state_of new)) opened.state_is serves.step);
   same_size = serves.same_size ∙ opened.same_size;
-  erases = both opened.device store new 0 (erases_of opened.device.size answer) (erases_of opened.device.size answer) opened.erases
-      (subst (λ (size : Size). ErasesRise (erases_of size answer) store new) opened.same_size serves.erases) (omega arith);
+  erases = both opened.device store new 0 (erases_left_by opened.device.size answer) (erases_left_by opened.device.size answer) opened.erases
+      (subst (λ (size : Size). ErasesRise (erases_left_by size answer) store new) opened.same_size serves.erases) (omega arith);
 }
 
 served_from_text : (image : List ℕ) (store new : Device) (address value : ℕ) (opened : IsOpened image store) → IsWriteServed store address value new → IsWriteServed opened.device address value new
@@ -231,13 +230,13 @@ served_from_text image store new address value opened (inr h) =
       subst (λ (pages : List ℕ). Wears pages opened.device new) opened.same_pending (pages_since opened.device store new (pending_pages store) opened.no_wear h.1),
     )
 
-size_kept : (old new : Device) (address value : ℕ) → IsWriteServed old address value new → new.size ≡ old.size
+pub size_kept : (old new : Device) (address value : ℕ) → IsWriteServed old address value new → new.size ≡ old.size
 size_kept old new address value (inl h) = h.0.same_size
 size_kept old new address value (inr h) = h.0.same_size
 
-pub is_set : (image text name new_image line : List ℕ) (value : ℕ) (store new flash : Device) (settings : List Setting) → IsOpened image store → SpellsSettings text settings → IsWritten settings store name value new
-    → IsStore new → flash ≡ new → Spells new_image flash → line ≡ line_of (codes "set") → IsSet image text name value new_image line
-is_set image text name new_image line value store new flash settings opened spelled done left same spells says =
+pub is_set : (image text name new_image line : List ℕ) (value : ℕ) (store new : Device) (settings : List Setting) → IsOpened image store → SpellsSettings text settings → IsWritten settings store name value new
+    → IsStoreLeft new.size new_image new → line ≡ line_of (codes "set") → IsSet image text name value new_image line
+is_set image text name new_image line value store new settings opened spelled done left says =
     let served = served_from_text image store new done.setting.numbers.address value opened done.served in
     record {
       device = opened.device;
@@ -249,24 +248,19 @@ is_set image text name new_image line value store new flash settings opened spel
       spelled = spelled;
       written = done;
       served = served;
-      left = record {
-        spelled = subst (Spells new_image) same spells;
-        store = left;
-        stays_on = done.stays_on;
-        same_size = size_kept opened.device new done.setting.numbers.address value served;
-      };
+      left = subst (λ (size : Size). IsStoreLeft size new_image new) (size_kept opened.device new done.setting.numbers.address value served) left;
       line_is = says;
     }
 
 pub is_refused_in : (image text name : List ℕ) (value : ℕ) (store : Device) (settings : List Setting) (fault : Fault) → IsOpened image store → SpellsSettings text settings
-    → IsRefused settings store.size (state_of store) name value fault → IsRefusedIn image text name value fault
+    → IsSettingRefused settings store.size (state_of store) name value fault → IsRefusedIn image text name value fault
 is_refused_in image text name value store settings fault opened spelled refused = record {
   device = opened.device;
   old = opened.old;
   settings = settings;
   spelled = spelled;
-  refused = subst (λ (size : Size). IsRefused settings size (state_of opened.device) name value fault) opened.same_size
-      (subst (λ (state : State). IsRefused settings store.size state name value fault) opened.state_is refused);
+  refused = subst (λ (size : Size). IsSettingRefused settings size (state_of opened.device) name value fault) opened.same_size
+      (subst (λ (state : State). IsSettingRefused settings store.size state name value fault) opened.state_is refused);
 }
 
 -- ---- the causes for which nothing is set
@@ -300,8 +294,8 @@ one_value setting size state value fault cause (inr h) (inr k) = one_write size 
 one_named : (settings : List Setting) (name : List ℕ) (one other : Setting) → HaveRisingNames settings → IsNamed settings name one → IsNamed settings name other → one ≡ other
 one_named settings name one other rising h k = names_apart settings rising one other h.0 k.0 (h.1 ∙ sym k.1)
 
-one_refusal : (settings : List Setting) (size : Size) (state : State) (name : List ℕ) (value : ℕ) (fault cause : Fault) → HaveRisingNames settings → cause ≢ Memory → IsRefused settings size state name value fault
-    → IsRefused settings size state name value cause → (fault ≡ cause) ⊎ (fault ≡ Memory)
+one_refusal : (settings : List Setting) (size : Size) (state : State) (name : List ℕ) (value : ℕ) (fault cause : Fault) → HaveRisingNames settings → cause ≢ Memory → IsSettingRefused settings size state name value fault
+    → IsSettingRefused settings size state name value cause → (fault ≡ cause) ⊎ (fault ≡ Memory)
 one_refusal settings size state name value fault cause rising some (inr (inr h)) k = inr h
 one_refusal settings size state name value fault cause rising some (inl h) (inr (inr k)) = absurd (some k)
 one_refusal settings size state name value fault cause rising some (inl h) (inl k) = inl (h.1 ∙ sym k.1)
@@ -320,12 +314,12 @@ accepted_value : (setting : Setting) (size : Size) (state : State) (value : ℕ)
 accepted_value setting size state value cause within accepted (inl h) = h.0 within
 accepted_value setting size state value cause within accepted (inr h) = accepted_write size state setting.numbers.address value cause accepted h.1
 
-accepted_by : (old new : Device) (address value : ℕ) → IsWriteServed old address value new → IsAccepted (slot_count old.size) (state_of old) (Put address value)
+pub accepted_by : (old new : Device) (address value : ℕ) → IsWriteServed old address value new → IsAccepted (slot_count old.size) (state_of old) (Put address value)
 accepted_by old new address value (inl h) = h.0.step.0
 accepted_by old new address value (inr h) = h.0.step.0
 
 written_good : (settings : List Setting) (old new : Device) (name : List ℕ) (value : ℕ) (cause : Fault) → HaveRisingNames settings → cause ≢ Memory → IsWritten settings old name value new
-    → IsRefused settings old.size (state_of old) name value cause → ⊥
+    → IsSettingRefused settings old.size (state_of old) name value cause → ⊥
 written_good settings old new name value cause rising some done (inl h) = h.0 done.setting done.named
 written_good settings old new name value cause rising some done (inr (inr h)) = some h
 written_good settings old new name value cause rising some done (inr (inl h)) =
@@ -334,14 +328,14 @@ written_good settings old new name value cause rising some done (inr (inl h)) =
 
 -- what refuses a value in the image refuses it in its store
 refused_there : (image text name : List ℕ) (value : ℕ) (store : Device) (settings : List Setting) (cause : Fault) → IsOpened image store → SpellsSettings text settings → IsRefusedIn image text name value cause
-    → IsRefused settings store.size (state_of store) name value cause
+    → IsSettingRefused settings store.size (state_of store) name value cause
 refused_there image text name value store settings cause opened spelled h =
     let rest = one_rest image h.device opened.device h.old opened.old in
     let size : h.device.size ≡ store.size = ap (λ (d : Device). d.size) rest ∙ sym opened.same_size in
     let state : state_of h.device ≡ state_of store = sym (rested_state h.device) ∙ ap state_of rest ∙ rested_state opened.device ∙ sym opened.state_is in
-    subst (λ (ss : List Setting). IsRefused ss store.size (state_of store) name value cause) (spelled_once text h.settings settings h.spelled spelled)
-    (subst (λ (s : Size). IsRefused h.settings s (state_of store) name value cause) size
-    (subst (λ (t : State). IsRefused h.settings h.device.size t name value cause) state h.refused))
+    subst (λ (ss : List Setting). IsSettingRefused ss store.size (state_of store) name value cause) (spelled_once text h.settings settings h.spelled spelled)
+    (subst (λ (s : Size). IsSettingRefused h.settings s (state_of store) name value cause) size
+    (subst (λ (t : State). IsSettingRefused h.settings h.device.size t name value cause) state h.refused))
 
 pub set_unopened : (image text name : List ℕ) (value : ℕ) (why : ReplayFault) (fault cause : Fault) → IsOpenFault image why → fault ≡ fault_of_replay why → cause ≢ Memory → IsSetFault image text name value cause
     → (fault ≡ cause) ⊎ (fault ≡ Memory)
@@ -357,7 +351,7 @@ set_unspelled image text name value store fault cause opened names only some (in
 set_unspelled image text name value store fault cause opened names only some (inr (inr h)) = inr (only h.settings h.spelled)
 
 pub set_refused : (image text name : List ℕ) (value : ℕ) (store : Device) (settings : List Setting) (fault cause : Fault) → IsOpened image store → SpellsSettings text settings
-    → IsRefused settings store.size (state_of store) name value fault → cause ≢ Memory → IsSetFault image text name value cause → (fault ≡ cause) ⊎ (fault ≡ Memory)
+    → IsSettingRefused settings store.size (state_of store) name value fault → cause ≢ Memory → IsSetFault image text name value cause → (fault ≡ cause) ⊎ (fault ≡ Memory)
 set_refused image text name value store settings fault cause opened spelled refused some (inl h) = absurd (opening_good image opened.device cause opened.old some h)
 set_refused image text name value store settings fault cause opened spelled refused some (inr (inl h)) = absurd (settings_good text settings cause spelled some h.1)
 set_refused image text name value store settings fault cause opened spelled refused some (inr (inr h)) =

@@ -13,7 +13,7 @@ use Rattle.ee_pages.specs.Meaning.{Map}
 use Rattle.ee_pages.specs.Sets.{live_of}
 use Rattle.ee_pages.specs.declared.side.Side.{Side}
 use Rattle.ee_pages.specs.declared.side.Side.TheVariants.{First, Second}
-use Rattle.ee_store.specs.State.{State, state_in, state_of}
+use Rattle.ee_core.specs.State.{State, state_in, state_of}
 use Rattle.ee_image.specs.Text.{at_rest}
 use Rattle.ee_image.proofs.Texts.{one_device_lem}
 use Rattle.ee_script.specs.declared.session.ScriptFault.{ScriptFault}
@@ -27,18 +27,18 @@ use Rattle.ee_check.specs.declared.reading.TextFault.TheVariants as spelled
 use Rattle.ee_check.specs.Certificate.{Claim}
 use Rattle.ee_check.specs.Fault.{IsCause}
 use Rattle.ee_check.specs.Schedule.{Situation}
-use Rattle.ee_check.specs.Text.{IsText, IsTextFault}
+use Rattle.ee_check.specs.Text.{IsText, IsCertificateTextFault}
 use Rattle.ee_check.proofs.Texts.{one_first_bad_line_lem as one_bad_line, one_text_lem, texts_are_good_lem}
 use Rattle.ee_plan.specs.Plan.{IsFirstNotFitting, IsPlanFault}
 use Rattle.ee_plan.specs.Start.{AreLive, IsStartOf}
 use Rattle.ee_plan.specs.declared.planned.PlanFault.{PlanFault}
 use Rattle.ee_plan.specs.declared.planned.PlanFault.TheVariants as plan
-use Rattle.ee_words.specs.Fault.{fault_of_certificate, fault_of_check, fault_of_plan, fault_of_replay, fault_of_script}
-use Rattle.ee_words.specs.declared.fault.Fault.{Fault}
-use Rattle.ee_words.specs.declared.fault.Fault.TheVariants.{Memory, NotFitting}
-use Rattle.ee_words.specs.declared.replay_fault.ReplayFault.{ReplayFault}
-use Rattle.ee_words.specs.declared.replay_fault.ReplayFault.TheVariants as replay
-use Rattle.ee_image_store.specs.Opening.{IsOpenFault, IsOpened, IsStoreText, Spells}
+use Rattle.ee_faults.specs.Fault.{fault_of_certificate, fault_of_check, fault_of_plan, fault_of_replay, fault_of_script}
+use Rattle.ee_faults.specs.declared.fault.Fault.{Fault}
+use Rattle.ee_faults.specs.declared.fault.Fault.TheVariants.{Memory, NotFitting}
+use Rattle.ee_faults.specs.declared.replay_fault.ReplayFault.{ReplayFault}
+use Rattle.ee_faults.specs.declared.replay_fault.ReplayFault.TheVariants as replay
+use Rattle.ee_image_store.specs.Opening.{IsOpenFault, IsOpened, IsStoreText, SpellsDevice}
 use Rattle.ee_commands.specs.Planning.{IsCertificateFault, IsCheckingFault, IsImageStart, IsPlanningFault, IsRefusal, IsTask, IsTaskFault, IsTrace, IsTraceFault}
 use Rattle.ee_image_store.specs.Trace.{trace_of}
 use Rattle.ee_image_store.proofs.OneCause.{one_open_fault, store_is_good}
@@ -51,7 +51,7 @@ state_at_rest device None = refl
 state_at_rest device (Some (First, generation)) = refl
 state_at_rest device (Some (Second, generation)) = refl
 
-same_devices : (text : List ℕ) (device other : Device) → Spells text device → Spells text other → at_rest device ≡ at_rest other
+same_devices : (text : List ℕ) (device other : Device) → SpellsDevice text device → SpellsDevice text other → at_rest device ≡ at_rest other
 same_devices text device other spelled again = one_device_lem device other spelled.formed again.formed (sym spelled.text_is ∙ again.text_is)
 
 same_state : (device other : Device) → at_rest device ≡ at_rest other → state_of device ≡ state_of other
@@ -202,18 +202,18 @@ later_of_check image text certificate start trace cause some (inl h) task = absu
 later_of_check image text certificate start trace cause some (inr h) task =
     same_task (λ s l. IsCertificateFault s l certificate cause) image text h.0 start h.1 trace h.2 task h.3
 
-one_text_fault : (certificate : List ℕ) (cause fault : TextFault) → cause ≢ spelled.Memory → IsTextFault certificate cause → IsTextFault certificate fault → (fault ≡ cause) ⊎ (fault ≡ spelled.Memory)
+one_text_fault : (certificate : List ℕ) (cause fault : TextFault) → cause ≢ spelled.Memory → IsCertificateTextFault certificate cause → IsCertificateTextFault certificate fault → (fault ≡ cause) ⊎ (fault ≡ spelled.Memory)
 one_text_fault certificate (spelled.BadText m) (spelled.BadText n) some h i = inl (ap spelled.BadText (one_bad_line certificate n m i h))
 one_text_fault certificate (spelled.BadText m) spelled.Memory some h i = inr refl
 one_text_fault certificate spelled.Memory fault some h i = absurd (some refl)
 
 -- where the text says a claim its fault is want of memory
-text_memory : (certificate : List ℕ) (claim : Claim) (cause : TextFault) → IsText certificate claim → IsTextFault certificate cause → cause ≡ spelled.Memory
+text_memory : (certificate : List ℕ) (claim : Claim) (cause : TextFault) → IsText certificate claim → IsCertificateTextFault certificate cause → cause ≡ spelled.Memory
 text_memory certificate claim (spelled.BadText n) is bad = absurd (texts_are_good_lem certificate claim n is bad)
 text_memory certificate claim spelled.Memory is bad = refl
 
 pub text_of_check : (start : Situation) (trace : List Change) (certificate : List ℕ) (cause : Fault) (fault : TextFault) → cause ≢ Memory
-    → IsCertificateFault start trace certificate cause → IsTextFault certificate fault → (fault_of_certificate fault ≡ cause) ⊎ (fault_of_certificate fault ≡ Memory)
+    → IsCertificateFault start trace certificate cause → IsCertificateTextFault certificate fault → (fault_of_certificate fault ≡ cause) ⊎ (fault_of_certificate fault ≡ Memory)
 text_of_check start trace certificate cause fault some (inl h) i =
     one_name fault_of_certificate cause (fault_of_certificate fault) h.cause fault spelled.Memory h.fault_is refl refl
     (one_text_fault certificate h.cause fault (other_cause fault_of_certificate cause h.cause spelled.Memory some h.fault_is refl) h.applies i)

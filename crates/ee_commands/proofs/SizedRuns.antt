@@ -6,17 +6,17 @@ use Rattle.std.specs.Ordering.{nat_cmp}
 use Rattle.std.specs.List.{All}
 use Rattle.ee_flash.specs.Device.{Device, IsOn}
 use Rattle.ee_flash.specs.Size.{size_of, slot_count}
-use Rattle.ee_store.proofs.PageWears.{no_page_wears_more_lem}
-use Rattle.ee_store.specs.Openings.{IsFormatted}
-use Rattle.ee_store.specs.Runs.{Call, IsWholeRun, transfers}
-use Rattle.ee_store.specs.State.{State, formatted, state_of}
-use Rattle.ee_store.specs.Changes.{greatest_generation}
+use Rattle.ee_core.proofs.PageWears.{no_page_wears_more_lem}
+use Rattle.ee_core.specs.Openings.{IsFormatted}
+use Rattle.ee_core.specs.Runs.{Call, IsWholeRun, transfers}
+use Rattle.ee_core.specs.State.{State, formatted_state, state_of}
+use Rattle.ee_core.specs.Changes.{greatest_generation}
 use Rattle.ee_check.proofs.Bounds.{late_moves, late_stores_meet_it_lem}
 use Rattle.ee_check.specs.declared.change.Change.{Change}
 use Rattle.ee_check.specs.Live.{KeepsWithin}
 use Rattle.ee_check.specs.Schedule.{IsProper, Situation, cost}
 use Rattle.ee_plan.proofs.Fitting.{none_breaks}
-use Rattle.ee_plan.specs.Rounds.{IsDemand, fresh, repeated}
+use Rattle.ee_plan.specs.Rounds.{IsDemand, fresh, repeated_trace}
 use Rattle.ee_plan.specs.Start.{AreLive, IsStartOf}
 use Rattle.ee_plan.specs.declared.demand.Demand.{Demand}
 use Rattle.ee_plan.specs.declared.demand.Demand.TheVariants.{Transfers, NotFitting}
@@ -110,7 +110,7 @@ none_live = record {
   all = λ address some. absurd (some refl);
 }
 
-empty_start : (slots : ℕ) (state : State) → state ≡ formatted → IsStartOf slots state (fresh slots)
+empty_start : (slots : ℕ) (state : State) → state ≡ formatted_state → IsStartOf slots state (fresh slots)
 empty_start slots state same =
     subst (λ (s : State). IsStartOf slots s (fresh slots)) (sym same) (record { slots_are = refl; fill_is = refl; are_live = none_live })
 
@@ -118,7 +118,7 @@ empty_proper : (slots : ℕ) → IsProper (fresh slots)
 empty_proper slots = record { held = omega arith; fits = omega arith }
 
 -- a store beside a schedule, before the first change
-both_begin : (device : Device) → state_of device ≡ formatted → IsBelow device 0 (fresh (slot_count device.size)) 0
+both_begin : (device : Device) → state_of device ≡ formatted_state → IsBelow device 0 (fresh (slot_count device.size)) 0
 both_begin device same = record {
   wide = λ address. None;
   live = none_live;
@@ -142,7 +142,7 @@ wears cycles most calls blank old new formats whole few =
     }
 
 -- the addresses of the script that is made so many times
-all_proper : (words cycles runs : ℕ) (text told : List ℕ) (some_enough : Bool) (sized : IsSized words text cycles runs told some_enough) → AreProper (repeated runs sized.trace)
+all_proper : (words cycles runs : ℕ) (text told : List ℕ) (some_enough : Bool) (sized : IsSized words text cycles runs told some_enough) → AreProper (repeated_trace runs sized.trace)
 all_proper words cycles runs text told some_enough sized =
     let once = trace_proper sized.trace_is.commands sized.trace_is.is_script.proper in
     repeated_proper runs sized.trace (subst AreProper (sym sized.trace_is.trace_is) once)
@@ -150,10 +150,10 @@ all_proper words cycles runs text told some_enough sized =
 pub each_size_wears_as_told_lem : (text told : List ℕ) (cycles runs most : ℕ) (some_enough : Bool) (calls : List Call) (blank old new : Device)
     → (sized : IsSized old.size.words text cycles runs told some_enough) → IsDemandOf old.size.pages sized.demands (Transfers most)
     → IsFormatted blank old → IsWholeRun calls old new
-    → asked_by_calls calls ≡ repeated runs sized.trace → WearsAsTold cycles most calls old new
+    → asked_by_calls calls ≡ repeated_trace runs sized.trace → WearsAsTold cycles most calls old new
 each_size_wears_as_told_lem text told cycles runs most some_enough calls blank old new sized line formats whole asked =
     let words = old.size.words in
-    let trace = repeated runs sized.trace in
+    let trace = repeated_trace runs sized.trace in
     let are = subst AreProper (sym asked) (all_proper words cycles runs text told some_enough sized) in
     let demanded = demanded_there words old.size.pages trace most sized.demands line sized.demanded in
     let reached = demanded.1.reached in
@@ -163,12 +163,12 @@ each_size_wears_as_told_lem text told cycles runs most some_enough calls blank o
 
 pub each_size_moves_as_told_lem : (text told : List ℕ) (cycles runs : ℕ) (some_enough : Bool) (calls : List Call) (blank old new : Device)
     → (sized : IsSized old.size.words text cycles runs told some_enough) → IsFormatted blank old → IsWholeRun calls old new
-    → made_by_calls calls ≡ repeated runs sized.trace
+    → made_by_calls calls ≡ repeated_trace runs sized.trace
     → IsDemandOf old.size.pages sized.demands (Transfers (transfers calls)) × WearsAsTold cycles (transfers calls) calls old new
 each_size_moves_as_told_lem text told cycles runs some_enough calls blank old new sized formats whole made =
     let words = old.size.words in
     let slots = slot_count old.size in
-    let trace = repeated runs sized.trace in
+    let trace = repeated_trace runs sized.trace in
     let limits = formats.store.legal.2.formed.within_limits in
     let are = subst AreProper (sym made) (all_proper words cycles runs text told some_enough sized) in
     let late = late_calls calls old new (fresh slots) whole.run whole.without_cuts are (empty_start slots (state_of old) formats.state_is) (empty_proper slots) in
@@ -183,7 +183,7 @@ each_size_moves_as_told_lem text told cycles runs some_enough calls blank old ne
     (line, wears cycles (transfers calls) calls blank old new formats whole (omega arith))
 
 -- generations are left for so many transfers of a store that was just formatted
-generations_left : (most : ℕ) (device : Device) → state_of device ≡ formatted → is_spent_by most ≡ false → (state_of device).generation + most ≤ greatest_generation
+generations_left : (most : ℕ) (device : Device) → state_of device ≡ formatted_state → is_spent_by most ≡ false → (state_of device).generation + most ≤ greatest_generation
 generations_left most device same left =
     let first : (state_of device).generation ≡ 1 = ap (λ (s : State). s.generation) same in
     omega (arith, first, ltb-false most_transfers most left)
@@ -191,12 +191,12 @@ generations_left most device same left =
 pub each_size_is_made_as_told_lem : (text told : List ℕ) (cycles runs most : ℕ) (some_enough : Bool) (calls : List Call) (blank old new : Device)
     → (sized : IsSized old.size.words text cycles runs told some_enough) → IsDemandOf old.size.pages sized.demands (Transfers most)
     → IsFormatted blank old → IsOn old → IsWholeRun calls old new → All (λ call. wants_memory call ≡ false) calls
-    → asked_by_calls calls ≡ repeated runs sized.trace → ForgetsLive [] (repeated runs sized.trace) → is_spent_by most ≡ false
-    → (made_by_calls calls ≡ repeated runs sized.trace) × (transfers calls ≡ most)
+    → asked_by_calls calls ≡ repeated_trace runs sized.trace → ForgetsLive [] (repeated_trace runs sized.trace) → is_spent_by most ≡ false
+    → (made_by_calls calls ≡ repeated_trace runs sized.trace) × (transfers calls ≡ most)
 each_size_is_made_as_told_lem text told cycles runs most some_enough calls blank old new sized line formats on whole given asked held left =
     let words = old.size.words in
     let start = fresh (slot_count old.size) in
-    let trace = repeated runs sized.trace in
+    let trace = repeated_trace runs sized.trace in
     let are = subst AreProper (sym asked) (all_proper words cycles runs text told some_enough sized) in
     let demanded = demanded_there words old.size.pages trace most sized.demands line sized.demanded in
     let late = late_moves start trace demanded.1.claim (empty_proper start.slots) demanded.1.tight in

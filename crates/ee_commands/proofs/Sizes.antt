@@ -8,11 +8,11 @@ use Rattle.ee_plan.specs.Rounds.{IsDemand, fresh}
 use Rattle.ee_plan.specs.declared.demand.Demand.{Demand}
 use Rattle.ee_script.specs.declared.session.ScriptFault.{ScriptFault}
 use Rattle.ee_script.specs.declared.session.ScriptFault.TheVariants as script
-use Rattle.ee_words.specs.Fault.{fault_of_script}
-use Rattle.ee_words.specs.declared.fault.Fault.{Fault}
-use Rattle.ee_words.specs.declared.fault.Fault.TheVariants.{Memory}
+use Rattle.ee_faults.specs.Fault.{fault_of_script}
+use Rattle.ee_faults.specs.declared.fault.Fault.{Fault}
+use Rattle.ee_faults.specs.declared.fault.Fault.TheVariants.{Memory}
 use Rattle.ee_commands.specs.Planning.{IsTrace, IsTraceFault}
-use Rattle.ee_commands.specs.Sizing.{AreDemands, IsSizingFault, size_lines, size_text}
+use Rattle.ee_commands.specs.Sizing.{AreDemands, IsSizingFault, size_lines, sizing_text}
 use Rattle.ee_commands.proofs.OneTask.{one_name, one_trace_fault, other_cause, trace_memory}
 
 -- ---- one size further
@@ -26,13 +26,13 @@ demands_grow words trace pages next (first ∷ demands) demand are is one =
     (are.0, demands_grow words trace (pages + 1) next demands demand are.1 (omega arith) one)
 
 lines_append : (words cycles changes pages next : ℕ) (demands : List Demand) (demand : Demand) → next ≡ pages + length demands
-    → size_lines words cycles changes pages (demands ++ demand ∷ []) ≡ size_lines words cycles changes pages demands ++ line_of (size_text words cycles changes next demand)
+    → size_lines words cycles changes pages (demands ++ demand ∷ []) ≡ size_lines words cycles changes pages demands ++ line_of (sizing_text words cycles changes next demand)
 lines_append words cycles changes pages next [] demand is =
     let e : next ≡ pages = omega arith in
     rw e (simp append-nil)
 lines_append words cycles changes pages next (first ∷ demands) demand is =
-    ap (λ l. line_of (size_text words cycles changes pages first) ++ l) (lines_append words cycles changes (pages + 1) next demands demand (omega arith))
-    ∙ sym (append_assoc (line_of (size_text words cycles changes pages first)) (size_lines words cycles changes (pages + 1) demands) (line_of (size_text words cycles changes next demand)))
+    ap (λ l. line_of (sizing_text words cycles changes pages first) ++ l) (lines_append words cycles changes (pages + 1) next demands demand (omega arith))
+    ∙ sym (append_assoc (line_of (sizing_text words cycles changes pages first)) (size_lines words cycles changes (pages + 1) demands) (line_of (sizing_text words cycles changes next demand)))
 
 -- ---- why none is told
 
@@ -49,9 +49,9 @@ only_want_of_memory text trace cause is some h = some (h.fault_is ∙ ap fault_o
 -- the lines so far, and that of one size more
 pub sizes_grow : (words cycles changes pages n : ℕ) (demands : List Demand) (d : Demand) (old new : List ℕ) → n < length demands → pages ≡ n
     → old ≡ size_lines words cycles changes 1 (take n demands)
-    → new ≡ old ++ line_of (size_text words cycles changes (pages + 1) (get_or demands n d)) → new ≡ size_lines words cycles changes 1 (take (n + 1) demands)
+    → new ≡ old ++ line_of (sizing_text words cycles changes (pages + 1) (get_or demands n d)) → new ≡ size_lines words cycles changes 1 (take (n + 1) demands)
 sizes_grow words cycles changes pages n demands d old new within counted so_far written =
     let demand = get_or demands n d in
     let size = length-take-le n demands (omega arith) in
-    written ∙ ap (λ l. l ++ line_of (size_text words cycles changes (pages + 1) demand)) so_far
+    written ∙ ap (λ l. l ++ line_of (sizing_text words cycles changes (pages + 1) demand)) so_far
     ∙ sym (ap (size_lines words cycles changes 1) (take_more demands n d within) ∙ lines_append words cycles changes 1 (pages + 1) (take n demands) demand (omega arith))

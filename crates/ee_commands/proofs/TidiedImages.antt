@@ -3,20 +3,19 @@ use Rattle.std.proofs.Common.{◌≡◌, ◌≢◌, ◌⊎◌, ◌∙◌, ◌+�
 use Rattle.std.specs.Prelude.{option_map}
 use Rattle.ee_flash.specs.Device.{Device}
 use Rattle.ee_flash.specs.Size.{Size}
-use Rattle.ee_store.specs.Finished.{IsStore}
-use Rattle.ee_store.specs.State.{State, state_of}
+use Rattle.ee_core.specs.State.{State, state_of}
 use Rattle.ee_settings.proofs.Forgetting.{each_goes_on}
 use Rattle.ee_settings.proofs.TidiedMaps.{leaves_named, leaves_state, none_spent}
 use Rattle.ee_settings.specs.Setting.{Setting}
 use Rattle.ee_settings.specs.Stale.{stale_in}
-use Rattle.ee_settings.specs.Tidying.{IsSpentAmong, Tidies, after_forgettings, kept, unnamed_in}
+use Rattle.ee_settings.specs.Tidying.{IsSpentAmong, Tidies, after_forgettings, kept_map, unnamed_in}
 use Rattle.ee_settings.specs.declared.fault.TidyFault.TheVariants as tidy
-use Rattle.ee_words.specs.Fault.{fault_of_replay}
-use Rattle.ee_words.specs.declared.fault.Fault.{Fault}
-use Rattle.ee_words.specs.declared.fault.Fault.TheVariants.{Memory, Spent}
-use Rattle.ee_words.specs.declared.replay_fault.ReplayFault.{ReplayFault}
+use Rattle.ee_faults.specs.Fault.{fault_of_replay}
+use Rattle.ee_faults.specs.declared.fault.Fault.{Fault}
+use Rattle.ee_faults.specs.declared.fault.Fault.TheVariants.{Memory, Spent}
+use Rattle.ee_faults.specs.declared.replay_fault.ReplayFault.{ReplayFault}
 use Rattle.ee_commands.proofs.Named.{not_opened, one_rest, opening_good, opening_named, rested_state, settings_good, spelled_once}
-use Rattle.ee_image_store.specs.Opening.{IsOpenFault, IsOpened, Spells, StaysOn}
+use Rattle.ee_image_store.specs.Opening.{IsOpenFault, IsOpened, IsStoreLeft, StaysOn}
 use Rattle.ee_commands.specs.SecondSchema.{AreStaleLines, IsSpentFor, IsStaleTextFault, IsTidied, IsTidiedImage, IsTidyImageFault, stale_lines, tidied_text}
 use Rattle.ee_commands.specs.Settings.{IsSettingsFault, SpellsSettings}
 
@@ -58,9 +57,9 @@ are_stale_lines image text lines store settings opened spelled says = record {
 
 -- ---- the image that is left
 
-pub is_tidied_image : (image text new_image line : List ℕ) (store new flash : Device) (settings : List Setting) (count : ℕ) → IsOpened image store → SpellsSettings text settings → IsTidied settings store count new
-    → IsStore new → flash ≡ new → Spells new_image flash → line ≡ tidied_text count → IsTidiedImage image text new_image line
-is_tidied_image image text new_image line store new flash settings count opened spelled done left same spells says = record {
+pub is_tidied_image : (image text new_image line : List ℕ) (store new : Device) (settings : List Setting) (count : ℕ) → IsOpened image store → SpellsSettings text settings → IsTidied settings store count new
+    → IsStoreLeft new.size new_image new → line ≡ tidied_text count → IsTidiedImage image text new_image line
+is_tidied_image image text new_image line store new settings count opened spelled done left says = record {
   store = store;
   opened = opened;
   settings = settings;
@@ -68,17 +67,12 @@ is_tidied_image image text new_image line store new flash settings count opened 
   count = count;
   last = new;
   tidied = done.tidied;
-  map_is = λ address. done.map_is address ∙ ap (λ (state : State). kept settings state.map address) opened.state_is;
+  map_is = λ address. done.map_is address ∙ ap (λ (state : State). kept_map settings state.map address) opened.state_is;
   state_is =
       done.state_is
       ∙ ap (λ (state : State). after_forgettings store.size (unnamed_in settings state.map) state) opened.state_is
       ∙ ap (λ (size : Size). after_forgettings size (unnamed_in settings (state_of opened.device).map) (state_of opened.device)) opened.same_size;
-  left = record {
-    spelled = subst (Spells new_image) same spells;
-    store = left;
-    stays_on = done.stays_on;
-    same_size = done.same_size ∙ opened.same_size;
-  };
+  left = subst (λ (size : Size). IsStoreLeft size new_image new) (done.same_size ∙ opened.same_size) left;
   line_is = says;
 }
 

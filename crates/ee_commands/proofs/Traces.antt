@@ -8,7 +8,7 @@ use Rattle.ee_check.specs.declared.change.Change.TheVariants as change
 use Rattle.ee_text.specs.Line.{line_of}
 use Rattle.ee_script.specs.declared.command.Command.{Command}
 use Rattle.ee_script.specs.declared.command.Command.TheVariants.{Write, Read, Forget, Clean, Arm, PowerOn}
-use Rattle.ee_script.specs.Command.{IsCommand, spelling}
+use Rattle.ee_script.specs.Command.{IsCommand, command_text}
 use Rattle.ee_script.specs.Script.{AreCommands, script}
 use Rattle.ee_script.proofs.Reading.{spelling_injective}
 use Rattle.ee_script.proofs.Spelling.{Lacks-spelling}
@@ -37,12 +37,12 @@ trace_of-append (Clean ∷ commands) more = trace_of-append commands more
 trace_of-append (Arm fuse ∷ commands) more = trace_of-append commands more
 trace_of-append (PowerOn ∷ commands) more = trace_of-append commands more
 
-script_append : (commands : List Command) (command : Command) (rest : List ℕ) → script commands ++ (line_of (spelling command) ++ rest) ≡ script (commands ++ command ∷ []) ++ rest
-script_append [] command rest = ap (λ l. l ++ rest) (sym (append-nil (line_of (spelling command))))
+script_append : (commands : List Command) (command : Command) (rest : List ℕ) → script commands ++ (line_of (command_text command) ++ rest) ≡ script (commands ++ command ∷ []) ++ rest
+script_append [] command rest = ap (λ l. l ++ rest) (sym (append-nil (line_of (command_text command))))
 script_append (first ∷ commands) command rest =
-    append_assoc (line_of (spelling first)) (script commands) (line_of (spelling command) ++ rest)
-    ∙ ap (λ l. line_of (spelling first) ++ l) (script_append commands command rest)
-    ∙ sym (append_assoc (line_of (spelling first)) (script (commands ++ command ∷ [])) rest)
+    append_assoc (line_of (command_text first)) (script commands) (line_of (command_text command) ++ rest)
+    ∙ ap (λ l. line_of (command_text first) ++ l) (script_append commands command rest)
+    ∙ sym (append_assoc (line_of (command_text first)) (script (commands ++ command ∷ [])) rest)
 
 proper_append : (commands : List Command) (command : Command) → AreCommands commands → IsCommand command → AreCommands (commands ++ command ∷ [])
 proper_append [] command proper one = (one, tt)
@@ -54,7 +54,7 @@ keeping_append (first ∷ commands) command keep one = (keep.0, keeping_append c
 
 -- one line more is read
 pub one_line_more : (text rest more : List ℕ) (old new : List Change) (lines number : ℕ) (command : Command) → HasRead text rest old lines → number ≡ lines + 1
-    → IsCommand command × KeepsPower command × (rest ≡ line_of (spelling command) ++ more) → new ≡ old ++ trace_of (command ∷ []) → HasRead text more new number
+    → IsCommand command × KeepsPower command × (rest ≡ line_of (command_text command) ++ more) → new ≡ old ++ trace_of (command ∷ []) → HasRead text more new number
 one_line_more text rest more old new lines number command read counted found pushed = record {
   commands = read.commands ++ command ∷ [];
   proper = proper_append read.commands command read.proper found.0;
@@ -65,9 +65,9 @@ one_line_more text rest more old new lines number command read counted found pus
 }
 
 -- a line has its line feed at least
-pub line_is_longer : (rest more : List ℕ) (command : Command) → rest ≡ line_of (spelling command) ++ more → length more + 1 ≤ length rest
+pub line_is_longer : (rest more : List ℕ) (command : Command) → rest ≡ line_of (command_text command) ++ more → length more + 1 ≤ length rest
 line_is_longer rest more command e =
-    omega (arith, ap length e, length-append (line_of (spelling command)) more, length-append (spelling command) (10 ∷ []))
+    omega (arith, ap length e, length-append (line_of (command_text command)) more, length-append (command_text command) (10 ∷ []))
 
 pub bad_line : (text rest : List ℕ) (trace : List Change) (lines number : ℕ) → HasRead text rest trace lines → number ≡ lines + 1 → rest ≢ [] → NoTraceLine rest → IsFirstBadTraceLine text number
 bad_line text rest trace lines number read counted goes_on bad = record {
@@ -95,11 +95,11 @@ all_read text rest trace lines read empty = record {
 good_front : (cs ds : List Command) (x y : List ℕ) → AreCommands cs → AreCommands ds → AllByRecursion KeepsPower cs → AllByRecursion KeepsPower ds
     → NoTraceLine x → NoTraceLine y → script cs ++ x ≡ script ds ++ y → (cs ≡ ds) × (x ≡ y)
 good_front [] [] x y h k p q no_x no_y e = (refl, e)
-good_front [] (d ∷ ds) x y h k p q no_x no_y e = absurd (no_x d (script ds ++ y) k.0 q.0 (e ∙ append_assoc (line_of (spelling d)) (script ds) y))
-good_front (c ∷ cs) [] x y h k p q no_x no_y e = absurd (no_y c (script cs ++ x) h.0 p.0 (sym e ∙ append_assoc (line_of (spelling c)) (script cs) x))
+good_front [] (d ∷ ds) x y h k p q no_x no_y e = absurd (no_x d (script ds ++ y) k.0 q.0 (e ∙ append_assoc (line_of (command_text d)) (script ds) y))
+good_front (c ∷ cs) [] x y h k p q no_x no_y e = absurd (no_y c (script cs ++ x) h.0 p.0 (sym e ∙ append_assoc (line_of (command_text c)) (script cs) x))
 good_front (c ∷ cs) (d ∷ ds) x y h k p q no_x no_y e =
-    let first = first_line (spelling c) (spelling d) (script cs ++ x) (script ds ++ y) (Lacks-spelling c h.0) (Lacks-spelling d k.0)
-    (sym (append_assoc (line_of (spelling c)) (script cs) x) ∙ e ∙ append_assoc (line_of (spelling d)) (script ds) y) in
+    let first = first_line (command_text c) (command_text d) (script cs ++ x) (script ds ++ y) (Lacks-spelling c h.0) (Lacks-spelling d k.0)
+    (sym (append_assoc (line_of (command_text c)) (script cs) x) ∙ e ∙ append_assoc (line_of (command_text d)) (script ds) y) in
     let command : c ≡ d = spelling_injective c d h.0 k.0 first.0 in
     let rest = good_front cs ds x y h.1 k.1 p.1 q.1 no_x no_y first.1 in
     let commands = rest.0 in
@@ -107,7 +107,7 @@ good_front (c ∷ cs) (d ∷ ds) x y h k p q no_x no_y e =
 
 no_line_in_nothing : NoTraceLine []
 no_line_in_nothing command more proper keeps e =
-    omega (arith, ap length e, length-append (line_of (spelling command)) more, length-append (spelling command) (10 ∷ []))
+    omega (arith, ap length e, length-append (line_of (command_text command)) more, length-append (command_text command) (10 ∷ []))
 
 pub one_first_bad_line : (text : List ℕ) (m n : ℕ) → IsFirstBadTraceLine text m → IsFirstBadTraceLine text n → m ≡ n
 one_first_bad_line text m n first second =

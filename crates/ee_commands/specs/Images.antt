@@ -1,6 +1,6 @@
 -- What the commands without a script make of an image.
 use Rattle.std.specs.Prelude.{◌≡◌, ℕ, ◌+◌, List, [], ◌∷◌, ◌++◌, Ok, true, decimal, codes, replicate}
-use Rattle.ee_text.specs.Field.{joined}
+use Rattle.ee_text.specs.Field.{joined_fields}
 use Rattle.ee_text.specs.Line.{line_of}
 use Rattle.ee_flash.specs.Device.{Device, blank_device}
 use Rattle.ee_flash.specs.Size.{Size, page_count}
@@ -8,16 +8,13 @@ use Rattle.ee_flash.specs.declared.word.Word.{Word}
 use Rattle.ee_pages.specs.Page.{state_of_words}
 use Rattle.ee_pages.specs.declared.state.State as page
 use Rattle.ee_pages.specs.declared.state.State.TheVariants.{Erased, Receive, Active, Valid, Erasing}
-use Rattle.ee_store.specs.Openings.{IsFormatted, Opens}
-use Rattle.ee_store.specs.Runs.{Cleaned, IsWholeRun}
-use Rattle.ee_store.specs.State.{Wears, formatted, pending_pages, state_of, with_pending}
-use Rattle.ee_image.specs.Fault.{IsImageFault}
-use Rattle.ee_image.specs.declared.fault.ImageFault.{ImageFault}
-use Rattle.ee_words.specs.Fault.{fault_of_image, fault_of_replay}
-use Rattle.ee_image_store.specs.Opening.{IsOpenFault, IsStoreLeft, IsStoreText, Spells}
-use Rattle.ee_words.specs.declared.fault.Fault.{Fault}
-use Rattle.ee_words.specs.declared.fault.File.TheVariants.{Image}
-use Rattle.ee_words.specs.declared.replay_fault.ReplayFault.{ReplayFault}
+use Rattle.ee_core.specs.Openings.{IsFormatted, Opens}
+use Rattle.ee_core.specs.Runs.{Cleaned, IsWholeRun}
+use Rattle.ee_core.specs.State.{Wears, formatted_state, pending_pages, state_of, with_pending}
+use Rattle.ee_faults.specs.Fault.{fault_of_replay}
+use Rattle.ee_image_store.specs.Opening.{IsOpenFault, IsStoreLeft, IsStoreText, SpellsDevice}
+use Rattle.ee_faults.specs.declared.fault.Fault.{Fault}
+use Rattle.ee_faults.specs.declared.replay_fault.ReplayFault.{ReplayFault}
 
 -- the text of a store with nothing in it, as formatting leaves a device of this size that was never used: no page of it
 -- was erased
@@ -25,12 +22,12 @@ pub record IsFormattedText (size : Size) (text : List ℕ) : Type 0 where
   pub device : Device
   pub left : IsStoreLeft size text device
   pub formats : IsFormatted (blank_device size) device
-  pub state_is : state_of device ≡ formatted
+  pub state_is : state_of device ≡ formatted_state
   pub no_wear : device.wear ≡ replicate (page_count size) 0
 
 -- how many pages were erased, as `clean` prints it
 abbrev pub cleaned_text : ℕ → List ℕ
-cleaned_text pages = line_of (joined (codes "cleaned" ∷ decimal pages ∷ []))
+cleaned_text pages = line_of (joined_fields (codes "cleaned" ∷ decimal pages ∷ []))
 
 -- The store of the image was opened, and took a clean step for each page that waited to be erased. So the image is left
 -- with each value, as much used and of the same generation, and no page waits any more; those that waited were erased, each
@@ -56,7 +53,7 @@ state_name Erasing = codes "ERASING"
 
 -- what the line of a page says: its number and its state
 abbrev pub state_text : ℕ → page.State → List ℕ
-state_text number state = joined (codes "page" ∷ decimal number ∷ state_name state ∷ [])
+state_text number state = joined_fields (codes "page" ∷ decimal number ∷ state_name state ∷ [])
 
 -- a line for each page, of which the first has this number
 abbrev pub state_lines : ℕ → List (List Word) → List ℕ
@@ -66,7 +63,7 @@ state_lines number (words ∷ pages) = line_of (state_text number (state_of_word
 -- the states of the pages of the image that a text spells
 pub record AreStates (text lines : List ℕ) : Type 0 where
   pub device : Device
-  pub spelled : Spells text device
+  pub spelled : SpellsDevice text device
   pub lines_are : lines ≡ state_lines 0 device.image
 
 -- why a command finds no store in an image
@@ -74,9 +71,3 @@ pub record IsOpeningFault (text : List ℕ) (fault : Fault) : Type 0 where
   pub cause : ReplayFault
   pub applies : IsOpenFault text cause
   pub fault_is : fault ≡ fault_of_replay cause
-
--- why a command finds no device in an image
-pub record IsReadingFault (text : List ℕ) (fault : Fault) : Type 0 where
-  pub cause : ImageFault
-  pub applies : IsImageFault text cause
-  pub fault_is : fault ≡ fault_of_image Image cause

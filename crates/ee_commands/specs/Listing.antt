@@ -1,17 +1,17 @@
 -- What `list` tells of an image, and each fault under its cause.
 use Rattle.std.specs.Prelude.{◌≡◌, ◌⊎◌, ℕ, List, [], ◌∷◌, ◌++◌, Option, Some, None, codes, decimal}
 use Rattle.std.specs.List.{flat_map}
-use Rattle.ee_text.specs.Field.{joined, space}
+use Rattle.ee_text.specs.Field.{joined_fields, space}
 use Rattle.ee_text.specs.Line.{line_of}
 use Rattle.ee_flash.specs.Device.{Device}
-use Rattle.ee_store.specs.State.{state_of}
+use Rattle.ee_core.specs.State.{state_of}
 use Rattle.ee_settings.specs.Listing.{listed_in}
 use Rattle.ee_settings.specs.Setting.{Setting}
 use Rattle.ee_settings.specs.Stale.{entry_of}
 use Rattle.ee_settings.specs.declared.listing.Held.{Held}
 use Rattle.ee_settings.specs.declared.listing.Held.TheVariants.{Value, Stale, Default}
 use Rattle.ee_settings.specs.declared.listing.Listed.{Listed}
-use Rattle.ee_words.specs.declared.fault.Fault.{Fault}
+use Rattle.ee_faults.specs.declared.fault.Fault.{Fault}
 use Rattle.ee_commands.specs.Images.{IsOpeningFault}
 use Rattle.ee_image_store.specs.Opening.{HasStore, IsStoreText}
 use Rattle.ee_commands.specs.SecondSchema.{name_of}
@@ -31,7 +31,7 @@ name_words settings (Some entry) = name_of (entry_of settings entry) ∷ []
 -- the line of an address: its number, what it holds, its setting's name
 abbrev pub listed_line : List Setting → Listed → List ℕ
 listed_line settings listed =
-    line_of (joined (decimal listed.address ∷ held_words listed.held ++ name_words settings listed.entry))
+    line_of (joined_fields (decimal listed.address ∷ held_words listed.held ++ name_words settings listed.entry))
 
 -- a line for each, by rising address
 abbrev pub listed_lines : List Setting → List Listed → List ℕ

@@ -1,28 +1,28 @@
 -- What is planned and what is checked for a script on an image, and why not.
 use Rattle.std.specs.Prelude.{◌≡◌, ◌≢◌, ◌⊎◌, ◌≤◌, ◌+◌, ◌++◌, ℕ, List, [], ◌∷◌, length, decimal, codes}
 use Rattle.std.specs.List.{AllByRecursion}
-use Rattle.ee_text.specs.Field.{joined}
+use Rattle.ee_text.specs.Field.{joined_fields}
 use Rattle.ee_text.specs.Line.{line_of}
 use Rattle.ee_flash.specs.Device.{Device}
 use Rattle.ee_flash.specs.Size.{slot_count}
-use Rattle.ee_store.specs.State.{state_of}
+use Rattle.ee_core.specs.State.{state_of}
 use Rattle.ee_check.specs.declared.change.Change.{Change}
 use Rattle.ee_check.specs.declared.checking.CheckFault.{CheckFault}
 use Rattle.ee_check.specs.declared.checking.CheckFault.TheVariants as check
 use Rattle.ee_check.specs.Certificate.{Claim, IsCertificate, IsTight}
 use Rattle.ee_check.specs.Fault.{IsCause}
 use Rattle.ee_check.specs.Schedule.{IsSchedule, Move, Situation, cost}
-use Rattle.ee_check.specs.Text.{IsText, IsTextFault, text_of}
+use Rattle.ee_check.specs.Text.{IsText, IsCertificateTextFault, text_of}
 use Rattle.ee_plan.specs.Plan.{IsPlanFault}
 use Rattle.ee_plan.specs.Start.{IsStartOf}
 use Rattle.ee_script.specs.declared.command.Command.{Command}
 use Rattle.ee_script.specs.declared.command.Command.TheVariants.{Arm, PowerOn}
 use Rattle.ee_script.specs.declared.session.ScriptFault.{ScriptFault}
 use Rattle.ee_script.specs.declared.session.ScriptFault.TheVariants.{BadLine, Memory}
-use Rattle.ee_script.specs.Command.{IsCommand, spelling}
+use Rattle.ee_script.specs.Command.{IsCommand, command_text}
 use Rattle.ee_script.specs.Script.{AreCommands, IsScript, script}
-use Rattle.ee_words.specs.Fault.{fault_of_certificate, fault_of_check, fault_of_plan, fault_of_script}
-use Rattle.ee_words.specs.declared.fault.Fault.{Fault}
+use Rattle.ee_faults.specs.Fault.{fault_of_certificate, fault_of_check, fault_of_plan, fault_of_script}
+use Rattle.ee_faults.specs.declared.fault.Fault.{Fault}
 use Rattle.ee_commands.specs.Images.{IsOpeningFault}
 use Rattle.ee_image_store.specs.Opening.{IsStoreText}
 use Rattle.ee_image_store.specs.Trace.{trace_of}
@@ -67,7 +67,7 @@ pub record IsPlanned (image text planned : List ℕ) : Type 0 where
 
 -- how many transfers are proved, as `check` prints it
 abbrev pub proved_text : ℕ → List ℕ
-proved_text transfers = line_of (joined (codes "proved" ∷ decimal transfers ∷ []))
+proved_text transfers = line_of (joined_fields (codes "proved" ∷ decimal transfers ∷ []))
 
 -- The text of the certificate says a certificate of the image's start and the script's trace: each schedule transfers at
 -- least as often as it has stretches, and their number is printed.
@@ -82,14 +82,14 @@ pub record IsProved (image text certificate proved : List ℕ) : Type 0 where
   pub text_is : proved ≡ proved_text (length claim.stretches)
 
 -- the fault of a layer below, under the name that the program gives it
-pub record Names {Cause : Type 0} (named : Cause → Fault) (Applies : Cause → Type 0) (fault : Fault) : Type 0 where
+pub record NamesFault {Cause : Type 0} (named : Cause → Fault) (Applies : Cause → Type 0) (fault : Fault) : Type 0 where
   pub cause : Cause
   pub applies : Applies cause
   pub fault_is : fault ≡ named cause
 
 -- no line of a command that a trace's script may have stands at the front of the text
 abbrev pub NoTraceLine : List ℕ → Type 0
-NoTraceLine text = (command : Command) (more : List ℕ) → IsCommand command → KeepsPower command → text ≢ line_of (spelling command) ++ more
+NoTraceLine text = (command : Command) (more : List ℕ) → IsCommand command → KeepsPower command → text ≢ line_of (command_text command) ++ more
 
 -- Line n is the first bad one of a trace's script: the good lines before it are one fewer, and after them the text goes
 -- on, but not with a good line. A line that cuts power or turns it on is bad too.
@@ -112,14 +112,14 @@ IsTraceFault text Memory = Unit {0}
 -- script has a line that is bad for a trace; or memory ran out
 abbrev pub IsTaskFault : List ℕ → List ℕ → Fault → Type 0
 IsTaskFault image text fault =
-    IsOpeningFault image fault ⊎ (((device : Device) × IsStoreText image device) × Names fault_of_script (IsTraceFault text) fault)
+    IsOpeningFault image fault ⊎ (((device : Device) × IsStoreText image device) × NamesFault fault_of_script (IsTraceFault text) fault)
 
 -- why there is no plan, the first cause that applies: the start and the trace can't be had, or they can and the trace does
 -- not fit; or memory ran out
 abbrev pub IsPlanningFault : List ℕ → List ℕ → Fault → Type 0
 IsPlanningFault image text fault =
     IsTaskFault image text fault
-    ⊎ ((start : Situation) × (trace : List Change) × IsTask image text start trace × Names fault_of_plan (IsPlanFault start trace) fault)
+    ⊎ ((start : Situation) × (trace : List Change) × IsTask image text start trace × NamesFault fault_of_plan (IsPlanFault start trace) fault)
 
 -- why a claim is refused; want of memory has no cause in it
 abbrev pub IsRefusal : Situation → List Change → Claim → CheckFault → Type 0
@@ -128,8 +128,8 @@ IsRefusal start trace claim fault = IsCause start trace claim fault ⊎ (fault �
 -- why the text of a certificate isn't accepted, the first cause that applies: it says none, or what it says is refused
 abbrev pub IsCertificateFault : Situation → List Change → List ℕ → Fault → Type 0
 IsCertificateFault start trace certificate fault =
-    Names fault_of_certificate (IsTextFault certificate) fault
-    ⊎ ((claim : Claim) × IsText certificate claim × Names fault_of_check (IsRefusal start trace claim) fault)
+    NamesFault fault_of_certificate (IsCertificateTextFault certificate) fault
+    ⊎ ((claim : Claim) × IsText certificate claim × NamesFault fault_of_check (IsRefusal start trace claim) fault)
 
 -- why nothing is proved, the first cause that applies: the start and the trace can't be had, or they can and the certificate
 -- isn't accepted; or memory ran out

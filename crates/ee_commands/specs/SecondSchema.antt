@@ -1,16 +1,16 @@
 -- The commands that look at an image with a later schema: what they give, and each fault under its cause.
 use Rattle.std.specs.Prelude.{◌≡◌, ◌⊎◌, ℕ, List, [], ◌∷◌, Option, Some, None, Ok, codes, decimal}
 use Rattle.std.specs.List.{flat_map}
-use Rattle.ee_text.specs.Field.{joined}
+use Rattle.ee_text.specs.Field.{joined_fields}
 use Rattle.ee_text.specs.Line.{line_of}
 use Rattle.ee_flash.specs.Device.{Device}
-use Rattle.ee_store.specs.State.{state_of}
+use Rattle.ee_core.specs.State.{state_of}
 use Rattle.ee_settings.specs.Setting.{Setting}
 use Rattle.ee_settings.specs.Stale.{entry_of, stale_in}
-use Rattle.ee_settings.specs.Tidying.{IsSpentAmong, Tidies, after_forgettings, kept, unnamed_in}
+use Rattle.ee_settings.specs.Tidying.{IsSpentAmong, Tidies, after_forgettings, kept_map, unnamed_in}
 use Rattle.ee_settings.specs.declared.stale.Stale.{Stale}
-use Rattle.ee_words.specs.declared.fault.Fault.{Fault}
-use Rattle.ee_words.specs.declared.fault.Fault.TheVariants.{Spent}
+use Rattle.ee_faults.specs.declared.fault.Fault.{Fault}
+use Rattle.ee_faults.specs.declared.fault.Fault.TheVariants.{Spent}
 use Rattle.ee_commands.specs.Images.{IsOpeningFault}
 use Rattle.ee_image_store.specs.Opening.{HasStore, IsOpened, IsStoreLeft, IsStoreText, StaysOn}
 use Rattle.ee_commands.specs.Settings.{IsSettingsFault, SpellsSettings}
@@ -23,7 +23,7 @@ name_of (Some setting) = setting.name
 
 -- a stale entry, as `stale` prints it: its name and its stored value
 abbrev pub stale_line : List Setting → Stale → List ℕ
-stale_line settings stale = line_of (joined (name_of (entry_of settings stale.entry) ∷ decimal stale.value ∷ []))
+stale_line settings stale = line_of (joined_fields (name_of (entry_of settings stale.entry) ∷ decimal stale.value ∷ []))
 
 -- a line for each, by rising entry
 abbrev pub stale_lines : List Setting → List Stale → List ℕ
@@ -41,13 +41,13 @@ pub record AreStaleLines (image settings_text lines : List ℕ) : Type 0 where
 
 -- how many addresses were forgotten, as `tidy` prints it
 abbrev pub tidied_text : ℕ → List ℕ
-tidied_text count = line_of (joined (codes "tidied" ∷ decimal count ∷ []))
+tidied_text count = line_of (joined_fields (codes "tidied" ∷ decimal count ∷ []))
 
 -- The store was tidied: it has the values of the settings' addresses and no others, its state is what the forgettings made
 -- of it, and power and size stay.
 pub record IsTidied (settings : List Setting) (old : Device) (count : ℕ) (new : Device) : Type 0 where
   pub tidied : Tidies settings old (Ok count) new
-  pub map_is : (address : ℕ) → (state_of new).map address ≡ kept settings (state_of old).map address
+  pub map_is : (address : ℕ) → (state_of new).map address ≡ kept_map settings (state_of old).map address
   pub state_is : state_of new ≡ after_forgettings old.size (unnamed_in settings (state_of old).map) (state_of old)
   pub stays_on : StaysOn new
   pub same_size : new.size ≡ old.size
@@ -62,7 +62,7 @@ pub record IsTidiedImage (old_image settings_text new_image line : List ℕ) : T
   pub count : ℕ
   pub last : Device
   pub tidied : Tidies settings store (Ok count) last
-  pub map_is : (address : ℕ) → (state_of last).map address ≡ kept settings (state_of opened.device).map address
+  pub map_is : (address : ℕ) → (state_of last).map address ≡ kept_map settings (state_of opened.device).map address
   pub state_is : let old = state_of opened.device in
       state_of last ≡ after_forgettings opened.device.size (unnamed_in settings old.map) old
   pub left : IsStoreLeft opened.device.size new_image last

@@ -3,15 +3,15 @@
 use Rattle.std.specs.Prelude.{◌≡◌, ◌⊎◌, ℕ, List, [], ◌∷◌, Ok, Err, Some, IsUtf8, codes, decimal}
 use Rattle.toml.specs.Data.{Members}
 use Rattle.toml.specs.Parse.{parse_document}
-use Rattle.ee_text.specs.Field.{joined}
+use Rattle.ee_text.specs.Field.{joined_fields}
 use Rattle.ee_text.specs.Line.{line_of}
 use Rattle.ee_flash.specs.Device.{Device}
 use Rattle.ee_flash.specs.Size.{Size, slot_count}
-use Rattle.ee_store.specs.Calls.{Writes}
-use Rattle.ee_store.specs.Changes.{IsFull, IsSpent}
-use Rattle.ee_store.specs.Openings.{Opens}
-use Rattle.ee_store.specs.State.{State, Wears, pending_pages, state_of}
-use Rattle.ee_store.specs.declared.variables.Written.{Written}
+use Rattle.ee_core.specs.Calls.{Writes}
+use Rattle.ee_core.specs.Changes.{IsFull, IsSpent}
+use Rattle.ee_core.specs.Openings.{Opens}
+use Rattle.ee_core.specs.State.{State, Wears, pending_pages, state_of}
+use Rattle.ee_core.specs.declared.variables.Written.{Written}
 use Rattle.ee_settings.specs.Calls.{IsNamed, IsUnknown}
 use Rattle.ee_settings.specs.File.{GivesSchema}
 use Rattle.ee_settings.specs.Setting.{IsInRange, Setting, reading_in}
@@ -20,9 +20,9 @@ use Rattle.ee_settings.specs.declared.reading.Reading.{Reading}
 use Rattle.ee_settings.specs.declared.reading.Reading.TheVariants.{Stored, Default}
 use Rattle.ee_script.specs.declared.answer.Answer.TheVariants.{Appended, Moved}
 use Rattle.ee_script.specs.declared.command.Command.TheVariants.{Write}
-use Rattle.ee_words.specs.Fault.{fault_of_schema}
-use Rattle.ee_words.specs.declared.fault.Fault.{Fault}
-use Rattle.ee_words.specs.declared.fault.Fault.TheVariants.{SettingsText, UnknownName, OutOfRange, Full, Spent, Memory}
+use Rattle.ee_faults.specs.Fault.{fault_of_schema}
+use Rattle.ee_faults.specs.declared.fault.Fault.{Fault}
+use Rattle.ee_faults.specs.declared.fault.Fault.TheVariants.{SettingsText, UnknownName, OutOfRange, Full, Spent, Memory}
 use Rattle.ee_commands.specs.Images.{IsOpeningFault}
 use Rattle.ee_image_store.specs.Opening.{HasStore, IsStoreLeft, IsStoreText, StaysOn}
 use Rattle.ee_image_store.specs.Steps.{Steps}
@@ -59,12 +59,12 @@ IsSettingsFault text fault = ((fault ≡ SettingsText) × HasNoTree text) ⊎ Ha
 
 -- a reading, as `get` prints it
 abbrev pub reading_text : Reading → List ℕ
-reading_text (Stored value) = joined (decimal value ∷ codes "stored" ∷ [])
-reading_text (Default value) = joined (decimal value ∷ codes "default" ∷ [])
+reading_text (Stored value) = joined_fields (decimal value ∷ codes "stored" ∷ [])
+reading_text (Default value) = joined_fields (decimal value ∷ codes "default" ∷ [])
 
 -- what the setting of a name reads as in a state's map
-abbrev pub IsRead : List Setting → State → List ℕ → Reading → Type 0
-IsRead settings state name reading =
+abbrev pub IsSettingRead : List Setting → State → List ℕ → Reading → Type 0
+IsSettingRead settings state name reading =
     (setting : Setting) × IsNamed settings name setting × (reading ≡ reading_in state.map setting)
 
 -- The line is the reading of the name's setting in the image.
@@ -74,7 +74,7 @@ pub record IsGot (image settings_text name line : List ℕ) : Type 0 where
   pub settings : List Setting
   pub spelled : SpellsSettings settings_text settings
   pub reading : Reading
-  pub read : IsRead settings (state_of device) name reading
+  pub read : IsSettingRead settings (state_of device) name reading
   pub line_is : line ≡ line_of (reading_text reading)
 
 -- ---- what is set
@@ -127,8 +127,8 @@ IsValueRefusal setting size state value fault =
     ⊎ (IsInRange setting.numbers value × IsWriteRefusal size state setting.numbers.address fault)
 
 -- why a value is not set for a name, the first cause that applies; or memory ran out
-abbrev pub IsRefused : List Setting → Size → State → List ℕ → ℕ → Fault → Type 0
-IsRefused settings size state name value fault =
+abbrev pub IsSettingRefused : List Setting → Size → State → List ℕ → ℕ → Fault → Type 0
+IsSettingRefused settings size state name value fault =
     (IsUnknown settings name × (fault ≡ UnknownName))
     ⊎ ((setting : Setting) × IsNamed settings name setting × IsValueRefusal setting size state value fault)
     ⊎ (fault ≡ Memory)
@@ -153,7 +153,7 @@ pub record IsRefusedIn (image settings_text name : List ℕ) (value : ℕ) (faul
   pub old : IsStoreText image device
   pub settings : List Setting
   pub spelled : SpellsSettings settings_text settings
-  pub refused : IsRefused settings device.size (state_of device) name value fault
+  pub refused : IsSettingRefused settings device.size (state_of device) name value fault
 
 -- why nothing is set, the first cause that applies: no store is opened; or the text spells no settings; or the value is
 -- refused

@@ -5,17 +5,17 @@ use Rattle.ee_flash.specs.Device.{Device}
 use Rattle.ee_flash.specs.Endurance.{AreTaken, erases_of, least_wear, programs}
 use Rattle.ee_flash.specs.Size.{page_count, size_of, slot_count}
 use Rattle.ee_flash.specs.Step.{Step}
-use Rattle.ee_store.specs.Changes.{greatest_generation}
-use Rattle.ee_text.specs.Field.{joined}
+use Rattle.ee_core.specs.Changes.{greatest_generation}
+use Rattle.ee_text.specs.Field.{joined_fields}
 use Rattle.ee_text.specs.Line.{line_of}
 use Rattle.ee_check.specs.declared.change.Change.{Change}
-use Rattle.ee_plan.specs.Rounds.{IsDemand, fresh, repeated}
+use Rattle.ee_plan.specs.Rounds.{IsDemand, fresh, repeated_trace}
 use Rattle.ee_plan.specs.Wearing.{NoneWearsLess}
 use Rattle.ee_plan.specs.declared.demand.Demand.{Demand}
 use Rattle.ee_plan.specs.declared.demand.Demand.TheVariants.{Transfers, NotFitting}
-use Rattle.ee_words.specs.Fault.{fault_of_script}
-use Rattle.ee_words.specs.declared.fault.Fault.{Fault}
-use Rattle.ee_commands.specs.Planning.{IsTrace, IsTraceFault, Names}
+use Rattle.ee_faults.specs.Fault.{fault_of_script}
+use Rattle.ee_faults.specs.declared.fault.Fault.{Fault}
+use Rattle.ee_commands.specs.Planning.{IsTrace, IsTraceFault, NamesFault}
 
 -- ---- how often pages are erased
 
@@ -84,30 +84,30 @@ verdict cycles transfers limit =
 -- the numbers of a size whose sets the trace fits
 abbrev pub numbers_text : ℕ → ℕ → ℕ → ℕ → ℕ → ℕ → List ℕ
 numbers_text pages slots transfers erases least limit =
-    joined (codes "pages" ∷ decimal pages ∷ codes "slots" ∷ decimal slots ∷ codes "transfers" ∷ decimal transfers ∷ codes "erases"
+    joined_fields (codes "pages" ∷ decimal pages ∷ codes "slots" ∷ decimal slots ∷ codes "transfers" ∷ decimal transfers ∷ codes "erases"
     ∷ decimal erases ∷ codes "least" ∷ decimal least ∷ codes "limit" ∷ decimal limit ∷ [])
 
 -- what its line says
 abbrev pub fitting_text : ℕ → ℕ → ℕ → ℕ → ℕ → List ℕ
 fitting_text cycles pages slots transfers limit =
-    joined (numbers_text pages slots transfers (erases_for transfers) (least_for transfers) limit ∷ verdict cycles transfers limit ∷ [])
+    joined_fields (numbers_text pages slots transfers (erases_for transfers) (least_for transfers) limit ∷ verdict cycles transfers limit ∷ [])
 
 -- and where it doesn't fit: the first change that doesn't
 abbrev pub not_fitting_text : ℕ → ℕ → ℕ → List ℕ
 not_fitting_text pages slots n =
-    joined (codes "pages" ∷ decimal pages ∷ codes "slots" ∷ decimal slots ∷ codes "not" ∷ codes "fitting" ∷ decimal n ∷ [])
+    joined_fields (codes "pages" ∷ decimal pages ∷ codes "slots" ∷ decimal slots ∷ codes "not" ∷ codes "fitting" ∷ decimal n ∷ [])
 
 -- what is told of a demand on sets of so many pages of so many words, where the trace has so many changes
-abbrev pub size_text : ℕ → ℕ → ℕ → ℕ → Demand → List ℕ
-size_text words cycles changes pages (Transfers transfers) =
+abbrev pub sizing_text : ℕ → ℕ → ℕ → ℕ → Demand → List ℕ
+sizing_text words cycles changes pages (Transfers transfers) =
     fitting_text cycles pages (slot_count (size_of pages words)) transfers (limit_for pages words changes)
-size_text words cycles changes pages (NotFitting n) = not_fitting_text pages (slot_count (size_of pages words)) n
+sizing_text words cycles changes pages (NotFitting n) = not_fitting_text pages (slot_count (size_of pages words)) n
 
 -- a line for each demand, of which the first is that of so many pages
 abbrev pub size_lines : ℕ → ℕ → ℕ → ℕ → List Demand → List ℕ
 size_lines words cycles changes pages [] = []
 size_lines words cycles changes pages (demand ∷ demands) =
-    line_of (size_text words cycles changes pages demand) ++ size_lines words cycles changes (pages + 1) demands
+    line_of (sizing_text words cycles changes pages demand) ++ size_lines words cycles changes (pages + 1) demands
 
 -- what the trace demands of fresh sets, each of a page more, of which the first has so many
 abbrev pub AreDemands : ℕ → List Change → ℕ → List Demand → Type 0
@@ -121,12 +121,12 @@ pub record IsSized (words : ℕ) (text : List ℕ) (cycles runs : ℕ) (told : L
   pub trace : List Change
   pub trace_is : IsTrace text trace
   pub demands : List Demand
-  pub demanded : AreDemands words (repeated runs trace) 1 demands
+  pub demanded : AreDemands words (repeated_trace runs trace) 1 demands
   pub each_size : length demands ≡ 64
-  pub wears : EachWears words (repeated runs trace) 1 demands
-  pub text_is : told ≡ size_lines words cycles (length (repeated runs trace)) 1 demands
+  pub wears : EachWears words (repeated_trace runs trace) 1 demands
+  pub text_is : told ≡ size_lines words cycles (length (repeated_trace runs trace)) 1 demands
   pub enough_is : some_enough ≡ list_any (is_enough cycles) demands
 
 -- why no size is told: the script's first bad line, as of a trace; or memory ran out
 abbrev pub IsSizingFault : List ℕ → Fault → Type 0
-IsSizingFault text fault = Names fault_of_script (IsTraceFault text) fault
+IsSizingFault text fault = NamesFault fault_of_script (IsTraceFault text) fault

@@ -3,13 +3,13 @@ use Rattle.std.specs.Prelude.{◌≡◌, ◌+◌, ◌<◌, ◌≤◌, ℕ, Bool,
 use Rattle.std.specs.List.{All, Contains}
 use Rattle.ee_flash.specs.Device.{Device, IsOn, wear_at}
 use Rattle.ee_flash.specs.Size.{page_count}
-use Rattle.ee_store.specs.Openings.{IsFormatted}
-use Rattle.ee_store.specs.Runs.{Call, Wrote, Forgot, IsWholeRun, transfers}
-use Rattle.ee_store.specs.declared.variables.WriteFault.TheVariants as write
-use Rattle.ee_check.specs.Live.{changed}
+use Rattle.ee_core.specs.Openings.{IsFormatted}
+use Rattle.ee_core.specs.Runs.{Call, Wrote, Forgot, IsWholeRun, transfers}
+use Rattle.ee_core.specs.declared.variables.WriteFault.TheVariants as write
+use Rattle.ee_check.specs.Live.{live_after_one}
 use Rattle.ee_check.specs.declared.change.Change.{Change}
 use Rattle.ee_check.specs.declared.change.Change.TheVariants as change
-use Rattle.ee_plan.specs.Rounds.{repeated}
+use Rattle.ee_plan.specs.Rounds.{repeated_trace}
 use Rattle.ee_plan.specs.declared.demand.Demand.{Demand}
 use Rattle.ee_plan.specs.declared.demand.Demand.TheVariants.{Transfers}
 use Rattle.ee_commands.specs.Sizing.{IsSized, erases_for, is_enough, is_spent_by}
@@ -36,8 +36,8 @@ wants_memory call = false
 -- each forgetting is of an address that is live then
 abbrev pub ForgetsLive : List ℕ → List Change → Type 0
 ForgetsLive live [] = Unit {0}
-ForgetsLive live (change.Write address ∷ trace) = ForgetsLive (changed live (change.Write address)) trace
-ForgetsLive live (change.Forget address ∷ trace) = Contains live address × ForgetsLive (changed live (change.Forget address)) trace
+ForgetsLive live (change.Write address ∷ trace) = ForgetsLive (live_after_one live (change.Write address)) trace
+ForgetsLive live (change.Forget address ∷ trace) = Contains live address × ForgetsLive (live_after_one live (change.Forget address)) trace
 
 -- among what is demanded of sets of 1 page and more, this is demanded of those of so many
 pub record IsDemandOf (pages : ℕ) (demands : List Demand) (demand : Demand) : Type 0 where
@@ -62,7 +62,7 @@ EachSizeWearsAsTold =
     (text told : List ℕ) (cycles runs most : ℕ) (some_enough : Bool) (calls : List Call) (blank old new : Device)
     → (sized : IsSized old.size.words text cycles runs told some_enough) → IsDemandOf old.size.pages sized.demands (Transfers most)
     → IsFormatted blank old → IsWholeRun calls old new
-    → asked_by_calls calls ≡ repeated runs sized.trace → WearsAsTold cycles most calls old new
+    → asked_by_calls calls ≡ repeated_trace runs sized.trace → WearsAsTold cycles most calls old new
 
 -- Where they made the changes of the script so many times, and no others, the line of its size tells just as many transfers
 -- as they made; and it wears as was told.
@@ -70,7 +70,7 @@ abbrev pub EachSizeMovesAsTold : Type 0
 EachSizeMovesAsTold =
     (text told : List ℕ) (cycles runs : ℕ) (some_enough : Bool) (calls : List Call) (blank old new : Device)
     → (sized : IsSized old.size.words text cycles runs told some_enough) → IsFormatted blank old → IsWholeRun calls old new
-    → made_by_calls calls ≡ repeated runs sized.trace
+    → made_by_calls calls ≡ repeated_trace runs sized.trace
     → IsDemandOf old.size.pages sized.demands (Transfers (transfers calls)) × WearsAsTold cycles (transfers calls) calls old new
 
 -- It makes all of them, by as many transfers as that line tells: where the line doesn't say that the generations are used up,
@@ -80,5 +80,5 @@ EachSizeIsMadeAsTold =
     (text told : List ℕ) (cycles runs most : ℕ) (some_enough : Bool) (calls : List Call) (blank old new : Device)
     → (sized : IsSized old.size.words text cycles runs told some_enough) → IsDemandOf old.size.pages sized.demands (Transfers most)
     → IsFormatted blank old → IsOn old → IsWholeRun calls old new → All (λ call. wants_memory call ≡ false) calls
-    → asked_by_calls calls ≡ repeated runs sized.trace → ForgetsLive [] (repeated runs sized.trace) → is_spent_by most ≡ false
-    → (made_by_calls calls ≡ repeated runs sized.trace) × (transfers calls ≡ most)
+    → asked_by_calls calls ≡ repeated_trace runs sized.trace → ForgetsLive [] (repeated_trace runs sized.trace) → is_spent_by most ≡ false
+    → (made_by_calls calls ≡ repeated_trace runs sized.trace) × (transfers calls ≡ most)

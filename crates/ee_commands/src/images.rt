@@ -1,19 +1,21 @@
 //! The commands without a script.
 ghost use Rattle.std.specs.Prelude.{◌≡◌, ◌≢◌, ◌⊎◌, ◌<◌, ◌-◌, ◌++◌, IfOk, IfErr, MatchResult, Ok, OnOk, replicate, true};
 ghost use Rattle.ee_text.specs.Line.{line_of};
-ghost use Rattle.ee_store.specs.Calls.{Cleans, ErasesLowest};
-ghost use Rattle.ee_store.specs.Runs.{Cleaned, IsWholeRun};
-ghost use Rattle.ee_store.specs.State.{Wears, pending_pages, state_of, with_pending};
-ghost use Rattle.ee_commands.specs.Images.{AreStates, IsCleaned, IsFormattedText, IsOpeningFault, IsReadingFault, cleaned_text, state_lines, state_name, state_text};
+ghost use Rattle.ee_core.specs.Calls.{Cleans, ErasesLowest};
+ghost use Rattle.ee_core.specs.Runs.{Cleaned, IsWholeRun};
+ghost use Rattle.ee_core.specs.State.{Wears, pending_pages, state_of, with_pending};
+ghost use Rattle.ee_image_store.specs.FileFaults.{IsReadingFault};
+ghost use Rattle.ee_commands.specs.Images.{AreStates, IsCleaned, IsFormattedText, IsOpeningFault, cleaned_text, state_lines, state_name, state_text};
 ghost use Rattle.ee_image_store.specs.Opening.{StaysOn};
 
+use super::left::text_left;
+use ee_core::Variables;
+use ee_faults::{Fault, File};
 use ee_flash::{Flash, Shape};
 use ee_image::read_image;
-use ee_image_store::{new_store, open_image, text_of};
+use ee_image_store::{new_store, open_image};
 use ee_pages::{State, state_of as state_of_page};
-use ee_store::Variables;
 use ee_text::push_number;
-use ee_words::{Fault, File};
 use std::alloc::{AllocError, Allocator};
 
 /// The text of the image of a new device of this shape, formatted.
@@ -28,7 +30,7 @@ pub fn format_image<A: Allocator + Copy>(alloc: A, shape: Shape) -> Result<Vec<u
     ensures fault { IfErr result (λ fault. fault ≡ Fault.Memory) }
 {
     let store = new_store(alloc, shape)?;
-    let image = text_of(alloc, &store.into_flash())?;
+    let image = text_left(alloc, store)?;
     Ok(image)
 }
 
@@ -51,12 +53,9 @@ pub fn clean_image<A: Allocator + Copy>(
     ensures names { (cause : Fault) → cause ≢ Fault.Memory → IsOpeningFault image.now cause
         → MatchResult result (λ _. ⊥) (λ fault. (fault ≡ cause) ⊎ (fault ≡ Fault.Memory)) }
 {
-    let mut store = match open_image(alloc, image) {
-        Ok(store) => store,
-        Err(fault) => return Err(Fault::from(fault)),
-    };
+    let mut store = open_image(alloc, image)?;
     let erased = clean_all(&mut store);
-    let cleaned = text_of(alloc, &store.into_flash())?;
+    let cleaned = text_left(alloc, store)?;
     let mut text = Vec::new(alloc);
     push_cleaned(&mut text, erased)?;
     Ok((cleaned, text))

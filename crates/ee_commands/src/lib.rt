@@ -8,6 +8,7 @@
 
 mod images;
 pub mod laws;
+mod left;
 mod listing;
 mod planning;
 mod second_schema;
@@ -19,6 +20,6 @@ pub use images::{clean_image, format_image, states_text};
 pub use listing::list_text;
 pub use planning::{check_script, plan_script};
 pub use second_schema::{stale_text, tidy_image};
-pub use settings::{get_setting, set_setting};
+pub use settings::{get_setting, read_schema, set_setting};
 pub use sizing::{PartSizes, size_parts};
 pub use wear::wear_text;

@@ -1,17 +1,17 @@
 //! The command that tells what an image holds.
 ghost use Rattle.std.specs.Prelude.{◌≡◌, ◌≢◌, ◌⊎◌, ◌++◌, Some, None, IfOk, IfErr, OnOk, MatchResult};
 ghost use Rattle.std.specs.Option.{option_map};
-ghost use Rattle.ee_store.specs.State.{state_of};
+ghost use Rattle.ee_core.specs.State.{state_of};
 ghost use Rattle.ee_settings.specs.Listing.{listed_in};
 ghost use Rattle.ee_commands.specs.Listing.{IsList, IsListTextFault, held_words, listed_line, listed_lines, name_words, words_behind};
 ghost use Rattle.ee_image_store.specs.Opening.{StaysOn};
 
 use super::settings::read_schema;
+use ee_core::Variables;
+use ee_faults::Fault;
 use ee_image_store::open_image;
 use ee_settings::{Held, ListFault, Listed, Schema};
-use ee_store::Variables;
 use ee_text::push_number;
-use ee_words::Fault;
 use std::alloc::{AllocError, Allocator, Global};
 
 /// What the image that a text spells holds, as there is to print: a line for each address that has a
@@ -55,10 +55,7 @@ fn list_values<A: Allocator + Copy>(alloc: A, image: &[u8]) -> Result<Vec<u8, A>
         → IsListTextFault image.now None cause
         → MatchResult result (λ _. ⊥) (λ fault. (fault ≡ cause) ⊎ (fault ≡ Fault.Memory)) }
 {
-    let store = match open_image(alloc, image) {
-        Ok(store) => store,
-        Err(fault) => return Err(Fault::from(fault)),
-    };
+    let store = open_image(alloc, image)?;
     let schema = Schema::empty(alloc);
     let text = lines_on(alloc, &store, &schema)?;
     Ok(text)
@@ -77,14 +74,8 @@ fn list_settings<A: Allocator + Copy>(
         → IsListTextFault image.now (Some settings.now) cause
         → MatchResult result (λ _. ⊥) (λ fault. (fault ≡ cause) ⊎ (fault ≡ Fault.Memory)) }
 {
-    let store = match open_image(alloc, image) {
-        Ok(store) => store,
-        Err(fault) => return Err(Fault::from(fault)),
-    };
-    let schema = match read_schema(alloc, heap, settings) {
-        Ok(schema) => schema,
-        Err(fault) => return Err(fault),
-    };
+    let store = open_image(alloc, image)?;
+    let schema = read_schema(alloc, heap, settings)?;
     let text = lines_on(alloc, &store, &schema)?;
     Ok(text)
 }

@@ -1,16 +1,16 @@
 //! Plans of scripts on images, and the certificates that prove them.
 ghost use Rattle.std.specs.Prelude.{◌≡◌, ◌≢◌, ◌⊎◌, ◌++◌, ◌∷◌, [], IfErr, IfNone, IfOk, IfSome, MatchResult, OnOk};
 ghost use Rattle.ee_text.specs.Line.{line_of};
-ghost use Rattle.ee_script.specs.Command.{IsCommand, spelling};
+ghost use Rattle.ee_script.specs.Command.{IsCommand, command_text};
 ghost use Rattle.ee_commands.specs.Planning.{IsCheckingFault, IsPlanned, IsPlanningFault, IsProved, IsTask, IsTaskFault, IsTrace, IsTraceFault, KeepsPower, NoTraceLine, proved_text};
 ghost use Rattle.ee_image_store.specs.Trace.{trace_of};
 
 use ee_check::{Change, Start, check, read_certificate, write_certificate};
+use ee_faults::Fault;
 use ee_image_store::open_image;
 use ee_plan::{plan, start_of};
 use ee_script::{Command, ScriptFault, next_command};
 use ee_text::push_number;
-use ee_words::Fault;
 use std::alloc::{AllocError, Allocator};
 
 /// The text of the tight certificate of a script on the image that a text spells: the fewest transfers
@@ -86,10 +86,7 @@ fn read_task<A: Allocator + Copy>(
     ensures task { IfOk result (λ task. IsTask image.now script.now task.0 task.1.items) }
     ensures fault { IfErr result (IsTaskFault image.now script.now) }
 {
-    let store = match open_image(alloc, image) {
-        Ok(store) => store,
-        Err(fault) => return Err(Fault::from(fault)),
-    };
+    let store = open_image(alloc, image)?;
     let start = start_of(alloc, &store)?;
     let trace = read_trace(alloc, script)?;
     Ok((start, trace))
@@ -121,7 +118,7 @@ pub(crate) fn read_trace<A: Allocator + Copy>(
 /// no line stands there that a trace's script may have.
 fn next_of_trace(text: &[u8]) -> Option<(Command, &[u8])>
     ensures found { IfSome result (λ parts. IsCommand parts.0 × KeepsPower parts.0
-        × (text.now ≡ line_of (spelling parts.0) ++ parts.1.now)) }
+        × (text.now ≡ line_of (command_text parts.0) ++ parts.1.now)) }
     ensures none { IfNone result (NoTraceLine text.now) }
 {
     match next_command(text) {

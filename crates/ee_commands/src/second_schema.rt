@@ -1,19 +1,20 @@
 //! The commands that look at an image with the settings of a later firmware.
 ghost use Rattle.std.specs.Prelude.{◌≡◌, ◌≢◌, ◌⊎◌, ◌<◌, ◌≤◌, ◌+◌, ◌++◌, IfOk, IfErr, OnOk, MatchResult, length};
 ghost use Rattle.std.specs.List.{All};
-ghost use Rattle.ee_store.specs.State.{state_of};
+ghost use Rattle.ee_core.specs.State.{state_of};
 ghost use Rattle.ee_settings.specs.Stale.{stale_in};
 ghost use Rattle.ee_settings.specs.Tidying.{IsSpentAmong, unnamed_in};
 ghost use Rattle.ee_settings.specs.declared.stale.Stale.{Stale};
 ghost use Rattle.ee_commands.specs.SecondSchema.{AreStaleLines, IsStaleTextFault, IsTidied, IsTidiedImage, IsTidyImageFault, stale_line, stale_lines, tidied_text};
 ghost use Rattle.ee_image_store.specs.Opening.{StaysOn};
 
+use super::left::text_left;
 use super::settings::read_schema;
-use ee_image_store::{open_image, text_of};
+use ee_core::Variables;
+use ee_faults::Fault;
+use ee_image_store::open_image;
 use ee_settings::{Schema, Stale, StaleFault, TidyFault};
-use ee_store::Variables;
 use ee_text::push_number;
-use ee_words::Fault;
 use std::alloc::{AllocError, Allocator, Global};
 
 /// The settings whose stored value in the image that a text spells isn't in their range, as there is
@@ -40,14 +41,8 @@ pub fn stale_text<A: Allocator + Copy>(
         → MatchResult result (λ _. ⊥)
         (λ fault. (fault ≡ cause) ⊎ (fault ≡ Fault.Memory)) }
 {
-    let store = match open_image(alloc, image) {
-        Ok(store) => store,
-        Err(fault) => return Err(Fault::from(fault)),
-    };
-    let schema = match read_schema(alloc, heap, settings) {
-        Ok(schema) => schema,
-        Err(fault) => return Err(fault),
-    };
+    let store = open_image(alloc, image)?;
+    let schema = read_schema(alloc, heap, settings)?;
     let stale = stale_on(alloc, &store, &schema)?;
     let mut text = Vec::new(alloc);
     push_stale(&mut text, &schema, stale.as_slice())?;
@@ -80,19 +75,10 @@ pub fn tidy_image<A: Allocator + Copy>(
         → MatchResult result (λ _. ⊥)
         (λ fault. (fault ≡ cause) ⊎ (fault ≡ Fault.Memory)) }
 {
-    let mut store = match open_image(alloc, image) {
-        Ok(store) => store,
-        Err(fault) => return Err(Fault::from(fault)),
-    };
-    let schema = match read_schema(alloc, heap, settings) {
-        Ok(schema) => schema,
-        Err(fault) => return Err(fault),
-    };
-    let count = match tidy_on(&mut store, &schema) {
-        Ok(count) => count,
-        Err(fault) => return Err(fault),
-    };
-    let written = text_of(alloc, &store.into_flash())?;
+    let mut store = open_image(alloc, image)?;
+    let schema = read_schema(alloc, heap, settings)?;
+    let count = tidy_on(&mut store, &schema)?;
+    let written = text_left(alloc, store)?;
     let mut text = Vec::new(alloc);
     push_tidied(&mut text, count)?;
     Ok((written, text))

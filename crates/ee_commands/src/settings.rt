@@ -1,19 +1,19 @@
 //! The commands that read and set a setting by its name.
-ghost use Rattle.std.specs.Prelude.{◌≡◌, ◌≢◌, ◌⊎◌, ◌++◌, List};
-ghost use Rattle.std.specs.Prelude.{IfOk, IfErr, IfSome, IfNone, OnOk, MatchResult};
+ghost use Rattle.std.specs.Prelude.{◌≡◌, ◌≢◌, ◌⊎◌, ◌++◌, List, IfOk, IfErr, IfSome, IfNone, OnOk, MatchResult};
 ghost use Rattle.toml.specs.View.{table_view};
 ghost use Rattle.ee_text.specs.Line.{line_of};
-ghost use Rattle.ee_store.specs.State.{state_of};
+ghost use Rattle.ee_core.specs.State.{state_of};
 ghost use Rattle.ee_settings.specs.Calls.{IsUnknown};
 ghost use Rattle.ee_settings.specs.Setting.{Setting};
-ghost use Rattle.ee_commands.specs.Settings.{HasNoTree, HasTree, IsGetFault, IsGot, IsRead, IsRefused, IsSet, IsSetFault, IsSettingsFault, IsWritten, SpellsSettings, reading_text};
+ghost use Rattle.ee_commands.specs.Settings.{HasNoTree, HasTree, IsGetFault, IsGot, IsSettingRead, IsSettingRefused, IsSet, IsSetFault, IsSettingsFault, IsWritten, SpellsSettings, reading_text};
 ghost use Rattle.ee_image_store.specs.Opening.{StaysOn};
 
-use ee_image_store::{open_image, text_of};
+use super::left::text_left;
+use ee_core::{Variables, WriteFault};
+use ee_faults::Fault;
+use ee_image_store::open_image;
 use ee_settings::{GetFault, Reading, Schema, SetFault};
-use ee_store::{Variables, WriteFault};
 use ee_text::push_number;
-use ee_words::Fault;
 use std::alloc::{AllocError, Allocator, Global};
 use toml::Table;
 
@@ -43,14 +43,8 @@ pub fn get_setting<A: Allocator + Copy>(
         → MatchResult result (λ _. ⊥)
         (λ fault. (fault ≡ cause) ⊎ (fault ≡ Fault.Memory)) }
 {
-    let store = match open_image(alloc, image) {
-        Ok(store) => store,
-        Err(fault) => return Err(Fault::from(fault)),
-    };
-    let schema = match read_schema(alloc, heap, settings) {
-        Ok(schema) => schema,
-        Err(fault) => return Err(fault),
-    };
+    let store = open_image(alloc, image)?;
+    let schema = read_schema(alloc, heap, settings)?;
     let reading = match read_on(&store, &schema, name) {
         Some(reading) => reading,
         None => return Err(Fault::UnknownName),
@@ -88,25 +82,23 @@ pub fn set_setting<A: Allocator + Copy>(
         → MatchResult result (λ _. ⊥)
         (λ fault. (fault ≡ cause) ⊎ (fault ≡ Fault.Memory)) }
 {
-    let mut store = match open_image(alloc, image) {
-        Ok(store) => store,
-        Err(fault) => return Err(Fault::from(fault)),
-    };
-    let schema = match read_schema(alloc, heap, settings) {
-        Ok(schema) => schema,
-        Err(fault) => return Err(fault),
-    };
-    match set_on(&mut store, &schema, name, value) {
-        Ok(()) => {}
-        Err(fault) => return Err(fault),
-    }
-    let written = text_of(alloc, &store.into_flash())?;
+    let mut store = open_image(alloc, image)?;
+    let schema = read_schema(alloc, heap, settings)?;
+    set_on(&mut store, &schema, name, value)?;
+    let written = text_left(alloc, store)?;
     let text = Vec::from_slice(alloc, b"set\n")?;
     Ok((written, text))
 }
 
-/// The settings that a text spells.
-pub(crate) fn read_schema<A: Allocator + Copy>(
+/// The settings that a text spells. `heap` is for the tree of that text alone: `toml` takes no other
+/// allocator.
+///
+/// Source: ours.
+///
+/// # Errors
+///
+/// The text is no TOML, or no schema. `Memory` can come in place of any answer.
+pub fn read_schema<A: Allocator + Copy>(
     alloc: A,
     heap: Global,
     text: &[u8],
@@ -119,10 +111,7 @@ pub(crate) fn read_schema<A: Allocator + Copy>(
     ensures only { (settings : List Setting) → SpellsSettings text.now settings
         → MatchResult result (λ schema. schema ≡ settings) (λ fault. fault ≡ Fault.Memory) }
 {
-    let table = match read_table(heap, text) {
-        Ok(table) => table,
-        Err(fault) => return Err(fault),
-    };
+    let table = read_table(heap, text)?;
     // The names of a table rise, so it has one first fault.
     let _entries = table.iter();
     match Schema::from_table(alloc, &table) {
@@ -151,7 +140,7 @@ fn read_table(heap: Global, text: &[u8]) -> Result<Table, Fault>
 /// What the setting of a name reads as, if there is one.
 fn read_on<V: Variables, A: Allocator>(store: &V, schema: &Schema<A>, name: &str) -> Option<Reading>
     requires { StaysOn (V.device store.now) }
-    ensures found { IfSome result (IsRead schema.now (state_of (V.device store.now)) name.now) }
+    ensures found { IfSome result (IsSettingRead schema.now (state_of (V.device store.now)) name.now) }
     ensures none { IfNone result (IsUnknown schema.now name.now) }
 {
     match schema.get(store, name) {
@@ -172,7 +161,7 @@ fn set_on<V: Variables, A: Allocator>(
     ensures written { OnOk result
         (IsWritten schema.now (V.device store.old) name.now value (V.device store.new)) }
     ensures fault { let old = V.device store.old in
-        IfErr result (IsRefused schema.now old.size (state_of old) name.now value) }
+        IfErr result (IsSettingRefused schema.now old.size (state_of old) name.now value) }
 {
     match schema.set(store, name, value) {
         Ok(_) => Ok(()),

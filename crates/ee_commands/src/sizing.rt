@@ -1,16 +1,17 @@
 //! How large a part must be for a script that is made many times over.
-ghost use Rattle.std.specs.Prelude.{◌≡◌, ◌≢◌, ◌⊎◌, ◌+◌, ◌≤◌, ◌++◌, decimal, IfErr, IfOk, IsTrue, MatchResult, OnOk, length};
+ghost use Rattle.std.specs.Prelude.{◌≡◌, ◌≢◌, ◌⊎◌, ◌+◌, ◌≤◌, ◌++◌, IfErr, IfOk, IsTrue, MatchResult, OnOk, length};
 ghost use Rattle.std.specs.List.{list_any};
 ghost use Rattle.ee_flash.specs.Size.{size_of, slot_count};
 ghost use Rattle.ee_text.specs.Line.{line_of};
-ghost use Rattle.ee_plan.specs.Rounds.{repeated};
-ghost use Rattle.ee_commands.specs.Sizing.{AreDemands, EachWears, IsSized, IsSizingFault, erases_for, fitting_text, is_enough, least_for, limit_for, not_fitting_text, numbers_text, size_lines, size_text, verdict};
+ghost use Rattle.ee_plan.specs.Rounds.{repeated_trace};
+ghost use Rattle.ee_commands.specs.Sizing.{AreDemands, EachWears, IsSized, IsSizingFault, erases_for, fitting_text, is_enough, least_for, limit_for, not_fitting_text, numbers_text, size_lines, sizing_text, verdict};
 
 use super::planning::read_trace;
 use ee_check::Change;
+use ee_faults::Fault;
+use ee_flash::HEADER_WORDS;
 use ee_plan::{Demand, Rounds, RoundsFault};
-use ee_text::push_number;
-use ee_words::Fault;
+use ee_text::push_number_behind;
 use std::alloc::{AllocError, Allocator, Global};
 
 /// The most pages of a set.
@@ -75,7 +76,7 @@ fn rounds_of<A: Allocator + Copy>(
     trace: Vec<Change, A>,
     runs: u32,
 ) -> Result<Rounds<A>, AllocError>
-    ensures { IfOk result (λ rounds. rounds ≡ repeated runs trace.items) }
+    ensures { IfOk result (λ rounds. rounds ≡ repeated_trace runs trace.items) }
 {
     match Rounds::new(alloc, trace, runs as u64) {
         Ok(rounds) => Ok(rounds),
@@ -107,7 +108,7 @@ fn slots_of(pages: u32, words: u16) -> u32
     requires { pages ≤ 64 }
     ensures { result ≡ slot_count (size_of pages words) }
 {
-    pages * (words as u32).saturating_sub(4)
+    pages * (words as u32).saturating_sub(HEADER_WORDS as u32)
 }
 
 /// The lines of the sizes, from one page on.
@@ -141,7 +142,7 @@ fn push_size<A: Allocator>(
 ) -> Result<(), AllocError>
     requires { pages ≤ 64 }
     ensures { OnOk result (out.new.items
-        ≡ out.old.items ++ line_of (size_text words cycles changes pages demand)) }
+        ≡ out.old.items ++ line_of (sizing_text words cycles changes pages demand)) }
 {
     let slots = slots_of(pages, words);
     match demand {
@@ -238,18 +239,6 @@ fn push_not_fitting<A: Allocator>(
     push_number_behind(out, b" slots ", slots as u64)?;
     push_number_behind(out, b" not fitting ", change)?;
     out.extend_from_slice(b"\n")
-}
-
-/// Writes the words and the number. After an error there may be a part of them.
-fn push_number_behind<A: Allocator>(
-    out: &mut Vec<u8, A>,
-    words: &[u8],
-    number: u64,
-) -> Result<(), AllocError>
-    ensures { OnOk result (out.new.items ≡ out.old.items ++ (words.now ++ decimal number)) }
-{
-    out.extend_from_slice(words)?;
-    push_number(out, number)
 }
 
 /// How often a page is erased at the most.

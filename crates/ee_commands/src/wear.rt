@@ -2,12 +2,13 @@
 ghost use Rattle.std.specs.Prelude.{◌≡◌, ◌≢◌, ◌⊎◌, ◌++◌, Some, None, IfOk, IfErr, OnOk, MatchResult};
 ghost use Rattle.std.specs.Option.{option_map};
 ghost use Rattle.ee_text.specs.Line.{line_of};
-ghost use Rattle.ee_commands.specs.Wear.{AreCountsOf, AreCountsSince, IsFileFault, IsWear, IsWearFault, count_lines, count_text, ledger_text, total_text};
+ghost use Rattle.ee_image_store.specs.FileFaults.{IsFileFault};
+ghost use Rattle.ee_commands.specs.Wear.{AreWearCountsOf, AreCountsSince, IsWear, IsWearFault, count_lines, count_text, ledger_text, total_text};
 
+use ee_faults::{Fault, File};
 use ee_image::read_image;
 use ee_text::push_number;
 use ee_wear::Ledger;
-use ee_words::{Fault, File};
 use std::alloc::{AllocError, Allocator};
 
 /// How often each page of the image that a text spells was erased, a line for each page by rising
@@ -69,7 +70,7 @@ fn wear_since<A: Allocator + Copy>(
 
 /// The ledger of the image that the text of a file spells.
 fn read_ledger<A: Allocator + Copy>(alloc: A, file: File, image: &[u8]) -> Result<Ledger<A>, Fault>
-    ensures counts { IfOk result (AreCountsOf image.now) }
+    ensures counts { IfOk result (AreWearCountsOf image.now) }
     ensures fault { IfErr result (IsFileFault file image.now) }
 {
     let flash = match read_image(alloc, image) {

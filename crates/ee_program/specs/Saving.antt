@@ -1,10 +1,17 @@
--- What is told of an image that wasn't written.
-use Rattle.ee_words.specs.declared.fault.Fault.{Fault}
-use Rattle.ee_words.specs.declared.fault.Fault.TheVariants.{CannotWriteImage, ImageChanged, Memory}
+-- What is told of an image or a dump that wasn't written.
+use Rattle.ee_faults.specs.declared.fault.Fault.{Fault}
+use Rattle.ee_faults.specs.declared.fault.Fault.TheVariants.{CannotWriteDump, CannotWriteImage, ImageChanged, Memory}
 use Rattle.ee_program.specs.declared.saving.SaveFault.{SaveFault}
 use Rattle.ee_program.specs.declared.saving.SaveFault.TheVariants as save
 
+-- of an image
 abbrev pub fault_of_save : SaveFault → Fault
 fault_of_save save.Changed = ImageChanged
 fault_of_save save.Failed = CannotWriteImage
 fault_of_save save.Memory = Memory
+
+-- of a dump, whose file isn't read
+abbrev pub fault_of_dump_file : SaveFault → Fault
+fault_of_dump_file save.Changed = CannotWriteDump
+fault_of_dump_file save.Failed = CannotWriteDump
+fault_of_dump_file save.Memory = Memory

@@ -1,6 +1,6 @@
 //! What the program `ee` does, apart from its `main`: files, standard streams and the exit status,
-//! on any runtime. What its words ask for and how its faults are told is `ee_words`, what it does over
-//! bytes `ee_shell`.
+//! on any runtime. What its words ask for is `ee_command_line`, how its faults are told `ee_faults`,
+//! what it does over bytes `ee_shell`.
 //!
 //! `run` is the program over its words. `save` replaces an image's file, if it still is what was read. No
 //! contract can say what the system gives and takes: beyond the statuses of what it says itself, how a file is

@@ -2,14 +2,14 @@ ghost use Rattle.std.specs.Prelude.{◌≡◌};
 
 use super::locks::FileLocks;
 use super::saving::save;
+use ee_command_line::{HELP, Job, VERSION, job, read_whole, write_whole};
+use ee_faults::{Fault, File, fault_line, status_of};
 use ee_flash::Shape;
 use ee_shell::{
-    check_script, clean_image, format_image, get_setting, list_text, plan_script, replay,
-    replay_indexed, set_setting, size_parts, stale_text, states_text, tidy_image, try_script,
-    wear_text,
-};
-use ee_words::{
-    Fault, File, HELP, Job, VERSION, fault_line, job, read_whole, status_of, write_whole,
+    Language, apply_values, check_script, clean_image, export_hex, export_image, format_image,
+    get_setting, header_text, import_hex, import_image, inspect_text, list_text, plan_script,
+    replay, replay_indexed, set_setting, size_parts, stale_text, states_text, tidy_image,
+    try_script, wear_text,
 };
 use std::rt::Files;
 use std::{fs, io};
@@ -46,6 +46,16 @@ fn work<R: FileLocks + Input + Print + AllocGlobal>(rt: &R, job: &Job<'_>) -> Re
     match *job {
         Job::Try { shape } => try_input(rt, shape),
         Job::Format { shape, image } => format_file(rt, shape, image),
+        Job::Import { shape, dump, image } => import_file(rt, shape, dump, image),
+        Job::Export { image, dump } => export_file(rt, image, dump),
+        Job::ImportHex {
+            shape,
+            base,
+            dump,
+            image,
+        } => import_hex_file(rt, shape, base, dump, image),
+        Job::ExportHex { image, base, dump } => export_hex_file(rt, image, base, dump),
+        Job::Inspect { image } => tell_inside(rt, image),
         Job::Run {
             indexed,
             image,
@@ -62,6 +72,12 @@ fn work<R: FileLocks + Input + Print + AllocGlobal>(rt: &R, job: &Job<'_>) -> Re
             name,
             value,
         } => set_file(rt, image, settings, name, value),
+        Job::Apply {
+            image,
+            settings,
+            values,
+        } => apply_file(rt, image, settings, values),
+        Job::Header { rust, settings } => tell_header(rt, rust, settings),
         Job::Plan { image, script } => tell_plan(rt, image, script),
         Job::Check {
             image,
@@ -104,6 +120,65 @@ fn format_file<R: FileLocks + Print + AllocGlobal>(
     let formatted = format_image(rt.alloc(), shape)?;
     write_image(rt, image, None, formatted.as_slice())?;
     print(rt, b"formatted\n")
+}
+
+/// Writes the image of a part, from its bytes.
+fn import_file<R: FileLocks + Print + AllocGlobal>(
+    rt: &R,
+    shape: Shape,
+    dump: &str,
+    image: &str,
+) -> Result<(), Fault> {
+    let bytes = read_file(rt, File::Dump, dump)?;
+    let imported = import_image(rt.alloc(), shape, bytes.as_slice())?;
+    write_image(rt, image, None, imported.as_slice())?;
+    print(rt, b"imported\n")
+}
+
+/// Writes the bytes of the part of an image.
+fn export_file<R: FileLocks + Print + AllocGlobal>(
+    rt: &R,
+    image: &str,
+    dump: &str,
+) -> Result<(), Fault> {
+    let text = read_file(rt, File::Image, image)?;
+    let bytes = export_image(rt.alloc(), text.as_slice())?;
+    write_dump(rt, dump, bytes.as_slice())?;
+    print(rt, b"exported\n")
+}
+
+/// Writes the image of a part, from Intel HEX. The part begins at the base.
+fn import_hex_file<R: FileLocks + Print + AllocGlobal>(
+    rt: &R,
+    shape: Shape,
+    base: u32,
+    dump: &str,
+    image: &str,
+) -> Result<(), Fault> {
+    let lines = read_file(rt, File::Dump, dump)?;
+    let imported = import_hex(rt.alloc(), shape, base, lines.as_slice())?;
+    write_image(rt, image, None, imported.as_slice())?;
+    print(rt, b"imported\n")
+}
+
+/// Writes the bytes of the part of an image as Intel HEX. The part begins at the base.
+fn export_hex_file<R: FileLocks + Print + AllocGlobal>(
+    rt: &R,
+    image: &str,
+    base: u32,
+    dump: &str,
+) -> Result<(), Fault> {
+    let text = read_file(rt, File::Image, image)?;
+    let lines = export_hex(rt.alloc(), text.as_slice(), base)?;
+    write_dump(rt, dump, lines.as_slice())?;
+    print(rt, b"exported\n")
+}
+
+/// Prints what stands in an image, whatever it is.
+fn tell_inside<R: Files + Print + AllocGlobal>(rt: &R, image: &str) -> Result<(), Fault> {
+    let image = read_file(rt, File::Image, image)?;
+    let text = inspect_text(rt.alloc(), image.as_slice())?;
+    print(rt, text.as_slice())
 }
 
 /// Answers a script on an image, writes the image that this leaves in its place, and prints the
@@ -164,6 +239,41 @@ fn set_file<R: FileLocks + Print + AllocGlobal>(
         value,
     )?;
     write_image(rt, image, Some(before.as_slice()), written.as_slice())?;
+    print(rt, text.as_slice())
+}
+
+/// Gives settings of an image the values of a file, and writes the image in its place.
+fn apply_file<R: FileLocks + Print + AllocGlobal>(
+    rt: &R,
+    image: &str,
+    settings: &str,
+    values: &str,
+) -> Result<(), Fault> {
+    let before = read_file(rt, File::Image, image)?;
+    let table = read_file(rt, File::Settings, settings)?;
+    let given = read_file(rt, File::Values, values)?;
+    let (alloc, heap) = (rt.alloc(), rt.alloc());
+    let (written, text) = apply_values(
+        alloc,
+        heap,
+        before.as_slice(),
+        table.as_slice(),
+        given.as_slice(),
+    )?;
+    write_image(rt, image, Some(before.as_slice()), written.as_slice())?;
+    print(rt, text.as_slice())
+}
+
+/// Prints the constants of settings, in Rust or in C.
+fn tell_header<R: Files + Print + AllocGlobal>(
+    rt: &R,
+    rust: bool,
+    settings: &str,
+) -> Result<(), Fault> {
+    let table = read_file(rt, File::Settings, settings)?;
+    let (alloc, heap) = (rt.alloc(), rt.alloc());
+    let language = if rust { Language::Rust } else { Language::C };
+    let text = header_text(alloc, heap, table.as_slice(), language)?;
     print(rt, text.as_slice())
 }
 
@@ -316,6 +426,14 @@ fn write_image<R: FileLocks + AllocGlobal>(
     match save(rt, path, before, image) {
         Ok(()) => Ok(()),
         Err(fault) => Err(fault.told()),
+    }
+}
+
+/// Writes a dump in the place of its file, whatever that was.
+fn write_dump<R: FileLocks + AllocGlobal>(rt: &R, path: &str, dump: &[u8]) -> Result<(), Fault> {
+    match save(rt, path, None, dump) {
+        Ok(()) => Ok(()),
+        Err(fault) => Err(fault.told_of_dump()),
     }
 }
 

@@ -9,10 +9,11 @@
 //! locked, with the text that was read, or writes nothing. So of the two one at most goes on.
 ghost use Rattle.std.specs.Prelude.{◌≡◌, ◌↔◌, ◌<◌, length, take, IfOk, OnOk, IfErr, IfSome, IsTrue};
 ghost use Rattle.std.specs.Io.KnownBytes.{Appends};
-ghost use Rattle.ee_program.specs.Saving.{fault_of_save};
+ghost use Rattle.ee_program.specs.Saving.{fault_of_dump_file, fault_of_save};
 
 use super::locks::FileLocks;
-use ee_words::{Fault, ReadFault, Stopped, read_whole, write_whole};
+use ee_command_line::{ReadFault, Stopped, read_whole, write_whole};
+use ee_faults::Fault;
 use std::alloc::{AllocError, Allocator};
 use std::fs::{self, Metadata, OpenFile, OpenOptions, TryLockError};
 use std::io::{self, ErrorKind, Read, Seek, SeekFrom, Write};
@@ -69,13 +70,23 @@ impl From<Stopped> for SaveFault {
 }
 
 impl SaveFault {
-    /// What the program tells of it.
+    /// What the program tells of it, where an image was to be written.
     pub fn told(self) -> Fault
         ensures { result ≡ fault_of_save self }
     {
         match self {
             SaveFault::Changed => Fault::ImageChanged,
             SaveFault::Failed => Fault::CannotWriteImage,
+            SaveFault::Memory => Fault::Memory,
+        }
+    }
+
+    /// What the program tells of it, where a dump was to be written, of whose file nothing was read.
+    pub fn told_of_dump(self) -> Fault
+        ensures { result ≡ fault_of_dump_file self }
+    {
+        match self {
+            SaveFault::Changed | SaveFault::Failed => Fault::CannotWriteDump,
             SaveFault::Memory => Fault::Memory,
         }
     }

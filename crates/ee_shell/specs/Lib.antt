@@ -18,3 +18,11 @@ pub use Rattle.ee_commands.specs.SecondSchema
 pub use Rattle.ee_commands.specs.Listing
 pub use Rattle.ee_commands.specs.Sizing
 pub use Rattle.ee_commands.specs.ToldSizes
+pub use Rattle.ee_part.specs.Moving
+pub use Rattle.ee_part.specs.Faults
+pub use Rattle.ee_part.specs.Hex
+pub use Rattle.ee_part.specs.Laws
+pub use Rattle.ee_part.specs.Inspecting
+pub use Rattle.ee_part.specs.InspectLaws
+pub use Rattle.ee_factory.specs.Header
+pub use Rattle.ee_factory.specs.Applying

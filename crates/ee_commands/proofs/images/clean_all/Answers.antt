@@ -1,5 +1,5 @@
 use Rattle.std.proofs.Common.{◌≡◌, arith, rules}
-use Rattle.ee_store.specs.State.{state_of}
+use Rattle.ee_core.specs.State.{state_of}
 use Rattle.ee_commands.proofs.Cleaning.{cleans_more}
 use Rattle.ee_commands.proofs.Fronts.{front_all, front_more}
 use Rattle.ee_commands.proofs.images.clean_all.Goals as goal

@@ -1,6 +1,6 @@
 use Rattle.std.proofs.Common.{◌≡◌, ◌+◌, ◌-◌, ◌≤◌}
-use Rattle.ee_store.specs.Runs.{IsWholeRun}
-use Rattle.ee_store.specs.State.{state_of, with_pending}
+use Rattle.ee_core.specs.Runs.{IsWholeRun}
+use Rattle.ee_core.specs.State.{state_of, with_pending}
 use Rattle.ee_commands.proofs.Cleaning.{cleanings}
 use Rattle.ee_commands.proofs.Fronts.{ErasesFront}
 use Rattle.ee_image_store.specs.Opening.{StaysOn}

@@ -1,8 +1,8 @@
 use Rattle.std.proofs.Common.{◌≡◌, ◌⊎◌, rules, subst}
 use Rattle.ee_image.proofs.Taken.{error_passed_on}
 use Rattle.ee_check.specs.Schedule.{IsProper}
-use Rattle.ee_words.specs.declared.fault.Fault.TheVariants.{Memory}
-use Rattle.ee_words.specs.Fault.{fault_of_plan}
+use Rattle.ee_faults.specs.declared.fault.Fault.TheVariants.{Memory}
+use Rattle.ee_faults.specs.Fault.{fault_of_plan}
 use Rattle.ee_commands.specs.Planning.{IsTask}
 use Rattle.ee_commands.proofs.Planned.{is_planned}
 use Rattle.ee_commands.proofs.OneTask.{change_named, change_of_plan, first_of_plan, trace_renamed}

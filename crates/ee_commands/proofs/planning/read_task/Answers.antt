@@ -1,5 +1,5 @@
 use Rattle.ee_check.proofs.Fields.{passed_on}
-use Rattle.ee_words.specs.Fault.{fault_of_script}
+use Rattle.ee_faults.specs.Fault.{fault_of_script}
 use Rattle.ee_commands.specs.Planning.{IsTaskFault}
 use Rattle.ee_commands.proofs.OneTask.{no_trace}
 use Rattle.ee_commands.proofs.planning.read_task.Goals as goal
@@ -7,4 +7,4 @@ use Rattle.ee_commands.proofs.planning.read_task.Goals as goal
 pub returns-in_err-trace-clause-fault : goal.returns-in_err-trace-clause-fault
 returns-in_err-trace-clause-fault g c =
     passed_on c.from_residual-in_err-trace.result (fault_of_script c.in_err-trace.field-0.0) (IsTaskFault c.args.image.now c.args.script.now) c.from_residual-in_err-trace.ensures.1
-    (no_trace c.args.image.now c.args.script.now c.in-Ok.store c.in_err-trace.field-0.0 c.in-Ok.ensures.opened c.in_err-trace.ensures.fault)
+    (no_trace c.args.image.now c.args.script.now c.in_ok-store.store c.in_err-trace.field-0.0 c.in_ok-store.ensures.opened c.in_err-trace.ensures.fault)

@@ -1,30 +1,32 @@
-use Rattle.std.proofs.Common.{inl, inr}
-use Rattle.std.proofs.lemmas.Result.{err_from_is_err_and}
+use Rattle.std.proofs.Common.{inl, inr, refl}
+use Rattle.ee_check.proofs.Fields.{error_passed_on, passed_on}
 use Rattle.ee_commands.proofs.Named.{get_unknown, get_unopened, get_unspelled, got_good, no_memory_to_open}
 use Rattle.ee_commands.proofs.settings.get_setting.Goals as goal
 
-pub returns-in-Err-clause-names : goal.returns-in-Err-clause-names
-returns-in-Err-clause-names g c = λ cause some applies.
-    get_unopened c.args.image.now c.args.settings.now c.args.name.now c.in-Err.fault c.from.result cause c.in-Err.ensures.fault c.from.ensures some applies
+pub returns-in_err-store-clause-names : goal.returns-in_err-store-clause-names
+returns-in_err-store-clause-names g c = λ cause some applies.
+    error_passed_on _ _ _ _ c.from_residual.ensures.1 (get_unopened c.args.image.now c.args.settings.now c.args.name.now c.in_err-store.field-0.0 _ cause c.in_err-store.ensures.fault refl some applies)
 
-pub returns-in-Err-read_schema-clause-fault : goal.returns-in-Err-read_schema-clause-fault
-returns-in-Err-read_schema-clause-fault g c =
-    let opened = c.in-Ok.ensures.opened in
-    inr (inl ((opened.device, opened.old), c.in-Err-read_schema.ensures.fault))
+pub returns-in_err-schema-clause-fault : goal.returns-in_err-schema-clause-fault
+returns-in_err-schema-clause-fault g c =
+    let opened = c.in_ok-store.ensures.opened in
+    passed_on _ _ _ c.from_residual-in_err-schema.ensures.1 (inr (inl ((opened.device, opened.old), c.in_err-schema.ensures.fault)))
 
-pub returns-in-Err-read_schema-clause-names : goal.returns-in-Err-read_schema-clause-names
-returns-in-Err-read_schema-clause-names g c = λ cause some applies.
-    get_unspelled c.args.image.now c.args.settings.now c.args.name.now _ c.in-Err-read_schema.fault cause c.in-Ok.ensures.opened c.in-Err-read_schema.ensures.names c.in-Err-read_schema.ensures.only some applies
+pub returns-in_err-schema-clause-names : goal.returns-in_err-schema-clause-names
+returns-in_err-schema-clause-names g c = λ cause some applies.
+    error_passed_on _ _ _ _ c.from_residual-in_err-schema.ensures.1
+    (get_unspelled c.args.image.now c.args.settings.now c.args.name.now _ c.in_err-schema.field-0.0 cause c.in_ok-store.ensures.opened c.in_err-schema.ensures.names c.in_err-schema.ensures.only some applies)
 
 pub returns-in-None-clause-names : goal.returns-in-None-clause-names
 returns-in-None-clause-names g c = λ cause some applies.
-    get_unknown c.args.image.now c.args.settings.now c.args.name.now _ _ cause c.in-Ok.ensures.opened c.in-Ok-read_schema.ensures.spelled some applies
+    get_unknown c.args.image.now c.args.settings.now c.args.name.now _ _ cause c.in_ok-store.ensures.opened c.in_ok-schema.ensures.spelled some applies
 
 pub returns-clause-names : goal.returns-clause-names
 returns-clause-names g c = λ cause some applies.
-    got_good c.args.image.now c.args.settings.now c.args.name.now c.in-Ok.store c.in-Ok-read_schema.schema c.in-Some.reading cause c.in-Ok.ensures.opened c.in-Ok-read_schema.ensures.spelled c.in-Some.ensures.found some applies
+    got_good c.args.image.now c.args.settings.now c.args.name.now c.in_ok-store.store c.in_ok-schema.schema c.in-Some.reading cause c.in_ok-store.ensures.opened c.in_ok-schema.ensures.spelled c.in-Some.ensures.found some applies
 
 pub returns-in_err-push_reading-clause-fault : goal.returns-in_err-push_reading-clause-fault
-returns-in_err-push_reading-clause-fault g c =
-    let p = err_from_is_err_and c.from_residual.result c.from_residual.ensures.1 in
-    rw p.1 (rw p.2 (inl (no_memory_to_open c.args.image.now)))
+returns-in_err-push_reading-clause-fault g c = passed_on _ _ _ c.from_residual-in_err-push_reading.ensures.1 (inl (no_memory_to_open c.args.image.now))
+
+pub returns-in_err-push_reading-clause-names : goal.returns-in_err-push_reading-clause-names
+returns-in_err-push_reading-clause-names g c = λ cause some applies. error_passed_on _ _ _ _ c.from_residual-in_err-push_reading.ensures.1 (inr refl)

@@ -1,0 +1,4 @@
+pub mod Words
+pub mod Torn
+pub mod Dumps
+pub mod Growing

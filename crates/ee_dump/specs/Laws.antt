@@ -1,0 +1,36 @@
+-- What holds of every device and every dump.
+use Rattle.std.specs.Prelude.{◌≡◌, ◌⊎◌, ◌<◌, ℕ, List, length}
+use Rattle.std.specs.List.{All}
+use Rattle.ee_flash.specs.Size.{Size, IsWithinLimits}
+use Rattle.ee_flash.specs.Device.{Device, IsFormed, blank_device}
+use Rattle.ee_dump.specs.Dump.{IsDump, IsFirstTorn, IsImport, dump_length}
+
+-- the device with these words that was never used
+abbrev pub unworn_device : Device → Device
+unworn_device device = record (blank_device device.size) { image = device.image }
+
+-- what a device's dump makes is the device, unworn
+abbrev pub ImportOfExport : Type 0
+ImportOfExport = (device other : Device) (dump : List ℕ) → IsFormed device → IsDump device dump → IsFormed other → IsImport device.size dump other → other ≡ unworn_device device
+
+-- bytes of the right length make a device, and are its dump
+abbrev pub ExportOfImport : Type 0
+ExportOfImport = (size : Size) (dump : List ℕ) → IsWithinLimits size → All (λ byte. byte < 256) dump → length dump ≡ dump_length size → (device : Device) × IsFormed device × IsImport size dump device
+
+-- two devices of one size, one dump and one wear are the same, but for power and cuts
+abbrev pub OneDevice : Type 0
+OneDevice = (device other : Device) (dump : List ℕ) → IsFormed device → IsFormed other → device.size ≡ other.size → device.wear ≡ other.wear → IsDump device dump → IsDump other dump
+    → other ≡ record device { cuts = other.cuts; cuts_left = other.cuts_left; on = other.on }
+
+-- the dump of a device has the length of its size
+abbrev pub DumpsAreRead : Type 0
+DumpsAreRead = (device : Device) (dump : List ℕ) → IsFormed device → IsDump device dump → length dump ≡ dump_length device.size
+
+-- a device has a dump or a torn word
+abbrev pub DumpOrTorn : Type 0
+DumpOrTorn = (device : Device) → ((dump : List ℕ) × IsDump device dump) ⊎ ((page : ℕ) × (at : ℕ) × IsFirstTorn device page at)
+
+-- and not both
+abbrev pub OneTorn : Type 0
+OneTorn = (device : Device) (page at : ℕ) → IsFirstTorn device page at
+    → ((dump : List ℕ) → IsDump device dump → ⊥) × ((other place : ℕ) → IsFirstTorn device other place → (other ≡ page) × (place ≡ at))

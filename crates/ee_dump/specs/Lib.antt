@@ -1,0 +1,5 @@
+pub mod Dump
+pub mod Fault
+pub mod Reading
+pub mod Writing
+pub mod Laws

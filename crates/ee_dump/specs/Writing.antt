@@ -1,0 +1,16 @@
+-- What the parts of the writer give.
+use Rattle.std.specs.Prelude.{◌≡◌, ◌≢◌, ◌<◌, ℕ}
+use Rattle.ee_flash.specs.Device.{Device, word_at}
+use Rattle.ee_flash.specs.declared.word.Word.TheVariants.{Torn}
+use Rattle.ee_dump.specs.declared.fault.WriteFault.{WriteFault}
+use Rattle.ee_dump.specs.declared.fault.WriteFault.TheVariants.{Memory, TornWord}
+
+-- the word there is the first of its page that is torn
+pub record IsTornPage (device : Device) (page at : ℕ) : Type 0 where
+  pub torn : word_at device page at ≡ Torn
+  pub none_before : (k : ℕ) → k < at → word_at device page k ≢ Torn
+
+-- why the words of a page are not written
+abbrev pub IsTornPageFault : Device → ℕ → WriteFault → Type 0
+IsTornPageFault device page (TornWord torn_page at) = (torn_page ≡ page) × IsTornPage device page at
+IsTornPageFault device page Memory = Unit {0}

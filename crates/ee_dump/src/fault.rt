@@ -1,0 +1,45 @@
+use std::alloc::AllocError;
+
+/// Why bytes aren't read as a dump.
+///
+/// Source: ours.
+#[derive(Clone, Copy, Debug, PartialEq, Eq)]
+pub enum DumpFault {
+    /// The bytes are not eight for each word of both sets.
+    Length,
+    /// Memory ran out.
+    Memory,
+}
+
+impl From<AllocError> for DumpFault {
+    ghost use Rattle.std.specs.Prelude.{◌≡◌};
+    ghost use Rattle.ee_dump.specs.declared.fault.DumpFault.TheVariants.{Memory};
+
+    ghost from_gives = { λ _ fault. fault ≡ Memory };
+
+    fn from(_error: AllocError) -> DumpFault {
+        DumpFault::Memory
+    }
+}
+
+/// Why no dump of a device is written.
+///
+/// Source: ours.
+#[derive(Clone, Copy, Debug, PartialEq, Eq)]
+pub enum WriteFault {
+    /// The first torn word, by its page, counted from 0 over both sets, and then by its place there.
+    TornWord { page: usize, at: usize },
+    /// Memory ran out.
+    Memory,
+}
+
+impl From<AllocError> for WriteFault {
+    ghost use Rattle.std.specs.Prelude.{◌≡◌};
+    ghost use Rattle.ee_dump.specs.declared.fault.WriteFault.TheVariants.{Memory};
+
+    ghost from_gives = { λ _ fault. fault ≡ Memory };
+
+    fn from(_error: AllocError) -> WriteFault {
+        WriteFault::Memory
+    }
+}

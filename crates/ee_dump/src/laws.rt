@@ -1,0 +1,32 @@
+//! What holds of every device and every dump. Each function does nothing: its contract is the law.
+ghost use Rattle.ee_dump.specs.Laws.{DumpOrTorn, DumpsAreRead, ExportOfImport, ImportOfExport, OneDevice, OneTorn};
+
+/// The device that a device's dump makes is that device, with no wear.
+pub fn import_of_export()
+    ensures { ImportOfExport }
+{}
+
+/// Bytes of the right length are the dump of a device, which is the one that they make.
+pub fn export_of_import()
+    ensures { ExportOfImport }
+{}
+
+/// Two devices with one size, one dump and one wear are the same, but for power and cuts.
+pub fn one_device()
+    ensures { OneDevice }
+{}
+
+/// A device's dump has the length of its size.
+pub fn dumps_are_read()
+    ensures { DumpsAreRead }
+{}
+
+/// A device has a dump, or a first torn word.
+pub fn dump_or_torn()
+    ensures { DumpOrTorn }
+{}
+
+/// It has not both, and one first torn word at most.
+pub fn one_torn()
+    ensures { OneTorn }
+{}

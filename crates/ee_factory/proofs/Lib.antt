@@ -1,0 +1,5 @@
+pub mod Taken
+pub mod Steps
+pub mod Stored
+pub mod Causes
+pub mod Writing

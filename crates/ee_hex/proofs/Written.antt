@@ -1,0 +1,390 @@
+-- A text that is written reads back.
+use Rattle.std.proofs.Common.{◌≡◌, ◌≢◌, ℕ, zero, suc, ◌+◌, ◌-◌, ◌*◌, ◌/◌, ◌%◌, ◌<◌, ◌≤◌, List, [], ◌∷◌, ◌++◌, length, get_or, take, drop, refl, sym, ap, ◌∙◌, subst, arith, append_assoc, inl, inr, Option, Some, None}
+use Rattle.std.specs.Prelude.{IfSome}
+use Rattle.std.specs.List.{AllByRecursion, flat_map, sum}
+use Rattle.std.proofs.lemmas.Bool.{ne_eqb, eq-eqb, cases_eq, cases_lt, le-leb}
+use Rattle.std.proofs.lemmas.List.{append-nil, nil_from_length, take_more, length-take, length-take-le, length-drop, take-append-drop, get_or-take, get_or-drop, get_or_past}
+use Rattle.std.proofs.lemmas.List.Concat.{flat_map-append}
+use Rattle.std.proofs.lemmas.List.Sums.{sum_by-append}
+use Rattle.hex.specs.Hex.{IsBytes, encode_upper, encode_with, upper_digits}
+use Rattle.hex.proofs.HexLemmas.{decode_of-encode_upper}
+use Rattle.ee_text.specs.Field.{Lacks}
+use Rattle.ee_text.proofs.Lacking.{Lacks-parts, Lacks-cons}
+use Rattle.ee_hex.specs.Record.{Record, AreLinesOf, IsLineOf, IsRecord, SpellsRecord, bare, check_byte, front_bytes, record_bytes}
+use Rattle.ee_hex.specs.Text.{AgreeWithin, IsHexOf, Says, all_placed, numbered_bytes, upper_after}
+use Rattle.ee_hex.specs.Written.{data_record, end_record, hex_text, record_line, row_length, rows, upper_record, upper_told}
+use Rattle.ee_hex.proofs.Records.{check_small}
+
+plus_zero : (n : ℕ) → n ≡ n + 0
+plus_zero n = omega arith
+
+plus_suc : (n count : ℕ) → n + 1 + count ≡ n + suc count
+plus_suc n count = omega arith
+
+-- ---- one record
+
+bytes_cons : (b : ℕ) (xs : List ℕ) → b < 256 → IsBytes xs → IsBytes (b ∷ xs)
+bytes_cons b xs small all zero = small
+bytes_cons b xs small all (suc i) = all i
+
+bytes_last : (xs : List ℕ) (b : ℕ) → IsBytes xs → b < 256 → IsBytes (xs ++ b ∷ [])
+bytes_last [] b all small = bytes_cons b [] small all
+bytes_last (x ∷ xs) b all small = bytes_cons x (xs ++ b ∷ []) (all 0) (bytes_last xs b (λ i. all (suc i)) small)
+
+-- a record that can be written
+pub record IsWritten (r : Record) : Type 0 where
+  pub proper : IsRecord r
+  pub kind_fits : r.kind < 256
+
+record_is_bytes : (r : Record) → IsWritten r → IsBytes (record_bytes r)
+unfolding record_bytes
+record_is_bytes r fits =
+    let high : r.address / 256 < 256 = omega (arith, fits.proper.address_fits) in
+    let low : r.address % 256 < 256 = omega arith in
+    bytes_last (front_bytes r) (check_byte (sum (front_bytes r)))
+    (bytes_cons (length r.bytes) ((r.address / 256) ∷ (r.address % 256) ∷ r.kind ∷ r.bytes) fits.proper.few
+    (bytes_cons (r.address / 256) ((r.address % 256) ∷ r.kind ∷ r.bytes) high
+    (bytes_cons (r.address % 256) (r.kind ∷ r.bytes) low (bytes_cons r.kind r.bytes fits.kind_fits fits.proper.bytes))))
+    (check_small (sum (front_bytes r)))
+
+-- a byte that a list lacks is at none of its places
+lacks_at : (c : ℕ) (xs : List ℕ) (k : ℕ) → Lacks c xs → 0 ≢ c → get_or xs k 0 ≢ c
+lacks_at c [] k lacks other = other
+lacks_at c (x ∷ xs) zero lacks other = (Lacks-parts c x xs lacks).0
+lacks_at c (x ∷ xs) (suc k) lacks other = lacks_at c xs k (Lacks-parts c x xs lacks).1 other
+
+lacks_in_digits : (c : ℕ) (t xs : List ℕ) → Lacks c t → 0 ≢ c → Lacks c (encode_with t xs)
+unfolding encode_with
+lacks_in_digits c t [] lacks other = refl
+lacks_in_digits c t (b ∷ rest) lacks other =
+    Lacks-cons c (get_or t (b / 16) 0) (get_or t (b % 16) 0 ∷ encode_with t rest) (lacks_at c t (b / 16) lacks other)
+    (Lacks-cons c (get_or t (b % 16) 0) (encode_with t rest) (lacks_at c t (b % 16) lacks other) (lacks_in_digits c t rest lacks other))
+
+line_lacks : (c : ℕ) (xs : List ℕ) → Lacks c upper_digits → 0 ≢ c → 58 ≢ c → Lacks c (58 ∷ encode_upper xs)
+line_lacks c xs lacks other colon = Lacks-cons c 58 (encode_upper xs) colon (lacks_in_digits c upper_digits xs lacks other)
+
+pub bare-lacks : (line : List ℕ) → Lacks 13 line → bare line ≡ line
+unfolding bare
+bare-lacks [] lacks = refl
+bare-lacks (b ∷ []) lacks = rw (ne_eqb b 13 (Lacks-parts 13 b [] lacks).0) refl
+bare-lacks (b ∷ c ∷ line) lacks = ap (λ l. b ∷ l) (bare-lacks (c ∷ line) (Lacks-parts 13 b (c ∷ line) lacks).1)
+
+-- its line spells it
+line_again : (r : Record) (more : List ℕ) → IsWritten r → IsLineOf r (record_line r ++ more) more
+line_again r more fits =
+    let line : List ℕ = 58 ∷ encode_upper (record_bytes r) in
+    let same : bare line ≡ line = bare-lacks line (line_lacks 13 (record_bytes r) refl (λ e. omega arith) (λ e. omega arith)) in
+    let spelled : SpellsRecord line r = record { proper = fits.proper; digits = encode_upper (record_bytes r); line_is = refl; digits_are = decode_of-encode_upper (record_bytes r) (record_is_bytes r fits) } in
+    record {
+      line = line;
+      in_line = line_lacks 10 (record_bytes r) refl (λ e. omega arith) (λ e. omega arith);
+      text_is = refl;
+      spelled = subst (λ l. SpellsRecord l r) (sym same) spelled;
+    }
+
+lines_again : (records : List Record) (more : List ℕ) → AllByRecursion IsWritten records → AreLinesOf records (flat_map record_line records ++ more) more
+lines_again [] more fit = refl
+lines_again (r ∷ records) more fit =
+    let behind = flat_map record_line records ++ more in
+    let assoc = append_assoc (record_line r) (flat_map record_line records) more in
+    (behind, subst (λ t. IsLineOf r t behind) (sym assoc) (line_again r behind fit.0), lines_again records more fit.1)
+
+-- ---- all records
+
+row_some : (place count : ℕ) → 0 < row_length place (suc count)
+row_some place count = omega arith
+
+pub row_fits : (place count : ℕ) → row_length place count ≤ count
+row_fits place count = omega arith
+
+pub row_short : (place count : ℕ) → row_length place count ≤ 16
+row_short place count = omega arith
+
+row_below : (place count : ℕ) → place % 65536 + row_length place count ≤ 65536
+row_below place count = omega arith
+
+is_bytes_take : (n : ℕ) (xs : List ℕ) → IsBytes xs → IsBytes (take n xs)
+is_bytes_take n xs all = λ i. elim (cases_lt i n) [
+  | inl less ↦ subst (λ b. b < 256) (sym (get_or-take n xs i 0 less)) (all i)
+  | inr more ↦ omega (arith, get_or_past (take n xs) i 0 (omega (arith, length-take n xs)))
+]
+
+is_bytes_drop : (n : ℕ) (xs : List ℕ) → IsBytes xs → IsBytes (drop n xs)
+is_bytes_drop n xs all = λ i. subst (λ b. b < 256) (sym (get_or-drop n xs i 0)) (all (n + i))
+
+-- what holds of the records that are written but the last
+pub record IsInside (r : Record) : Type 0 where
+  pub written : IsWritten r
+  pub no_end : r.kind ≢ 1
+
+upper_inside : (half : ℕ) → half < 65536 → IsInside (upper_record half)
+upper_inside half fits =
+    let high : half / 256 < 256 = omega arith in
+    let low : half % 256 < 256 = omega arith in
+    record {
+      written = record {
+        proper = record {
+          address_fits = omega arith;
+          few = omega arith;
+          bytes = bytes_cons (half / 256) ((half % 256) ∷ []) high (bytes_cons (half % 256) [] low (λ i. omega arith));
+          fits = refl;
+        };
+        kind_fits = omega arith;
+      };
+      no_end = λ e. omega arith;
+    }
+
+data_inside : (place : ℕ) (bytes : List ℕ) → IsBytes bytes → length bytes ≤ 16 → place % 65536 + length bytes ≤ 65536 → IsInside (data_record place bytes)
+data_inside place bytes all short below =
+    record {
+      written = record {
+        proper = record {
+          address_fits = omega arith;
+          few = omega arith;
+          bytes = all;
+          fits = le-leb (place % 65536 + length bytes) 65536 below;
+        };
+        kind_fits = omega arith;
+      };
+      no_end = λ e. omega arith;
+    }
+
+told_inside : (told : Option ℕ) (half : ℕ) (records : List Record) → half < 65536 → AllByRecursion IsInside records → AllByRecursion IsInside (upper_told told half ++ records)
+told_inside None half records fits all = (upper_inside half fits, all)
+told_inside (Some last) half records fits all = elim (cases_eq last half) [
+  | inl same ↦ rw (eq-eqb last half same) all
+  | inr other ↦ rw (ne_eqb last half other) (upper_inside half fits, all)
+]
+
+rows_inside : (most : ℕ) (told : Option ℕ) (place : ℕ) (bytes : List ℕ) → IsBytes bytes → place + length bytes ≤ 4294967296 → AllByRecursion IsInside (rows most told place bytes)
+rows_inside zero told place bytes all fits = tt
+rows_inside (suc most) told place [] all fits = tt
+rows_inside (suc most) told place (byte ∷ bytes) all fits =
+    let row = row_length place (length (byte ∷ bytes)) in
+    let within : row ≤ length (byte ∷ bytes) = row_fits place (length (byte ∷ bytes)) in
+    let taken : length (take row (byte ∷ bytes)) ≡ row = length-take-le row (byte ∷ bytes) within in
+    let dropped : length (drop row (byte ∷ bytes)) ≡ length (byte ∷ bytes) - row = length-drop row (byte ∷ bytes) in
+    told_inside told (place / 65536)
+    (data_record place (take row (byte ∷ bytes)) ∷ rows most (Some (place / 65536)) (place + row) (drop row (byte ∷ bytes)))
+    (omega arith) (
+      data_inside place (take row (byte ∷ bytes)) (is_bytes_take row (byte ∷ bytes) all) (omega (arith, row_short place (length (byte ∷ bytes)))) (omega (arith, row_below place (length (byte ∷ bytes)))),
+      rows_inside most (Some (place / 65536)) (place + row) (drop row (byte ∷ bytes)) (is_bytes_drop row (byte ∷ bytes) all) (omega arith),
+    )
+
+all_written : (records : List Record) → AllByRecursion IsInside records → AllByRecursion IsWritten records
+all_written [] all = tt
+all_written (r ∷ records) all = (all.0.written, all_written records all.1)
+
+all_no_end : (records : List Record) → AllByRecursion IsInside records → AllByRecursion (λ r. r.kind ≢ 1) records
+all_no_end [] all = tt
+all_no_end (r ∷ records) all = (all.0.no_end, all_no_end records all.1)
+
+-- ---- what they say
+
+numbered_parts : (place : ℕ) (xs ys : List ℕ) → numbered_bytes place (xs ++ ys) ≡ numbered_bytes place xs ++ numbered_bytes (place + length xs) ys
+numbered_parts place [] ys = ap (λ p. numbered_bytes p ys) (plus_zero place)
+numbered_parts place (x ∷ xs) ys =
+    ap (λ l. (place, x) ∷ l) (numbered_parts (place + 1) xs ys ∙ ap (λ p. numbered_bytes (place + 1) xs ++ numbered_bytes p ys) (plus_suc place (length xs)))
+
+upper_behind_upper : (upper half : ℕ) → upper_after upper (upper_record half) ≡ half * 65536
+upper_behind_upper upper half = let same : half / 256 * 256 + half % 256 ≡ half = omega arith in ap (λ h. h * 65536) same
+
+told_placed : (told : Option ℕ) (half upper : ℕ) (records : List Record) → IfSome told (λ last. upper ≡ last * 65536)
+    → all_placed upper (upper_told told half ++ records) ≡ all_placed (half * 65536) records
+told_placed None half upper records is = ap (λ u. all_placed u records) (upper_behind_upper upper half)
+told_placed (Some last) half upper records is = elim (cases_eq last half) [
+  | inl same ↦ rw (eq-eqb last half same) (ap (λ u. all_placed u records) (is ∙ ap (λ h. h * 65536) same))
+  | inr other ↦ rw (ne_eqb last half other) (ap (λ u. all_placed u records) (upper_behind_upper upper half))
+]
+
+rows_placed : (most : ℕ) (told : Option ℕ) (place upper : ℕ) (bytes : List ℕ) → length bytes ≤ most → IfSome told (λ last. upper ≡ last * 65536)
+    → all_placed upper (rows most told place bytes) ≡ numbered_bytes place bytes
+rows_placed zero told place upper [] few is = refl
+rows_placed zero told place upper (byte ∷ bytes) few is = absurd (omega arith)
+rows_placed (suc most) told place upper [] few is = refl
+rows_placed (suc most) told place upper (byte ∷ bytes) few is =
+    let half = place / 65536 in
+    let row = row_length place (length (byte ∷ bytes)) in
+    let front = take row (byte ∷ bytes) in
+    let behind = drop row (byte ∷ bytes) in
+    let within : row ≤ length (byte ∷ bytes) = row_fits place (length (byte ∷ bytes)) in
+    let taken : length front ≡ row = length-take-le row (byte ∷ bytes) within in
+    let dropped : length behind ≤ most = omega (arith, length-drop row (byte ∷ bytes), row_some place (length bytes)) in
+    let here : half * 65536 + place % 65536 ≡ place = omega arith in
+    told_placed told half upper (data_record place front ∷ rows most (Some half) (place + row) behind) is
+    ∙ ap (λ p. numbered_bytes p front ++ all_placed (half * 65536) (rows most (Some half) (place + row) behind)) here
+    ∙ ap (λ l. numbered_bytes place front ++ l) (rows_placed most (Some half) (place + row) (half * 65536) behind dropped refl)
+    ∙ ap (λ n. numbered_bytes place front ++ numbered_bytes (place + n) behind) (sym taken)
+    ∙ sym (numbered_parts place front behind)
+    ∙ ap (numbered_bytes place) (take-append-drop row (byte ∷ bytes))
+
+-- what is said of a place is its byte
+pub record IsSaid (place : ℕ) (bytes : List ℕ) (at byte : ℕ) : Type 0 where
+  pub from : place ≤ at
+  pub is : get_or bytes (at - place) 0 ≡ byte
+
+numbered_says : (place : ℕ) (bytes : List ℕ) (at byte : ℕ) → Says (numbered_bytes place bytes) at byte → IsSaid place bytes at byte
+numbered_says place [] at byte says = absurd says
+numbered_says place (x ∷ xs) at byte (inl here) =
+    let place_is = here.0 in
+    let first : at - place ≡ 0 = omega arith in
+    record { from = omega arith; is = ap (λ k. get_or (x ∷ xs) k 0) first ∙ here.1 }
+numbered_says place (x ∷ xs) at byte (inr there) =
+    let more = numbered_says (place + 1) xs at byte there in
+    let above = more.from in
+    let next : at - place ≡ suc (at - (place + 1)) = omega arith in
+    record { from = omega arith; is = ap (λ k. get_or (x ∷ xs) k 0) next ∙ more.is }
+
+numbered_at : (place : ℕ) (bytes : List ℕ) (i : ℕ) → i < length bytes → Says (numbered_bytes place bytes) (place + i) (get_or bytes i 0)
+numbered_at place [] i less = absurd (omega arith)
+numbered_at place (x ∷ xs) zero less = inl (plus_zero place, refl)
+numbered_at place (x ∷ xs) (suc i) less =
+    let next : place + 1 + i ≡ place + suc i = omega arith in
+    inr (subst (λ p. Says (numbered_bytes (place + 1) xs) p (get_or xs i 0)) next (numbered_at (place + 1) xs i (omega arith)))
+
+numbered_agrees : (base size place : ℕ) (bytes : List ℕ) → AgreeWithin base size (numbered_bytes place bytes)
+numbered_agrees base size place bytes = λ at byte other low high first second.
+    sym (numbered_says place bytes at byte first).is ∙ (numbered_says place bytes at other second).is
+
+-- ---- the text
+
+end_is_written : IsWritten end_record
+end_is_written = record {
+  proper = record { address_fits = omega arith; few = omega arith; bytes = λ i. omega arith; fits = refl };
+  kind_fits = omega arith;
+}
+
+pub texts_read_back_lem : (base : ℕ) (bytes : List ℕ) → IsBytes bytes → base + length bytes ≤ 4294967296 → IsHexOf (hex_text base bytes) base (length bytes) bytes
+unfolding hex_text
+texts_read_back_lem base bytes all fits =
+    let records = rows (length bytes) None base bytes in
+    let inside = rows_inside (length bytes) None base bytes all fits in
+    let said : all_placed 0 records ≡ numbered_bytes base bytes = rows_placed (length bytes) None base 0 bytes (omega arith) tt in
+    let closing = flat_map record_line (end_record ∷ []) in
+    let text_is : flat_map record_line (records ++ end_record ∷ []) ≡ flat_map record_line records ++ closing = flat_map-append record_line records (end_record ∷ []) in
+    record {
+      records = records;
+      closing = closing;
+      front = record {
+        lines = subst (λ t. AreLinesOf records t closing) (sym text_is) (lines_again records closing (all_written records inside));
+        no_end = all_no_end records inside;
+        agree = subst (AgreeWithin base (length bytes)) (sym said) (numbered_agrees base (length bytes) base bytes);
+      };
+      closes = record { last = end_record; line = line_again end_record [] end_is_written; ends = refl };
+      as_long = refl;
+      bytes_are = λ i less. inl (subst (λ p. Says p (base + i) (get_or bytes i 0)) (sym said) (numbered_at base bytes i less));
+    }
+
+-- ---- how the text grows
+
+-- a bound on the rows that is large enough is as good as another
+pub rows_enough : (most other : ℕ) (told : Option ℕ) (place : ℕ) (bytes : List ℕ) → length bytes ≤ most → length bytes ≤ other → rows most told place bytes ≡ rows other told place bytes
+rows_enough zero zero told place bytes few less = refl
+rows_enough zero (suc other) told place [] few less = refl
+rows_enough zero (suc other) told place (byte ∷ bytes) few less = absurd (omega arith)
+rows_enough (suc most) zero told place [] few less = refl
+rows_enough (suc most) zero told place (byte ∷ bytes) few less = absurd (omega arith)
+rows_enough (suc most) (suc other) told place [] few less = refl
+rows_enough (suc most) (suc other) told place (byte ∷ bytes) few less =
+    let row = row_length place (length (byte ∷ bytes)) in
+    let behind = drop row (byte ∷ bytes) in
+    let some = row_some place (length bytes) in
+    let dropped : length behind ≡ length (byte ∷ bytes) - row = length-drop row (byte ∷ bytes) in
+    ap (λ l. upper_told told (place / 65536) ++ data_record place (take row (byte ∷ bytes)) ∷ l)
+    (rows_enough most other (Some (place / 65536)) (place + row) behind (omega arith) (omega arith))
+
+-- the text that is still to come
+abbrev pub text_left : Option ℕ → ℕ → List ℕ → List ℕ
+text_left told place bytes = flat_map record_line (rows (length bytes) told place bytes ++ end_record ∷ [])
+
+flat_more : (xs : List Record) (y : Record) (ys zs : List Record) → flat_map record_line ((xs ++ y ∷ ys) ++ zs) ≡ (flat_map record_line xs ++ record_line y) ++ flat_map record_line (ys ++ zs)
+flat_more xs y ys zs =
+    ap (flat_map record_line) (append_assoc xs (y ∷ ys) zs) ∙ flat_map-append record_line xs (y ∷ (ys ++ zs))
+    ∙ sym (append_assoc (flat_map record_line xs) (record_line y) (flat_map record_line (ys ++ zs)))
+
+-- one row more
+pub one_row_more : (out told_out new total bytes row behind : List ℕ) (told : Option ℕ) (place half address count : ℕ) → 0 < length bytes → out ++ text_left told place bytes ≡ total
+    → half ≡ place / 65536 → address ≡ place % 65536 → count ≡ row_length place (length bytes) → row ≡ take count bytes → behind ≡ drop count bytes
+    → told_out ≡ out ++ flat_map record_line (upper_told told half) → new ≡ told_out ++ record_line (record { address = address; kind = 0; bytes = row })
+    → new ++ text_left (Some half) (place + length row) behind ≡ total
+one_row_more out told_out new total [] row behind told place half address count some so_far half_is address_is count_is row_is behind_is told_is new_is = absurd (omega arith)
+one_row_more out told_out new total (byte ∷ bytes) row behind told place half address count some so_far half_is address_is count_is row_is behind_is told_is new_is =
+    let n = row_length place (length (byte ∷ bytes)) in
+    let front = take n (byte ∷ bytes) in
+    let rest = drop n (byte ∷ bytes) in
+    let first_half = place / 65536 in
+    let uppers = upper_told told first_half in
+    let within : n ≤ length (byte ∷ bytes) = row_fits place (length (byte ∷ bytes)) in
+    let taken : length front ≡ n = length-take-le n (byte ∷ bytes) within in
+    let dropped : length rest ≤ length bytes = omega (arith, length-drop n (byte ∷ bytes), row_some place (length bytes)) in
+    let here : List ℕ = flat_map record_line uppers ++ record_line (data_record place front) in
+    let left : text_left told place (byte ∷ bytes) ≡ here ++ text_left (Some first_half) (place + n) rest =
+    flat_more uppers (data_record place front) (rows (length bytes) (Some first_half) (place + n) rest) (end_record ∷ [])
+    ∙ ap (λ (l : List Record). here ++ flat_map record_line (l ++ end_record ∷ []))
+    (rows_enough (length bytes) (length rest) (Some first_half) (place + n) rest dropped (omega arith)) in
+    let row_eq : row ≡ front = row_is ∙ ap (λ k. take k (byte ∷ bytes)) count_is in
+    let behind_eq : behind ≡ rest = behind_is ∙ ap (λ k. drop k (byte ∷ bytes)) count_is in
+    let place_eq : place + length row ≡ place + n = omega (arith, ap length row_eq, taken) in
+    let written : new ≡ out ++ here =
+    new_is ∙ ap (λ (l : List ℕ). l ++ record_line (record { address = address; kind = 0; bytes = row })) (told_is ∙ ap (λ h. out ++ flat_map record_line (upper_told told h)) half_is)
+    ∙ ap (λ (a : ℕ). (out ++ flat_map record_line uppers) ++ record_line (record { address = a; kind = 0; bytes = row })) address_is
+    ∙ ap (λ (r : List ℕ). (out ++ flat_map record_line uppers) ++ record_line (data_record place r)) row_eq
+    ∙ append_assoc out (flat_map record_line uppers) (record_line (data_record place front)) in
+    ap (λ (l : List ℕ). l ++ text_left (Some half) (place + length row) behind) written
+    ∙ ap (λ (b : List ℕ). (out ++ here) ++ text_left (Some half) (place + length row) b) behind_eq
+    ∙ ap (λ (p : ℕ). (out ++ here) ++ text_left (Some half) p rest) place_eq
+    ∙ ap (λ (h : ℕ). (out ++ here) ++ text_left (Some h) (place + n) rest) half_is
+    ∙ append_assoc out here (text_left (Some first_half) (place + n) rest)
+    ∙ ap (λ (l : List ℕ). out ++ l) (sym left) ∙ so_far
+
+-- the text is written
+pub all_written_so : (out new bytes : List ℕ) (told : Option ℕ) (place base : ℕ) (whole : List ℕ) → out ++ text_left told place bytes ≡ text_left None base whole → length bytes ≡ 0
+    → new ≡ out ++ record_line end_record → new ≡ hex_text base whole
+unfolding hex_text
+all_written_so out new bytes told place base whole so_far none new_is =
+    let empty : bytes ≡ [] = nil_from_length bytes none in
+    new_is ∙ ap (λ (l : List ℕ). out ++ l) (sym (append-nil (record_line end_record)))
+    ∙ ap (λ (b : List ℕ). out ++ text_left told place b) (sym empty) ∙ so_far
+
+-- ---- how a record's line grows
+
+encode_with-append : (t xs ys : List ℕ) → encode_with t (xs ++ ys) ≡ encode_with t xs ++ encode_with t ys
+unfolding encode_with
+encode_with-append t [] ys = refl
+encode_with-append t (x ∷ xs) ys = ap (λ l. get_or t (x / 16) 0 ∷ get_or t (x % 16) 0 ∷ l) (encode_with-append t xs ys)
+
+-- one byte more
+pub digits_more : (xs : List ℕ) (i : ℕ) (old now mid new : List ℕ) (high low : ℕ) → i < length xs → now ≡ old ++ encode_upper (take i xs) → mid ≡ now ++ high ∷ [] → new ≡ mid ++ low ∷ []
+    → high ≡ get_or upper_digits (get_or xs i 0 / 16) 0 → low ≡ get_or upper_digits (get_or xs i 0 % 16) 0 → new ≡ old ++ encode_upper (take (i + 1) xs)
+unfolding encode_with
+digits_more xs i old now mid new high low less so_far first second high_is low_is =
+    let byte = get_or xs i 0 in
+    let all : encode_upper (take (i + 1) xs) ≡ encode_upper (take i xs) ++ get_or upper_digits (byte / 16) 0 ∷ get_or upper_digits (byte % 16) 0 ∷ [] =
+    ap encode_upper (take_more xs i 0 less) ∙ encode_with-append upper_digits (take i xs) (byte ∷ []) in
+    second ∙ ap (λ l. l ++ low ∷ []) (first ∙ ap (λ l. l ++ high ∷ []) so_far)
+    ∙ append_assoc (old ++ encode_upper (take i xs)) (high ∷ []) (low ∷ [])
+    ∙ append_assoc old (encode_upper (take i xs)) (high ∷ low ∷ [])
+    ∙ ap (λ h. old ++ (encode_upper (take i xs) ++ h ∷ low ∷ [])) high_is
+    ∙ ap (λ h. old ++ (encode_upper (take i xs) ++ get_or upper_digits (byte / 16) 0 ∷ h ∷ [])) low_is
+    ∙ ap (λ l. old ++ l) (sym all)
+
+pub nothing_written : (old : List ℕ) → old ≡ old ++ encode_upper []
+unfolding encode_with
+nothing_written old = sym (append-nil old)
+
+-- a whole line
+pub line_written : (r : Record) (front old colon_out front_out data_out check_out new : List ℕ) (check : ℕ) → front_bytes r ≡ front ++ r.bytes → colon_out ≡ old ++ 58 ∷ []
+    → front_out ≡ colon_out ++ encode_upper front → data_out ≡ front_out ++ encode_upper r.bytes → check_out ≡ data_out ++ encode_upper (check ∷ []) → new ≡ check_out ++ 10 ∷ []
+    → check ≡ check_byte (sum front + sum r.bytes) → new ≡ old ++ record_line r
+unfolding record_bytes
+line_written r front old colon_out front_out data_out check_out new check whole a b c d e check_is =
+    let total : sum (front_bytes r) ≡ sum front + sum r.bytes = ap sum whole ∙ sum_by-append (λ x. x) front r.bytes in
+    let last : check ≡ check_byte (sum (front_bytes r)) = check_is ∙ ap check_byte (sym total) in
+    let bytes : record_bytes r ≡ (front ++ r.bytes) ++ check ∷ [] = ap (λ l. l ++ check_byte (sum (front_bytes r)) ∷ []) whole ∙ ap (λ k. (front ++ r.bytes) ++ k ∷ []) (sym last) in
+    let digits : encode_upper (record_bytes r) ≡ (encode_upper front ++ encode_upper r.bytes) ++ encode_upper (check ∷ []) =
+    ap encode_upper bytes ∙ encode_with-append upper_digits (front ++ r.bytes) (check ∷ []) ∙ ap (λ l. l ++ encode_upper (check ∷ [])) (encode_with-append upper_digits front r.bytes) in
+    let written : check_out ≡ (old ++ 58 ∷ []) ++ ((encode_upper front ++ encode_upper r.bytes) ++ encode_upper (check ∷ [])) =
+    d ∙ ap (λ l. l ++ encode_upper (check ∷ [])) (c ∙ ap (λ l. l ++ encode_upper r.bytes) (b ∙ ap (λ l. l ++ encode_upper front) a) ∙ append_assoc (old ++ 58 ∷ []) (encode_upper front) (encode_upper r.bytes))
+    ∙ append_assoc (old ++ 58 ∷ []) (encode_upper front ++ encode_upper r.bytes) (encode_upper (check ∷ [])) in
+    e ∙ ap (λ l. l ++ 10 ∷ []) (written ∙ ap (λ l. (old ++ 58 ∷ []) ++ l) (sym digits) ∙ append_assoc old (58 ∷ []) (encode_upper (record_bytes r)))
+    ∙ append_assoc old (58 ∷ encode_upper (record_bytes r)) (10 ∷ [])

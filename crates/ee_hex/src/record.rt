@@ -1,0 +1,110 @@
+//! One record, as a line spells it.
+ghost use Rattle.std.specs.Prelude.{◌≡◌, ◌<◌, ◌≤◌, ◌%◌, ℕ, List, Some, IfSome, IfNone, length, take};
+ghost use Rattle.std.specs.List.{sum};
+ghost use Rattle.std.specs.Option.{option_map};
+ghost use Rattle.ee_hex.specs.Record.{bare, fits_kind};
+ghost use Rattle.ee_hex.specs.Reading.{bytes_in, record_of};
+ghost use Rattle.ee_hex.specs.Row.{view};
+
+use hex::decode_to_slice;
+
+/// The most bytes of a record: 255 of data and five more.
+pub(crate) const MOST_BYTES: usize = 260;
+
+/// The types of records that do something.
+pub(crate) const DATA: u8 = 0;
+
+pub(crate) const END: u8 = 1;
+
+pub(crate) const SEGMENT: u8 = 2;
+
+pub(crate) const LINEAR: u8 = 4;
+
+/// A record's address, type and data.
+#[derive(Clone, Copy)]
+pub(crate) struct Row<'a> {
+    pub(crate) address: u16,
+    pub(crate) kind: u8,
+    pub(crate) bytes: &'a [u8],
+}
+
+/// The line without the carriage return at its end, if one stands there.
+#[tactic(auto, using(crate::proofs::Parsing::bare_cut, crate::proofs::Parsing::bare_kept, crate::proofs::Parsing::bare_empty))]
+pub(crate) fn without_return(line: &[u8]) -> &[u8]
+    ensures { result.now ≡ bare line.now }
+{
+    let Some((last, front)) = line.split_last() else {
+        return line;
+    };
+    if *last == b'\r' {
+        return front;
+    }
+    line
+}
+
+/// Brings the bytes that a line spells to the front of the buffer, and gives how many they are. None
+/// where the line spells none, or more than a record has.
+#[tactic(auto, using(crate::proofs::Parsing::no_colon_long, crate::proofs::Parsing::long_digits))]
+pub(crate) fn bytes_of_line(line: &[u8], buffer: &mut [u8; MOST_BYTES]) -> Option<usize>
+    ensures found { IfSome result
+        (λ count. (count ≤ 260) × (bytes_in line.now ≡ Some (take count buffer.new))) }
+    ensures none { IfNone result
+        ((bytes : List ℕ) → bytes_in line.now ≡ Some bytes → 260 < length bytes) }
+{
+    let (first, digits) = line.split_first()?;
+    if *first != b':' {
+        return None;
+    }
+    let count = digits.len() / 2;
+    if count > MOST_BYTES {
+        return None;
+    }
+    match decode_to_slice(digits, &mut buffer[..count]) {
+        Ok(()) => Some(count),
+        Err(_) => None,
+    }
+}
+
+/// The record that these bytes are.
+pub(crate) fn row_of(bytes: &[u8]) -> Option<Row<'_>>
+    ensures { option_map view result ≡ record_of bytes.now }
+{
+    let [count, high, low, kind, behind @ ..] = bytes else {
+        return None;
+    };
+    let count = usize::from(*count);
+    let address = u16::from(*high) * 256 + u16::from(*low);
+    if behind.len() != count + 1 || sum_of(bytes) != 0 || !fits(*kind, address, count) {
+        return None;
+    }
+    Some(Row {
+        address,
+        kind: *kind,
+        bytes: &behind[..count],
+    })
+}
+
+/// The sum of the bytes, less all multiples of 256.
+pub(crate) fn sum_of(bytes: &[u8]) -> u8
+    ensures { result ≡ sum bytes.now % 256 }
+{
+    let mut total: u8 = 0;
+    for byte in bytes {
+        total = total.wrapping_add(*byte);
+    }
+    total
+}
+
+/// Whether so many bytes are right for the type.
+fn fits(kind: u8, address: u16, count: usize) -> bool
+    requires { count < 256 }
+    ensures { result ≡ fits_kind kind address count }
+{
+    match kind {
+        DATA => usize::from(address) + count <= 65536,
+        END => count == 0,
+        SEGMENT | LINEAR => count == 2,
+        3 | 5 => count == 4,
+        _ => false,
+    }
+}

@@ -1,0 +1,10 @@
+use Rattle.ee_part.proofs.Inspections.{told_more, told_none}
+use Rattle.ee_part.proofs.inspecting.push_torn.Goals as goal
+
+pub pages-init : goal.pages-init
+pages-init g c = told_none _ c.args.out.now.items
+
+pub pages-preserved : goal.pages-preserved
+pages-preserved g c =
+    told_more c.pages.page _ c.args.out.now.items c.pages.out.items c.push_torn_in.new.out.items c.pages.invariant
+    c.in_ok-push_torn_in.ensures

@@ -1,0 +1,9 @@
+use Rattle.std.proofs.Common.{◌≡◌, ◌++◌}
+use Rattle.ee_part.specs.Inspecting.{each_below, torn_line}
+use Rattle.ee_part.proofs.inspecting.push_torn.Given as goal
+
+-- the lines of the pages so far are written
+abbrev pub invariant-pages : goal.invariant-pages
+invariant-pages g l =
+    let device = g.F.Flash.device l.flash in
+    l.out.items ≡ l.fn.out.items ++ each_below l.page (λ page. each_below device.size.words (torn_line device l.live page))

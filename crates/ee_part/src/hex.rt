@@ -1,0 +1,99 @@
+//! Images from Intel HEX, and Intel HEX from images.
+ghost use Rattle.std.specs.Prelude.{◌≡◌, ◌≢◌, ◌⊎◌, ◌↔◌, IfErr, IfOk, IsTrue, MatchResult};
+ghost use Rattle.ee_dump.specs.Dump.{dump_length};
+ghost use Rattle.ee_part.specs.Hex.{PartFits, IsHexExportFault, IsHexExported, IsHexImportFault, IsHexImported, fault_of_hex};
+
+use crate::dump::{dump_of, import_image};
+use crate::image::read_part;
+use ee_faults::{Fault, File};
+use ee_flash::{Flash, Shape};
+use ee_hex::{HexFault, read_hex, write_hex};
+use std::alloc::Allocator;
+
+/// The text of the image of a part of this shape, whose first word stands at the address `base`, from
+/// what an Intel HEX text says of it: what `import_image` gives of its bytes, with an erased byte where
+/// the text says none.
+///
+/// Source: ours.
+///
+/// # Errors
+///
+/// The first that applies: `Base`, where `base + 16 × pages × words` is past `2^32`; `BadLine` of the
+/// dump, the first line of the text that is bad. `Memory` can come in place of any answer but `Base`.
+pub fn import_hex<A: Allocator + Copy>(
+    alloc: A,
+    shape: Shape,
+    base: u32,
+    hex: &[u8],
+) -> Result<Vec<u8, A>, Fault>
+    ensures imported { IfOk result (λ image. IsHexImported shape base hex.now image.items) }
+    ensures fault { IfErr result (IsHexImportFault shape base hex.now) }
+    // No cause is passed over.
+    ensures names { (cause : Fault) → cause ≢ Fault.Memory → IsHexImportFault shape base hex.now cause
+        → MatchResult result (λ _. ⊥) (λ fault. (fault ≡ cause) ⊎ (fault ≡ Fault.Memory)) }
+{
+    if !fits(base, shape) {
+        return Err(Fault::Base);
+    }
+    let dump = match read_hex(alloc, hex, base, length_of(shape)) {
+        Ok(dump) => dump,
+        Err(fault) => return Err(hex_fault(fault)),
+    };
+    import_image(alloc, shape, &dump)
+}
+
+/// The Intel HEX text of the part that an image's text spells, with its first word at the address
+/// `base`.
+///
+/// Source: ours.
+///
+/// # Errors
+///
+/// The first that applies: the image is no device's; `Base`, where `base + 16 × pages × words` is past
+/// `2^32`; `TornWord`, its first torn word. `Memory` can come in place of any answer.
+pub fn export_hex<A: Allocator + Copy>(
+    alloc: A,
+    image: &[u8],
+    base: u32,
+) -> Result<Vec<u8, A>, Fault>
+    ensures exported { IfOk result (λ hex. IsHexExported image.now base hex.items) }
+    ensures fault { IfErr result (IsHexExportFault image.now base) }
+    // No cause is passed over.
+    ensures names { (cause : Fault) → cause ≢ Fault.Memory → IsHexExportFault image.now base cause
+        → MatchResult result (λ _. ⊥) (λ fault. (fault ≡ cause) ⊎ (fault ≡ Fault.Memory)) }
+{
+    let flash = read_part(alloc, image)?;
+    if !fits(base, flash.shape()) {
+        return Err(Fault::Base);
+    }
+    let dump = dump_of(alloc, &flash)?;
+    let hex = write_hex(alloc, base, &dump)?;
+    Ok(hex)
+}
+
+/// The bytes of a part of this shape.
+fn length_of(shape: Shape) -> usize
+    ensures { result ≡ dump_length shape }
+{
+    8 * (2 * shape.pages() * shape.words())
+}
+
+/// Whether each byte of a part of this shape has an address of 32 bits, where its first has this one.
+fn fits(base: u32, shape: Shape) -> bool
+    ensures { IsTrue result ↔ PartFits base shape }
+{
+    u64::from(base) + length_of(shape) as u64 <= 1 << 32
+}
+
+/// The fault of a text that says no bytes.
+fn hex_fault(fault: HexFault) -> Fault
+    ensures { result ≡ fault_of_hex fault }
+{
+    match fault {
+        HexFault::BadLine(line) => Fault::BadLine {
+            file: File::Dump,
+            line,
+        },
+        HexFault::Memory => Fault::Memory,
+    }
+}

@@ -1,0 +1,391 @@
+//! The command that tells what an image shows.
+ghost use Rattle.std.specs.Prelude.{◌≡◌, ◌≢◌, ◌<◌, ◌⊎◌, ◌++◌, ◌==◌, ℕ, false, if◌then◌else◌, codes, length, slice_index_or, Ok, Err, Some, None, IfOk, IfErr, IfSome, OnOk, MatchOption, MatchResult};
+ghost use Rattle.ee_text.specs.Line.{line_of};
+ghost use Rattle.ee_flash.specs.Size.{page_count};
+ghost use Rattle.ee_pages.specs.Layout.{IsLayout};
+ghost use Rattle.ee_pages.specs.Page.{is_torn as torn};
+ghost use Rattle.ee_image_store.specs.FileFaults.{IsReadingFault};
+ghost use Rattle.ee_part.specs.Inspecting.{AreFindings, IsInspected, doubt_line, doubt_lines, each_below, found_lines, is_before, live_slots, parts_text, place_name, scan_words, set_number, set_text, slots_text, speaks_of, torn_line, torn_lines, up_to_last, usage_in};
+
+use crate::image::read_part;
+use ee_codec::{Slot, read_slot};
+use ee_core::count_pending;
+use ee_faults::Fault;
+use ee_flash::{Flash, HEADER_WORDS, Word};
+use ee_pages::{Layout, ScanFault, Side, first_page, live_count, scan, slot_word, torn_slots};
+use ee_text::push_number_behind;
+use std::alloc::{AllocError, Allocator};
+
+/// What the image that a text spells shows, also where no store can work on it. First `scan ok`, or
+/// `scan` and why the image has no live set. With a live set there follows `set S generation G fill F
+/// room R live N pending Q superseded U torn T`: which set it is, 0 or 1, its generation, its used and
+/// its free slots, how many addresses have a value, how many pages wait to be erased, how many used
+/// slots hold what is no longer so, and how many are torn. Then a line for each torn word, by page and
+/// place, `torn PAGE AT` and `slot` or `header`, where it is such a word of the live set, or `other`.
+/// Last, by rising address, `doubt A` for each address that the live set speaks of for the last time
+/// before a torn slot: its latest change may be lost.
+///
+/// Source: ours.
+///
+/// # Errors
+///
+/// The image is no device's; `Memory` can come in place of any answer.
+pub fn inspect_text<A: Allocator + Copy>(alloc: A, image: &[u8]) -> Result<Vec<u8, A>, Fault>
+    ensures inspected { IfOk result (λ text. IsInspected image.now text.items) }
+    ensures fault { IfErr result (IsReadingFault image.now) }
+    // No cause is passed over.
+    ensures names { (cause : Fault) → cause ≢ Fault.Memory → IsReadingFault image.now cause
+        → MatchResult result (λ _. ⊥) (λ fault. (fault ≡ cause) ⊎ (fault ≡ Fault.Memory)) }
+{
+    let flash = read_part(alloc, image)?;
+    let text = findings(alloc, &flash)?;
+    Ok(text)
+}
+
+/// What there is to say of a device.
+fn findings<A: Allocator + Copy, F: Flash>(alloc: A, flash: &F) -> Result<Vec<u8, A>, AllocError>
+    ensures { IfOk result (λ text. AreFindings (F.device flash.now) text.items) }
+{
+    let mut text = Vec::new(alloc);
+    match scan(flash) {
+        Ok(layout) => push_live(alloc, flash, &layout, &mut text)?,
+        Err(fault) => push_fault(flash, fault, &mut text)?,
+    }
+    Ok(text)
+}
+
+/// Writes what there is to say of a device with a live set. After an error there may be a part of it.
+fn push_live<A: Allocator + Copy, F: Flash>(
+    alloc: A,
+    flash: &F,
+    layout: &Layout,
+    out: &mut Vec<u8, A>,
+) -> Result<(), AllocError>
+    requires { IsLayout (F.device flash.now) layout.now }
+    ensures { OnOk result
+        (out.new.items ≡ out.old.items ++ found_lines (F.device flash.now) (Ok layout.now)) }
+{
+    out.extend_from_slice(b"scan ok\n")?;
+    push_set(usage_of(flash, layout), out)?;
+    push_torn(flash, Some(layout.side), out)?;
+    push_doubts(alloc, flash, layout, out)?;
+    Ok(())
+}
+
+/// Writes what there is to say of a device without one. After an error there may be a part of it.
+fn push_fault<A: Allocator, F: Flash>(
+    flash: &F,
+    fault: ScanFault,
+    out: &mut Vec<u8, A>,
+) -> Result<(), AllocError>
+    ensures { OnOk result
+        (out.new.items ≡ out.old.items ++ found_lines (F.device flash.now) (Err fault)) }
+{
+    push_scan_fault(fault, out)?;
+    push_torn(flash, None, out)?;
+    Ok(())
+}
+
+/// Writes the line of a scan that finds no live set. After an error there may be a part of it.
+fn push_scan_fault<A: Allocator>(fault: ScanFault, out: &mut Vec<u8, A>) -> Result<(), AllocError>
+    ensures { OnOk result
+        (out.new.items ≡ out.old.items ++ line_of (codes "scan " ++ scan_words fault)) }
+{
+    match fault {
+        ScanFault::Unformatted => out.extend_from_slice(b"scan unformatted\n"),
+        ScanFault::NoLiveSet => out.extend_from_slice(b"scan no live set\n"),
+        ScanFault::TwoLive => out.extend_from_slice(b"scan two live sets\n"),
+        ScanFault::Foreign { page, at } => {
+            push_number_behind(out, b"scan foreign word ", page as u64)?;
+            push_number_behind(out, b" ", at as u64)?;
+            out.extend_from_slice(b"\n")
+        }
+    }
+}
+
+/// How the live set is used.
+#[derive(Clone, Copy)]
+struct Usage {
+    /// Which of the two sets it is, 0 or 1.
+    set: u64,
+    /// Its generation.
+    generation: u32,
+    /// How many of its slots are used.
+    fill: usize,
+    /// How many are free.
+    room: usize,
+    /// How many addresses have a value.
+    live: usize,
+    /// How many pages of the other set wait to be erased.
+    pending: usize,
+    /// How many used slots neither give an address its value nor are torn.
+    superseded: usize,
+    /// How many slots are torn.
+    torn: usize,
+}
+
+/// How the live set is used.
+fn usage_of<F: Flash>(flash: &F, layout: &Layout) -> Usage
+    requires { IsLayout (F.device flash.now) layout.now }
+    ensures { result ≡ usage_in (F.device flash.now) layout.now }
+{
+    let fill = layout.fill;
+    let live = live_count(flash, layout);
+    let torn = torn_slots(flash, layout);
+    Usage {
+        set: number_of(layout.side),
+        generation: layout.generation,
+        fill,
+        room: flash.shape().slots() - fill,
+        live,
+        pending: count_pending(flash, layout.side.other()),
+        superseded: fill - live - torn,
+        torn,
+    }
+}
+
+/// Which of the two sets it is.
+fn number_of(side: Side) -> u64
+    ensures { result ≡ set_number side }
+{
+    match side {
+        Side::First => 0,
+        Side::Second => 1,
+    }
+}
+
+/// Writes the line of the live set. After an error there may be a part of it.
+fn push_set<A: Allocator>(usage: Usage, out: &mut Vec<u8, A>) -> Result<(), AllocError>
+    ensures { OnOk result (out.new.items ≡ out.old.items ++ line_of (set_text usage)) }
+{
+    push_slots(usage, out)?;
+    out.extend_from_slice(b" ")?;
+    push_parts(usage, out)?;
+    out.extend_from_slice(b"\n")?;
+    Ok(())
+}
+
+/// Writes which set it is, and its slots. After an error there may be a part of it.
+fn push_slots<A: Allocator>(usage: Usage, out: &mut Vec<u8, A>) -> Result<(), AllocError>
+    ensures { OnOk result (out.new.items ≡ out.old.items ++ slots_text usage) }
+{
+    push_number_behind(out, b"set ", usage.set)?;
+    push_number_behind(out, b" generation ", usage.generation as u64)?;
+    push_number_behind(out, b" fill ", usage.fill as u64)?;
+    push_number_behind(out, b" room ", usage.room as u64)?;
+    Ok(())
+}
+
+/// Writes what its slots are used for. After an error there may be a part of it.
+fn push_parts<A: Allocator>(usage: Usage, out: &mut Vec<u8, A>) -> Result<(), AllocError>
+    ensures { OnOk result (out.new.items ≡ out.old.items ++ parts_text usage) }
+{
+    push_number_behind(out, b"live ", usage.live as u64)?;
+    push_number_behind(out, b" pending ", usage.pending as u64)?;
+    push_number_behind(out, b" superseded ", usage.superseded as u64)?;
+    push_number_behind(out, b" torn ", usage.torn as u64)?;
+    Ok(())
+}
+
+/// Writes the lines of the torn words. After an error there may be a part of them.
+fn push_torn<A: Allocator, F: Flash>(
+    flash: &F,
+    live: Option<Side>,
+    out: &mut Vec<u8, A>,
+) -> Result<(), AllocError>
+    ensures { OnOk result
+        (out.new.items ≡ out.old.items ++ torn_lines (F.device flash.now) live) }
+{
+    'pages: for page in 0..2 * flash.shape().pages() {
+        push_torn_in(flash, live, page, out)?;
+    }
+    Ok(())
+}
+
+/// Writes the lines of the torn words of a page. After an error there may be a part of them.
+fn push_torn_in<A: Allocator, F: Flash>(
+    flash: &F,
+    live: Option<Side>,
+    page: usize,
+    out: &mut Vec<u8, A>,
+) -> Result<(), AllocError>
+    requires { page < page_count (F.device flash.now).size }
+    ensures { let device = F.device flash.now in OnOk result (out.new.items
+        ≡ out.old.items ++ each_below device.size.words (torn_line device live page)) }
+{
+    'places: for at in 0..flash.shape().words() {
+        push_if_torn(flash, live, page, at, out)?;
+    }
+    Ok(())
+}
+
+/// Writes the line of a word, if it is torn. After an error there may be a part of it.
+fn push_if_torn<A: Allocator, F: Flash>(
+    flash: &F,
+    live: Option<Side>,
+    page: usize,
+    at: usize,
+    out: &mut Vec<u8, A>,
+) -> Result<(), AllocError>
+    requires page_in_range { page < page_count (F.device flash.now).size }
+    requires place_in_range { at < (F.device flash.now).size.words }
+    ensures { OnOk result
+        (out.new.items ≡ out.old.items ++ torn_line (F.device flash.now) live page at) }
+{
+    if !is_torn(flash.word(page, at)) {
+        return Ok(());
+    }
+    push_number_behind(out, b"torn ", page as u64)?;
+    push_number_behind(out, b" ", at as u64)?;
+    out.extend_from_slice(b" ")?;
+    out.extend_from_slice(name_of(flash, live, page, at))?;
+    out.extend_from_slice(b"\n")?;
+    Ok(())
+}
+
+/// Whether a word is torn.
+fn is_torn(word: Word) -> bool
+    ensures { result ≡ torn word }
+{
+    matches!(word, Word::Torn)
+}
+
+/// What a word is to the live set, if there is one.
+fn name_of<F: Flash>(flash: &F, live: Option<Side>, page: usize, at: usize) -> &'static [u8]
+    requires { page < page_count (F.device flash.now).size }
+    ensures { result.now ≡ place_name (F.device flash.now).size live page at }
+{
+    let Some(side) = live else {
+        return b"other";
+    };
+    let first = first_page(flash, side);
+    if page < first || page >= first + flash.shape().pages() {
+        return b"other";
+    }
+    if at < HEADER_WORDS {
+        b"header"
+    } else {
+        b"slot"
+    }
+}
+
+/// Writes the lines of the addresses that are in doubt. After an error there may be a part of them.
+fn push_doubts<A: Allocator + Copy, F: Flash>(
+    alloc: A,
+    flash: &F,
+    layout: &Layout,
+    out: &mut Vec<u8, A>,
+) -> Result<(), AllocError>
+    requires { IsLayout (F.device flash.now) layout.now }
+    ensures { OnOk result (out.new.items
+        ≡ out.old.items ++ doubt_lines (live_slots (F.device flash.now) layout.now)) }
+{
+    let torn = last_torn(flash, layout);
+    let spoken = last_spoken(alloc, flash, layout)?;
+    push_doubted(spoken.as_slice(), torn, out)?;
+    Ok(())
+}
+
+/// How many slots there are up to the last torn one, and with it.
+fn last_torn<F: Flash>(flash: &F, layout: &Layout) -> usize
+    requires { IsLayout (F.device flash.now) layout.now }
+    ensures { result ≡ up_to_last torn (live_slots (F.device flash.now) layout.now) }
+{
+    let mut last = 0;
+    'slots: for slot in 0..flash.shape().slots() {
+        if is_torn(slot_word(flash, layout, slot)) {
+            last = slot + 1;
+        }
+    }
+    last
+}
+
+/// For each number below 65535, how many slots there are up to the last one that speaks of it as an
+/// address, and with that one.
+fn last_spoken<A: Allocator, F: Flash>(
+    alloc: A,
+    flash: &F,
+    layout: &Layout,
+) -> Result<Vec<usize, A>, AllocError>
+    requires { IsLayout (F.device flash.now) layout.now }
+    ensures long { IfOk result (λ spoken. length spoken.items ≡ 65535) }
+    ensures each { let slots = live_slots (F.device flash.now) layout.now in
+        IfOk result (λ spoken. (address : ℕ) → address < 65535
+        → slice_index_or spoken.items address 0 ≡ up_to_last (speaks_of address) slots) }
+{
+    let mut spoken = zeroes(alloc, 65535)?;
+    'slots: for slot in 0..flash.shape().slots() {
+        note(&mut spoken, slot_word(flash, layout, slot), slot + 1);
+    }
+    Ok(spoken)
+}
+
+/// Notes what a slot speaks of, which is the last of so many.
+fn note<A: Allocator>(spoken: &mut Vec<usize, A>, word: Word, count: usize)
+    requires { length spoken.old.items ≡ 65535 }
+    ensures long { length spoken.new.items ≡ 65535 }
+    ensures each { (address : ℕ) → address < 65535 → slice_index_or spoken.new.items address 0
+        ≡ (if speaks_of address word then count else slice_index_or spoken.old.items address 0) }
+{
+    let Some(address) = address_of(word) else {
+        return;
+    };
+    spoken[address] = count;
+}
+
+/// So many times 0.
+fn zeroes<A: Allocator>(alloc: A, count: usize) -> Result<Vec<usize, A>, AllocError>
+    ensures long { IfOk result (λ zeroes. length zeroes.items ≡ count) }
+    ensures each { IfOk result (λ zeroes. (k : ℕ) → slice_index_or zeroes.items k 0 ≡ 0) }
+{
+    let zeroes = vec![in alloc; 0; count]?;
+    Ok(zeroes)
+}
+
+/// The address of which a slot says something.
+fn address_of(word: Word) -> Option<usize>
+    ensures within { IfSome result (λ named. named < 65535) }
+    ensures speaks { MatchOption result
+        ((address : ℕ) → speaks_of address word ≡ false)
+        (λ named. (address : ℕ) → speaks_of address word ≡ (named == address)) }
+{
+    match read_slot(word) {
+        Slot::Element { address, .. } => Some(usize::from(address.get())),
+        Slot::Forgotten { address, .. } => Some(usize::from(address.get())),
+        _ => None,
+    }
+}
+
+/// Writes the lines of the addresses that are in doubt, by the last slot that speaks of each, and the
+/// last torn one. After an error there may be a part of them.
+fn push_doubted<A: Allocator>(
+    spoken: &[usize],
+    torn: usize,
+    out: &mut Vec<u8, A>,
+) -> Result<(), AllocError>
+    ensures { OnOk result (out.new.items ≡ out.old.items ++ each_below (length spoken.now)
+        (λ address. doubt_line (is_before (slice_index_or spoken.now address 0) torn) address)) }
+{
+    'addresses: for address in 0..spoken.len() {
+        push_if_doubted(address, spoken[address], torn, out)?;
+    }
+    Ok(())
+}
+
+/// Writes the line of an address, if it is in doubt. After an error there may be a part of it.
+fn push_if_doubted<A: Allocator>(
+    address: usize,
+    spoken: usize,
+    torn: usize,
+    out: &mut Vec<u8, A>,
+) -> Result<(), AllocError>
+    ensures { OnOk result (out.new.items
+        ≡ out.old.items ++ doubt_line (is_before spoken torn) address) }
+{
+    if spoken == 0 || spoken >= torn {
+        return Ok(());
+    }
+    push_number_behind(out, b"doubt ", address as u64)?;
+    out.extend_from_slice(b"\n")?;
+    Ok(())
+}
