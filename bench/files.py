@@ -18,15 +18,20 @@ SAVING = "image.ee-saving-0"
 ALL_LIVE = worked.example("all-live")
 MOVED = ALL_LIVE.files["image"]
 CERTIFICATE = next(step.printed for step in ALL_LIVE.steps if step.words == "cat certificate").encode()
+DUMP = worked.example("dumps").files["dump"]
+HEX = worked.example("hex").files["part"]
 SETTINGS = worked.example("second-schema").files["settings"]
 INPUTS = {"image": MOVED, "script": ALL_LIVE.files["script"], "settings": SETTINGS, "certificate": CERTIFICATE,
-          "bad": b"w 2 6\nw 2 6 \n", "before": MOVED}
+          "bad": b"w 2 6\nw 2 6 \n", "before": MOVED, "values": b"volume = 9\n", "dump": DUMP, "hex": HEX}
 # The commands that write an image, and those that don't. Each of the first changes the image.
 WRITERS = {
     "run": ["run", "image", "script"],
     "run --indexed": ["run", "--indexed", "image", "script"],
     "format": ["format", "2", "8", "image"],
     "set": ["set", "image", "settings", "volume", "10"],
+    "import": ["import", "1", "6", "dump", "image"],
+    "import-hex": ["import-hex", "1", "6", "0807f000", "hex", "image"],
+    "apply": ["apply", "image", "settings", "values"],
     "clean": ["clean", "image"],
     "tidy": ["tidy", "image", "settings"],
 }
@@ -37,6 +42,8 @@ READERS = {
     "wear": ["wear", "image", "before"],
     "states": ["states", "image"],
     "stale": ["stale", "image", "settings"],
+    "inspect": ["inspect", "image"],
+    "header": ["header", "settings"],
 }
 REFUSED = {
     "a bad script": ["run", "image", "bad"],

@@ -5,8 +5,9 @@
 //!
 //! First every trace up to renaming, of up to ten writes or up to seven writes and forgettings, on one to six
 //! slots: of all its schedules with at most one copy between two changes, the fewest erases of the most worn page
-//! are half of the transfers that a store makes that transfers as late as it can. Then CASES runs of `EE size`. The
-//! last line is `N passed, M failed`, with status 1 where M isn't 0.
+//! are half of the transfers that a store makes that transfers as late as it can, rounded down where the other set starts
+//! blank, and up where its first page waits to be erased. Then CASES runs of `EE size`. The last line is
+//! `N passed, M failed`, with status 1 where M isn't 0.
 #![forbid(unsafe_code)]
 
 use std::env;
@@ -37,9 +38,9 @@ fn made(live: u32, change: Change) -> u32 {
 }
 
 /// How often the more worn of two pages is erased by so many transfers, each of which enters the page that isn't live:
-/// it must be blank then. At the start the first one is live, and the other blank.
-fn most_worn(transfers: usize) -> u64 {
-    let (mut erases, mut blank, mut live) = ([0, 0], [false, true], 0);
+/// it must be blank then. At the start the first one is live, and the other blank, or it waits to be erased.
+fn most_worn(transfers: usize, waits: bool) -> u64 {
+    let (mut erases, mut blank, mut live) = ([0, 0], [false, !waits], 0);
     for _ in 0..transfers {
         live = 1 - live;
         if !blank[live] {
@@ -87,10 +88,10 @@ impl Schedules {
     }
 
     /// The fewest erases of the most worn page, if there is a schedule.
-    fn least(&self) -> Option<u64> {
+    fn least(&self, waits: bool) -> Option<u64> {
         (0..=MOST_TRANSFERS)
             .filter(|&transfers| self.0[transfers] != 0)
-            .map(most_worn)
+            .map(|transfers| most_worn(transfers, waits))
             .min()
     }
 }
@@ -148,13 +149,17 @@ struct Trace {
 
 /// All traces that go on from this one by so many changes at the most; a new address has the next name.
 fn try_traces(trace: Trace, more: usize, forgets: bool, counts: &mut Counts) {
-    let least = trace.schedules.least();
-    counts.count(least == Some(trace.late.transfers / 2), || {
-        format!(
-            "{} slots, {} transfers, least {least:?}",
-            trace.slots, trace.late.transfers
-        )
-    });
+    let transfers = trace.late.transfers;
+    let least = [false, true].map(|waits| trace.schedules.least(waits));
+    counts.count(
+        least == [Some(transfers / 2), Some((transfers + 1) / 2)],
+        || {
+            format!(
+                "{} slots, {transfers} transfers, least {least:?}",
+                trace.slots
+            )
+        },
+    );
     if more == 0 {
         return;
     }
@@ -166,7 +171,7 @@ fn try_traces(trace: Trace, more: usize, forgets: bool, counts: &mut Counts) {
             let live = made(trace.live, change);
             let schedules = trace.schedules.with(trace.slots, trace.live, change);
             if live.count_ones() > trace.slots {
-                counts.count(schedules.least().is_none(), || {
+                counts.count(schedules.least(false).is_none(), || {
                     "a schedule of what doesn't fit".into()
                 });
                 continue;

@@ -3,7 +3,7 @@ use Rattle.std.specs.Prelude.{◌≡◌, List, None, drop, if◌then◌else◌}
 use Rattle.ee_flash.specs.Device.{Device, IsOn}
 use Rattle.ee_flash.specs.Pages.{pages_of}
 use Rattle.ee_flash.specs.Step.{Step}
-use Rattle.ee_tests.specs.Fate.{next_fate, stepped}
+use Rattle.ee_tests.specs.Fate.{next_fate, device_after_fate}
 use Rattle.ee_tests.specs.declared.fate.Fate.{Fate}
 use Rattle.ee_tests.specs.declared.fate.Fate.TheVariants.{Done}
 use Rattle.ee_tests.specs.declared.list.ListFlash.{ListFlash}
@@ -15,8 +15,8 @@ pub record Listed : Type 0 where
 
 module _ {A : Type 0} where
   -- the device, of which any number of cuts may still come
-  abbrev pub device_of : ListFlash A → Device
-  device_of flash = record {
+  abbrev pub device_of_list : ListFlash A → Device
+  device_of_list flash = record {
     size = flash.shape;
     image = pages_of flash.shape flash.cells.items;
     wear = flash.wear.items;
@@ -25,14 +25,14 @@ module _ {A : Type 0} where
     on = flash.on;
   }
 
-  abbrev pub listed_of : ListFlash A → Listed
-  listed_of flash = record { device = device_of flash; fates = flash.fates.now }
+  abbrev pub state_of_list : ListFlash A → Listed
+  state_of_list flash = record { device = device_of_list flash; fates = flash.fates.now }
 
 -- what a step leaves: nothing changes while power is off; else it takes the first fate of the list
-abbrev pub after_step : Step → Listed → Listed
-after_step step old =
-    if old.device.on then record { device = stepped step (next_fate old.fates) old.device; fates = drop 1 old.fates } else old
+abbrev pub after_listed_step : Step → Listed → Listed
+after_listed_step step old =
+    if old.device.on then record { device = device_after_fate step (next_fate old.fates) old.device; fates = drop 1 old.fates } else old
 
 -- the step that comes is done
-abbrev pub Passes : Listed → Type 0
-Passes old = IsOn old.device × (next_fate old.fates ≡ Done)
+abbrev pub IsNextDone : Listed → Type 0
+IsNextDone old = IsOn old.device × (next_fate old.fates ≡ Done)

@@ -1,5 +1,5 @@
 ghost use Rattle.std.specs.Prelude.{◌≡◌};
-ghost use Rattle.ee_tests.specs.Fate.{left_page, left_word};
+ghost use Rattle.ee_tests.specs.Fate.{page_of_fates, word_of_fate};
 
 use ee_flash::Word;
 
@@ -27,7 +27,7 @@ pub enum Left {
 impl Left {
     /// What is left of a word that the whole step changes from `before` to `after`.
     pub fn of(self, before: Word, after: Word) -> Word
-        ensures { result ≡ left_word self before after }
+        ensures { result ≡ word_of_fate self before after }
     {
         match self {
             Left::Before => before,
@@ -39,7 +39,7 @@ impl Left {
 
 /// Erases words as far as the list says, and those past its end as `rest` says.
 pub(crate) fn erase_words(words: &mut [Word], list: &[Left], rest: Left)
-    ensures { words.new ≡ left_page list.now rest words.old }
+    ensures { words.new ≡ page_of_fates list.now rest words.old }
 {
     for (at, word) in words.iter_mut().enumerate() {
         let left = list.get(at).copied().unwrap_or(rest);

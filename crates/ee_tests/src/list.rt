@@ -29,7 +29,7 @@ pub struct ListFlash<'a, A: Allocator = Global> {
 }
 
 impl<'a, A: Allocator + Copy> ListFlash<'a, A> {
-    ghost use Rattle.ee_tests.specs.Listed.{listed_of};
+    ghost use Rattle.ee_tests.specs.Listed.{state_of_list};
     ghost use Rattle.ee_flash.specs.Device.{blank_device};
 
     /// A device that is on, with every word erased, no wear and no cuts, whose steps meet these fates.
@@ -38,7 +38,7 @@ impl<'a, A: Allocator + Copy> ListFlash<'a, A> {
     ///
     /// `AllocError`: memory was refused.
     pub fn blank(alloc: A, shape: Shape, fates: &'a [Fate<'a>]) -> Result<Self, AllocError>
-        ensures { IfOk result (λ flash. listed_of flash ≡ record { device = record (blank_device shape) { cuts_left = None }; fates = fates.now }) }
+        ensures { IfOk result (λ flash. state_of_list flash ≡ record { device = record (blank_device shape) { cuts_left = None }; fates = fates.now }) }
     {
         let pages = 2 * shape.pages();
         let cells = vec![in alloc; Word::Erased; pages * shape.words()]?;
@@ -55,13 +55,13 @@ impl<'a, A: Allocator + Copy> ListFlash<'a, A> {
 }
 
 impl<'a, A: Allocator> ListFlash<'a, A> {
-    ghost use Rattle.ee_tests.specs.Listed.{device_of, listed_of};
-    ghost use Rattle.ee_tests.specs.Fate.{left_page, next_fate, stepped, with_power_cut};
-    ghost use Rattle.ee_flash.specs.Step.{Erase, erased, Program, with_page, with_word, worn};
+    ghost use Rattle.ee_tests.specs.Listed.{device_of_list, state_of_list};
+    ghost use Rattle.ee_tests.specs.Fate.{page_of_fates, next_fate, device_after_fate, with_power_gone};
+    ghost use Rattle.ee_flash.specs.Step.{Erase, with_page_erased, Program, with_page, with_word, with_page_worn};
 
     /// Puts these fates in the place of those to come.
     pub fn set_fates(&mut self, fates: &'a [Fate<'a>])
-        ensures { listed_of self.new ≡ record (listed_of self.old) { fates = fates.now } }
+        ensures { state_of_list self.new ≡ record (state_of_list self.old) { fates = fates.now } }
     {
         self.fates = fates;
     }
@@ -79,7 +79,7 @@ impl<'a, A: Allocator> ListFlash<'a, A> {
         requires page_in_range { page < page_count self.old.shape }
         requires place_in_range { at < self.old.shape.words }
         requires below_all_ones { IsBelowAllOnes word }
-        ensures { listed_of self.new ≡ record (listed_of self.old) { device = with_word page at word (device_of self.old) } }
+        ensures { state_of_list self.new ≡ record (state_of_list self.old) { device = with_word page at word (device_of_list self.old) } }
     {
         let start = self.page_start(page);
         self.cells[start + at] = word;
@@ -87,15 +87,15 @@ impl<'a, A: Allocator> ListFlash<'a, A> {
 
     fn wear_out(&mut self, page: usize)
         requires { page < page_count self.old.shape }
-        ensures { listed_of self.new ≡ record (listed_of self.old) { device = worn page (device_of self.old) } }
+        ensures { state_of_list self.new ≡ record (state_of_list self.old) { device = with_page_worn page (device_of_list self.old) } }
     {
         self.wear[page] = self.wear[page].saturating_add(1);
     }
 
     fn erase_page(&mut self, page: usize, list: &[Left], rest: Left)
         requires { page < page_count self.old.shape }
-        ensures { listed_of self.new ≡ record (listed_of self.old)
-            { device = with_page page (left_page list.now rest (page_at (device_of self.old) page)) (device_of self.old) } }
+        ensures { state_of_list self.new ≡ record (state_of_list self.old)
+            { device = with_page page (page_of_fates list.now rest (page_at (device_of_list self.old) page)) (device_of_list self.old) } }
     {
         let start = self.page_start(page);
         let end = start + self.shape.words();
@@ -104,10 +104,10 @@ impl<'a, A: Allocator> ListFlash<'a, A> {
 
     // How a step begins: it takes the first fate. With the power off nothing changes.
     fn begin(&mut self) -> Result<Fate<'a>, Cut>
-        ensures off { OnErr result (IsOff (device_of self.old) × (listed_of self.new ≡ listed_of self.old)) }
-        ensures on { OnOk result (IsOn (device_of self.old)) }
-        ensures fate { IfOk result (λ fate. fate ≡ next_fate (listed_of self.old).fates) }
-        ensures begun { OnOk result (listed_of self.new ≡ record (listed_of self.old) { fates = drop 1 (listed_of self.old).fates }) }
+        ensures off { OnErr result (IsOff (device_of_list self.old) × (state_of_list self.new ≡ state_of_list self.old)) }
+        ensures on { OnOk result (IsOn (device_of_list self.old)) }
+        ensures fate { IfOk result (λ fate. fate ≡ next_fate (state_of_list self.old).fates) }
+        ensures begun { OnOk result (state_of_list self.new ≡ record (state_of_list self.old) { fates = drop 1 (state_of_list self.old).fates }) }
     {
         if !self.on {
             return Err(Cut);
@@ -120,7 +120,7 @@ impl<'a, A: Allocator> ListFlash<'a, A> {
     }
 
     fn cut_power(&mut self)
-        ensures { listed_of self.new ≡ record (listed_of self.old) { device = with_power_cut (device_of self.old) } }
+        ensures { state_of_list self.new ≡ record (state_of_list self.old) { device = with_power_gone (device_of_list self.old) } }
     {
         self.cuts = self.cuts.saturating_add(1);
         self.on = false;
@@ -131,8 +131,8 @@ impl<'a, A: Allocator> ListFlash<'a, A> {
         requires page_in_range { page < page_count self.old.shape }
         requires place_in_range { at < self.old.shape.words }
         requires below_all_ones { value < all_ones }
-        ensures { listed_of self.new ≡ record (listed_of self.old)
-            { device = stepped (Program page at value) (Fate.Cut list.entry) (device_of self.old) } }
+        ensures { state_of_list self.new ≡ record (state_of_list self.old)
+            { device = device_after_fate (Program page at value) (Fate.Cut list.entry) (device_of_list self.old) } }
     {
         let left = list.first().copied().unwrap_or(Left::Before);
         self.set_word(page, at, left.of(Word::Erased, Word::Held(value)));
@@ -142,8 +142,8 @@ impl<'a, A: Allocator> ListFlash<'a, A> {
     // An erase that is cut.
     fn cut_erase(&mut self, page: usize, list: &[Left])
         requires { page < page_count self.old.shape }
-        ensures { listed_of self.new ≡ record (listed_of self.old)
-            { device = stepped (Erase page) (Fate.Cut list.entry) (device_of self.old) } }
+        ensures { state_of_list self.new ≡ record (state_of_list self.old)
+            { device = device_after_fate (Erase page) (Fate.Cut list.entry) (device_of_list self.old) } }
     {
         self.erase_page(page, list, Left::Before);
         self.wear_out(page);
@@ -153,8 +153,8 @@ impl<'a, A: Allocator> ListFlash<'a, A> {
     // An erase that is done.
     fn whole_erase(&mut self, page: usize)
         requires { page < page_count self.old.shape }
-        ensures { listed_of self.new ≡ record (listed_of self.old)
-            { device = erased page (device_of self.old) } }
+        ensures { state_of_list self.new ≡ record (state_of_list self.old)
+            { device = with_page_erased page (device_of_list self.old) } }
     {
         self.erase_page(page, &[], Left::After);
         self.wear_out(page);
@@ -162,12 +162,12 @@ impl<'a, A: Allocator> ListFlash<'a, A> {
 }
 
 impl<A: Allocator> Flash for ListFlash<'_, A> {
-    ghost use Rattle.ee_tests.specs.Listed.{after_step, Passes, device_of, listed_of};
-    ghost use Rattle.ee_flash.specs.Step.{Erase, erased, IsCutIn, IsUntouched, Program, programmed};
+    ghost use Rattle.ee_tests.specs.Listed.{after_listed_step, IsNextDone, device_of_list, state_of_list};
+    ghost use Rattle.ee_flash.specs.Step.{Erase, with_page_erased, IsCutIn, IsUntouched, Program, with_word_programmed};
     ghost use Rattle.ee_tests.specs.Formed.{IsFormed-listed};
     ghost use Rattle.std.proofs.Common.{sym, ◌∙◌};
 
-    ghost device = { device_of };
+    ghost device = { device_of_list };
 
     ghost formed = { λ flash. IsFormed-listed flash.shape flash.cells.items flash.wear.items flash.cuts flash.on
         flash.within_limits (sym flash.cells.ok.0 ∙ flash.cells_length) flash.below_all_ones
@@ -191,17 +191,17 @@ impl<A: Allocator> Flash for ListFlash<'_, A> {
 
     // As of any device, and besides exactly what the list says.
     fn program(&mut self, page: usize, at: usize, value: u64) -> Result<(), Cut>
-        requires page_in_range { page < page_count (device_of self.old).size }
-        requires place_in_range { at < (device_of self.old).size.words }
-        requires erased { word_at (device_of self.old) page at ≡ Word.Erased }
+        requires page_in_range { page < page_count (device_of_list self.old).size }
+        requires place_in_range { at < (device_of_list self.old).size.words }
+        requires erased { word_at (device_of_list self.old) page at ≡ Word.Erased }
         requires below_all_ones { value < all_ones }
-        ensures on { OnOk result (IsOn (device_of self.old)) }
-        ensures done { OnOk result (device_of self.new ≡ programmed page at value (device_of self.old)) }
-        ensures cut { OnErr result (IsCutIn (Program page at value) (device_of self.old) (device_of self.new)
-            ⊎ IsUntouched (device_of self.old) (device_of self.new)) }
+        ensures on { OnOk result (IsOn (device_of_list self.old)) }
+        ensures done { OnOk result (device_of_list self.new ≡ with_word_programmed page at value (device_of_list self.old)) }
+        ensures cut { OnErr result (IsCutIn (Program page at value) (device_of_list self.old) (device_of_list self.new)
+            ⊎ IsUntouched (device_of_list self.old) (device_of_list self.new)) }
 
-        ensures passes { IsOk result ↔ Passes (listed_of self.old) }
-        ensures exact { listed_of self.new ≡ after_step (Program page at value) (listed_of self.old) }
+        ensures passes { IsOk result ↔ IsNextDone (state_of_list self.old) }
+        ensures exact { state_of_list self.new ≡ after_listed_step (Program page at value) (state_of_list self.old) }
     {
         match self.begin()? {
             Fate::Done => {
@@ -217,14 +217,14 @@ impl<A: Allocator> Flash for ListFlash<'_, A> {
 
     // As of any device, and besides exactly what the list says.
     fn erase(&mut self, page: usize) -> Result<(), Cut>
-        requires { page < page_count (device_of self.old).size }
-        ensures on { OnOk result (IsOn (device_of self.old)) }
-        ensures done { OnOk result (device_of self.new ≡ erased page (device_of self.old)) }
-        ensures cut { OnErr result (IsCutIn (Erase page) (device_of self.old) (device_of self.new)
-            ⊎ IsUntouched (device_of self.old) (device_of self.new)) }
+        requires { page < page_count (device_of_list self.old).size }
+        ensures on { OnOk result (IsOn (device_of_list self.old)) }
+        ensures done { OnOk result (device_of_list self.new ≡ with_page_erased page (device_of_list self.old)) }
+        ensures cut { OnErr result (IsCutIn (Erase page) (device_of_list self.old) (device_of_list self.new)
+            ⊎ IsUntouched (device_of_list self.old) (device_of_list self.new)) }
 
-        ensures passes { IsOk result ↔ Passes (listed_of self.old) }
-        ensures exact { listed_of self.new ≡ after_step (Erase page) (listed_of self.old) }
+        ensures passes { IsOk result ↔ IsNextDone (state_of_list self.old) }
+        ensures exact { state_of_list self.new ≡ after_listed_step (Erase page) (state_of_list self.old) }
     {
         match self.begin()? {
             Fate::Done => {

@@ -3,6 +3,7 @@ mod counted;
 mod cuts;
 mod formats;
 mod images;
+mod limits;
 mod outside;
 mod program;
 mod requests;

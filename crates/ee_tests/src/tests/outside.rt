@@ -9,7 +9,7 @@ use ee_image::{ImageFault, read_image, write_image};
 use std::test::Fail;
 
 #[test]
-fn words(rt: HostRuntime) -> Result<(), Fail> {
+fn slot_words(rt: HostRuntime) -> Result<(), Fail> {
     for (number, value, word) in [
         (1, 10, 0x0000_000a_0000_0001),
         (65534, 4_294_967_295, 0xffff_ffff_0000_fffe),
@@ -39,6 +39,11 @@ fn words(rt: HostRuntime) -> Result<(), Fail> {
     ] {
         same(&rt, read_slot(Word::Held(word)), Slot::Foreign);
     }
+    Ok(())
+}
+
+#[test]
+fn header_words(rt: HostRuntime) -> Result<(), Fail> {
     same(&rt, receive_word(4_294_967_294), 0xaaaa_aaaa_ffff_fffe);
     for (word, generation) in [
         (0xaaaa_aaaa_0000_0001, Some(1)),

@@ -1,7 +1,7 @@
 //! The table of commands, built with `clap`, which finds what `job` finds.
 use clap::{Arg, ArgAction, ArgMatches, Command, value_parser};
+use ee_command_line::{Job, job};
 use ee_flash::Shape;
-use ee_words::{Job, job};
 use std::alloc::Global;
 use std::test::Fail;
 
@@ -9,9 +9,16 @@ use std::test::Fail;
 const ROWS: &str = "\
 try P W
 format P W IMAGE
+import P W DUMP IMAGE
+export IMAGE DUMP
+import-hex P W BASE DUMP IMAGE
+export-hex IMAGE BASE DUMP
+inspect IMAGE
 run IMAGE SCRIPT --indexed
 get IMAGE SETTINGS NAME
 set IMAGE SETTINGS NAME VALUE
+apply IMAGE SETTINGS VALUES
+header SETTINGS --rust
 plan IMAGE SCRIPT
 check IMAGE SCRIPT CERTIFICATE
 wear IMAGE [BEFORE]
@@ -28,6 +35,7 @@ fn word<'a>(alloc: Global, id: &'a str) -> Arg<'a> {
     let range = |least, greatest| value_parser!(u64).range(least..=greatest);
     match id {
         "--indexed" => word.long("indexed").action(ArgAction::SetTrue),
+        "--rust" => word.long("rust").action(ArgAction::SetTrue),
         "[BEFORE]" | "[SETTINGS]" => word,
         "P" => word.required(true).value_parser(range(1, 64)),
         "W" => word.required(true).value_parser(range(5, 512)),
@@ -79,7 +87,43 @@ fn job_of<'a>(name: &str, found: &ArgMatches<'a>) -> Option<Job<'a>> {
             shape: shape(found)?,
         }),
         "size" => sizes(found),
+        "header" => Some(Job::Header {
+            rust: found.get_flag("--rust"),
+            settings: found.get_str("SETTINGS")?,
+        }),
+        "import" | "export" | "import-hex" | "export-hex" => {
+            job_on_dump(name, found.get_str("IMAGE")?, found.get_str("DUMP")?, found)
+        }
         _ => job_on(name, found.get_str("IMAGE")?, found),
+    }
+}
+
+/// The base that the lines below have.
+const BASE: u32 = 0x0807_f000;
+
+/// The job on an image and a dump that was found.
+fn job_on_dump<'a>(
+    name: &str,
+    image: &'a str,
+    dump: &'a str,
+    found: &ArgMatches<'a>,
+) -> Option<Job<'a>> {
+    let base = BASE;
+    match name {
+        "import" => Some(Job::Import {
+            shape: shape(found)?,
+            dump,
+            image,
+        }),
+        "export" => Some(Job::Export { image, dump }),
+        "import-hex" => Some(Job::ImportHex {
+            shape: shape(found)?,
+            base,
+            dump,
+            image,
+        }),
+        "export-hex" => Some(Job::ExportHex { image, base, dump }),
+        _ => None,
     }
 }
 
@@ -101,6 +145,11 @@ fn job_on<'a>(name: &str, image: &'a str, found: &ArgMatches<'a>) -> Option<Job<
             name: found.get_str("NAME")?,
             value: u32::try_from(found.get_one::<u64>("VALUE")?).ok()?,
         }),
+        "apply" => Some(Job::Apply {
+            image,
+            settings: found.get_str("SETTINGS")?,
+            values: found.get_str("VALUES")?,
+        }),
         "stale" => Some(Job::Stale {
             image,
             settings: found.get_str("SETTINGS")?,
@@ -119,6 +168,7 @@ fn job_on<'a>(name: &str, image: &'a str, found: &ArgMatches<'a>) -> Option<Job<
         }),
         "states" => Some(Job::States { image }),
         "clean" => Some(Job::Clean { image }),
+        "inspect" => Some(Job::Inspect { image }),
         _ => job_with_script(name, image, found.get_str("SCRIPT")?, found),
     }
 }
@@ -148,9 +198,25 @@ fn job_with_script<'a>(
 
 #[test]
 fn clap_finds_the_same_jobs(rt: HostRuntime) -> Result<(), Fail> {
-    let lines: [&[&str]; 17] = [
+    let lines: [&[&str]; 25] = [
         &["ee", "try", "2", "5"],
         &["ee", "format", "64", "512", "a.image"],
+        &["ee", "import", "1", "6", "a.bin", "a.image"],
+        &["ee", "export", "a.image", "a.bin"],
+        &[
+            "ee",
+            "import-hex",
+            "1",
+            "256",
+            "0807F000",
+            "a.hex",
+            "a.image",
+        ],
+        &["ee", "export-hex", "a.image", "0807f000", "a.hex"],
+        &["ee", "inspect", "a.image"],
+        &["ee", "apply", "a.image", "a.settings", "a.values"],
+        &["ee", "header", "a.settings"],
+        &["ee", "header", "--rust", "a.settings"],
         &["ee", "run", "a.image", "a.script"],
         &["ee", "run", "--indexed", "a.image", "a.script"],
         &["ee", "get", "a.image", "a.settings", "volume"],

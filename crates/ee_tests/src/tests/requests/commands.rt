@@ -5,13 +5,14 @@ use crate::tests::images::{
 };
 use crate::tests::trial::with_each_refusal;
 use crate::tests::{same, shape};
+use ee_faults::{Fault, File, ReplayFault, fault_line};
 use ee_pages::ScanFault;
 use ee_shell::{
-    Replayed, check_script, clean_image, format_image, get_setting, list_text, plan_script, replay,
-    replay_indexed, replay_reader, set_setting, size_parts, stale_text, states_text, tidy_image,
-    try_script, wear_text,
+    Language, Replayed, apply_values, check_script, clean_image, export_hex, export_image,
+    format_image, get_setting, header_text, import_hex, import_image, inspect_text, list_text,
+    plan_script, replay, replay_indexed, replay_reader, set_setting, size_parts, stale_text,
+    states_text, tidy_image, try_script, wear_text,
 };
-use ee_words::{Fault, File, ReplayFault, fault_line};
 use std::alloc::Allocator;
 use std::test::Fail;
 
@@ -181,6 +182,73 @@ fn settings(rt: HostRuntime) {
     });
     with_each_refusal(&rt, heap, 6, |alloc| {
         gives(list_text(alloc, heap, TWO_MOVES, None), b"1 13\n2 5\n")
+    });
+}
+
+/// The part of the formatted image, as bytes and as Intel HEX from 0807f000 on.
+const DUMP: &[u8] = b"\x01\x00\x00\x00\xaa\xaa\xaa\xaa\xaa\xaa\xaa\xaa\xaa\xaa\xaa\xaa\
+\xff\xff\xff\xff\xff\xff\xff\xff\xff\xff\xff\xff\xff\xff\xff\xff\
+\xff\xff\xff\xff\xff\xff\xff\xff\xff\xff\xff\xff\xff\xff\xff\xff\
+\xff\xff\xff\xff\xff\xff\xff\xff\xff\xff\xff\xff\xff\xff\xff\xff\
+\xff\xff\xff\xff\xff\xff\xff\xff\xff\xff\xff\xff\xff\xff\xff\xff\
+\xff\xff\xff\xff\xff\xff\xff\xff\xff\xff\xff\xff\xff\xff\xff\xff";
+
+const HEX: &[u8] = b":020000040807EB
+:10F0000001000000AAAAAAAAAAAAAAAAAAAAAAAA07
+:10F01000FFFFFFFFFFFFFFFFFFFFFFFFFFFFFFFF00
+:10F02000FFFFFFFFFFFFFFFFFFFFFFFFFFFFFFFFF0
+:10F03000FFFFFFFFFFFFFFFFFFFFFFFFFFFFFFFFE0
+:10F04000FFFFFFFFFFFFFFFFFFFFFFFFFFFFFFFFD0
+:10F05000FFFFFFFFFFFFFFFFFFFFFFFFFFFFFFFFC0
+:00000001FF
+";
+
+const BASE: u32 = 0x0807_f000;
+
+#[test]
+fn parts(rt: HostRuntime) -> Result<(), Fail> {
+    let shape = shape(1, 6)?;
+    with_each_refusal(&rt, rt.alloc(), 3, |alloc| {
+        gives(import_image(alloc, shape, DUMP), FORMATTED)
+    });
+    with_each_refusal(&rt, rt.alloc(), 3, |alloc| {
+        gives(export_image(alloc, FORMATTED), DUMP)
+    });
+    with_each_refusal(&rt, rt.alloc(), 4, |alloc| {
+        gives(import_hex(alloc, shape, BASE, HEX), FORMATTED)
+    });
+    with_each_refusal(&rt, rt.alloc(), 4, |alloc| {
+        gives(export_hex(alloc, FORMATTED, BASE), HEX)
+    });
+    with_each_refusal(&rt, rt.alloc(), 3, |alloc| {
+        let found = b"scan ok
+set 0 generation 1 fill 0 room 2 live 0 pending 0 superseded 0 torn 0\n";
+        gives(inspect_text(alloc, FORMATTED), found)
+    });
+    Ok(())
+}
+
+#[test]
+fn factories(rt: HostRuntime) {
+    let heap = rt.alloc();
+    with_each_refusal(&rt, heap, 5, |alloc| {
+        let applied = apply_values(alloc, heap, FORMATTED, VOLUME, b"volume = 10\n");
+        gives_both(applied, TEN, b"applied 1 of 1\n")
+    });
+    with_each_refusal(&rt, heap, 2, |alloc| {
+        let header = b"// Made by `ee header --rust` from a file of settings.
+
+pub const VOLUME_ADDRESS: u16 = 1;
+pub const VOLUME_LEAST: u32 = 0;
+pub const VOLUME_MOST: u32 = 10;
+pub const VOLUME_DEFAULT: u32 = 5;
+
+// Name, address, least, most, default.
+pub const SETTINGS: [(&str, u16, u32, u32, u32); 1] = [
+    (\"VOLUME\", 1, 0, 10, 5),
+];
+";
+        gives(header_text(alloc, heap, VOLUME, Language::Rust), header)
     });
 }
 

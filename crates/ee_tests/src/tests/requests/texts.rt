@@ -9,7 +9,7 @@ use ee_script::{
     Answer, Command, ScriptFault, Serve, Session, StreamFault, answer_reader, answer_script,
     push_answer,
 };
-use ee_text::push_number;
+use ee_text::{push_number, push_number_behind};
 use std::alloc::AllocError;
 use std::test::Fail;
 
@@ -77,6 +77,14 @@ fn numbers_and_answers(rt: HostRuntime) {
             return unless(out.as_slice() == b"0 ".as_slice());
         }
         Some(out.as_slice() == b"0 18446744073709551615".as_slice())
+    });
+    with_each_refusal(&rt, rt.alloc(), 3, |alloc| {
+        let mut out = Vec::from_slice(alloc, b"0 ").ok()?;
+        if push_number_behind(&mut out, b"to ", u64::MAX).is_err() {
+            let left = out.as_slice();
+            return unless(left == b"0 ".as_slice() || left == b"0 to ".as_slice());
+        }
+        Some(out.as_slice() == b"0 to 18446744073709551615".as_slice())
     });
     with_each_refusal(&rt, rt.alloc(), 4, |alloc| {
         let mut out = Vec::new(alloc);

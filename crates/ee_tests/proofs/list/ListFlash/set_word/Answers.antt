@@ -3,7 +3,7 @@ use Rattle.ee_flash.specs.Device.{Device}
 use Rattle.ee_flash.specs.Pages.{pages_of}
 use Rattle.ee_flash.specs.declared.word.Word.{Word}
 use Rattle.ee_flash.proofs.Pages.{pages_of-set}
-use Rattle.ee_tests.specs.Listed.{Listed, device_of, listed_of}
+use Rattle.ee_tests.specs.Listed.{Listed, device_of_list, state_of_list}
 use Rattle.ee_tests.proofs.list.ListFlash.set_word.Goals as goal
 
 pub returns : goal.returns
@@ -13,4 +13,4 @@ returns g c =
     let image : pages_of flash.shape (set cells (c.page_start-start.result + c.args.at) c.args.word) ≡ _ =
     ap (λ place. pages_of flash.shape (set cells place c.args.word)) (ap (λ (start : ℕ). start + c.args.at) c.page_start-start.ensures.value)
     ∙ pages_of-set flash.shape cells c.args.page c.args.at c.args.word (sym flash.cells.ok.0 ∙ flash.cells_length) c.requires.page_in_range c.requires.place_in_range in
-    ap (λ (pages : List (List Word)). let old : Listed = listed_of flash in let device : Device = device_of flash in let now : Listed = record old { device = record device { image = pages } } in now) image
+    ap (λ (pages : List (List Word)). let old : Listed = state_of_list flash in let device : Device = device_of_list flash in let now : Listed = record old { device = record device { image = pages } } in now) image

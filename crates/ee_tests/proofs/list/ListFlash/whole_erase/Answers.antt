@@ -1,5 +1,5 @@
 use Rattle.std.proofs.Common.{sym, ◌∙◌}
-use Rattle.ee_tests.specs.Listed.{listed_of}
+use Rattle.ee_tests.specs.Listed.{state_of_list}
 use Rattle.ee_tests.proofs.Leaving.{after_whole_erase, whole_page}
 use Rattle.ee_tests.proofs.list.ListFlash.whole_erase.Goals as goal
 
@@ -7,4 +7,4 @@ pub returns : goal.returns
 returns g c =
     let flash = c.args.self.now in
     let blank = whole_page flash.shape flash.cells.items c.args.page (sym flash.cells.ok.0 ∙ flash.cells_length) c.requires in
-    after_whole_erase c.args.page (listed_of flash) (listed_of c.erase_page.new.self) (listed_of c.wear_out.new.self) blank c.erase_page.ensures c.wear_out.ensures
+    after_whole_erase c.args.page (state_of_list flash) (state_of_list c.erase_page.new.self) (state_of_list c.wear_out.new.self) blank c.erase_page.ensures c.wear_out.ensures

@@ -1,0 +1,230 @@
+"""What bench/test tries of dumps: bytes and Intel HEX of random parts, written by `ee` and by this file, read by `ee`, by
+this file and by objcopy where there is one; broken lines; and a HEX text as long as may be read, with its time."""
+import os
+import random
+import shutil
+import subprocess
+import time
+
+# The sizes that are tried: the least, one page of 2 KiB, and the greatest.
+SIZES = [(1, 5), (1, 6), (2, 7), (1, 256), (64, 512)]
+BASES = [0, 8, 0xFFF8, 0x10000, 0x0807F000]
+ALL_ONES = b"\xff" * 8
+# The most bytes that are read of a file, and the seconds that this may take.
+MOST_BYTES = 1 << 24
+MOST_SECONDS = 4
+MUTATIONS = 300
+
+
+class Wrong(Exception):
+    """What a check found."""
+
+
+class Place:
+    """A folder of its own, in which a program is run."""
+
+    def __init__(self, program, folder):
+        shutil.rmtree(folder, ignore_errors=True)
+        os.makedirs(folder)
+        self.program, self.folder = program, folder
+
+    def put(self, name, data):
+        with open(os.path.join(self.folder, name), "wb") as file:
+            file.write(data)
+
+    def get(self, name):
+        with open(os.path.join(self.folder, name), "rb") as file:
+            return file.read()
+
+    def run(self, words):
+        done = subprocess.run([self.program, *words.split()], cwd=self.folder, stdin=subprocess.DEVNULL, stdout=subprocess.PIPE,
+                              stderr=subprocess.STDOUT, timeout=60, check=False)
+        return done.returncode, done.stdout.decode()
+
+    def expect(self, words, wanted):
+        found = self.run(words)
+        if found != wanted:
+            raise Wrong(f"{words}: wanted {wanted!r}, found {found!r}")
+
+    def same(self, name, wanted, what):
+        if self.get(name) != wanted:
+            raise Wrong(f"{what}: {name} isn't what was wanted")
+
+
+def random_dump(chance, pages, words):
+    """The bytes of a part: words with bytes of every kind, and erased ones."""
+    word = lambda: chance.choice([ALL_ONES, chance.randbytes(8), bytes([chance.randrange(256)]) * 8])
+    return b"".join(word() for _ in range(2 * pages * words))
+
+
+def image_of(dump, pages, words):
+    """The image of these bytes, whose pages were never erased."""
+    word = lambda at: "-" if dump[at:at + 8] == ALL_ONES else dump[at:at + 8][::-1].hex()
+    lines = [f"ee {pages} {words}"]
+    for page in range(2 * pages):
+        lines.append(" ".join(["0", *(word(8 * (page * words + at)) for at in range(words))]))
+    return "".join(line + "\n" for line in lines).encode()
+
+
+def record(address, kind, data):
+    body = bytes([len(data), address >> 8, address & 255, kind]) + data
+    return b":" + (body + bytes([-sum(body) & 255])).hex().upper().encode() + b"\n"
+
+
+def hex_of(dump, base, row=16):
+    """An Intel HEX text of these bytes."""
+    parts, upper, at = [], None, 0
+    while at < len(dump):
+        place = base + at
+        if place >> 16 != upper:
+            upper = place >> 16
+            parts.append(record(0, 4, upper.to_bytes(2, "big")))
+        count = min(row, 0x10000 - (place & 0xFFFF), len(dump) - at)
+        parts.append(record(place & 0xFFFF, 0, dump[at:at + count]))
+        at += count
+    return b"".join(parts) + record(0, 1, b"")
+
+
+def record_of(line):
+    """The address, the type and the data of a line, if it is a record's."""
+    digits = line.removesuffix(b"\r")
+    if digits[:1] != b":" or len(digits) % 2 == 0 or any(c not in b"0123456789abcdefABCDEF" for c in digits[1:]):
+        return None
+    body = bytes.fromhex(digits[1:].decode())
+    if len(body) < 5 or len(body) != body[0] + 5 or sum(body) & 255:
+        return None
+    address, kind, data = body[1] << 8 | body[2], body[3], body[4:-1]
+    fits = address + len(data) <= 0x10000 if kind == 0 else len(data) == {1: 0, 2: 2, 3: 4, 4: 2, 5: 4}.get(kind)
+    return (address, kind, data) if fits else None
+
+
+def read_hex(text, base, size):
+    """The bytes that a text says of a part, or the number of its first bad line."""
+    lines, upper, said = text.split(b"\n"), 0, {}
+    for number, line in enumerate(lines[:-1], 1):
+        found = record_of(line)
+        if not found:
+            return number
+        address, kind, data = found
+        if kind == 1:
+            return bytes(said.get(base + at, 255) for at in range(size)) if lines[number:] == [b""] else number + 1
+        if kind in (2, 4):
+            upper = int.from_bytes(data, "big") << (4 if kind == 2 else 16)
+        elif kind == 0:
+            for place, byte in enumerate(data, upper + address):
+                if base <= place < base + size and said.setdefault(place, byte) != byte:
+                    return number
+    return len(lines)
+
+
+def bytes_and_texts(place):
+    """A part and its image, its bytes and its text are each other's."""
+    chance = random.Random(1)
+    for pages, words in SIZES:
+        for base in BASES:
+            dump = random_dump(chance, pages, words)
+            image, text = image_of(dump, pages, words), hex_of(dump, base)
+            place.put("image", image)
+            place.expect("export image dump", (0, "exported\n"))
+            place.same("dump", dump, f"{pages} {words}")
+            place.expect(f"export-hex image {base:08x} hex", (0, "exported\n"))
+            place.same("hex", text, f"{pages} {words} {base:x}")
+            place.expect(f"import {pages} {words} dump again", (0, "imported\n"))
+            place.same("again", image, f"import {pages} {words}")
+            place.put("rows", hex_of(dump, base, chance.choice([1, 7, 32, 255])))
+            for name in ("hex", "rows"):
+                place.expect(f"import-hex {pages} {words} {base:08X} {name} again", (0, "imported\n"))
+                place.same("again", image, f"import-hex {pages} {words} {base:x} of {name}")
+
+
+def objcopy(place):
+    """What objcopy writes is read, and it reads what is written."""
+    if not shutil.which("objcopy"):
+        print("left out: HEX by objcopy, which is not here", flush=True)
+        return
+    chance, base = random.Random(2), 0x0807F000
+    copy = lambda *words: subprocess.run(["objcopy", *words], cwd=place.folder, check=True)
+    for pages, words in SIZES:
+        dump = random_dump(chance, pages, words)
+        place.put("image", image_of(dump, pages, words))
+        place.expect("export image dump", (0, "exported\n"))
+        copy("-I", "binary", "-O", "ihex", "--change-addresses", hex(base), "dump", "theirs")
+        place.expect(f"import-hex {pages} {words} {base:08x} theirs again", (0, "imported\n"))
+        place.same("again", place.get("image"), f"objcopy's HEX, {pages} {words}")
+        place.expect(f"export-hex image {base:08x} ours", (0, "exported\n"))
+        copy("-I", "ihex", "-O", "binary", "ours", "back")
+        place.same("back", dump, f"what objcopy reads, {pages} {words}")
+
+
+def mutated(chance, text):
+    """A text with one thing about it changed."""
+    lines = text.splitlines(True)
+    at = chance.randrange(len(lines))
+    how = chance.randrange(7)
+    if how == 0:
+        del lines[at]
+    elif how == 1:
+        lines.insert(at, chance.choice(lines))
+    elif how == 2:
+        lines[at] = lines[at].rstrip() + b"\r\n"
+    elif how == 3:
+        lines[at] = lines[at].swapcase()
+    elif how == 4:
+        place = chance.randrange(len(lines[at]))
+        lines[at] = lines[at][:place] + bytes([chance.choice(b"0123456789ABCDEF:\n\r x")]) + lines[at][place + 1:]
+    elif how == 5:
+        address, kind, data = record_of(lines[at].rstrip()) or (0, 0, b"")
+        changed = [(address ^ 16, kind, data), (address, chance.randrange(7), data), (address, kind, data + b"\x01"), (address, kind, data[::-1])]
+        lines[at] = record(*chance.choice(changed))
+    else:
+        return text[:chance.randrange(len(text))]
+    return b"".join(lines)
+
+
+def broken_texts(place):
+    """Changed texts are read as this file reads them, or have the bad line that it finds."""
+    chance, base = random.Random(3), 0xFFD0
+    for number in range(MUTATIONS):
+        text = hex_of(random_dump(chance, 1, 6), base, chance.choice([5, 16, 32]))
+        for _ in range(chance.randrange(1, 3)):
+            text = mutated(chance, text) or b"\n"
+        place.put("hex", text)
+        found = read_hex(text, base, 96)
+        told = (3, f"ee: dump line {found}\n") if isinstance(found, int) else (0, "imported\n")
+        place.expect(f"import-hex 1 6 {base:08x} hex image", told)
+        if not isinstance(found, int):
+            place.same("image", image_of(found, 1, 6), f"text {number}")
+
+
+def greatest_text(place):
+    """A text as long as may be read says the greatest part over and over; one that is longer isn't read."""
+    dump = random_dump(random.Random(4), 64, 512)
+    rows = hex_of(dump, 0)
+    end = record(0, 1, b"")
+    rows = rows[: -len(end)]
+    text = rows * ((MOST_BYTES - len(end)) // len(rows)) + end
+    # Lines that say nothing fill it up.
+    nothing = record(0, 0, b"")
+    text = nothing * ((MOST_BYTES - len(text)) // len(nothing)) + text
+    place.put("hex", text)
+    began = time.monotonic()
+    place.expect("import-hex 64 512 00000000 hex image", (0, "imported\n"))
+    seconds = time.monotonic() - began
+    print(f"a HEX text of {len(text)} bytes was imported in {seconds:.2f} seconds", flush=True)
+    place.same("image", image_of(dump, 64, 512), "the greatest text")
+    if seconds > MOST_SECONDS:
+        raise Wrong(f"the greatest text took {seconds:.2f} seconds")
+    place.put("hex", text + b" " * (MOST_BYTES + 1 - len(text)))
+    place.expect("import-hex 64 512 00000000 hex never", (3, "ee: dump too long\n"))
+
+
+def checks(program, folder):
+    """Makes each check in a folder of its own, and gives its name and what was found, if anything."""
+    for check in (bytes_and_texts, objcopy, broken_texts, greatest_text):
+        try:
+            check(Place(program, os.path.join(folder, check.__name__)))
+        except (Wrong, OSError, subprocess.SubprocessError) as found:
+            yield check.__name__, str(found)
+        else:
+            yield check.__name__, None
+        shutil.rmtree(os.path.join(folder, check.__name__), ignore_errors=True)
