@@ -58,7 +58,7 @@ enum {
     EE_OFF = 10,
     /* Refusals of the call itself. Nothing was written. */
     EE_WRONG_SHAPE = 11,   /* `pages` or `page_words` is out of range */
-    EE_WRONG_ADDRESS = 12, /* the address is 0 or 65535 */
+    EE_WRONG_NUMBER = 12,  /* the address is 0 or 65535 */
     EE_NULL = 13           /* a pointer is NULL */
 };
 

@@ -23,7 +23,7 @@ const EE_FOREIGN: u32 = 8;
 const EE_DRIVER: u32 = 9;
 const EE_OFF: u32 = 10;
 const EE_WRONG_SHAPE: u32 = 11;
-const EE_WRONG_ADDRESS: u32 = 12;
+const EE_WRONG_NUMBER: u32 = 12;
 const EE_NULL: u32 = 13;
 
 type WordCall = unsafe extern "C" fn(*mut c_void, u32, u32, *mut u64) -> u32;
@@ -169,7 +169,7 @@ fn status(answer: Result<u32, u32>) -> u32 {
 }
 
 fn proper(address: u16) -> Result<Address, u32> {
-    Address::new(address).ok_or(EE_WRONG_ADDRESS)
+    Address::new(address).ok_or(EE_WRONG_NUMBER)
 }
 
 #[no_mangle]

@@ -49,9 +49,9 @@ static void shapes(void) {
 static void statuses(void) {
     ee_flash flash = flash_of(&p);
     CHECK(ee_format(&store, &flash) == EE_OK);
-    CHECK(ee_write(&store, 0, 1) == EE_WRONG_ADDRESS);
-    CHECK(ee_forget(&store, 65535) == EE_WRONG_ADDRESS);
-    CHECK(ee_read(&store, 0, &value) == EE_WRONG_ADDRESS);
+    CHECK(ee_write(&store, 0, 1) == EE_WRONG_NUMBER);
+    CHECK(ee_forget(&store, 65535) == EE_WRONG_NUMBER);
+    CHECK(ee_read(&store, 0, &value) == EE_WRONG_NUMBER);
     CHECK(ee_forget(&store, 1) == EE_ABSENT);
     value = 99;
     CHECK(ee_read(&store, 1, &value) == EE_NOTHING && value == 99);
@@ -67,7 +67,7 @@ static void statuses(void) {
     CHECK(ee_next(&store, &address, &value) == EE_OK && address == 65534 && value == UINT32_MAX);
     CHECK(ee_next(&store, &address, &value) == EE_NOTHING && address == 65534);
     address = 65535;
-    CHECK(ee_next(&store, &address, &value) == EE_WRONG_ADDRESS);
+    CHECK(ee_next(&store, &address, &value) == EE_WRONG_NUMBER);
     CHECK(ee_forget(&store, 1) == EE_OK && ee_read(&store, 1, &value) == EE_NOTHING);
 }
 

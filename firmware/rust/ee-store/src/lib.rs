@@ -11,24 +11,24 @@ mod ee_codec;
 #[allow(dead_code, unused_imports, unused_variables)]
 #[allow(clippy::complexity, clippy::style)]
 #[rustfmt::skip]
+mod ee_core;
+#[allow(dead_code, unused_imports, unused_variables)]
+#[allow(clippy::complexity, clippy::style)]
+#[rustfmt::skip]
 mod ee_flash;
 #[allow(dead_code, unused_imports, unused_variables)]
 #[allow(clippy::complexity, clippy::style)]
 #[rustfmt::skip]
 mod ee_pages;
-#[allow(dead_code, unused_imports, unused_variables)]
-#[allow(clippy::complexity, clippy::style)]
-#[rustfmt::skip]
-mod ee_store;
 
 mod driver;
 mod error;
 mod store;
 
 pub use crate::ee_codec::Address;
+pub use crate::ee_core::Written;
 pub use crate::ee_flash::{Shape, Word};
 pub use crate::ee_pages::ScanFault;
-pub use crate::ee_store::Written;
 pub use driver::Driver;
 pub use error::{CleanFault, Failed, ForgetFault, Off, OpenFault, WriteFault};
 pub use store::{format, open, start, Store};

@@ -1,7 +1,7 @@
 use crate::driver::{Driver, Part};
 use crate::ee_codec::Address;
+use crate::ee_core::{self as proved, Variables, Written};
 use crate::ee_flash::Shape;
-use crate::ee_store::{self as proved, Variables, Written};
 use crate::error::{CleanFault, Failed, ForgetFault, Off, OpenFault, WriteFault};
 use core::mem::replace;
 

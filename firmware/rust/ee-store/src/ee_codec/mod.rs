@@ -8,6 +8,13 @@
 //!
 //! What the layers above may use: reading a word is exactly the inverse of spelling it, and nothing
 //! else reads. `specs/Words.antt` has the spellings, `specs/Reading.antt` what each word says.
+//!
+//! # What is proved
+//!
+//! `read_slot`, `read_receive`, `read_mark` are exactly the inverse of the spellings, and nothing
+//! else reads (`says`, `found`, `only`, `exact`); `ends_in` compares a word's low 16 bits with an
+//! address; `element_word`, `forget_word`, `receive_word` spell; `Address::new` takes exactly 1 to
+//! 65534.
 
 mod address;
 mod header;

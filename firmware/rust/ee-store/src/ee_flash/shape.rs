@@ -1,4 +1,9 @@
 // Made by firmware/rust/erase from crates/ee_flash/src/shape.rt. Change that file.
+/// The words of a page's header, below its slots.
+///
+/// Source: ours.
+pub const HEADER_WORDS: usize = 4;
+
 /// How large a device is: the pages of each of its two sets, 1 to 64, and the words of a page, 5 to
 /// 512.
 ///
@@ -31,6 +36,6 @@ impl Shape {
 
     /// The slots of a set, 1 to 32512: the words of its pages, less the four of each page's header.
     pub fn slots(&self) -> usize {
-        self.pages * (self.words - 4)
+        self.pages * (self.words - HEADER_WORDS)
     }
 }

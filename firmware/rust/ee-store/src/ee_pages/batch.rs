@@ -3,7 +3,7 @@ use crate::ee_pages::batch_items::{BATCH, Batch};
 use crate::ee_pages::find::Layout;
 use crate::ee_pages::side::{Side, page_slot};
 use crate::ee_codec::{Address, Slot, read_slot};
-use crate::ee_flash::{Flash, Word};
+use crate::ee_flash::{Flash, HEADER_WORDS, Word};
 
 /// The live addresses of a stretch of addresses, with their values: as many as are found in one look
 /// through the slots.
@@ -65,7 +65,7 @@ fn gather<F: Flash>(flash: &F, side: Side, above: u16, nearest: &mut Batch) {
 
 // Notes what the slots of a page say, behind those of the pages before.
 fn gather_page<F: Flash>(flash: &F, side: Side, page: usize, above: u16, nearest: &mut Batch) {
-    for slot in 0..flash.shape().words() - 4 {
+    for slot in 0..flash.shape().words() - HEADER_WORDS {
         note(above, named(page_slot(flash, side, page, slot)), nearest);
     }
 }

@@ -2,7 +2,7 @@
 use crate::ee_pages::side::{Side, committed, first_page, set_slot, set_word};
 use crate::ee_pages::state::{is_blank, is_written};
 use crate::ee_pages::table::is_allowed;
-use crate::ee_flash::Flash;
+use crate::ee_flash::{Flash, HEADER_WORDS};
 
 /// Where the live set of a legal image is and how far it is used.
 ///
@@ -58,7 +58,7 @@ pub fn scan<F: Flash>(flash: &F) -> Result<Layout, ScanFault> {
             side,
             generation,
             fill: written,
-            current: start + written.saturating_sub(1) / (flash.shape().words() - 4),
+            current: start + written.saturating_sub(1) / (flash.shape().words() - HEADER_WORDS),
         }),
     }
 }

@@ -9,6 +9,22 @@
 //! The layers above may use: a scan is `Ok` exactly on a legal image; the readers give the image's
 //! values; a mark is one step at most, and none where its word is written; and `laws` says what
 //! every outcome of a step keeps. Nothing here takes memory.
+//!
+//! # What is proved
+//!
+//! `scan` gives the live set, its generation, its fill and its last used page exactly on a legal
+//! image, and else the first fault that applies (`layout`, `fault`, `legal`); `state_of`,
+//! `is_blank`, `slot_word`, `latest`, `next_live`, `live_count` are their definitions, forgettings
+//! included; `next_batch` gives the next live addresses, one after another, with their values, and
+//! up to where there are no others (`live`, `proper`); `torn_slots` is how many slots of the live
+//! set are torn; `mark` takes no step where its word is written, and else programs that word alone
+//! (`present`, `on`, `done`, `cut`). `laws`: every outcome of a step in the set that is not live,
+//! whole or cut, keeps the live set, its fill and its meaning, and the image legal, unless the step
+//! can commit that set; a step leaves other pages as they were; a program leaves its page written,
+//! or all as it was; every outcome of a commit keeps the live set or makes the filled one live; how
+//! many pages aren't blank after an erase or a program; how many addresses are live after a change,
+//! and that each takes a slot; what a mark and what a change in the first free slot leave of the
+//! live set; and what whole steps make of the set that a transfer fills.
 
 mod batch;
 mod batch_items;

@@ -4,7 +4,7 @@ use crate::ee_pages::find::Layout;
 use crate::ee_pages::side::{Side, first_page, page_slot, set_slot};
 use crate::ee_pages::state::is_torn;
 use crate::ee_codec::{Address, Slot, ends_in, read_slot};
-use crate::ee_flash::{Flash, Word};
+use crate::ee_flash::{Flash, HEADER_WORDS, Word};
 
 /// The word in a slot of the live set, by the slot's number, counted from 0 and below the capacity.
 /// The layout is the image's.
@@ -20,7 +20,7 @@ pub fn slot_word<F: Flash>(flash: &F, layout: &Layout, slot: usize) -> Word {
 /// Source: the last element written for an address is its value, AN4894; a forgetting is ours.
 pub fn latest<F: Flash>(flash: &F, layout: &Layout, address: Address) -> Option<u32> {
     // Page by page, since finding a slot by its number takes a division.
-    let slots = flash.shape().words() - 4;
+    let slots = flash.shape().words() - HEADER_WORDS;
     let last = layout.current - first_page(flash, layout.side);
     let mut left = layout.fill;
     for page in (0..last + 1).rev() {
@@ -91,7 +91,7 @@ pub fn torn_slots<F: Flash>(flash: &F, layout: &Layout) -> usize {
 // by page, since finding a slot by its number takes a division.
 fn torn_through<F: Flash>(flash: &F, side: Side, page: usize, before: usize) -> usize {
     let mut torn = before;
-    for slot in 0..flash.shape().words() - 4 {
+    for slot in 0..flash.shape().words() - HEADER_WORDS {
         if is_torn(page_slot(flash, side, page, slot)) {
             torn += 1;
         }

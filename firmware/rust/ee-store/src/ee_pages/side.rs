@@ -1,6 +1,6 @@
 // Made by firmware/rust/erase from crates/ee_pages/src/side.rt. Change that file.
 use crate::ee_codec::{MarkRead, read_mark, read_receive};
-use crate::ee_flash::{Flash, Word};
+use crate::ee_flash::{Flash, HEADER_WORDS, Word};
 
 /// One of the two sets of pages.
 ///
@@ -40,12 +40,12 @@ pub(crate) fn set_word<F: Flash>(flash: &F, side: Side, page: usize, at: usize) 
 
 // The slot of this number of a page of a set, both counted from 0.
 pub(crate) fn page_slot<F: Flash>(flash: &F, side: Side, page: usize, slot: usize) -> Word {
-    set_word(flash, side, page, 4 + slot)
+    set_word(flash, side, page, HEADER_WORDS + slot)
 }
 
 // The slot of this number of a set, counted from 0.
 pub(crate) fn set_slot<F: Flash>(flash: &F, side: Side, slot: usize) -> Word {
-    let slots = flash.shape().words() - 4;
+    let slots = flash.shape().words() - HEADER_WORDS;
     page_slot(flash, side, slot / slots, slot % slots)
 }
 

@@ -1,7 +1,7 @@
 // Made by firmware/rust/erase from crates/ee_pages/src/table.rt. Change that file.
 use crate::ee_pages::state::is_written;
 use crate::ee_codec::{MarkRead, Slot, read_mark, read_slot, receive_word};
-use crate::ee_flash::{Shape, Word};
+use crate::ee_flash::{HEADER_WORDS, Shape, Word};
 
 // The places of a live set, by what may stand in them.
 #[derive(Clone, Copy)]
@@ -59,6 +59,6 @@ pub(crate) fn is_allowed(
     at: usize,
     word: Word,
 ) -> bool {
-    let before = page * (shape.words() - 4) + at.saturating_sub(4);
+    let before = page * (shape.words() - HEADER_WORDS) + at.saturating_sub(HEADER_WORDS);
     fits(generation, place_of(page, at), word) && (!is_written(word) || before <= written)
 }

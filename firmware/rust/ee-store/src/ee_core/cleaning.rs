@@ -1,9 +1,9 @@
-// Made by firmware/rust/erase from crates/ee_store/src/cleaning.rt. Change that file.
+// Made by firmware/rust/erase from crates/ee_core/src/cleaning.rt. Change that file.
 use crate::ee_flash::{Cut, Flash};
 use crate::ee_pages::{Layout, Side, first_page, is_blank as page_is_blank};
 
 /// Erases the lowest page of the other set that is not blank. `false` if there is none.
-pub(crate) fn clean<F: Flash>(flash: &mut F, layout: &Layout) -> Result<bool, Cut> {
+pub fn clean<F: Flash>(flash: &mut F, layout: &Layout) -> Result<bool, Cut> {
     let Some(page) = first_pending(flash, layout.side.other()) else {
         return Ok(false);
     };

@@ -1,7 +1,7 @@
-// Made by firmware/rust/erase from crates/ee_store/src/opening.rt. Change that file.
-use crate::ee_store::formatting::write_format;
-use crate::ee_store::marking::finish;
-use crate::ee_store::store::Store;
+// Made by firmware/rust/erase from crates/ee_core/src/opening.rt. Change that file.
+use crate::ee_core::formatting::write_format;
+use crate::ee_core::marking::finish;
+use crate::ee_core::store::Store;
 use crate::ee_flash::{Cut, Flash};
 use crate::ee_pages::{ScanFault, scan};
 

@@ -1,4 +1,4 @@
-// Made by firmware/rust/erase from crates/ee_store/src/variables.rt. Change that file.
+// Made by firmware/rust/erase from crates/ee_core/src/variables.rt. Change that file.
 use crate::ee_codec::Address;
 use crate::ee_pages::LiveBatch;
 

@@ -1,10 +1,10 @@
-// Made by firmware/rust/erase from crates/ee_store/src/changing.rt. Change that file.
-use crate::ee_store::change::Change;
-use crate::ee_store::copying::Cursor;
-use crate::ee_store::live_cursor::LiveCursor;
-use crate::ee_store::moving::transfer;
-use crate::ee_store::variables::Written;
-use crate::ee_store::writing::append;
+// Made by firmware/rust/erase from crates/ee_core/src/changing.rt. Change that file.
+use crate::ee_core::change::Change;
+use crate::ee_core::copying::Cursor;
+use crate::ee_core::live_cursor::LiveCursor;
+use crate::ee_core::moving::transfer;
+use crate::ee_core::variables::Written;
+use crate::ee_core::writing::append;
 use crate::ee_flash::{Cut, Flash};
 use crate::ee_pages::Layout;
 
@@ -27,7 +27,7 @@ pub(crate) fn make_change<F: Flash>(
 
 /// Makes a change to which no refusal applies in the first free slot. The layout follows.
 #[inline(always)]
-pub(crate) fn append_change<F: Flash>(
+pub fn append_change<F: Flash>(
     flash: &mut F,
     layout: &mut Layout,
     change: Change,
@@ -38,7 +38,7 @@ pub(crate) fn append_change<F: Flash>(
 
 /// Makes a change to which no refusal applies with a transfer, where no slot is free. The cursor,
 /// which is before the first, goes over the live addresses. The layout follows.
-pub(crate) fn move_change<F: Flash, C: LiveCursor>(
+pub fn move_change<F: Flash, C: LiveCursor>(
     flash: &mut F,
     layout: &mut Layout,
     change: Change,

@@ -1,8 +1,8 @@
-// Made by firmware/rust/erase from crates/ee_store/src/first_start.rt. Change that file.
-use crate::ee_store::formatting::write_format;
-use crate::ee_store::opening::{OpenFault, open};
-use crate::ee_store::store::Store;
-use crate::ee_flash::{Cut, Flash, Word};
+// Made by firmware/rust/erase from crates/ee_core/src/first_start.rt. Change that file.
+use crate::ee_core::formatting::write_format;
+use crate::ee_core::opening::{OpenFault, open};
+use crate::ee_core::store::Store;
+use crate::ee_flash::{Cut, Flash, HEADER_WORDS, Word};
 use crate::ee_pages::ScanFault;
 
 /// Opens the store of a device that is on, as `open` does, or makes the first one, as `format` does: on
@@ -52,7 +52,7 @@ fn holds_none<F: Flash>(flash: &F) -> bool {
 
 // Whether a word behind the header of a page can be read.
 fn page_holds<F: Flash>(flash: &F, page: usize) -> bool {
-    for at in 4..flash.shape().words() {
+    for at in HEADER_WORDS..flash.shape().words() {
         if let Word::Held(_) = flash.word(page, at) {
             return true;
         }

@@ -1,11 +1,11 @@
-// Made by firmware/rust/erase from crates/ee_store/src/live_cursor.rt. Change that file.
+// Made by firmware/rust/erase from crates/ee_core/src/live_cursor.rt. Change that file.
 use crate::ee_codec::Address;
 use crate::ee_flash::Flash;
 use crate::ee_pages::Layout;
 
 /// Goes over the live addresses of a set, by rising address. A transfer copies by it, and each store
 /// has its own.
-pub(crate) trait LiveCursor {
+pub trait LiveCursor {
     /// The next live address, with its value. `None` if there is none.
     fn next<F: Flash>(&mut self, flash: &F, layout: &Layout) -> Option<(Address, u32)>;
 }

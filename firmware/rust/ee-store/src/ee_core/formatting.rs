@@ -1,4 +1,4 @@
-// Made by firmware/rust/erase from crates/ee_store/src/formatting.rt. Change that file.
+// Made by firmware/rust/erase from crates/ee_core/src/formatting.rt. Change that file.
 use crate::ee_flash::{Cut, Flash};
 use crate::ee_pages::{Layout, Mark, Side, is_blank as page_is_blank, mark};
 

@@ -1,8 +1,8 @@
-// Made by firmware/rust/erase from crates/ee_store/src/copying.rt. Change that file.
-use crate::ee_store::change::Change;
-use crate::ee_store::live_cursor::LiveCursor;
+// Made by firmware/rust/erase from crates/ee_core/src/copying.rt. Change that file.
+use crate::ee_core::change::Change;
+use crate::ee_core::live_cursor::LiveCursor;
 use crate::ee_codec::Address;
-use crate::ee_flash::{Cut, Flash};
+use crate::ee_flash::{Cut, Flash, HEADER_WORDS};
 use crate::ee_pages::{Layout, LiveBatch, Mark, first_page, mark, next_batch};
 
 /// Goes over the live addresses of a set, by rising address. It looks through the slots once for each
@@ -132,7 +132,7 @@ fn stage<F: Flash>(
     place: &mut Place,
     change: Change,
 ) -> Result<(), Cut> {
-    if place.at == 4 {
+    if place.at == HEADER_WORDS {
         receive(flash, layout, *place)?;
     }
     put_in(flash, layout, *place, change)?;
@@ -157,7 +157,7 @@ fn first_place<F: Flash>(flash: &F, layout: &Layout) -> Place {
     Place {
         slot: 0,
         page: first_page(flash, layout.side.other()),
-        at: 4,
+        at: HEADER_WORDS,
     }
 }
 
@@ -168,6 +168,6 @@ fn step<F: Flash>(flash: &F, layout: &Layout, place: &mut Place) {
     place.at += 1;
     if place.at == flash.shape().words() {
         place.page += 1;
-        place.at = 4;
+        place.at = HEADER_WORDS;
     }
 }

@@ -1,10 +1,10 @@
-// Made by firmware/rust/erase from crates/ee_store/src/moving.rt. Change that file.
-use crate::ee_store::change::Change;
-use crate::ee_store::cleaning::erase_other;
-use crate::ee_store::copying::fill_set;
-use crate::ee_store::live_cursor::LiveCursor;
-use crate::ee_store::marking::finish;
-use crate::ee_flash::{Cut, Flash};
+// Made by firmware/rust/erase from crates/ee_core/src/moving.rt. Change that file.
+use crate::ee_core::change::Change;
+use crate::ee_core::cleaning::erase_other;
+use crate::ee_core::copying::fill_set;
+use crate::ee_core::live_cursor::LiveCursor;
+use crate::ee_core::marking::finish;
+use crate::ee_flash::{Cut, Flash, HEADER_WORDS};
 use crate::ee_pages::{Layout, Mark, first_page, is_blank as page_is_blank, mark};
 
 /// Moves the map, with a change, from a live set of which every slot is used to the other set, and
@@ -17,7 +17,7 @@ pub(crate) fn transfer<F: Flash, C: LiveCursor>(
     cursor: &mut C,
 ) -> Result<(), Cut> {
     let count = move_map(flash, layout, change, cursor)?;
-    let slots = flash.shape().words() - 4;
+    let slots = flash.shape().words() - HEADER_WORDS;
     *layout = Layout {
         side: layout.side.other(),
         generation: layout.generation + 1,

@@ -1,14 +1,14 @@
-// Made by firmware/rust/erase from crates/ee_store/src/store.rt. Change that file.
-use crate::ee_store::change::Change;
-use crate::ee_store::changing::make_change;
-use crate::ee_store::cleaning::{clean, count_pending};
-use crate::ee_store::variables::{ForgetFault, Off, Variables, WriteFault, Written};
+// Made by firmware/rust/erase from crates/ee_core/src/store.rt. Change that file.
+use crate::ee_core::change::Change;
+use crate::ee_core::changing::make_change;
+use crate::ee_core::cleaning::{clean, count_pending};
+use crate::ee_core::variables::{ForgetFault, Off, Variables, WriteFault, Written};
 use crate::ee_codec::Address;
 use crate::ee_flash::{Cut, Flash};
 use crate::ee_pages::{Layout, LiveBatch, latest, live_count, next_batch, next_live, torn_slots};
 
 /// The greatest generation of a set.
-pub(crate) const GREATEST_GENERATION: u32 = 4_294_967_294;
+pub const GREATEST_GENERATION: u32 = 4_294_967_294;
 
 /// Variables in a flash device. It keeps in memory where the live set is and how far it is used, and
 /// reads all else from the flash.

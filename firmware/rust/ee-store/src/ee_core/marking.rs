@@ -1,11 +1,11 @@
-// Made by firmware/rust/erase from crates/ee_store/src/marking.rt. Change that file.
+// Made by firmware/rust/erase from crates/ee_core/src/marking.rt. Change that file.
 use crate::ee_flash::{Cut, Flash};
 use crate::ee_pages::{Layout, Mark, first_page, is_blank as page_is_blank, mark};
 
 /// Sets the marks that a transfer or a cut left to set: in the live set the pages before the last
 /// used one become valid and that one active, in the other set each page that is not blank becomes
 /// one that may be erased. A mark whose word is written already takes no step.
-pub(crate) fn finish<F: Flash>(flash: &mut F, layout: &Layout) -> Result<(), Cut> {
+pub fn finish<F: Flash>(flash: &mut F, layout: &Layout) -> Result<(), Cut> {
     mark_live_set(flash, layout)?;
     mark_old_set(flash, layout)?;
     Ok(())

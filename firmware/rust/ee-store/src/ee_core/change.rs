@@ -1,9 +1,9 @@
-// Made by firmware/rust/erase from crates/ee_store/src/change.rt. Change that file.
+// Made by firmware/rust/erase from crates/ee_core/src/change.rt. Change that file.
 use crate::ee_codec::{Address, element_word, forget_word};
 
 /// A change of the map.
 #[derive(Clone, Copy, Debug, PartialEq, Eq)]
-pub(crate) enum Change {
+pub enum Change {
     /// The address has the value from here on.
     Put { address: Address, value: u32 },
     /// The address has no value from here on. The value is the one forgotten.

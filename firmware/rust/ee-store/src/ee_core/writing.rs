@@ -1,7 +1,7 @@
-// Made by firmware/rust/erase from crates/ee_store/src/writing.rt. Change that file.
-use crate::ee_store::change::Change;
-use crate::ee_store::marking::mark_live;
-use crate::ee_flash::{Cut, Flash};
+// Made by firmware/rust/erase from crates/ee_core/src/writing.rt. Change that file.
+use crate::ee_core::change::Change;
+use crate::ee_core::marking::mark_live;
+use crate::ee_flash::{Cut, Flash, HEADER_WORDS};
 use crate::ee_pages::{Layout, Mark, first_page};
 
 /// Writes a change into the first free slot of the live set. If that slot is the first of a further
@@ -23,7 +23,7 @@ pub(crate) fn append<F: Flash>(
 // page before it as used up.
 #[inline(always)]
 fn open_page<F: Flash>(flash: &mut F, layout: &Layout) -> Result<(), Cut> {
-    let slots = flash.shape().words() - 4;
+    let slots = flash.shape().words() - HEADER_WORDS;
     if layout.fill == 0 || layout.fill % slots != 0 {
         return Ok(());
     }
@@ -35,8 +35,8 @@ fn open_page<F: Flash>(flash: &mut F, layout: &Layout) -> Result<(), Cut> {
 // Programs a change into the first free slot of the live set, and gives the page of that slot.
 #[inline(always)]
 fn push<F: Flash>(flash: &mut F, layout: &Layout, change: Change) -> Result<usize, Cut> {
-    let slots = flash.shape().words() - 4;
+    let slots = flash.shape().words() - HEADER_WORDS;
     let page = first_page(flash, layout.side) + layout.fill / slots;
-    flash.program(page, 4 + layout.fill % slots, change.word())?;
+    flash.program(page, HEADER_WORDS + layout.fill % slots, change.word())?;
     Ok(page)
 }
