@@ -33,14 +33,18 @@
  * @property {Call | null} call the last call
  * @property {Trace | null} trace
  */
-/** @typedef {{what: string, lines: string[][], delta: Delta | null, desk: Desk}} Entry
- *  what was done, the script lines that it answered with their answers, and what it left */
+/** @typedef {{what: string, told: string, lines: string[][], delta: Delta | null, desk: Desk}} Entry
+ *  what was done, what is told of it as an answer, the script lines that it answered with their answers, and what it left */
 
 /** @type {Record<string, string>} */
 const CALLS = { w: "write", f: "forget", c: "clean", p: "open", open: "open", format: "format" };
 const ANSWERS = ["ok", "moved", "idle", "full", "spent", "absent"];
 /** @type {Record<string, string>} */
 const WHOLE_ANSWERS = { c: "clean", p: "open", open: "open", format: "formatted" };
+
+/** What is told of the commands that no script has, once all their steps are taken.
+ *  @type {Record<string, string>} */
+const OWN_ANSWERS = { format: "the part is formatted, with no values", open: "the image is loaded, its store is open" };
 
 /** @param {string} kind @returns {Command} a command that no script has */
 function ownCommand(kind) {
@@ -80,7 +84,7 @@ class Bench {
     /** @type {Desk} */
     const desk = { power: true, open: false, fault: null, armed: null, call: null, trace: null };
     /** @type {Entry[]} */
-    this.entries = [{ what, lines: [], delta: null, desk }];
+    this.entries = [{ what, told: what, lines: [], delta: null, desk }];
     this.at = 0;
   }
 
@@ -97,10 +101,11 @@ class Bench {
   }
 
   /** Adds an entry behind the one that is shown, in place of what followed it.
-   *  @param {string} what @param {string[][]} lines @param {Delta | null} delta @param {Partial<Desk>} changes */
-  push(what, lines, delta, changes) {
+   *  @param {string} what @param {string[][]} lines @param {Delta | null} delta @param {Partial<Desk>} changes
+   *  @param {string} told */
+  push(what, lines, delta, changes, told = what) {
     this.entries.length = this.at + 1;
-    this.entries.push({ what, lines, delta, desk: { ...this.desk, ...changes } });
+    this.entries.push({ what, told, lines, delta, desk: { ...this.desk, ...changes } });
     this.at += 1;
   }
 
@@ -172,7 +177,8 @@ class Bench {
     const now = { ...call, taken: call.taken + 1, tear: cut };
     if (cut !== null) return this.cutIn(now, delta, tear);
     const fuse = { armed: armed && { ...armed, after: armed.after - 1n } };
-    if (isUnderWay(now)) this.push(stepText(step), [], delta, { ...fuse, call: now });
+    const told = `${call.command.line}: ${now.taken} of ${call.steps.length} steps taken`;
+    if (isUnderWay(now)) this.push(stepText(step), [], delta, { ...fuse, call: now }, told);
     else this.end(now, delta, fuse);
   }
 
@@ -188,7 +194,8 @@ class Bench {
     const arming = byHand === null ? [] : [[`x ${call.taken} ${byHand}`, "armed"]];
     const lines = trace === null ? [] : [...arming, [call.command.line, "cut"]];
     const what = `cut, ${TEARS[/** @type {Tear} */ (call.tear)]}: ${stepText(call.steps[call.taken - 1])}`;
-    this.push(what, lines, delta, { power: false, open: false, armed: null, call, trace: trace && { ...trace, cut: true } });
+    const changes = { power: false, open: false, armed: null, call, trace: trace && { ...trace, cut: true } };
+    this.push(what, lines, delta, changes, `${call.command.line}: cut`);
   }
 
   /** All steps of a call are taken.
@@ -199,7 +206,9 @@ class Bench {
     const lines = trace === null || kind === "open" || kind === "format" ? [] : [[line, call.answer]];
     const last = delta === null ? "" : stepText(call.steps[call.steps.length - 1]) + "; ";
     const after = trace === null ? this.firstTrace() : this.traceAfter(trace, call);
-    this.push(`${last}${line}: ${call.answer}`, lines, delta, { ...changes, call, open: true, fault: null, trace: after });
+    const what = `${last}${line}: ${call.answer}`;
+    const told = OWN_ANSWERS[kind] ?? `${line}: ${call.answer}`;
+    this.push(what, lines, delta, { ...changes, call, open: true, fault: null, trace: after }, told);
   }
 
   /** @returns {Trace} the trace of a store that is open for the first time, with the next entry */

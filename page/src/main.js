@@ -24,16 +24,20 @@ class Page {
     return bench;
   }
 
-  /** Does something, says what is wrong with it, if anything is, and draws.
+  /** Does something, and draws; or says what is wrong with it, and no answer stands beside that.
    *  @param {() => void} deed */
   act(deed) {
     at("notice").textContent = "";
+    let refusal = "";
     try {
       deed();
     } catch (fault) {
-      at("notice").textContent = `\u25b2 ${/** @type {Error} */ (fault).message}`;
+      refusal = `\u25b2 ${/** @type {Error} */ (fault).message}`;
     }
     this.draw();
+    if (refusal === "") return;
+    at("notice").textContent = refusal;
+    drawAnswer("", "");
   }
 
   draw() {
@@ -118,6 +122,7 @@ class Page {
     const isIn = (/** @type {number} */ number, /** @type {number} */ least, /** @type {number} */ most) =>
       Number.isInteger(number) && least <= number && number <= most;
     if (!isIn(pages, 1, 64) || !isIn(pageWords, 5, 512)) throw new Error("A set has 1 to 64 pages, a page 5 to 512 words.");
+    this.imageTyped = false;
     this.bench = this.fresh(pages, pageWords);
     this.nextLine = 0;
     this.goOn();
@@ -150,9 +155,15 @@ class Page {
   }
 }
 
+/** @param {string} id @returns {string} the number in a field, as a script spells it: 7 where 007 is typed */
+function numberIn(id) {
+  const { value } = at(id);
+  return value === "" ? "" : String(Number(value));
+}
+
 /** @param {Page} page */
 function listenToButtons(page) {
-  const fields = () => [at("address").value, at("value").value];
+  const fields = () => [numberIn("address"), numberIn("value")];
   /** @type {Record<string, () => void>} */
   const deeds = {
     new: () => page.newPart(),
@@ -192,11 +203,12 @@ function listenToFields(page) {
     if (value !== undefined && event.target.tagName === "BUTTON") page.act(() => page.bench.go(Number(value)));
   });
   for (const id of ["address", "value"]) at(id).addEventListener("keydown", pressOnEnter("write", () => true));
+  for (const id of ["pages", "page-words"]) at(id).addEventListener("keydown", pressOnEnter("new", () => true));
   at("script").addEventListener("keydown", pressOnEnter("run", (event) => event.ctrlKey));
   at("script").addEventListener("input", () => ((page.nextLine = 0), page.drawScript()));
   for (const id of ["cycles", "runs"]) at(id).addEventListener("input", () => page.drawScript());
-  window.addEventListener("resize", () => page.drawScript());
-  at("image").addEventListener("toggle", () => page.drawImage());
+  window.addEventListener("resize", () => (placeLasts(), page.drawScript()));
+  at("image").addEventListener("toggle", () => ((page.imageTyped = false), page.drawImage()));
   at("image-text").addEventListener("input", () => (page.imageTyped = true));
   at("image-file").addEventListener("change", async () => {
     const [file] = at("image-file").files;
@@ -206,6 +218,13 @@ function listenToFields(page) {
     page.act(() => page.load(text));
   });
   at("theme").addEventListener("change", () => (document.documentElement.dataset.theme = at("theme").value));
+}
+
+/** How long a part lasts stands beside the sets, under the report, where the window has a column for it, and else below
+ *  the moves. */
+function placeLasts() {
+  const column = at(matchMedia("(min-width: 1400px)").matches ? "third" : "fourth");
+  if (at("lasts").parentNode !== column) column.append(at("lasts"));
 }
 
 /** Single keys, where no field is written in. */
@@ -231,6 +250,7 @@ async function start() {
   const page = new Page(await Library.load(MODULE));
   page.bench.rest();
   drawLegend();
+  placeLasts();
   listenToButtons(page);
   listenToFields(page);
   listenToKeys();

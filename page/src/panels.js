@@ -2,6 +2,21 @@
 // Draws what stands around the sets: counts, steps, history, variables, report, moves and erases.
 
 const MOST_ROWS = 200;
+/** What answers mean that a reader may meet for the first time here.
+ *  @type {Record<string, string>} */
+const MEANINGS = {
+  ok: "Done: a slot was free.",
+  moved: "Done: all slots were used, so the live set moved.",
+  full: "Refused: as many addresses have a value as there are slots.",
+  absent: "Refused: this address has no value.",
+  spent: "Refused: all slots are used, and this generation is the last.",
+  none: "This address has no value.",
+  clean: "One of the pages that waited is erased.",
+  idle: "No page waits to be erased.",
+  armed: "Power will be cut in a step to come.",
+  cut: "Power was cut on the way. Power on opens the store again.",
+  off: "No store is open, so nothing was done.",
+};
 
 /** @param {string} id @returns {any} */
 const at = (id) => document.getElementById(id);
@@ -21,6 +36,17 @@ function drawTable(table, caption, heads, rows) {
   table.replaceChildren(make("caption", {}, caption), make("thead", {}, head), make("tbody", {}, ...lines));
 }
 
+/** @type {Record<string, string>} */
+const COUNTS = {
+  fill: "slots of the live set that are used",
+  room: "slots of the live set that are free",
+  live: "addresses that have a value",
+  pending: "pages of the other set that wait to be erased",
+  generation: "that of the live set: one more with each move",
+  transfers: "moves since the store was first open here",
+};
+const NOT_OPEN = "\u25a0 Power is on; no store was opened yet: go forth in the history, or format.";
+
 /** @param {Bench} bench @returns {string} one sentence or two on power, the store and the call */
 function standText(bench) {
   const { power, open, fault, armed, call } = bench.desk;
@@ -32,7 +58,7 @@ function standText(bench) {
   const fuse = armed === null ? "" : ` A cut is armed: ${wait} is left ${TEARS[armed.tear]}.`;
   if (bench.underWay) return `\u25b8 Power is on; ${step} comes next. The counts are what a store would find here.${fuse}`;
   if (fault !== null) return `\u25b2 No store here: ${fault}. Format makes one, and loses what these cells hold.`;
-  return open ? `\u25a0 Power is on, and the store is open.${fuse}` : "\u25a0 Power is on; no store was opened yet.";
+  return open ? `\u25a0 Power is on, and the store is open.${fuse}` : NOT_OPEN;
 }
 
 /** @param {Bench} bench @param {Counts} counts */
@@ -44,12 +70,17 @@ function drawStand(bench, counts) {
   const pairs = Object.entries({ fill, room, live, pending, generation, transfers });
   const rows = pairs.map(([name, number]) => {
     const shown = known || name === "transfers" ? String(number) : "\u2013";
-    return make("div", {}, make("dt", {}, name), make("dd", {}, shown));
+    return make("div", { title: COUNTS[name] }, make("dt", {}, name), make("dd", {}, shown));
   });
   at("counts").replaceChildren(...rows);
-  const { lines, what } = bench.entry;
-  const last = lines[lines.length - 1];
-  at("answer").textContent = last === undefined ? what : `${last[0]}: ${last[1]}`;
+  const { told, lines } = bench.entry;
+  drawAnswer(told, lines.length === 0 ? "" : (MEANINGS[lines[lines.length - 1][1]] ?? ""));
+}
+
+/** @param {string} told an answer, or nothing where none stands @param {string} meaning what that says in a few words */
+function drawAnswer(told, meaning) {
+  at("answer").textContent = told;
+  at("meaning").textContent = meaning;
 }
 
 /** @param {Call} call @param {number} index @returns {[string, string]} the class and the sign of a step */
@@ -94,6 +125,7 @@ function drawHistory(bench) {
     return make("li", { value: from + index, className: from + index > bench.at ? "is-ahead" : "" }, button);
   });
   const list = at("history");
+  list.style.paddingLeft = `${Math.max(4, String(last).length) + 2}ch`;
   list.replaceChildren(...rows);
   const shown = rows[bench.at - from];
   list.scrollTop = shown.offsetTop - list.clientHeight / 2;
@@ -109,7 +141,12 @@ function drawVariables(bench, counts) {
 
 /** @param {Bench} bench @param {Counts} counts */
 function drawReport(bench, counts) {
-  at("report").textContent = reportText(bench, counts);
+  const report = at("report");
+  const text = reportText(bench, counts);
+  if (report.textContent !== text) {
+    report.textContent = text;
+    report.scrollTop = report.scrollHeight;
+  }
   at("lines").textContent = scriptText(bench);
 }
 

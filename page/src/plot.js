@@ -1,8 +1,14 @@
 // @ts-check
-// The plot of how long a part lasts, by the pages of a set.
+// The plot of how long a part lasts, by the pages of a set, in three lines.
 
 /** Its measures in pixels; it is as wide as there is room. */
-const PLOT = { width: 640, height: 220, left: 62, right: 12, top: 12, bottom: 34 };
+const PLOT = { width: 640, height: 190, left: 62, right: 12, top: 12, bottom: 34 };
+/** @type {["ours" | "least" | "limit", string][]} the lines, and what each tells */
+const LASTING = [
+  ["ours", "this store"],
+  ["least", "no store of this kind lasts longer"],
+  ["limit", "none lasts longer that programs a word for each change"],
+];
 
 /** @param {number} pages */
 function plotX(pages) {
@@ -42,42 +48,40 @@ function plotAxes(scale) {
 function plotPoint(size, runsADay, scale, isShown) {
   const x = plotX(size.pages);
   const title = `<title>${size.pages} pages: ${sizeText(size, runsADay)}</title>`;
-  if (size.runs === 0) {
+  if (size.ours === 0) {
     const y = PLOT.height - PLOT.bottom - 5;
     return `<path class="misfit" d="M${x - 3} ${y - 3}l6 6m0 -6l-6 6">${title}</path>`;
   }
-  const y = scale(yearsOf(size.runs, runsADay));
+  const y = scale(yearsOf(size.ours, runsADay));
   const ring = isShown ? `<circle class="shown" cx="${x}" cy="${y}" r="6.5"/>` : "";
-  return `${ring}<circle class="point" cx="${x}" cy="${y}" r="2.6">${title}</circle>`;
+  return `${ring}<circle class="point" cx="${x}" cy="${y}" r="5">${title}</circle>`;
 }
 
 /** @param {Size} size @param {number} runsADay */
 function sizeText(size, runsADay) {
   if (size.misfit > 0) return `change ${size.misfit} does not fit`;
-  return size.runs === 0 ? "worn in the first run" : yearsText(yearsOf(size.runs, runsADay));
+  return size.ours === 0 ? "worn in the first run" : lifeText(size.ours, runsADay);
 }
 
-/** A line through the most that any store bears. @param {Size[]} sizes @param {(size: Size) => number} runsOf
- *  @param {number} runsADay @param {any} scale @param {string} style */
-function plotLine(sizes, runsOf, runsADay, scale, style) {
-  const points = sizes.filter((size) => runsOf(size) > 0).map((size) => `${plotX(size.pages)} ${scale(yearsOf(runsOf(size), runsADay))}`);
-  return points.length < 2 ? "" : `<path class="${style}" d="M${points.join("L")}"/>`;
+/** @param {Size[]} sizes those that bear some runs @param {"ours" | "least" | "limit"} name of the line
+ *  @param {number} runsADay @param {any} scale */
+function plotLine(sizes, name, runsADay, scale) {
+  const points = sizes.map((size) => `${plotX(size.pages)} ${scale(yearsOf(size[name], runsADay))}`);
+  return `<path class="${name}" d="M${points.join("L")}h0"/>`;
 }
 
 /** @param {Size[]} sizes @param {number} runsADay @param {number} shown the pages of a set of the part on the page
  *  @returns {string} a drawing, or nothing where there is none to make */
 function plotText(sizes, runsADay, shown) {
-  const bears = sizes.filter((size) => size.runs > 0);
-  const years = bears.flatMap((size) => [size.runs, size.kind, size.any]).map((runs) => yearsOf(runs, runsADay));
-  if (years.length === 0 || years.includes(Infinity)) return "";
+  const bears = sizes.filter((size) => size.ours > 0);
+  const years = bears.flatMap((size) => [size.ours, size.least, size.limit]).map((runs) => yearsOf(runs, runsADay));
+  if (years.length === 0) return "";
   const scale = plotScale(years);
-  const lines =
-    plotLine(bears, (size) => size.any, runsADay, scale, "any-store") + plotLine(bears, (size) => size.kind, runsADay, scale, "kind");
+  const lines = LASTING.map(([name]) => plotLine(bears, name, runsADay, scale)).join("");
   const points = sizes.map((size) => plotPoint(size, runsADay, scale, size.pages === shown)).join("");
   return (
     `<svg width="${PLOT.width}" height="${PLOT.height}" role="img" aria-label="Years until the first page is worn, for 1 to 64 ` +
-    `pages of a set; the table below has the numbers. A ring is this part, a cross a size that does not do. A line through the points ` +
-    `is the longest of any store of this kind, and a dashed one that of any that programs a word for each change.">` +
+    `pages of a set, in the three lines above; the table below has the numbers. A ring is this part, a cross a size that does not do.">` +
     `${plotAxes(scale)}${lines}${points}</svg>`
   );
 }
@@ -87,13 +91,25 @@ function plotText(sizes, runsADay, shown) {
 function drawSizing(trace, cells) {
   const [cycles, runsADay] = [at("cycles"), at("runs")].map((field) => Number(field.value));
   const good = [cycles, runsADay].every((number) => Number.isInteger(number) && number >= 1 && number <= 4294967295);
-  const sizes = good && trace !== null ? sizesOf(trace, cells.pageWords, cycles) : [];
-  PLOT.width = Math.max(300, Math.min(760, at("plot").clientWidth));
-  at("plot").innerHTML = sizes.length === 0 ? "" : plotText(sizes, runsADay, cells.pages);
-  const told = (/** @type {number} */ runs) => (runs === Infinity ? "\u2013" : runs);
-  const rows = sizes.map((size) => [size.pages, size.slots, told(size.runs), sizeText(size, runsADay), told(size.kind), told(size.any)]);
-  drawTable(at("sizes"), "By pages of a set", ["pages", "slots", "runs", "lasts", "of its kind", "any store"], rows);
-  at("sizing").textContent = sizingText(good, trace, sizes[cells.pages - 1], runsADay, cells);
+  const sizes = good && trace !== null && trace.length > 0 ? sizesOf(trace, cells.pageWords, cycles) : [];
+  PLOT.width = Math.max(240, Math.min(760, at("plot").clientWidth));
+  at("plot").innerHTML = plotText(sizes, runsADay, cells.pages);
+  const rows = sizes.map((size) => [size.pages, size.slots, size.ours, sizeText(size, runsADay), size.least, size.limit]);
+  drawTable(at("sizes"), "By pages of a set", ["pages", "slots", "runs", "lasts", "runs by least", "by limit"], rows);
+  const shown = sizes[cells.pages - 1];
+  at("sizing").textContent = sizingText(good, trace, shown, runsADay, cells);
+  drawLasting(shown, runsADay);
+}
+
+/** The three lines by name, each with how long the part on the page lasts by it.
+ *  @param {Size | undefined} size @param {number} runsADay */
+function drawLasting(size, runsADay) {
+  const lines = size === undefined ? [] : LASTING;
+  const rows = lines.map(([name, told]) => {
+    const lasts = size === undefined || size.misfit > 0 ? "\u2013" : lifeText(size[name], runsADay);
+    return make("li", { className: name }, make("b", {}, name), make("span", {}, lasts), make("span", {}, told));
+  });
+  at("lasting").replaceChildren(...rows);
 }
 
 /** @param {boolean} good @param {Command[] | null} trace @param {Size} size @param {number} runsADay

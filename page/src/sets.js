@@ -39,6 +39,8 @@ class SetsView {
     this.marked = [];
     this.shape = "";
     this.cursor = -1;
+    /** @type {Entry | null} */
+    this.shown = null;
     /** @type {(index: number) => string} */
     this.describe = () => "";
     root.addEventListener("keydown", (event) => this.walk(event));
@@ -55,7 +57,17 @@ class SetsView {
     this.fill(cells, reading);
     this.name(cells, reading);
     this.mark(bench);
+    if (this.shown !== bench.entry && this.marked.length > 0) this.follow(this.marked[0]);
+    this.shown = bench.entry;
     if (this.cursor >= 0) this.tell(this.cursor);
+  }
+
+  /** Scrolls the sets, and not the window, to a word that is out of sight.
+   *  @param {HTMLElement} box */
+  follow(box) {
+    const [outer, inner] = [this.root, box].map((it) => it.getBoundingClientRect());
+    const isSeen = inner.top >= outer.top && inner.bottom <= outer.bottom;
+    if (!isSeen) this.root.scrollTop += inner.top - outer.top - outer.height / 2;
   }
 
   /** @param {Cells} cells a part of another shape than before */

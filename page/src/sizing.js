@@ -1,9 +1,10 @@
 // @ts-check
 // How long a part lasts, computed by the page: the count of moves that docs/SIZING.md explains, without the proofs.
 
-/** @typedef {{pages: number, slots: number, runs: number, kind: number, any: number, misfit: number}} Size
- *  the runs of the script that it bears, the most that it bears with any store of this kind, and with any that programs a
- *  word for each change; and the first change that does not fit, 0 if all do */
+/** @typedef {{pages: number, slots: number, ours: number, least: number, limit: number, misfit: number}} Size
+ *  the runs of the script that it bears, as many as the erases, the least and the limit are enough for: with this store,
+ *  at the most with any of this kind, and at the most with any that programs a word for each change; and the first change
+ *  that does not fit, 0 if all do */
 
 const MOST_PAGES = 64;
 const DAYS_A_YEAR = 365;
@@ -60,20 +61,19 @@ function changeOfMove(rounds, slots, wanted) {
 /** A page is erased once in two moves, so a part bears twice as many moves as its pages bear erases. Any store of this kind
  *  erases some page once in two moves, rounded down; and any that programs a word for each change can program each word of
  *  the part once, and once more for each erase.
- *  @param {Command[]} trace @param {number} pageWords @param {number} cycles
+ *  @param {Command[]} trace some changes @param {number} pageWords @param {number} cycles
  *  @returns {Size[]} for 1 to 64 pages of a set */
 function sizesOf(trace, pageWords, cycles) {
   const rounds = repeatedTrace(trace);
   return Array.from({ length: MOST_PAGES }, (_, index) => {
     const slots = (index + 1) * (pageWords - 4);
     const misfit = rounds.counts.findIndex((count) => count > slots) + 1;
-    const fits = misfit === 0 && trace.length > 0;
     /** @param {number} moves the runs that these are enough for */
-    const runsOf = (moves) => (fits ? Math.floor((changeOfMove(rounds, slots, moves + 1) - 1) / trace.length) : Infinity);
-    const runs = misfit === 0 ? runsOf(Math.min(2 * cycles, GENERATIONS)) : 0;
-    const kind = misfit === 0 ? runsOf(2 * cycles + 1) : 0;
-    const any = trace.length > 0 ? Math.floor((2 * (index + 1) * pageWords * (cycles + 1)) / trace.length) : Infinity;
-    return { pages: index + 1, slots, runs, kind, any, misfit };
+    const runsOf = (moves) => (misfit > 0 ? 0 : Math.floor((changeOfMove(rounds, slots, moves + 1) - 1) / trace.length));
+    const ours = runsOf(Math.min(2 * cycles, GENERATIONS));
+    const least = runsOf(2 * cycles + 1);
+    const limit = Math.floor((2 * (index + 1) * pageWords * (cycles + 1)) / trace.length);
+    return { pages: index + 1, slots, ours, least, limit, misfit };
   });
 }
 
@@ -82,10 +82,11 @@ function yearsOf(runs, runsADay) {
   return runs / runsADay / DAYS_A_YEAR;
 }
 
-/** @param {number} years */
-function yearsText(years) {
-  if (years === Infinity) return "without end";
-  if (years < 1) return `${Math.floor(years * DAYS_A_YEAR)} days`;
-  if (years < 100) return `${(Math.floor(years * 10) / 10).toFixed(1)} years`;
-  return `${Math.floor(years).toLocaleString("en")} years`;
+/** @param {number} runs @param {number} runsADay @returns {string} how long so many runs last */
+function lifeText(runs, runsADay) {
+  const days = Math.floor(runs / runsADay);
+  if (days < 2) return ["less than a day", "1 day"][days];
+  if (days < DAYS_A_YEAR) return `${days} days`;
+  const tenths = Math.floor((10 * days) / DAYS_A_YEAR);
+  return tenths < 1000 ? `${(tenths / 10).toFixed(1)} years` : `${Math.floor(tenths / 10).toLocaleString("en")} years`;
 }
