@@ -19,9 +19,9 @@ Run = namedtuple("Run", "name start script step")
 def steps_of(transcript):
     steps = []
     for block in re.split(r"(?m)^\$ ", transcript)[1:]:
-        words, _, printed = block.partition("\n")
-        printed, _, status = printed.partition("[")
-        steps.append(Step(words, printed, int(status[:-2] or "0")))
+        words, _, told = block.partition("\n")
+        printed, status = re.fullmatch(r"(?s)(.*?)(?:^\[(\d+)\]\n)?", told, re.M).groups()
+        steps.append(Step(words, printed, int(status or "0")))
     return steps
 
 
@@ -64,8 +64,10 @@ def runs_of(worked):
             start, script = images.get(words[2]), images.get(words[3])
             if start is not None and script is not None:
                 yield Run(f"{worked.name}, {words[3]} on {words[2]}", start, script, step)
-        if step.status == 0 and words[:2] in (["ee", "run"], ["ee", "clean"], ["ee", "set"], ["ee", "tidy"]):
+        if step.status == 0 and words[:2] in (["ee", "run"], ["ee", "clean"], ["ee", "set"], ["ee", "apply"], ["ee", "tidy"]):
             images[words[2]] = None
+        elif step.status == 0 and words[:2] in (["ee", "import"], ["ee", "import-hex"]):
+            images[words[-1]] = None
 
 
 def runs():
