@@ -18,7 +18,8 @@ use std::alloc::{AllocError, Allocator};
 /// What a byte reads as that was never programmed.
 const ERASED: u8 = 255;
 
-/// The bytes that a text says of the part of `length` bytes from address `base` on; 255 where it says none.
+/// The bytes that a text says of the part of `length` bytes from address `base` on; 255 where it says
+/// none. The part ends at address 2^32 at the latest.
 ///
 /// # Errors
 ///

@@ -15,7 +15,8 @@ const ROW: usize = 16;
 const DIGITS: &[u8; 16] = b"0123456789ABCDEF";
 
 /// The text that says these bytes from address `base` on: rows of 16 bytes in upper case, the upper
-/// address where it changes, and the end record. For no bytes it is the end record alone.
+/// address where it changes, and the end record. For no bytes it is the end record alone. They end at
+/// address 2^32 at the latest.
 ///
 /// # Errors
 ///
