@@ -7,15 +7,12 @@ use Rattle.std.proofs.lemmas.List.Elements.{All-cons, All-nil, filter_map-append
 use Rattle.std.proofs.lemmas.List.Sums.{sum_by-cons}
 use Rattle.ee_flash.specs.Device.{Device, IsOn, all_ones}
 use Rattle.ee_flash.specs.Step.{one_more}
-use Rattle.ee_pages.proofs.ScanFaults.{legal_is_good}
+use Rattle.ee_pages.proofs.Public.{legal_is_good}
 use Rattle.ee_pages.specs.Legal.{IsLegal}
 use Rattle.ee_pages.specs.Meaning as meaning
 use Rattle.ee_pages.specs.Meaning.{Change, Map, map_after, changed_by}
 use Rattle.ee_pages.specs.Sets.{live_of}
-use Rattle.ee_core.proofs.CopiedMaps.{forget-at, forget-other, put-at, put-other}
-use Rattle.ee_core.proofs.CutMaps.{cut_map}
-use Rattle.ee_core.proofs.Powered.{legal_on, state_in_on}
-use Rattle.ee_core.proofs.Running.{changed_by-append, goes}
+use Rattle.ee_core.proofs.Public.{forget-at, forget-other, put-at, put-other, cut_map, legal_on, state_in_on, changed_by-append, goes}
 use Rattle.ee_core.specs.Calls.{IsCutClean}
 use Rattle.ee_core.specs.Changes.{IsCutChange}
 use Rattle.ee_core.specs.Points.{Point, closed_point, with_power_on}

@@ -1,5 +1,5 @@
-pub mod TurnByTurn
-pub mod KeptChanges
-pub mod WholeDrives
-pub mod StayingChanges
-pub mod Premises
+mod TurnByTurn
+mod KeptChanges
+mod WholeDrives
+mod StayingChanges
+mod Premises

@@ -6,8 +6,7 @@ use Rattle.ee_pages.specs.Legal.{IsLegal}
 use Rattle.ee_pages.specs.Meaning as meaning
 use Rattle.ee_pages.specs.Meaning.{Change, Map, map_after, changed_by}
 use Rattle.ee_pages.specs.Pending.{address_of}
-use Rattle.ee_core.proofs.CopiedMaps.{forget-at, forget-other, put-at, put-other}
-use Rattle.ee_core.proofs.Running.{changed_by-append}
+use Rattle.ee_core.proofs.Public.{forget-at, forget-other, put-at, put-other, changed_by-append}
 use Rattle.ee_core.specs.Points.{Point}
 use Rattle.ee_core.specs.Changes.{HasChange}
 use Rattle.ee_core.specs.State.{state_of}

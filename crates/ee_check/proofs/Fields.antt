@@ -6,7 +6,7 @@ use Rattle.std.specs.Result.{IsErrAnd}
 use Rattle.std.proofs.lemmas.Bool.{eq-eqb}
 use mathlib.Core.Bool.{true≢false}
 use Rattle.ee_text.specs.Field.{IsField}
-use Rattle.ee_text.proofs.Lacking.{first_place, no_place, Lacks-decimal}
+use Rattle.ee_text.proofs.Public.{first_place, no_place, Lacks-decimal}
 
 pub some_part : {X : Type 0} (r : Option X) (N : Type 0) (F : X → Type 0) → MatchOption r N F → IfSome r F
 some_part (Some x) N F h = h

@@ -1,11 +1,12 @@
-pub mod Sizes
-pub mod Dominance
-pub mod Tight
-pub mod Bounds
-pub mod Walks
-pub mod Stretches
-pub mod Flaws
-pub mod Fields
-pub mod Lines
-pub mod Texts
-pub mod Premises
+mod Sizes
+mod Dominance
+mod Tight
+mod Bounds
+mod Walks
+mod Stretches
+mod Flaws
+mod Fields
+mod Lines
+mod Texts
+mod Premises
+pub mod Public

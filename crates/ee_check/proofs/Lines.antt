@@ -3,8 +3,8 @@ use Rattle.std.proofs.Common.{◌≡◌, ◌≢◌, ℕ, ◌++◌, List, refl, s
 use Rattle.std.specs.Fmt.{decimal}
 use Rattle.ee_text.specs.Field.{Lacks}
 use Rattle.ee_text.specs.Line.{IsLine, line_of}
-use Rattle.ee_text.proofs.Lacking.{Lacks-append, Lacks-decimal}
-use Rattle.ee_text.proofs.LineFeeds as feeds
+use Rattle.ee_text.proofs.Public.{Lacks-append, Lacks-decimal}
+use Rattle.ee_text.proofs.Public as feeds
 use Rattle.ee_check.specs.declared.certificate.Stretch.{Stretch}
 use Rattle.ee_check.specs.Text.{heading, stretch_text, ending, IsNumber, IsStretch, NoFirstLine, NoStretch}
 

@@ -4,8 +4,8 @@ use Rattle.std.specs.Fmt.{decimal}
 use Rattle.std.proofs.lemmas.Fmt.{decimal_injective}
 use Rattle.std.proofs.lemmas.List.{append-nil, append_cancel_left}
 use Rattle.ee_text.specs.Line.{IsLine, line_of, IsLonger}
-use Rattle.ee_text.proofs.Lacking.{first_place, Lacks-decimal}
-use Rattle.ee_text.proofs.LineFeeds as feeds
+use Rattle.ee_text.proofs.Public.{first_place, Lacks-decimal}
+use Rattle.ee_text.proofs.Public as feeds
 use Rattle.ee_check.specs.declared.certificate.Stretch.{Stretch}
 use Rattle.ee_check.specs.declared.reading.TextFault.{TextFault}
 use Rattle.ee_check.specs.declared.reading.TextFault.TheVariants.{BadText, Memory}

@@ -1,1 +1,2 @@
-pub mod Spelling
+mod Spelling
+pub mod Public

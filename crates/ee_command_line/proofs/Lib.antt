@@ -1,2 +1,2 @@
-pub mod Bases
-pub mod Streams
+mod Bases
+mod Streams

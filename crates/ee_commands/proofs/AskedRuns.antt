@@ -6,7 +6,7 @@ use Rattle.ee_flash.specs.Device.{Device, IsOff}
 use Rattle.ee_flash.specs.Size.{slot_count}
 use Rattle.ee_pages.specs.Meaning.{Map, Put, live_in, live_to}
 use Rattle.ee_pages.specs.Meaning as meaning
-use Rattle.ee_pages.proofs.Counts.{live_to-suc, live_to-zero}
+use Rattle.ee_pages.proofs.Public.{live_to-suc, live_to-zero}
 use Rattle.ee_core.specs.Calls.{ErasesOne}
 use Rattle.ee_core.specs.Changes.{Appends, IsSpent, Moves}
 use Rattle.ee_core.specs.Runs.{Call, Wrote, Forgot, Cleaned, DidRead, Follows, IsRun, is_cut, is_transfer, transfers}
@@ -14,15 +14,15 @@ use Rattle.ee_core.specs.State.{State, state_of}
 use Rattle.ee_core.specs.declared.variables.ForgetFault.TheVariants as forget
 use Rattle.ee_core.specs.declared.variables.WriteFault.TheVariants as write
 use Rattle.ee_core.specs.declared.variables.Written.TheVariants.{Appended, Moved}
-use Rattle.ee_check.proofs.Sizes.{changed-le}
+use Rattle.ee_check.proofs.Public.{changed-le}
 use Rattle.ee_check.specs.declared.change.Change.{Change}
 use Rattle.ee_check.specs.declared.change.Change.TheVariants as changes
 use Rattle.ee_check.specs.Live.{live_after_one}
 use Rattle.ee_check.specs.Schedule.{Append, Carry, Copy, EachMove, IsAllowed, IsProper, Move, Situation, after_move, changes_of, cost}
-use Rattle.ee_plan.proofs.LiveLists.{live_after_forget, live_after_put, live_count_is}
+use Rattle.ee_plan.proofs.Public.{live_after_forget, live_after_put, live_count_is}
 use Rattle.ee_plan.specs.Start.{AreLive}
 use Rattle.ee_commands.specs.ToldSizes.{asked_by_calls}
-use Rattle.ee_image_store.proofs.Starts.{forgetting_fits}
+use Rattle.ee_image_store.proofs.Public.{forgetting_fits}
 use Rattle.ee_commands.proofs.MadeRuns.{AreProper, NotCut, counted, not_counted, uncut_behind}
 
 -- ---- maps of which one has a value wherever the other has one

@@ -8,7 +8,7 @@ use Rattle.ee_core.specs.Runs.{Call, Cleaned, IsRun, IsWholeRun, is_cut}
 use Rattle.ee_core.specs.State.{State, Wears, pending_pages, state_of, with_pending}
 use Rattle.ee_commands.specs.Images.{IsCleaned, cleaned_text}
 use Rattle.ee_image_store.specs.Opening.{IsOpened, IsStoreLeft}
-use Rattle.ee_image_store.proofs.Erasing.{pages_since}
+use Rattle.ee_image_store.proofs.Public.{pages_since}
 
 -- clean steps in which a page was erased, as many as this
 abbrev pub cleanings : ℕ → List Call

@@ -4,8 +4,7 @@ use Rattle.std.proofs.lemmas.List.{append-nil, append_assoc}
 use Rattle.ee_flash.specs.Device.{Device}
 use Rattle.ee_core.specs.Calls.{ErasesLowest}
 use Rattle.ee_core.specs.State.{Wears, pending_pages, state_of}
-use Rattle.ee_core.proofs.PendingPages.{length-pending_pages}
-use Rattle.ee_core.proofs.Wears.{wears_both, wears_none}
+use Rattle.ee_core.proofs.Public.{length-pending_pages, wears_both, wears_none}
 
 -- a front of the pages that waited was erased, and the others wait
 pub record ErasesFront (old new : Device) : Type 0 where

@@ -5,7 +5,7 @@ use Rattle.std.proofs.lemmas.Bool.{cases_order}
 use Rattle.std.proofs.lemmas.List.{append-nil}
 use Rattle.ee_text.specs.Line.{line_of}
 use Rattle.ee_flash.specs.Device.{Device}
-use Rattle.ee_image.proofs.Texts.{one_device_lem}
+use Rattle.ee_image.proofs.Public.{one_device_lem}
 use Rattle.ee_wear.specs.Since.{IsFirstFallen, IsSinceFault, NoneFell}
 use Rattle.ee_wear.specs.declared.since.SinceFault.{SinceFault}
 use Rattle.ee_wear.specs.declared.since.SinceFault.TheVariants as since
@@ -15,7 +15,7 @@ use Rattle.ee_faults.specs.declared.fault.Fault.TheVariants.{Memory}
 use Rattle.ee_faults.specs.declared.fault.File.TheVariants.{Image, Before}
 use Rattle.ee_image_store.specs.Opening.{SpellsDevice}
 use Rattle.ee_commands.specs.Wear.{IsDifferenceFault, IsWear, IsWearFault, count_lines, count_text}
-use Rattle.ee_image_store.proofs.FileFaults.{one_file_fault, only_memory}
+use Rattle.ee_image_store.proofs.Public.{one_file_fault, only_memory}
 
 lines_push : (start : ℕ) (counts : List ℕ) (n number : ℕ) → number ≡ start + n → n < length counts
     → count_lines start (take (suc n) counts)

@@ -1,18 +1,19 @@
-pub mod Cleaning
-pub mod Fronts
-pub mod Ledgers
-pub mod Named
-pub mod NewImages
-pub mod Pages
-pub mod PageStates
-pub mod Traces
-pub mod OneTask
-pub mod Planned
-pub mod TidiedImages
-pub mod Listings
-pub mod Sizes
-pub mod MadeRuns
-pub mod AskedRuns
-pub mod SizeWears
-pub mod AllMade
-pub mod SizedRuns
+mod Cleaning
+mod Fronts
+mod Ledgers
+mod Named
+mod NewImages
+mod Pages
+mod PageStates
+mod Traces
+mod OneTask
+mod Planned
+mod TidiedImages
+mod Listings
+mod Sizes
+mod MadeRuns
+mod AskedRuns
+mod SizeWears
+mod AllMade
+mod SizedRuns
+pub mod Public

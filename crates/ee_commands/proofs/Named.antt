@@ -20,11 +20,8 @@ use Rattle.ee_core.specs.State.{State, Wears, pending_pages, state_in, state_of,
 use Rattle.ee_core.specs.declared.variables.Written.{Written}
 use Rattle.ee_core.specs.declared.variables.Written.TheVariants as written
 use Rattle.ee_image.specs.Text.{at_rest}
-use Rattle.ee_image.proofs.Texts.{one_device_lem}
-use Rattle.ee_settings.proofs.First.{one_fault}
-use Rattle.ee_settings.proofs.Names.{names_apart}
-use Rattle.ee_settings.proofs.Once.{entries_once, never_refused}
-use Rattle.ee_settings.proofs.Trees.{entries_seen, seen}
+use Rattle.ee_image.proofs.Public.{one_device_lem}
+use Rattle.ee_settings.proofs.Public.{one_fault, names_apart, entries_once, never_refused, entries_seen, seen}
 use Rattle.ee_settings.specs.Calls.{IsNamed, IsUnknown, Sets}
 use Rattle.ee_settings.specs.File.{Entry, GivesSchema, HaveRisingKeys, entries_of}
 use Rattle.ee_settings.specs.Setting.{HaveRisingNames, IsInRange, Setting}
@@ -40,8 +37,7 @@ use Rattle.ee_faults.specs.declared.fault.Fault.{Fault}
 use Rattle.ee_faults.specs.declared.fault.Fault.TheVariants.{UnknownName, Memory}
 use Rattle.ee_faults.specs.declared.replay_fault.ReplayFault.{ReplayFault}
 use Rattle.ee_faults.specs.declared.replay_fault.ReplayFault.TheVariants as replay
-use Rattle.ee_image_store.proofs.Erasing.{both, by_append, by_move, pages_since}
-use Rattle.ee_image_store.proofs.OneCause.{one_open_fault, store_is_good}
+use Rattle.ee_image_store.proofs.Public.{both, by_append, by_move, pages_since, one_open_fault, store_is_good}
 use Rattle.ee_image_store.specs.Erases.{ErasesRise, erases_left_by}
 use Rattle.ee_commands.specs.Images.{IsOpeningFault}
 use Rattle.ee_image_store.specs.Machine.{MachineStep}

@@ -15,10 +15,10 @@ use Rattle.ee_pages.specs.declared.side.Side.{Side}
 use Rattle.ee_pages.specs.declared.side.Side.TheVariants.{First, Second}
 use Rattle.ee_core.specs.State.{State, state_in, state_of}
 use Rattle.ee_image.specs.Text.{at_rest}
-use Rattle.ee_image.proofs.Texts.{one_device_lem}
+use Rattle.ee_image.proofs.Public.{one_device_lem}
 use Rattle.ee_script.specs.declared.session.ScriptFault.{ScriptFault}
 use Rattle.ee_script.specs.declared.session.ScriptFault.TheVariants as script
-use Rattle.ee_script.proofs.Reading.{one_script_lem}
+use Rattle.ee_script.proofs.Public.{one_script_lem}
 use Rattle.ee_check.specs.declared.change.Change.{Change}
 use Rattle.ee_check.specs.declared.checking.CheckFault.{CheckFault}
 use Rattle.ee_check.specs.declared.checking.CheckFault.TheVariants as check
@@ -28,7 +28,7 @@ use Rattle.ee_check.specs.Certificate.{Claim}
 use Rattle.ee_check.specs.Fault.{IsCause}
 use Rattle.ee_check.specs.Schedule.{Situation}
 use Rattle.ee_check.specs.Text.{IsText, IsCertificateTextFault}
-use Rattle.ee_check.proofs.Texts.{one_first_bad_line_lem as one_bad_line, one_text_lem, texts_are_good_lem}
+use Rattle.ee_check.proofs.Public.{one_bad_line, one_text_lem, texts_are_good_lem}
 use Rattle.ee_plan.specs.Plan.{IsFirstNotFitting, IsPlanFault}
 use Rattle.ee_plan.specs.Start.{AreLive, IsStartOf}
 use Rattle.ee_plan.specs.declared.planned.PlanFault.{PlanFault}
@@ -41,7 +41,7 @@ use Rattle.ee_faults.specs.declared.replay_fault.ReplayFault.TheVariants as repl
 use Rattle.ee_image_store.specs.Opening.{IsOpenFault, IsOpened, IsStoreText, SpellsDevice}
 use Rattle.ee_commands.specs.Planning.{IsCertificateFault, IsCheckingFault, IsImageStart, IsPlanningFault, IsRefusal, IsTask, IsTaskFault, IsTrace, IsTraceFault}
 use Rattle.ee_image_store.specs.Trace.{trace_of}
-use Rattle.ee_image_store.proofs.OneCause.{one_open_fault, store_is_good}
+use Rattle.ee_image_store.proofs.Public.{one_open_fault, store_is_good}
 use Rattle.ee_commands.proofs.Traces.{one_first_bad_line, traces_are_good}
 
 -- ---- one start

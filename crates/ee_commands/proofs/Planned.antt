@@ -4,7 +4,7 @@ use Rattle.ee_check.specs.declared.change.Change.{Change}
 use Rattle.ee_check.specs.Certificate.{claim_of}
 use Rattle.ee_check.specs.Schedule.{IsProper, Situation}
 use Rattle.ee_check.specs.Text.{text_of}
-use Rattle.ee_check.proofs.Bounds.{certificates_bound_schedules_lem, tight_are_certificates_lem, tight_is_met_lem}
+use Rattle.ee_check.proofs.Public.{certificates_bound_schedules_lem, tight_are_certificates_lem, tight_is_met_lem}
 use Rattle.ee_plan.specs.declared.planned.Plan.{Plan}
 use Rattle.ee_plan.specs.Plan.{IsPlan}
 use Rattle.ee_commands.specs.Planning.{IsPlanned, IsTask}

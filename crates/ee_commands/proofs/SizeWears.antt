@@ -2,13 +2,13 @@
 use Rattle.std.proofs.Common.{◌≡◌, ◌∙◌, inl, inr, ℕ, zero, suc, ◌+◌, ◌*◌, ◌-◌, ◌/◌, ◌<◌, ◌≤◌, List, [], ◌∷◌, length, subst, ap, arith}
 use Rattle.std.proofs.Math.Nat.{div-lt_iff_lt-mul, div-zero, mul-le-mul_left}
 use Rattle.std.proofs.lemmas.Bool.{cases_eq}
-use Rattle.ee_flash.proofs.Endurance.{some_page_wears_lem}
+use Rattle.ee_flash.proofs.Public.{some_page_wears_lem}
 use Rattle.ee_flash.specs.Endurance.{erases_of, least_wear, word_count}
 use Rattle.ee_flash.specs.Size.{Size, page_count, size_of, slot_count}
-use Rattle.ee_check.proofs.Sizes.{changed-le}
+use Rattle.ee_check.proofs.Public.{changed-le}
 use Rattle.ee_check.specs.declared.change.Change.{Change}
 use Rattle.ee_check.specs.Schedule.{Append, Carry, Copy, EachMove, IsAllowed, IsProper, Move, Situation, after_move, changes_of, cost}
-use Rattle.ee_plan.proofs.Wearing.{fewest_transfers_wear_lem}
+use Rattle.ee_plan.proofs.Public.{fewest_transfers_wear_lem}
 use Rattle.ee_plan.specs.Rounds.{IsFewest, fresh}
 use Rattle.ee_plan.specs.declared.demand.Demand.{Demand}
 use Rattle.ee_plan.specs.declared.demand.Demand.TheVariants.{Transfers, NotFitting}

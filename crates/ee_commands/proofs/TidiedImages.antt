@@ -4,8 +4,7 @@ use Rattle.std.specs.Prelude.{option_map}
 use Rattle.ee_flash.specs.Device.{Device}
 use Rattle.ee_flash.specs.Size.{Size}
 use Rattle.ee_core.specs.State.{State, state_of}
-use Rattle.ee_settings.proofs.Forgetting.{each_goes_on}
-use Rattle.ee_settings.proofs.TidiedMaps.{leaves_named, leaves_state, none_spent}
+use Rattle.ee_settings.proofs.Public.{each_goes_on, leaves_named, leaves_state, none_spent}
 use Rattle.ee_settings.specs.Setting.{Setting}
 use Rattle.ee_settings.specs.Stale.{stale_in}
 use Rattle.ee_settings.specs.Tidying.{IsSpentAmong, Tidies, after_forgettings, kept_map, unnamed_in}

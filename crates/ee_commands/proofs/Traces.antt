@@ -10,9 +10,8 @@ use Rattle.ee_script.specs.declared.command.Command.{Command}
 use Rattle.ee_script.specs.declared.command.Command.TheVariants.{Write, Read, Forget, Clean, Arm, PowerOn}
 use Rattle.ee_script.specs.Command.{IsCommand, command_text}
 use Rattle.ee_script.specs.Script.{AreCommands, script}
-use Rattle.ee_script.proofs.Reading.{spelling_injective}
-use Rattle.ee_script.proofs.Spelling.{Lacks-spelling}
-use Rattle.ee_text.proofs.LineFeeds.{first_line}
+use Rattle.ee_script.proofs.Public.{spelling_injective, Lacks-spelling}
+use Rattle.ee_text.proofs.Public.{first_line}
 use Rattle.ee_commands.specs.Planning.{IsFirstBadTraceLine, IsTrace, KeepsPower, NoTraceLine}
 use Rattle.ee_image_store.specs.Trace.{trace_of}
 

@@ -2,7 +2,7 @@
 use Rattle.std.proofs.Common.{refl}
 use Rattle.ee_flash.specs.Device.{Device}
 use Rattle.ee_flash.specs.Power.{GoesOn}
-use Rattle.ee_flash.proofs.Outcomes.{calls_compose}
+use Rattle.ee_flash.proofs.Public.{calls_compose}
 
 pub goes_on_same : (device : Device) → GoesOn device device
 goes_on_same device = record { same_size = refl; same_power = refl; same_cuts = refl; same_cuts_left = refl; same_while_off = λ off. refl }

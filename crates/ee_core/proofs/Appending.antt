@@ -9,7 +9,7 @@ use Rattle.ee_flash.specs.Size.{slot_count}
 use Rattle.ee_flash.specs.Step.{Step, Program, IsCutIn, IsUntouched, MayFollow, MayLeave, device_after}
 use Rattle.ee_flash.specs.declared.word.Word.{Word}
 use Rattle.ee_flash.specs.declared.word.Word.TheVariants.{Erased, Held, Torn}
-use Rattle.ee_flash.proofs.Outcomes.{step_leaves_pages}
+use Rattle.ee_flash.proofs.Public.{step_leaves_pages}
 use Rattle.ee_pages.specs.Laws.{KeepsLiveSet}
 use Rattle.ee_pages.specs.Legal.{IsLive}
 use Rattle.ee_pages.specs.Meaning.{Change, Map, SpellsChange, map_after, meaning}
@@ -19,14 +19,10 @@ use Rattle.ee_pages.specs.Sets.{fill_of, first_page, other, page_of_slot, place_
 use Rattle.ee_pages.specs.declared.side.Side.{Side}
 use Rattle.ee_pages.specs.declared.state.Mark.{Mark}
 use Rattle.ee_pages.specs.declared.state.Mark.TheVariants as marks
-use Rattle.ee_pages.proofs.BlankWords.{erased_word}
-use Rattle.ee_pages.proofs.Legal.{fill-front, slots_behind}
-use Rattle.ee_pages.proofs.OtherPages.{step_keeps_other_pages}
-use Rattle.ee_pages.proofs.Slots.{page_in_range, place_in_range, slot_at}
+use Rattle.ee_pages.proofs.Public.{erased_word, fill-front, slots_behind, step_keeps_other_pages, page_in_range, place_in_range, slot_at, push_takes, whole_push_takes}
 use Rattle.ee_core.proofs.Cuts.{program_partly}
 use Rattle.ee_core.specs.Cuts.{PutsPartly}
 use Rattle.ee_core.specs.Parts.{IsSameSet, KeepsMarks}
-use Rattle.ee_pages.proofs.LiveSteps.{push_takes, whole_push_takes}
 use Rattle.ee_core.proofs.SetPages.{page_in_device, page_of_set}
 
 pub on_err : {T E : Type 0} (P : Type 0) (result : Result T E) → P → OnErr result P

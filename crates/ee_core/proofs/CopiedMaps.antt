@@ -9,9 +9,8 @@ use Rattle.ee_codec.specs.declared.slot.Slot.TheVariants.{Element, Forgotten, Fo
 use Rattle.ee_flash.specs.declared.word.Word.{Word}
 use Rattle.ee_flash.specs.declared.word.Word.TheVariants.{Erased, Held, Torn}
 use Rattle.ee_pages.specs.Meaning.{Change, Forget, IsNextLive, Map, Put, SpellsChange, map_after, latest_in, later, live_in, live_to, meaning, says, slot_says, value_said}
-use Rattle.ee_pages.proofs.Counts.{live_to-zero}
+use Rattle.ee_pages.proofs.Public.{live_to-zero, change_counts}
 use Rattle.ee_pages.specs.Pending.{address_of}
-use Rattle.ee_pages.proofs.LiveCounts.{change_counts}
 use Rattle.ee_core.specs.Parts.{map_to, meant, replaced_map}
 use Rattle.ee_core.specs.declared.change.Change as declared
 use Rattle.ee_core.specs.declared.change.Change.TheVariants as kinds

@@ -4,7 +4,7 @@ use Rattle.std.proofs.lemmas.Bool.{cases_lt}
 use Rattle.std.proofs.lemmas.List.Sums.{count_by-le-length, length-filter}
 use Rattle.ee_flash.specs.Device.{Device, IsFormed}
 use Rattle.ee_flash.specs.Size.{slot_count}
-use Rattle.ee_pages.proofs.Slots.{length-slots}
+use Rattle.ee_pages.proofs.Public.{length-slots}
 use Rattle.ee_pages.specs.Meaning.{Change, map_after}
 use Rattle.ee_pages.specs.Page.{is_written}
 use Rattle.ee_pages.specs.Sets.{live_of, set_of, slots_of}

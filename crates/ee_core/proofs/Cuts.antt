@@ -11,7 +11,7 @@ use Rattle.ee_pages.specs.Page.{is_blank, is_marked, marking, number_of_mark, pl
 use Rattle.ee_pages.specs.Sets.{first_page, other}
 use Rattle.ee_pages.specs.declared.side.Side.{Side}
 use Rattle.ee_pages.specs.declared.state.Mark.{Mark}
-use Rattle.ee_pages.proofs.Slots.{length-page_at}
+use Rattle.ee_pages.proofs.Public.{length-page_at}
 use Rattle.ee_pages.specs.Laws.{IsPageOf}
 use Rattle.ee_core.proofs.Drawings.{marked-erased, place_below, put_apart, put_drawn, with_mark, with_word-elsewhere, with_word-there}
 use Rattle.ee_core.proofs.Marks.{erased_from}

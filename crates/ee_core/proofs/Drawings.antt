@@ -14,7 +14,7 @@ use Rattle.ee_pages.specs.Sets.{first_page, other}
 use Rattle.ee_pages.specs.declared.side.Side.{Side}
 use Rattle.ee_pages.specs.declared.state.Mark.{Mark}
 use Rattle.ee_pages.specs.declared.state.Mark.TheVariants.{Active, Erasing, Receive, Valid}
-use Rattle.ee_pages.proofs.Slots.{length-page_at}
+use Rattle.ee_pages.proofs.Public.{length-page_at}
 use Rattle.ee_core.specs.Parts.{IsSameSet, PutsWord, SetsMark}
 use Rattle.ee_core.specs.Picture.{IsDrawn, Picture, marked_word, marked_to, picture_of, retired_pages, picture_with_word}
 use Rattle.ee_core.proofs.SetPages.{apart, same_page}

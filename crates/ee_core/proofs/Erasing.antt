@@ -8,9 +8,8 @@ use Rattle.ee_pages.specs.Legal.{IsLive}
 use Rattle.ee_pages.specs.Page.{is_blank}
 use Rattle.ee_pages.specs.Sets.{other, pending_of, set_of}
 use Rattle.ee_pages.specs.declared.side.Side.{Side}
-use Rattle.ee_pages.proofs.OtherSet.{other_set_keeps_live}
+use Rattle.ee_pages.proofs.Public.{other_set_keeps_live, erase_lowers_pending, whole_erase_lowers_pending}
 use Rattle.ee_core.specs.Parts.{IsSameSet}
-use Rattle.ee_pages.proofs.BlankPages.{erase_lowers_pending, whole_erase_lowers_pending}
 use Rattle.ee_core.specs.State.{Wears}
 use Rattle.ee_core.proofs.SetPages.{page_of_device}
 use Rattle.ee_core.proofs.Wears.{cut_page_wears, page_wears}

@@ -12,7 +12,7 @@ use Rattle.ee_pages.specs.Legal.{slots_before}
 use Rattle.ee_pages.specs.Sets.{first_page, other, page_of_slot, place_of_slot}
 use Rattle.ee_pages.specs.declared.side.Side.{Side}
 use Rattle.ee_pages.specs.declared.state.Mark.TheVariants.{Receive}
-use Rattle.ee_pages.proofs.Slots.{split_by}
+use Rattle.ee_pages.proofs.Public.{split_by}
 use Rattle.ee_core.proofs.Drawings.{drawn_as, drawn_both, drawn_same, mark_drawn, put_drawn, with_mark, with_word-elsewhere, with_word-there}
 use Rattle.ee_core.proofs.OpenedPages.{next_place, same_place}
 use Rattle.ee_core.specs.Parts.{AddsWords, Holds, PutsWord, SetsMark, opened_set}

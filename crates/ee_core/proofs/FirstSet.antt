@@ -9,7 +9,7 @@ use Rattle.ee_flash.specs.Size.{page_count}
 use Rattle.ee_flash.specs.Step.{device_after}
 use Rattle.ee_flash.specs.declared.word.Word.{Word}
 use Rattle.ee_flash.specs.declared.word.Word.TheVariants.{Erased}
-use Rattle.ee_flash.proofs.Outcomes.{step_changes_one_page}
+use Rattle.ee_flash.proofs.Public.{step_changes_one_page}
 use Rattle.ee_pages.specs.Filling.{IsCommitted, IsFilling}
 use Rattle.ee_pages.specs.Layout.{IsLayout}
 use Rattle.ee_pages.specs.Meaning.{meaning}
@@ -18,12 +18,7 @@ use Rattle.ee_pages.specs.Sets.{committed_generation, fill_of, page_of_slot, pen
 use Rattle.ee_pages.specs.declared.side.Side.TheVariants.{First, Second}
 use Rattle.ee_pages.specs.declared.state.Mark.{Mark}
 use Rattle.ee_pages.specs.declared.state.Mark.TheVariants.{Active, Receive}
-use Rattle.ee_pages.proofs.BlankWords.{blank_word}
-use Rattle.ee_pages.proofs.FirstCommits.{first_commit_commits}
-use Rattle.ee_pages.proofs.OtherSet.{first_word, same_set}
-use Rattle.ee_pages.proofs.OwnSet.{page_of_set}
-use Rattle.ee_pages.proofs.Slots.{length-set_of}
-use Rattle.ee_pages.proofs.FillingSteps.{opens_set}
+use Rattle.ee_pages.proofs.Public.{blank_word, first_commit_commits, first_word, same_set, page_of_set, length-set_of, opens_set}
 use Rattle.ee_core.proofs.Marks.{IsProper, erased_from, mark_step, marked_by}
 use Rattle.ee_core.proofs.States.{same_states, state_is}
 use Rattle.ee_core.specs.Finished.{IsMarked, last_used}

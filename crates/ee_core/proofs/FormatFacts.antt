@@ -11,7 +11,7 @@ use Rattle.ee_flash.specs.Step.{with_page_erased}
 use Rattle.ee_flash.specs.declared.word.Word.{Word}
 use Rattle.ee_flash.specs.declared.word.Word.TheVariants.{Erased}
 use Rattle.ee_pages.specs.Page.{is_blank, is_written}
-use Rattle.ee_pages.proofs.Slots.{blank_page}
+use Rattle.ee_pages.proofs.Public.{blank_page}
 use Rattle.ee_core.proofs.AfterCalls.{goes_on_same}
 use Rattle.ee_core.proofs.ErasedPages.{blank_wears, written_wears}
 use Rattle.ee_core.proofs.NotBlank.{named}

@@ -11,7 +11,7 @@ use Rattle.ee_pages.specs.Sets.{fill_of, first_page, other, page_of_slot, set_of
 use Rattle.ee_pages.specs.declared.side.Side.{Side}
 use Rattle.ee_pages.specs.declared.state.Mark.{Mark}
 use Rattle.ee_pages.specs.declared.state.Mark.TheVariants.{Active, Erasing, Valid}
-use Rattle.ee_pages.proofs.Slots.{length-slots, page_in_range, slot_below}
+use Rattle.ee_pages.proofs.Public.{length-slots, page_in_range, slot_below}
 use Rattle.ee_core.specs.Finished.{IsLiveMarked, IsMarked, IsOldMarked, last_used}
 use Rattle.ee_core.specs.Parts.{IsReady, IsSameBut, IsSameSet, KeepsMarks}
 use Rattle.ee_core.proofs.SetPages.{same_page}

@@ -1,39 +1,40 @@
-pub mod SetPages
-pub mod Wears
-pub mod NotBlank
-pub mod PendingPages
-pub mod States
-pub mod ErasedPages
-pub mod AfterCalls
-pub mod FormatFacts
-pub mod FirstSet
-pub mod LiveMarks
-pub mod Marks
-pub mod OpeningFacts
-pub mod PendingCounts
-pub mod LowestPending
-pub mod Erasing
-pub mod KeptMarks
-pub mod Appending
+mod SetPages
+mod Wears
+mod NotBlank
+mod PendingPages
+mod States
+mod ErasedPages
+mod AfterCalls
+mod FormatFacts
+mod FirstSet
+mod LiveMarks
+mod Marks
+mod OpeningFacts
+mod PendingCounts
+mod LowestPending
+mod Erasing
+mod KeptMarks
+mod Appending
 mod OpenedPages
-pub mod CopiedMaps
-pub mod Courses
-pub mod MovingFacts
-pub mod OtherSteps
-pub mod Making
-pub mod Running
-pub mod Drawings
-pub mod Places
-pub mod FilledSets
-pub mod CopiedWords
-pub mod MovedSets
-pub mod MarkedSets
-pub mod ShownStates
-pub mod PageWears
-pub mod CutMaps
-pub mod Premises
-pub mod Powered
-pub mod Startable
-pub mod Cuts
-pub mod CutMarks
-pub mod CutMoves
+mod CopiedMaps
+mod Courses
+mod MovingFacts
+mod OtherSteps
+mod Making
+mod Running
+mod Drawings
+mod Places
+mod FilledSets
+mod CopiedWords
+mod MovedSets
+mod MarkedSets
+mod ShownStates
+mod PageWears
+mod CutMaps
+mod Premises
+mod Powered
+mod Startable
+mod Cuts
+mod CutMarks
+mod CutMoves
+pub mod Public

@@ -21,9 +21,7 @@ use Rattle.ee_pages.specs.Sets.{fill_of, first_page, is_mark, other, page_of_slo
 use Rattle.ee_pages.specs.declared.find.Layout.{Layout}
 use Rattle.ee_pages.specs.declared.side.Side.{Side}
 use Rattle.ee_pages.specs.declared.side.Side.TheVariants.{First}
-use Rattle.ee_pages.proofs.Commits.{live_commits}
-use Rattle.ee_pages.proofs.LiveCounts.{change_counts, live_within_fill}
-use Rattle.ee_pages.proofs.Slots.{length-set_of, length-slots}
+use Rattle.ee_pages.proofs.Public.{live_commits, change_counts, live_within_fill, length-set_of, length-slots}
 use Rattle.ee_core.specs.Changes.{Appends, IsAccepted, IsCutAppend, IsCutChange, IsCutMove, IsFull, IsSpent, Moves, Proceeds, ShowsAppended, ShowsCutAppend, ShowsCutMove, ShowsMoved, greatest_generation}
 use Rattle.ee_core.specs.Cuts.{ErasesPartly, IsDrawnPartly, MovesPartly}
 use Rattle.ee_core.specs.Picture.{IsDrawn, filled_set, moved_words, number_of_change, picture_of, retired_pages, with_change}

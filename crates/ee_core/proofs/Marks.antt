@@ -11,7 +11,7 @@ use Rattle.ee_flash.specs.Step.{Step, Program, IsCutIn, IsUntouched, MayFollow, 
 use Rattle.ee_flash.specs.declared.device.Cut.{Cut}
 use Rattle.ee_flash.specs.declared.word.Word.{Word}
 use Rattle.ee_flash.specs.declared.word.Word.TheVariants.{Erased, Held, Torn}
-use Rattle.ee_flash.proofs.Outcomes.{step_leaves_pages}
+use Rattle.ee_flash.proofs.Public.{step_leaves_pages}
 use Rattle.ee_pages.specs.Laws.{IsPageOf}
 use Rattle.ee_pages.specs.Legal.{IsLive}
 use Rattle.ee_pages.specs.Page.{is_blank, is_marked, is_written, marking, number_of_mark, place_of_mark, word_in}
@@ -21,9 +21,7 @@ use Rattle.ee_pages.specs.declared.side.Side.{Side}
 use Rattle.ee_pages.specs.declared.side.Side.TheVariants.{First, Second}
 use Rattle.ee_pages.specs.declared.state.Mark.{Mark}
 use Rattle.ee_pages.specs.declared.state.Mark.TheVariants.{Receive, Active, Valid, Erasing}
-use Rattle.ee_pages.proofs.OtherSet.{other_set_keeps_live}
-use Rattle.ee_pages.proofs.OtherPages.{program_leaves_written, step_keeps_other_pages}
-use Rattle.ee_pages.proofs.LiveSteps.{mark_keeps_live}
+use Rattle.ee_pages.proofs.Public.{other_set_keeps_live, program_leaves_written, step_keeps_other_pages, mark_keeps_live}
 use Rattle.ee_core.proofs.PendingPages.{same_not_blank}
 use Rattle.ee_core.specs.Parts.{KeepsMarks, Stays}
 use Rattle.ee_core.specs.State.{not_blank_from}

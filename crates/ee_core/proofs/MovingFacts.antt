@@ -18,8 +18,7 @@ use Rattle.ee_pages.specs.Sets.{fill_of, first_page, other, page_of_slot, pendin
 use Rattle.ee_pages.specs.declared.find.Layout.{Layout}
 use Rattle.ee_pages.specs.declared.side.Side.{Side}
 use Rattle.ee_pages.specs.declared.side.Side.TheVariants.{First, Second}
-use Rattle.ee_pages.proofs.Slots.{length-set_of}
-use Rattle.ee_pages.proofs.BlankPages.{full_set_has_no_blank_page}
+use Rattle.ee_pages.proofs.Public.{length-set_of, full_set_has_no_blank_page}
 use Rattle.ee_core.specs.Parts.{HasMoved, Stays}
 use Rattle.ee_core.specs.State.{not_blank_in}
 use Rattle.ee_core.proofs.PendingPages.{as_many_not_blank}

@@ -12,7 +12,7 @@ use Rattle.ee_pages.specs.Pushing.{IsMarkBehind}
 use Rattle.ee_pages.specs.Sets.{first_page, other, page_of_slot}
 use Rattle.ee_pages.specs.declared.find.Layout.{Layout}
 use Rattle.ee_pages.specs.declared.state.Mark.TheVariants.{Active, Valid}
-use Rattle.ee_pages.proofs.Slots.{page_in_range, slot_below}
+use Rattle.ee_pages.proofs.Public.{page_in_range, slot_below}
 use Rattle.ee_core.specs.Finished.{IsLiveMarked, last_used}
 use Rattle.ee_core.specs.Parts.{IsReady, IsSameBut, IsSameSet, KeepsMarks, Stays}
 use Rattle.ee_core.proofs.SetPages.{same_other}

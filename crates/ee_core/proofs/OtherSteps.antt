@@ -24,12 +24,7 @@ use Rattle.ee_pages.specs.declared.side.Side.{Side}
 use Rattle.ee_pages.specs.declared.side.Side.TheVariants.{First, Second}
 use Rattle.ee_pages.specs.declared.state.Mark.{Mark}
 use Rattle.ee_pages.specs.declared.state.Mark.TheVariants.{Active, Erasing, Receive, Valid}
-use Rattle.ee_pages.proofs.BlankWords.{blank_word, erased_word}
-use Rattle.ee_pages.proofs.Legal.{fill-front, slots_behind}
-use Rattle.ee_pages.proofs.OtherSet.{other_set_keeps_live}
-use Rattle.ee_pages.proofs.Slots.{length-set_of, page_in_range, place_in_range, slot_at}
-use Rattle.ee_pages.proofs.Commits.{commit_commits, whole_commit_commits}
-use Rattle.ee_pages.proofs.FillingSteps.{opens_page, opens_set, stages_change}
+use Rattle.ee_pages.proofs.Public.{blank_word, erased_word, fill-front, slots_behind, other_set_keeps_live, length-set_of, page_in_range, place_in_range, slot_at, commit_commits, whole_commit_commits, opens_page, opens_set, stages_change}
 
 -- a word of a set, by its page's number in the device
 word_there : (side : Side) (device : Device) (page at : ℕ) → page < device.size.pages → word_of (set_of side device) page at ≡ word_at device (first_page device.size side + page) at

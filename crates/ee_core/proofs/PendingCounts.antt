@@ -9,7 +9,7 @@ use Rattle.ee_flash.specs.declared.word.Word.{Word}
 use Rattle.ee_pages.specs.Page.{is_blank}
 use Rattle.ee_pages.specs.Sets.{first_page, pending_of, set_of}
 use Rattle.ee_pages.specs.declared.side.Side.{Side}
-use Rattle.ee_pages.proofs.Slots.{length-set_of}
+use Rattle.ee_pages.proofs.Public.{length-set_of}
 use Rattle.ee_core.proofs.SetPages.{page_of_set}
 
 module _ (pages : List (List Word)) where

@@ -9,7 +9,7 @@ use Rattle.ee_pages.specs.Page.{is_blank}
 use Rattle.ee_pages.specs.Sets.{first_page, live_of, other, pending_of, set_of}
 use Rattle.ee_pages.specs.declared.side.Side.{Side}
 use Rattle.ee_pages.specs.declared.side.Side.TheVariants.{First, Second}
-use Rattle.ee_pages.proofs.Slots.{length-set_of}
+use Rattle.ee_pages.proofs.Public.{length-set_of}
 use Rattle.ee_core.specs.Parts.{IsSameBut}
 use Rattle.ee_core.specs.State.{not_blank_from, not_blank_in, pending_pages, pending_pages_in, state_in, state_of}
 use Rattle.ee_core.proofs.NotBlank.{first_blank, length-not_blank, not_blank_same, times_below, times_here, times_past}

@@ -3,7 +3,7 @@ use Rattle.std.proofs.Common.{◌≡◌, ◌≢◌, ℕ, ◌+◌, ◌-◌, ◌*�
 use Rattle.std.proofs.lemmas.Nat.{div-mul-add, mod-mul-add}
 use Rattle.ee_flash.specs.Size.{Size}
 use Rattle.ee_pages.specs.declared.side.Side.{Side}
-use Rattle.ee_pages.proofs.Slots.{split_by}
+use Rattle.ee_pages.proofs.Public.{split_by}
 use Rattle.ee_core.specs.Parts.{Stands}
 use Rattle.ee_core.specs.declared.copying.Place.{Place}
 

@@ -9,7 +9,7 @@ use Rattle.ee_pages.specs.Laws.{IsPageOf}
 use Rattle.ee_pages.specs.Sets.{first_page, other, set_of}
 use Rattle.ee_pages.specs.declared.side.Side.{Side}
 use Rattle.ee_pages.specs.declared.side.Side.TheVariants.{First, Second}
-use Rattle.ee_pages.proofs.Slots.{length-set_of}
+use Rattle.ee_pages.proofs.Public.{length-set_of}
 use Rattle.ee_core.specs.Parts.{IsSameBut, IsSameSet}
 
 pub page_of_set : (side : Side) (device : Device) (k : ℕ) → k < device.size.pages → get_or (set_of side device) k [] ≡ page_at device (first_page device.size side + k)

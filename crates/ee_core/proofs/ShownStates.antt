@@ -17,9 +17,7 @@ use Rattle.ee_pages.specs.declared.side.Side.TheVariants.{First, Second}
 use Rattle.ee_pages.specs.declared.state.Mark.{Mark}
 use Rattle.ee_pages.specs.declared.state.Mark.TheVariants as marks
 use Rattle.ee_pages.specs.declared.state.State.TheVariants.{Erased as Unused, Erasing}
-use Rattle.ee_pages.proofs.Counts.{live_to-zero}
-use Rattle.ee_pages.proofs.LiveCounts.{change_counts}
-use Rattle.ee_pages.proofs.Slots.{length-page_at}
+use Rattle.ee_pages.proofs.Public.{live_to-zero, change_counts, length-page_at, blank_word}
 use Rattle.ee_core.specs.Calls.{IsLowestPending}
 use Rattle.ee_core.specs.Changes.{ShowsAppended, ShowsMoved}
 use Rattle.ee_core.specs.Finished.{last_used}
@@ -30,7 +28,6 @@ use Rattle.ee_core.specs.State.{State, state_of}
 use Rattle.ee_core.proofs.CopiedMaps.{forget-at, same_counts}
 use Rattle.ee_core.proofs.CopiedWords.{no_elements, one_further}
 use Rattle.ee_core.proofs.Drawings.{with_word-elsewhere}
-use Rattle.ee_pages.proofs.BlankWords.{blank_word}
 use Rattle.ee_core.proofs.SetPages.{page_of_set}
 
 abbrev side_in : Option (Side × ℕ) → Side

@@ -13,7 +13,7 @@ use Rattle.ee_flash.specs.Size.{page_count}
 use Rattle.ee_flash.specs.Step.{Step, Program, Erase, MayFollow, device_after, with_word}
 use Rattle.ee_flash.specs.declared.word.Word.{Word}
 use Rattle.ee_flash.specs.declared.word.Word.TheVariants.{Erased, Held, Torn}
-use Rattle.ee_flash.proofs.Outcomes.{step_changes_one_page, step_keeps_formed, step_leaves_pages}
+use Rattle.ee_flash.proofs.Public.{step_changes_one_page, step_keeps_formed, step_leaves_pages}
 use Rattle.ee_pages.specs.Filling.{IsCommitted}
 use Rattle.ee_pages.specs.Layout.{IsScanFault, IsUnformatted}
 use Rattle.ee_pages.specs.Legal.{IsLegal}
@@ -26,14 +26,10 @@ use Rattle.ee_pages.specs.declared.find.ScanFault.TheVariants.{Unformatted, NoLi
 use Rattle.ee_pages.specs.declared.side.Side.{Side}
 use Rattle.ee_pages.specs.declared.side.Side.TheVariants.{First, Second}
 use Rattle.ee_pages.specs.declared.state.Mark.TheVariants.{Active, Receive}
-use Rattle.ee_pages.proofs.BlankWords.{blank_set}
-use Rattle.ee_pages.proofs.OtherSet.{commit_after, commits, commits_by, elsewhere, programmed_word, same_set}
-use Rattle.ee_pages.proofs.FirstCommits as FirstCommits
-use Rattle.ee_pages.proofs.Slots.{length-page_at}
+use Rattle.ee_pages.proofs.Public.{blank_set, commit_after, commits, commits_by, elsewhere, programmed_word, same_set, first_commits, other_set_stays, length-page_at, legal_is_good}
 use Rattle.ee_core.proofs.FirstSet.{alone, erased_commits, no_pending, opened, same_second}
 use Rattle.ee_core.proofs.Powered.{legal_on, state_in_on}
 use Rattle.ee_core.proofs.States.{same_states, state_is}
-use Rattle.ee_pages.proofs.ScanFaults.{legal_is_good}
 use Rattle.ee_core.specs.Points.{with_power_on}
 use Rattle.ee_core.specs.Openings.{IsFormatted, OpenFails}
 use Rattle.ee_core.specs.Starts.{AreCutStarts, HoldsNone, IsCutStart, IsNew, IsStartable, IsStarting, StartFails, Starts, StartsEmpty}
@@ -157,10 +153,10 @@ torn_startable mid new taken torn startable =
 -- the mark that commits, programmed whole, also where power was cut in its step
 module _ (blank mid new : Device) (formed : IsFormed blank) (all : All (λ page. is_blank page ≡ true) blank.image) (on : IsOn blank) (whole : mid ≡ device_after (marking 0 (Receive 1)) blank) (taken : IsStep (marking 0 Active) mid new) (is : new.image ≡ (device_after (marking 0 Active) mid).image) where
   now_live : IsCommitted mid new First 1
-  now_live = FirstCommits.commits mid new First 1 0 (opened blank mid formed all on whole).0 (omega arith) (omega arith) (alone blank mid formed all on whole) taken is
+  now_live = first_commits mid new First 1 0 (opened blank mid formed all on whole).0 (omega arith) (omega arith) (alone blank mid formed all on whole) taken is
 
   second_blank_still : All (λ words. is_blank words ≡ true) (set_of Second new)
-  second_blank_still = subst (All (λ words. is_blank words ≡ true)) (sym (FirstCommits.same_other mid new First 1 0 (opened blank mid formed all on whole).0 (omega arith) (omega arith) (alone blank mid formed all on whole) taken ∙ same_second blank mid formed all on whole)) (blank_in_set Second blank all)
+  second_blank_still = subst (All (λ words. is_blank words ≡ true)) (sym (other_set_stays mid new First 1 0 (opened blank mid formed all on whole).0 (omega arith) (omega arith) (alone blank mid formed all on whole) taken ∙ same_second blank mid formed all on whole)) (blank_in_set Second blank all)
 
   pub committed_new : IsNew new
   committed_new = record {

@@ -11,7 +11,7 @@ use Rattle.ee_flash.specs.Pages.{pages_of}
 use Rattle.ee_flash.specs.Size.{IsWithinLimits, Size, page_count}
 use Rattle.ee_flash.specs.declared.word.Word.{Word}
 use Rattle.ee_flash.specs.declared.word.Word.TheVariants.{Torn}
-use Rattle.ee_flash.proofs.Joined.{joined_pages, pages_join}
+use Rattle.ee_flash.proofs.Public.{joined_pages, pages_join}
 use Rattle.ee_dump.specs.Dump.{IsDump, IsFirstTorn, IsImport, dump_length, word_bytes, words_of}
 use Rattle.ee_dump.specs.Laws.{unworn_device}
 use Rattle.ee_dump.specs.Reading.{AreWhole, AreWords}

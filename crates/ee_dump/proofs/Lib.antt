@@ -1,4 +1,5 @@
-pub mod Words
-pub mod Torn
-pub mod Dumps
-pub mod Growing
+mod Words
+mod Torn
+mod Dumps
+mod Growing
+pub mod Public

@@ -11,7 +11,7 @@ use Rattle.ee_faults.specs.declared.fault.Fault.{Fault}
 use Rattle.ee_faults.specs.declared.fault.Fault.TheVariants.{Memory, ValuesText}
 use Rattle.ee_faults.specs.declared.replay_fault.ReplayFault.{ReplayFault}
 use Rattle.ee_image_store.specs.Opening.{IsOpenFault, IsOpened, SpellsDevice}
-use Rattle.ee_commands.proofs.Named.{no_memory_to_open, not_opened, one_rest, one_tree, opening_good, opening_named, rested_state, settings_good, spelled_once}
+use Rattle.ee_commands.proofs.Public.{no_memory_to_open, not_opened, one_rest, one_tree, opening_good, opening_named, rested_state, settings_good, spelled_once}
 use Rattle.ee_commands.specs.Settings.{HasNoTree, HasTree, IsSettingsFault, SpellsSettings}
 use Rattle.ee_factory.proofs.Taken.{IsAlike, applied_good, applied_keeps, one_stop}
 use Rattle.ee_factory.specs.Applying.{Applies, IsApplied, IsApplyFault, IsValueFault, StopsAtEntry, applied_text}

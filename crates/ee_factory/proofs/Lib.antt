@@ -1,5 +1,5 @@
-pub mod Taken
-pub mod Steps
-pub mod Stored
-pub mod Causes
-pub mod Writing
+mod Taken
+mod Steps
+mod Stored
+mod Causes
+mod Writing

@@ -10,7 +10,7 @@ use Rattle.ee_flash.specs.Size.{Size}
 use Rattle.ee_core.specs.Calls.{Writes}
 use Rattle.ee_core.specs.State.{State, state_of}
 use Rattle.ee_core.specs.declared.variables.Written.{Written}
-use Rattle.ee_settings.proofs.Trees.{integer_found, seen}
+use Rattle.ee_settings.proofs.Public.{integer_found, seen}
 use Rattle.ee_settings.specs.Calls.{IsNumbersOf, IsUnknown}
 use Rattle.ee_settings.specs.File.{Entry}
 use Rattle.ee_settings.specs.Setting.{IsInRange, Setting}
@@ -18,7 +18,7 @@ use Rattle.ee_settings.specs.declared.numbers.Numbers.{Numbers}
 use Rattle.ee_faults.specs.declared.fault.Fault.{Fault}
 use Rattle.ee_faults.specs.declared.fault.Fault.TheVariants.{BadValue, Memory, UnknownValue, ValueOutOfRange}
 use Rattle.ee_image_store.specs.Opening.{StaysOn}
-use Rattle.ee_commands.proofs.Named.{is_written}
+use Rattle.ee_commands.proofs.Public.{is_written}
 use Rattle.ee_factory.proofs.Taken.{applied_more}
 use Rattle.ee_factory.specs.Applying.{Applies, IsEntryRefusal, IsWriteRefusalAt, StopsAtEntry, TakesEntry}
 

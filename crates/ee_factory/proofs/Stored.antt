@@ -7,8 +7,7 @@ use Rattle.std.specs.List.Sorted.{IsStrictlySortedBy}
 use Rattle.ee_flash.specs.Device.{Device}
 use Rattle.ee_pages.specs.Meaning.{Map}
 use Rattle.ee_core.specs.State.{state_of}
-use Rattle.ee_settings.proofs.Names.{never_equal}
-use Rattle.ee_settings.proofs.Readings.{changed_elsewhere, changed_here, written_map}
+use Rattle.ee_settings.proofs.Public.{never_equal, changed_elsewhere, changed_here, written_map}
 use Rattle.ee_settings.specs.File.{Entry, HaveRisingKeys}
 use Rattle.ee_settings.specs.Setting.{IsSchema, Setting}
 use Rattle.ee_factory.specs.Applying.{Applies, IsMapApplied, IsStored, NamesAddress, TakesEntry}

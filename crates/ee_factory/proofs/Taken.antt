@@ -7,13 +7,13 @@ use Rattle.ee_flash.specs.Size.{Size, slot_count}
 use Rattle.ee_pages.specs.Meaning.{Put}
 use Rattle.ee_core.specs.Changes.{IsAccepted}
 use Rattle.ee_core.specs.State.{State, appended_state, moved_state, state_of}
-use Rattle.ee_settings.proofs.Names.{names_apart}
+use Rattle.ee_settings.proofs.Public.{names_apart}
 use Rattle.ee_settings.specs.Calls.{IsNamed}
 use Rattle.ee_settings.specs.File.{Entry}
 use Rattle.ee_settings.specs.Setting.{HaveRisingNames, IsInRange, Setting}
 use Rattle.ee_faults.specs.declared.fault.Fault.{Fault}
 use Rattle.ee_image_store.specs.Opening.{StaysOn}
-use Rattle.ee_commands.proofs.Named.{accepted_by, size_kept}
+use Rattle.ee_commands.proofs.Public.{accepted_by, size_kept}
 use Rattle.ee_commands.specs.Settings.{IsWriteServed}
 use Rattle.ee_factory.specs.Applying.{Applies, IsEntryRefusal, IsNewlyWritten, IsNumberRefusal, IsStored, IsWriteRefusalAt, StopsAtEntry, TakesEntry}
 

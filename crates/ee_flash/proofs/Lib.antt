@@ -1,7 +1,8 @@
-pub mod Pages
-pub mod Tears
-pub mod Outcomes
-pub mod Fuses
-pub mod Joined
-pub mod Endurance
-pub mod Premises
+mod Pages
+mod Tears
+mod Outcomes
+mod Fuses
+mod Joined
+mod Endurance
+mod Premises
+pub mod Public

@@ -7,7 +7,7 @@ use Rattle.std.proofs.lemmas.Bool.{ne_eqb, eq-eqb, cases_eq}
 use Rattle.std.proofs.lemmas.List.{append-nil, length-replicate, length-map}
 use Rattle.std.proofs.lemmas.Option.{none-some}
 use Rattle.ee_text.specs.Line.{IsLine}
-use Rattle.ee_text.proofs.LineFeeds as feeds
+use Rattle.ee_text.proofs.Public as feeds
 use Rattle.ee_hex.specs.Record.{Record, AreLinesOf, IsLineOf}
 use Rattle.ee_hex.specs.Text.{AgreeWithin, IsEndLine, IsGoodFront, IsHexOf, all_placed, numbered_bytes, placed_bytes, upper_after}
 use Rattle.ee_hex.specs.Fault.{GoesOnAt, IsBadHexLine, StopsAtLine}

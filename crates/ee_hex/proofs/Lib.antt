@@ -1,7 +1,8 @@
-pub mod Lines
-pub mod Records
-pub mod Places
-pub mod Judging
-pub mod Written
-pub mod Answered
-pub mod Parsing
+mod Lines
+mod Records
+mod Places
+mod Judging
+mod Written
+mod Answered
+mod Parsing
+pub mod Public

@@ -2,7 +2,7 @@
 use Rattle.std.proofs.Common.{◌≡◌, ◌≢◌, ◌⊎◌, ℕ, ◌<◌, List, [], ◌∷◌, ◌++◌, length, refl, ap, ◌∙◌, arith, append_assoc, length-append, inl, inr, Option, Err}
 use Rattle.std.proofs.lemmas.Bool.{ne_eqb, cases_eq}
 use Rattle.ee_text.specs.Line.{IsLine, line_of}
-use Rattle.ee_text.proofs.Lacking.{Lacks-parts, Lacks-cons}
+use Rattle.ee_text.proofs.Public.{Lacks-parts, Lacks-cons}
 use Rattle.ee_hex.specs.Reading.{lines_in, cells_at_end}
 
 -- a text with no line feed

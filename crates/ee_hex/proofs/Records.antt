@@ -9,7 +9,7 @@ use Rattle.std.proofs.lemmas.Option.{cond_some, none-some, same_Some, option_and
 use Rattle.hex.specs.Hex.{IsBytes, decode_of}
 use Rattle.hex.specs.declared.error.FromHexError.{FromHexError}
 use Rattle.hex.proofs.HexLemmas.{decode_of-ok}
-use Rattle.ee_text.proofs.LineFeeds as feeds
+use Rattle.ee_text.proofs.Public as feeds
 use Rattle.ee_hex.specs.Record.{Record, IsRecord, IsLineOf, SpellsRecord, bare, check_byte, fits_kind, front_bytes, record_bytes}
 use Rattle.ee_hex.specs.Reading.{bytes_decoded, bytes_in, record_in, record_of}
 

@@ -9,7 +9,7 @@ use Rattle.std.proofs.lemmas.List.Sums.{sum_by-append}
 use Rattle.hex.specs.Hex.{IsBytes, encode_upper, encode_with, upper_digits}
 use Rattle.hex.proofs.HexLemmas.{decode_of-encode_upper}
 use Rattle.ee_text.specs.Field.{Lacks}
-use Rattle.ee_text.proofs.Lacking.{Lacks-parts, Lacks-cons}
+use Rattle.ee_text.proofs.Public.{Lacks-parts, Lacks-cons}
 use Rattle.ee_hex.specs.Record.{Record, AreLinesOf, IsLineOf, IsRecord, SpellsRecord, bare, check_byte, front_bytes, record_bytes}
 use Rattle.ee_hex.specs.Text.{AgreeWithin, IsHexOf, Says, all_placed, numbered_bytes, upper_after}
 use Rattle.ee_hex.specs.Written.{data_record, end_record, hex_text, record_line, row_length, rows, upper_record, upper_told}

@@ -13,7 +13,7 @@ use Rattle.ee_flash.specs.declared.word.Word.TheVariants.{Erased}
 use Rattle.ee_flash.specs.Formed.{IsFormed-pages_of}
 use Rattle.ee_flash.specs.Memory.{Memory as Kept, unused_memory}
 use Rattle.ee_flash.specs.Pages.{pages_of}
-use Rattle.ee_flash.proofs.Joined.{joined_pages}
+use Rattle.ee_flash.proofs.Public.{joined_pages}
 use Rattle.ee_flash.specs.declared.word.Word.{Word}
 use Rattle.ee_text.specs.Line.{line_of}
 use Rattle.ee_image.specs.Text.{image_text, page_lines, size_text, at_rest, ArePages}

@@ -10,7 +10,7 @@ use Rattle.hex.specs.declared.error.FromHexError.{FromHexError}
 use Rattle.hex.specs.Hex.{IsBytes, decode_of, decode_sized, encode_with, lower_digits}
 use Rattle.hex.proofs.HexLemmas.{decode_of-encode_lower, decode_of-same, decode_sized-encode_lower, length-encode_with}
 use Rattle.ee_text.specs.Field.{Lacks}
-use Rattle.ee_text.proofs.Lacking.{Lacks-parts, Lacks-cons}
+use Rattle.ee_text.proofs.Public.{Lacks-parts, Lacks-cons}
 use Rattle.ee_flash.specs.Device.{IsBelowAllOnes}
 use Rattle.ee_flash.specs.declared.word.Word.{Word}
 use Rattle.ee_flash.specs.declared.word.Word.TheVariants.{Erased, Held, Torn}

@@ -2,7 +2,7 @@
 use Rattle.std.proofs.Common.{◌≡◌, ◌⊎◌, ℕ, ◌<◌, List, [], ◌∷◌, ◌++◌, length, refl, sym, ap, ◌∙◌, arith, append_assoc, inl, inr}
 use Rattle.std.proofs.lemmas.List.{append-nil}
 use Rattle.ee_text.specs.Line.{line_of}
-use Rattle.ee_text.proofs.LineFeeds as feeds
+use Rattle.ee_text.proofs.Public as feeds
 use Rattle.ee_flash.specs.declared.word.Word.{Word}
 use Rattle.ee_image.specs.Text.{page_text, page_lines, IsPage, ArePages}
 use Rattle.ee_image.specs.Fault.{NoPage}

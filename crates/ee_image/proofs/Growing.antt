@@ -5,7 +5,7 @@ use Rattle.std.proofs.lemmas.List.{append-nil, map-append, take_more}
 use Rattle.std.proofs.lemmas.List.Elements.{All-get_or}
 use Rattle.ee_text.specs.Field.{joined_fields}
 use Rattle.ee_text.specs.Line.{line_of, IsLonger}
-use Rattle.ee_text.proofs.Joining.{joined-append}
+use Rattle.ee_text.proofs.Public.{joined-append}
 use Rattle.ee_flash.specs.Size.{page_count}
 use Rattle.ee_flash.specs.Device.{Device, IsFormed, page_at, wear_at, word_at}
 use Rattle.ee_flash.specs.declared.word.Word.{Word}

@@ -3,7 +3,7 @@ use Rattle.std.proofs.Common.{ℕ, ◌+◌, ◌*◌, ◌≤◌, List, [], ◌∷
 use Rattle.std.specs.Fmt.{decimal}
 use Rattle.ee_text.specs.Field.{joined_fields}
 use Rattle.ee_text.specs.Line.{line_of}
-use Rattle.ee_text.proofs.NumberText.{length-decimal-u64}
+use Rattle.ee_text.proofs.Public.{length-decimal-u64}
 use Rattle.ee_flash.specs.Size.{Size}
 use Rattle.ee_flash.specs.declared.word.Word.{Word}
 use Rattle.ee_flash.specs.declared.word.Word.TheVariants.{Erased, Held, Torn}

@@ -1,10 +1,11 @@
-pub mod Digits
-pub mod Lines
-pub mod Rows
-pub mod Taken
-pub mod Growing
-pub mod Answered
-pub mod Fronts
-pub mod Lengths
-pub mod Texts
-pub mod Total
+mod Digits
+mod Lines
+mod Rows
+mod Taken
+mod Growing
+mod Answered
+mod Fronts
+mod Lengths
+mod Texts
+mod Total
+pub mod Public

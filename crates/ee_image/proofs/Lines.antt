@@ -5,9 +5,8 @@ use Rattle.std.specs.List.{AllByRecursion}
 use Rattle.std.proofs.lemmas.Fmt.{decimal_injective}
 use Rattle.ee_text.specs.Field.{IsField, Lacks}
 use Rattle.ee_text.specs.Line.{IsLine, line_of}
-use Rattle.ee_text.proofs.Joining.{Lacks-joined, joined_injective}
-use Rattle.ee_text.proofs.NumberText.{IsField-decimal, IsLine-decimal}
-use Rattle.ee_text.proofs.LineFeeds as feeds
+use Rattle.ee_text.proofs.Public.{Lacks-joined, joined_injective, IsField-decimal, IsLine-decimal}
+use Rattle.ee_text.proofs.Public as feeds
 use Rattle.ee_flash.specs.Size.{Size, size_of}
 use Rattle.ee_flash.specs.declared.word.Word.{Word}
 use Rattle.ee_image.specs.Text.{word_text, page_text, size_text, IsPage, IsNumbered}

@@ -6,7 +6,7 @@ use Rattle.std.proofs.lemmas.List.{append-nil}
 use Rattle.std.proofs.lemmas.List.Elements.{All-cons, All-head, All-nil, All-tail}
 use Rattle.ee_text.specs.Field.{joined_fields, space}
 use Rattle.ee_text.specs.Line.{line_feed, line_of}
-use Rattle.ee_text.proofs.Deciding.{begins_and, begins_so, some_below}
+use Rattle.ee_text.proofs.Public.{begins_and, begins_so, some_below}
 use Rattle.ee_flash.specs.Device.{Device, IsBelowAllOnes, IsFormed, all_ones}
 use Rattle.ee_flash.specs.Cells.{device_from}
 use Rattle.ee_flash.specs.Size.{Size, IsWithinLimits, page_count, size_of}

@@ -6,8 +6,7 @@ use Rattle.ee_pages.specs.Meaning.{Change}
 use Rattle.ee_core.specs.Calls.{ErasesOne}
 use Rattle.ee_core.specs.Changes.{Appends, Moves}
 use Rattle.ee_core.specs.State.{State, WearRises, Wears, pending_pages, state_of, worn_by}
-use Rattle.ee_core.proofs.PendingPages.{length-pending_pages}
-use Rattle.ee_core.proofs.Wears.{no_wear, wear_adds, wears_rise}
+use Rattle.ee_core.proofs.Public.{length-pending_pages, no_wear, wear_adds, wears_rise}
 use Rattle.ee_image_store.specs.Erases.{ErasesRise}
 
 pub by_wear : (old new : Device) → state_of new ≡ state_of old → WearRises 0 old new → ErasesRise 0 old new

@@ -4,7 +4,7 @@ use Rattle.ee_flash.specs.Device.{Device}
 use Rattle.ee_image.specs.Fault.{IsImageFault}
 use Rattle.ee_image.specs.declared.fault.ImageFault.{ImageFault}
 use Rattle.ee_image.specs.declared.fault.ImageFault.TheVariants as image
-use Rattle.ee_image.proofs.Texts.{one_fault_lem, short}
+use Rattle.ee_image.proofs.Public.{one_fault_lem, short}
 use Rattle.ee_faults.specs.Fault.{fault_of_image}
 use Rattle.ee_faults.specs.declared.fault.Fault.{Fault}
 use Rattle.ee_faults.specs.declared.fault.Fault.TheVariants.{Memory}

@@ -1,5 +1,6 @@
-pub mod Erasing
-pub mod OneCause
-pub mod Stores
-pub mod Starts
-pub mod FileFaults
+mod Erasing
+mod OneCause
+mod Stores
+mod Starts
+mod FileFaults
+pub mod Public

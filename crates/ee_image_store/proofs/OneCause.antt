@@ -3,7 +3,7 @@ use Rattle.std.proofs.Common.{◌≡◌, ◌≢◌, ◌⊎◌, inl, inr, ℕ, �
 use Rattle.ee_flash.specs.Device.{Device}
 use Rattle.ee_pages.specs.Layout.{IsFirstForeign, IsScanFault}
 use Rattle.ee_pages.specs.Sets.{first_page, set_of}
-use Rattle.ee_pages.proofs.ScanFaults.{legal_is_good, one_scan_fault}
+use Rattle.ee_pages.proofs.Public.{legal_is_good, one_scan_fault}
 use Rattle.ee_pages.specs.declared.find.ScanFault.{ScanFault}
 use Rattle.ee_pages.specs.declared.find.ScanFault.TheVariants.{Unformatted, NoLiveSet, TwoLive, Foreign}
 use Rattle.ee_pages.specs.declared.side.Side.{Side}
@@ -11,7 +11,7 @@ use Rattle.ee_pages.specs.declared.side.Side.TheVariants.{First, Second}
 use Rattle.ee_image.specs.Text.{at_rest}
 use Rattle.ee_image.specs.Fault.{IsImageTextFault}
 use Rattle.ee_image.specs.declared.fault.ImageFault.{ImageFault}
-use Rattle.ee_image.proofs.Texts.{one_device_lem, one_fault_lem, texts_are_good_lem}
+use Rattle.ee_image.proofs.Public.{one_device_lem, one_fault_lem, texts_are_good_lem}
 use Rattle.ee_faults.specs.declared.replay_fault.ReplayFault.{ReplayFault}
 use Rattle.ee_faults.specs.declared.replay_fault.ReplayFault.TheVariants.{Image, Open, Script, Memory, Read}
 use Rattle.ee_image_store.specs.Opening.{IsOpenFault, IsStoreText, SpellsDevice}

@@ -6,7 +6,7 @@ use Rattle.ee_flash.specs.Size.{Size, slot_count}
 use Rattle.ee_codec.specs.Words.{IsAddress}
 use Rattle.ee_pages.specs.Meaning.{Put, live_in}
 use Rattle.ee_pages.specs.Meaning as meaning
-use Rattle.ee_pages.proofs.LiveCounts.{change_counts}
+use Rattle.ee_pages.proofs.Public.{change_counts}
 use Rattle.ee_core.specs.State.{State, appended_state, moved_state}
 use Rattle.ee_core.specs.Changes.{IsFull}
 use Rattle.ee_check.specs.declared.change.Change.{Change}
@@ -14,9 +14,9 @@ use Rattle.ee_check.specs.declared.change.Change.TheVariants as changes
 use Rattle.ee_check.specs.declared.certificate.Stretch.{Stretch}
 use Rattle.ee_check.specs.Live.{live_after_one}
 use Rattle.ee_check.specs.Schedule.{Append, Carry, IsProper, Situation, after_move}
-use Rattle.ee_check.proofs.Sizes.{remove_key-le}
+use Rattle.ee_check.proofs.Public.{remove_key-le}
 use Rattle.ee_plan.specs.Start.{AreLive, IsStartOf}
-use Rattle.ee_plan.proofs.LiveLists.{live_after_put, live_count_is}
+use Rattle.ee_plan.proofs.Public.{live_after_put, live_count_is}
 
 -- what leaves the map and the slots as they are leaves the start
 pub start_stays : (slots : ℕ) (old new : State) (start : Situation) → IsStartOf slots old start → new.map ≡ old.map

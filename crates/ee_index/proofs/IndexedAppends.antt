@@ -10,19 +10,17 @@ use Rattle.ee_flash.specs.declared.word.Word.TheVariants.{Erased, Held}
 use Rattle.ee_codec.specs.Reading.{slot_of}
 use Rattle.ee_codec.specs.declared.slot.Slot.{Slot}
 use Rattle.ee_codec.specs.declared.slot.Slot.TheVariants.{Element}
-use Rattle.ee_codec.proofs.Spelling.{slot_of-element}
+use Rattle.ee_codec.proofs.Public.{slot_of-element}
 use Rattle.ee_pages.specs.Legal.{IsLive}
 use Rattle.ee_pages.specs.Meaning.{Change, Forget, Map, Put, SpellsChange, map_after, meaning, says, slot_says}
 use Rattle.ee_pages.specs.Sets.{fill_of, page_of_slot, place_of_slot, set_of, slots_of}
 use Rattle.ee_pages.specs.declared.side.Side.{Side}
-use Rattle.ee_pages.proofs.Slots.{length-slots, page_in_range, place_in_range, slot_at, split_by}
+use Rattle.ee_pages.proofs.Public.{length-slots, page_in_range, place_in_range, slot_at, split_by}
 use Rattle.ee_core.specs.Parts.{meant, number_written}
 use Rattle.ee_core.specs.Picture.{IsDrawn, Picture, marked_to, picture_of, with_change}
 use Rattle.ee_core.specs.declared.change.Change as declared
 use Rattle.ee_core.specs.declared.change.Change.TheVariants as kinds
-use Rattle.ee_core.proofs.Appending.{slot_erased}
-use Rattle.ee_core.proofs.Drawings.{with_word-elsewhere, with_word-there}
-use Rattle.ee_core.proofs.SetPages.{page_of_set}
+use Rattle.ee_core.proofs.Public.{slot_erased, with_word-elsewhere, with_word-there, page_of_set}
 use Rattle.ee_index.specs.Index.{IsIndex, index_for_change, said_at, says_value, without_forgotten}
 use Rattle.ee_index.proofs.Indexing.{stands}
 

@@ -20,11 +20,10 @@ use Rattle.ee_pages.specs.Meaning.{Change, Forget, IsNextLive, Map, Put, map_aft
 use Rattle.ee_pages.specs.Pending.{address_of}
 use Rattle.ee_pages.specs.Sets.{place_of_slot, set_of, slots_of}
 use Rattle.ee_pages.specs.declared.side.Side.{Side}
-use Rattle.ee_pages.proofs.Legal.{slots_before_slot}
+use Rattle.ee_pages.proofs.Public.{slots_before_slot}
 use Rattle.ee_core.specs.Parts.{put_words}
 use Rattle.ee_core.specs.Picture.{IsDrawn, elements_of, elements_to, element_at, filled_set, moved_words}
-use Rattle.ee_core.proofs.CopiedMaps.{forget-at, forget-other}
-use Rattle.ee_core.proofs.CopiedWords.{next_element, no_words, none_between, one_further}
+use Rattle.ee_core.proofs.Public.{forget-at, forget-other, next_element, no_words, none_between, one_further}
 use Rattle.ee_index.specs.Index.{HasPut, IsIndex, behind_first, is_first, numbered_slots, put_of, said_at, says_value, shown_index, slot_for, without_forgotten}
 use Rattle.ee_index.proofs.IndexReaders.{absent_to, none_unless, put_elsewhere, put_there}
 use Rattle.ee_index.proofs.IndexedAppends.{drawn_slot}

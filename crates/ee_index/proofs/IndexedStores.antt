@@ -20,13 +20,10 @@ use Rattle.ee_pages.specs.Layout.{IsLayout}
 use Rattle.ee_pages.specs.Meaning.{Map, Put, map_after, live_in, live_to, meaning, says}
 use Rattle.ee_pages.specs.Sets.{set_of, slots_of}
 use Rattle.ee_pages.specs.declared.find.Layout.{Layout}
-use Rattle.ee_pages.proofs.Counts.{live_to-suc, live_to-zero}
-use Rattle.ee_pages.proofs.LiveCounts.{change_counts}
-use Rattle.ee_pages.proofs.Slots.{length-slots}
+use Rattle.ee_pages.proofs.Public.{live_to-suc, live_to-zero, change_counts, length-slots}
 use Rattle.ee_core.specs.Changes.{IsFull}
 use Rattle.ee_core.specs.State.{capacity, state_of}
-use Rattle.ee_core.proofs.CopiedMaps.{live_in-nothing, same_counts}
-use Rattle.ee_core.proofs.Making.{map_was}
+use Rattle.ee_core.proofs.Public.{live_in-nothing, same_counts, map_was}
 use Rattle.ee_index.specs.Index.{IsIndex, IsKept, said_at, says_value, slot_for}
 use Rattle.ee_index.proofs.Indexing.{stands}
 

@@ -23,9 +23,8 @@ use Rattle.ee_pages.specs.Layout.{IsLayout}
 use Rattle.ee_pages.specs.Meaning.{IsNextLive, Map, above_of, later, latest_in, meaning, says, slot_says, value_said}
 use Rattle.ee_pages.specs.Sets.{set_of, slots_of}
 use Rattle.ee_pages.specs.declared.find.Layout.{Layout}
-use Rattle.ee_pages.proofs.LastSaid.{latest_in-append, silent_behind}
-use Rattle.ee_pages.proofs.Slots.{length-slots}
-use Rattle.ee_core.proofs.Making.{few_within}
+use Rattle.ee_pages.proofs.Public.{latest_in-append, silent_behind, length-slots}
+use Rattle.ee_core.proofs.Public.{few_within}
 use Rattle.ee_index.specs.Index.{IsIndex, bound_above, index_with_slot, said_at, says_value, slot_for}
 
 -- ---- the next entry

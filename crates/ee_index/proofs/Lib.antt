@@ -1,7 +1,7 @@
-pub mod Numbering
-pub mod Indexing
-pub mod IndexedStores
-pub mod IndexReaders
-pub mod IndexedAppends
-pub mod IndexedMoves
-pub mod IndexedBatches
+mod Numbering
+mod Indexing
+mod IndexedStores
+mod IndexReaders
+mod IndexedAppends
+mod IndexedMoves
+mod IndexedBatches

@@ -17,7 +17,7 @@ use Rattle.ee_flash.specs.Laws.{CanTake, all_completed}
 use Rattle.ee_flash.specs.Size.{Size, page_count}
 use Rattle.ee_flash.specs.Step.{Step, Program, Erase, device_after, with_page_erased, one_more, with_word_programmed, with_page_worn}
 use Rattle.ee_flash.specs.Pages.{pages_of}
-use Rattle.ee_flash.proofs.Pages.{get_or-pages_of}
+use Rattle.ee_flash.proofs.Public.{get_or-pages_of}
 use Rattle.ee_flash.specs.Endurance.{CanTakeAll}
 use Rattle.ee_page.specs.Calls.{WearsOnceMore}
 use Rattle.ee_page.specs.Draft.{IsFresh, drafted_device}

@@ -1,6 +1,6 @@
-pub mod DraftSteps
-pub mod PlayedSteps
-pub mod Mirrors
-pub mod DraftedCalls
-pub mod ExportedCalls
-pub mod LookedStates
+mod DraftSteps
+mod PlayedSteps
+mod Mirrors
+mod DraftedCalls
+mod ExportedCalls
+mod LookedStates

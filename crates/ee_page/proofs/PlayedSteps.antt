@@ -14,7 +14,7 @@ use Rattle.ee_flash.specs.Size.{Size, page_count}
 use Rattle.ee_flash.specs.Step.{Step, Program, device_after}
 use Rattle.ee_flash.specs.declared.word.Word.{Word}
 use Rattle.ee_flash.specs.declared.word.Word.TheVariants.{Erased, Held}
-use Rattle.ee_flash.proofs.Pages.{pages_of-rewritten, pages_of-set}
+use Rattle.ee_flash.proofs.Public.{pages_of-rewritten, pages_of-set}
 use Rattle.ee_flash.specs.Endurance.{CanTakeAll}
 use Rattle.ee_page.specs.DraftLaws.{one_more_step}
 use Rattle.ee_page.specs.Listing.{step_listed_so, steps_of}

@@ -7,7 +7,7 @@ use Rattle.ee_flash.specs.Device.{Device, IsFormed, IsOn, all_ones}
 use Rattle.ee_flash.specs.Laws.{CanTake, all_completed}
 use Rattle.ee_flash.specs.Size.{Size, page_count}
 use Rattle.ee_flash.specs.Step.{Step, Program, Erase, device_after}
-use Rattle.ee_flash.proofs.Outcomes.{step_keeps_formed}
+use Rattle.ee_flash.proofs.Public.{step_keeps_formed}
 use Rattle.ee_flash.specs.Endurance.{CanTakeAll}
 use Rattle.ee_page.specs.Draft.{IsFresh, drafted_device}
 

@@ -14,7 +14,7 @@ use Rattle.ee_flash.specs.Laws.{IsStep, page_of}
 use Rattle.ee_flash.specs.Step.{Erase, Program, Step, device_after}
 use Rattle.ee_flash.specs.declared.word.Word.{Word}
 use Rattle.ee_flash.specs.declared.word.Word.TheVariants.{Erased}
-use Rattle.ee_flash.proofs.Outcomes.{step_changes_one_page}
+use Rattle.ee_flash.proofs.Public.{step_changes_one_page}
 use Rattle.ee_pages.specs.Laws.{IsPageOf}
 use Rattle.ee_pages.specs.Page.{is_blank, is_written}
 use Rattle.ee_pages.specs.Sets.{first_page, front, pending_of, set_of, slots_of, fill_of}

@@ -9,8 +9,8 @@ use Rattle.ee_flash.specs.Size.{Size}
 use Rattle.ee_flash.specs.Step.{device_after, with_word}
 use Rattle.ee_flash.specs.declared.word.Word.{Word}
 use Rattle.ee_flash.specs.declared.word.Word.TheVariants.{Erased, Held, Torn}
-use Rattle.ee_flash.proofs.Outcomes.{step_changes_one_page, step_keeps_formed, step_leaves_pages}
-use Rattle.ee_codec.proofs.Spelling.{receive_of-receive}
+use Rattle.ee_flash.proofs.Public.{step_changes_one_page, step_keeps_formed, step_leaves_pages}
+use Rattle.ee_codec.proofs.Public.{receive_of-receive}
 use Rattle.ee_codec.specs.Reading.{mark_of, receive_of}
 use Rattle.ee_codec.specs.Words.{mark_number, IsGeneration}
 use Rattle.ee_pages.specs.Filling.{IsCommitted, IsFilling}

@@ -12,7 +12,7 @@ use Rattle.ee_flash.specs.Size.{Size, slot_count}
 use Rattle.ee_flash.specs.Step.{Program, device_after}
 use Rattle.ee_flash.specs.declared.word.Word.{Word}
 use Rattle.ee_flash.specs.declared.word.Word.TheVariants.{Erased, Held}
-use Rattle.ee_flash.proofs.Outcomes.{step_changes_one_page, step_keeps_formed}
+use Rattle.ee_flash.proofs.Public.{step_changes_one_page, step_keeps_formed}
 use Rattle.ee_codec.specs.Words.{receive, IsGeneration}
 use Rattle.ee_pages.specs.Filling.{IsFilling}
 use Rattle.ee_pages.specs.Legal.{fits, is_allowed, place_of}

@@ -5,8 +5,8 @@ use Rattle.ee_flash.specs.Laws.{DiffersInPage, IsStep}
 use Rattle.ee_flash.specs.Step.{device_after}
 use Rattle.ee_flash.specs.declared.word.Word.{Word}
 use Rattle.ee_flash.specs.declared.word.Word.TheVariants.{Held}
-use Rattle.ee_flash.proofs.Outcomes.{step_changes_one_page, step_keeps_formed}
-use Rattle.ee_codec.proofs.Spelling.{receive_of-receive}
+use Rattle.ee_flash.proofs.Public.{step_changes_one_page, step_keeps_formed}
+use Rattle.ee_codec.proofs.Public.{receive_of-receive}
 use Rattle.ee_codec.specs.Reading.{receive_of}
 use Rattle.ee_codec.specs.Words.{mark_number, IsGeneration}
 use Rattle.ee_pages.specs.Filling.{IsCommitted, IsFilling}
@@ -35,8 +35,8 @@ module _ (old new : Device) (side : Side) (generation count : ℕ) (filling : Is
   differs : DiffersInPage (first_page old.size side) old new
   differs = step_changes_one_page (marking (first_page old.size side) Active) old new taken
 
-  pub same_other : set_of (other side) new ≡ set_of (other side) old
-  same_other =
+  pub other_set_stays : set_of (other side) new ≡ set_of (other side) old
+  other_set_stays =
       let at : IsPageOf old.size (other (other side)) (first_page old.size side) =
       subst (λ set. IsPageOf old.size set (first_page old.size side)) (sym (other_twice side)) (in_other_set side old taken.formed) in
       same_set (other side) old new (first_page old.size side) differs at
@@ -51,15 +51,15 @@ module _ (old new : Device) (side : Side) (generation count : ℕ) (filling : Is
       let count = length-page_at old (first_page old.size side) taken.formed taken.may.0 in
       omega (arith, ap length same, count, taken.formed.within_limits.some_words)
 
-  pub commits : new.image ≡ (device_after (marking (first_page old.size side) Active) old).image → IsCommitted old new side generation
-  commits is =
+  pub first_commits : new.image ≡ (device_after (marking (first_page old.size side) Active) old).image → IsCommitted old new side generation
+  first_commits is =
       let pages = set_marked old new side taken.formed differs (Held mark_number) is in
       let after : committed_generation (set_of side new) ≡ Some generation =
       ap committed_generation pages ∙ marked_commits (set_of side old) (Held mark_number) some_pages long ∙ ap receive_of filling.receives ∙ receive_of-receive generation (some, below) in
       record {
         live = record {
           formed = step_keeps_formed (marking (first_page old.size side) Active) old new taken;
-          live = only_is_live side new generation after (ap committed_generation same_other ∙ alone);
+          live = only_is_live side new generation after (ap committed_generation other_set_stays ∙ alone);
           allowed = λ page at in_range within.
               let old_page : page < old.size.pages = omega (arith, ap (λ size. size.pages) differs.same_size) in
               let old_at : at < old.size.words = omega (arith, ap (λ size. size.words) differs.same_size) in
@@ -78,4 +78,4 @@ pub first_commit_commits : (old new : Device) (side : Side) (generation count : 
 first_commit_commits old new side generation count filling proper alone taken whole =
     let some : 0 < generation = omega (arith, proper.0) in
     let below : generation < 4294967295 = omega (arith, proper.1) in
-    (commits old new side generation count filling some below alone taken (ap (λ (device : Device). device.image) whole), same_other old new side generation count filling some below alone taken)
+    (first_commits old new side generation count filling some below alone taken (ap (λ (device : Device). device.image) whole), other_set_stays old new side generation count filling some below alone taken)

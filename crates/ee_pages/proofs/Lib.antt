@@ -1,25 +1,26 @@
-pub mod Slots
-pub mod Front
-pub mod Legal
-pub mod BlankWords
-pub mod Scans
-pub mod ScanFaults
-pub mod LastSaid
-pub mod Counts
-pub mod OtherSet
-pub mod OtherPages
-pub mod InTheSet
-pub mod SetPrograms
-pub mod SlotWrites
-pub mod HeaderWrites
-pub mod OwnSet
-pub mod Commits
-pub mod FirstCommits
-pub mod LiveSteps
-pub mod FillingSteps
-pub mod BlankPages
-pub mod LiveCounts
-pub mod Nearest
-pub mod BatchLists
-pub mod Premises
-pub mod LastElements
+mod Slots
+mod Front
+mod Legal
+mod BlankWords
+mod Scans
+mod ScanFaults
+mod LastSaid
+mod Counts
+mod OtherSet
+mod OtherPages
+mod InTheSet
+mod SetPrograms
+mod SlotWrites
+mod HeaderWrites
+mod OwnSet
+mod Commits
+mod FirstCommits
+mod LiveSteps
+mod FillingSteps
+mod BlankPages
+mod LiveCounts
+mod Nearest
+mod BatchLists
+mod Premises
+mod LastElements
+pub mod Public

@@ -8,7 +8,7 @@ use Rattle.ee_flash.specs.Laws.{IsStep}
 use Rattle.ee_flash.specs.Step.{Program, device_after}
 use Rattle.ee_flash.specs.declared.word.Word.{Word}
 use Rattle.ee_flash.specs.declared.word.Word.TheVariants.{Erased, Held, Torn}
-use Rattle.ee_flash.proofs.Outcomes.{step_changes_one_page, step_keeps_formed}
+use Rattle.ee_flash.proofs.Public.{step_changes_one_page, step_keeps_formed}
 use Rattle.ee_pages.specs.Laws.{KeepsLiveSet}
 use Rattle.ee_codec.specs.Words.{mark_number}
 use Rattle.ee_pages.specs.Legal.{IsLive, fits, place_of}

@@ -8,7 +8,7 @@ use Rattle.std.proofs.lemmas.List.Folds.{list_any_at}
 use Rattle.ee_flash.specs.Device.{page_at, Device}
 use Rattle.ee_flash.specs.declared.word.Word.{Word}
 use Rattle.ee_flash.specs.declared.word.Word.TheVariants.{Erased, Held, Torn}
-use Rattle.ee_flash.proofs.Outcomes.{step_changes_one_page, step_leaves_pages}
+use Rattle.ee_flash.proofs.Public.{step_changes_one_page, step_leaves_pages}
 use Rattle.ee_flash.specs.Step.{Program, Step}
 use Rattle.ee_pages.specs.Page.{is_blank, is_written}
 

@@ -7,7 +7,7 @@ use Rattle.ee_flash.specs.Laws.{DiffersInPage, IsStep, page_of}
 use Rattle.ee_flash.specs.Step.{Step, Program, Erase, MayLeave}
 use Rattle.ee_flash.specs.declared.word.Word.{Word}
 use Rattle.ee_flash.specs.declared.word.Word.TheVariants.{Erased, Held, Torn}
-use Rattle.ee_flash.proofs.Outcomes.{step_changes_one_page, step_keeps_formed, step_leaves_pages}
+use Rattle.ee_flash.proofs.Public.{step_changes_one_page, step_keeps_formed, step_leaves_pages}
 use Rattle.ee_codec.specs.Reading.{mark_of, receive_of}
 use Rattle.ee_pages.specs.Laws.{CannotCommit, IsPageOf, KeepsLiveSet}
 use Rattle.ee_pages.specs.Legal.{IsLive, is_allowed_at}

@@ -6,7 +6,7 @@ use Rattle.ee_flash.specs.Laws.{IsStep}
 use Rattle.ee_flash.specs.Step.{Program, device_after}
 use Rattle.ee_flash.specs.declared.word.Word.{Word}
 use Rattle.ee_flash.specs.declared.word.Word.TheVariants.{Erased, Held, Torn}
-use Rattle.ee_flash.proofs.Outcomes.{step_changes_one_page, step_leaves_pages}
+use Rattle.ee_flash.proofs.Public.{step_changes_one_page, step_leaves_pages}
 use Rattle.ee_pages.specs.Laws.{IsPageOf}
 use Rattle.ee_pages.specs.Page.{word_in}
 use Rattle.ee_pages.specs.Sets.{committed_generation, first_page, live_of, other, set_of, word_of}

@@ -7,7 +7,7 @@ use Rattle.ee_flash.specs.Size.{slot_count}
 use Rattle.ee_flash.specs.declared.word.Word.{Word}
 use Rattle.ee_flash.specs.declared.word.Word.TheVariants.{Erased, Held, Torn}
 use Rattle.ee_codec.specs.Reading.{slot_of}
-use Rattle.ee_codec.proofs.Spelling.{slot_of-element, slot_of-forgetting}
+use Rattle.ee_codec.proofs.Public.{slot_of-element, slot_of-forgetting}
 use Rattle.ee_pages.specs.Legal.{fits, is_element, place_of}
 use Rattle.ee_pages.specs.Meaning.{Change, Put, Forget, SpellsChange, map_after, later, latest_in, meaning, says, slot_says, value_said}
 use Rattle.ee_pages.specs.Page.{is_written}

@@ -3,17 +3,16 @@ use Rattle.std.proofs.Common.{◌≡◌, ◌≢◌, ◌⊎◌, inl, inr, ◌∙�
 use Rattle.ee_flash.specs.Device.{Device, IsFormed}
 use Rattle.ee_flash.specs.Size.{Size}
 use Rattle.ee_image.specs.Text.{at_rest}
-use Rattle.ee_image.proofs.Texts.{one_device_lem}
+use Rattle.ee_image.proofs.Public.{one_device_lem}
 use Rattle.ee_dump.specs.Dump.{IsDump, IsFirstTorn, IsImport, dump_length}
 use Rattle.ee_dump.specs.Fault.{IsDumpFault, IsWriteFault}
 use Rattle.ee_dump.specs.declared.fault.DumpFault.{DumpFault}
 use Rattle.ee_dump.specs.declared.fault.DumpFault.TheVariants as dump
 use Rattle.ee_dump.specs.declared.fault.WriteFault.{WriteFault}
 use Rattle.ee_dump.specs.declared.fault.WriteFault.TheVariants as write
-use Rattle.ee_dump.proofs.Dumps.{dumps_are_read_lem}
-use Rattle.ee_dump.proofs.Torn.{no_torn, one_first}
+use Rattle.ee_dump.proofs.Public.{dumps_are_read_lem, no_torn, one_first}
 use Rattle.ee_image_store.specs.Opening.{SpellsDevice}
-use Rattle.ee_image_store.proofs.FileFaults.{one_file_fault, only_memory, reading_good}
+use Rattle.ee_image_store.proofs.Public.{one_file_fault, only_memory, reading_good}
 use Rattle.ee_faults.specs.declared.fault.Fault.{Fault}
 use Rattle.ee_faults.specs.declared.fault.Fault.TheVariants.{Memory}
 use Rattle.ee_faults.specs.declared.fault.File.TheVariants.{Image}

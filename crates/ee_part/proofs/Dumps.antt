@@ -4,7 +4,7 @@ use Rattle.ee_flash.specs.Device.{Device}
 use Rattle.ee_flash.specs.Size.{Size}
 use Rattle.ee_dump.specs.Dump.{IsDump}
 use Rattle.ee_dump.specs.Laws.{unworn_device}
-use Rattle.ee_dump.proofs.Dumps.{dumps_are_read_lem, import_of_export_lem}
+use Rattle.ee_dump.proofs.Public.{dumps_are_read_lem, import_of_export_lem}
 use Rattle.ee_image_store.specs.Opening.{SpellsDevice}
 use Rattle.ee_faults.specs.declared.fault.Fault.{Fault}
 use Rattle.ee_faults.specs.declared.fault.Fault.TheVariants.{Memory}

@@ -5,7 +5,7 @@ use Rattle.ee_flash.specs.Size.{Size}
 use Rattle.ee_image.specs.Text.{at_rest}
 use Rattle.ee_dump.specs.Dump.{IsDump, dump_length}
 use Rattle.ee_dump.specs.declared.fault.WriteFault.TheVariants as write
-use Rattle.ee_dump.proofs.Dumps.{dumps_are_read_lem}
+use Rattle.ee_dump.proofs.Public.{dumps_are_read_lem}
 use Rattle.ee_hex.specs.Fault.{IsBadHexLine, IsHexFault}
 use Rattle.ee_hex.specs.Text.{IsHexOf}
 use Rattle.ee_hex.specs.Written.{hex_text}
@@ -15,7 +15,7 @@ use Rattle.ee_image_store.specs.Opening.{SpellsDevice}
 use Rattle.ee_faults.specs.declared.fault.Fault.{Fault}
 use Rattle.ee_faults.specs.declared.fault.Fault.TheVariants.{Base, Memory}
 use Rattle.ee_faults.specs.declared.fault.File.TheVariants.{Image}
-use Rattle.ee_image_store.proofs.FileFaults.{one_file_fault, only_memory, reading_good}
+use Rattle.ee_image_store.proofs.Public.{one_file_fault, only_memory, reading_good}
 use Rattle.ee_part.specs.Faults.{IsDeviceFault, IsImportFault}
 use Rattle.ee_part.specs.Hex.{PartFits, IsHexExportFault, IsHexExported, IsHexImportFault, IsHexImported, IsPlacedFault, IsHexTextFault, fault_of_hex}
 use Rattle.ee_part.specs.Moving.{IsImported}

@@ -3,10 +3,9 @@ use Rattle.std.proofs.Common.{◌≡◌, refl, sym, subst, ℕ, ◌+◌, ◌≤�
 use Rattle.ee_flash.specs.Device.{Device}
 use Rattle.ee_dump.specs.Dump.{IsDump, dump_length}
 use Rattle.ee_dump.specs.Laws.{unworn_device}
-use Rattle.ee_dump.proofs.Dumps.{dumps_are_bytes, dumps_are_read_lem}
+use Rattle.ee_dump.proofs.Public.{dumps_are_bytes, dumps_are_read_lem}
 use Rattle.ee_hex.specs.Text.{IsHexOf}
-use Rattle.ee_hex.proofs.Judging.{one_reading_lem, readings_are_good_lem}
-use Rattle.ee_hex.proofs.Written.{texts_read_back_lem}
+use Rattle.ee_hex.proofs.Public.{one_reading_lem, readings_are_good_lem, texts_read_back_lem}
 use Rattle.ee_image_store.specs.Opening.{SpellsDevice}
 use Rattle.ee_faults.specs.declared.fault.Fault.{Fault}
 use Rattle.ee_faults.specs.declared.fault.Fault.TheVariants.{Memory}

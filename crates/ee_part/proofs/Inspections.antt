@@ -10,8 +10,7 @@ use Rattle.ee_flash.specs.declared.word.Word.TheVariants.{Erased, Held, Torn}
 use Rattle.ee_pages.specs.Meaning.{Map, later, latest_in, live_in, live_to, meaning, value_said}
 use Rattle.ee_pages.specs.Page.{is_torn}
 use Rattle.ee_pages.specs.Sets.{fill_of, torn_of}
-use Rattle.ee_pages.proofs.Counts.{live_to-suc, live_to-zero}
-use Rattle.ee_pages.proofs.LiveCounts.{live_within_fill}
+use Rattle.ee_pages.proofs.Public.{live_to-suc, live_to-zero, live_within_fill}
 use Rattle.ee_part.specs.Inspecting.{doubt_line, doubt_lines, each_below, is_before, is_in_doubt, speaks_of, up_to_last}
 
 -- four parts of a text, one behind another

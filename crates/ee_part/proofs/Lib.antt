@@ -1,7 +1,7 @@
-pub mod Causes
-pub mod Dumps
-pub mod HexCauses
-pub mod Hexes
-pub mod Inspections
-pub mod Doubts
-pub mod ScanWords
+mod Causes
+mod Dumps
+mod HexCauses
+mod Hexes
+mod Inspections
+mod Doubts
+mod ScanWords

@@ -3,7 +3,7 @@ use Rattle.std.proofs.Common.{◌≡◌, ℕ, List, length, map, ap, ◌∙◌, 
 use Rattle.ee_check.specs.declared.change.Change.{Change}
 use Rattle.ee_check.specs.Schedule.{Situation, IsProper}
 use Rattle.ee_check.specs.Certificate.{Claim, IsTight, room}
-use Rattle.ee_check.proofs.Bounds.{certificates_dominate_lem, tight_are_certificates_lem, tight_is_met_lem}
+use Rattle.ee_check.proofs.Public.{certificates_dominate_lem, tight_are_certificates_lem, tight_is_met_lem}
 use Rattle.ee_plan.specs.Plan.{IsReached, NoneIsBetter, IsBest, IsBestThroughout, moments_within}
 use Rattle.ee_plan.proofs.Prefixes.{claim_within, positions_within, prefix_is_tight}
 

@@ -7,7 +7,7 @@ use Rattle.std.proofs.Math.Seq.{take-append-add}
 use Rattle.std.proofs.Math.Nat.{mod-eq_of_lt, mod-lt, add-mod_left, add-mul-mod_self_left, mod-mod, mod-add-mod, div-add-mod}
 use Rattle.ee_check.specs.declared.change.Change.{Change}
 use Rattle.ee_check.specs.Live.{live_after_one, live_after, live_count}
-use Rattle.ee_check.proofs.Walks.{live_after-append}
+use Rattle.ee_check.proofs.Public.{live_after-append}
 use Rattle.ee_plan.specs.declared.counts.Counts.{Counts}
 use Rattle.ee_plan.specs.Rounds.{repeated_trace}
 use Rattle.ee_plan.specs.Places.{counts_before, AreRoundCounts, AreFlats, AreRounds, count_after}

@@ -7,9 +7,7 @@ use Rattle.ee_check.specs.declared.certificate.Stretch.{Stretch}
 use Rattle.ee_check.specs.Live.{live_after_one, live_after, live_count, KeepsWithin}
 use Rattle.ee_check.specs.Schedule.{IsProper}
 use Rattle.ee_check.specs.Certificate.{Claim, IsTight, IsTightStretch, EachStretch, first_place, last_place, place_at}
-use Rattle.ee_check.proofs.Bounds.{certificates_bound_schedules_lem, tight_are_certificates_lem, tight_is_met_lem}
-use Rattle.ee_check.proofs.Stretches.{EachStretch-append, last_place-append}
-use Rattle.ee_check.proofs.Walks.{live_after_more}
+use Rattle.ee_check.proofs.Public.{certificates_bound_schedules_lem, tight_are_certificates_lem, tight_is_met_lem, EachStretch-append, last_place-append, live_after_more}
 use Rattle.ee_plan.specs.Plan.{IsFirstNotFitting}
 use Rattle.ee_plan.specs.Rounds.{repeated_trace, fresh, IsFewest}
 use Rattle.ee_plan.specs.Places.{next_place, place_in_round}

@@ -6,7 +6,7 @@ use Rattle.ee_check.specs.declared.change.Change.{Change}
 use Rattle.ee_check.specs.declared.change.Change.TheVariants.{Write, Forget}
 use Rattle.ee_check.specs.Live.{live_after_one, live_after, KeepsWithin}
 use Rattle.ee_check.specs.Schedule.{Situation}
-use Rattle.ee_check.proofs.Sizes.{remove_key-le}
+use Rattle.ee_check.proofs.Public.{remove_key-le}
 use Rattle.ee_plan.specs.Plan.{IsFirstNotFitting}
 
 pub keeps_tail : (slots : ℕ) (live : List ℕ) (change : Change) (changes : List Change) → KeepsWithin slots live (change ∷ changes)

@@ -6,9 +6,7 @@ use Rattle.ee_check.specs.declared.certificate.Stretch.{Stretch}
 use Rattle.ee_check.specs.Live.{live_after_one, live_after, KeepsWithin}
 use Rattle.ee_check.specs.Schedule.{Situation, IsProper}
 use Rattle.ee_check.specs.Certificate.{Place, first_place, last_place, place_at, IsTightStretch}
-use Rattle.ee_check.proofs.Sizes.{changed-le}
-use Rattle.ee_check.proofs.Stretches.{EachStretch-append, last_place-append}
-use Rattle.ee_check.proofs.Walks.{one_made}
+use Rattle.ee_check.proofs.Public.{changed-le, EachStretch-append, last_place-append, one_made}
 use Rattle.ee_plan.specs.Plan.{IsPlanFault}
 use Rattle.ee_plan.specs.LateStore.{LateStore, Makes, HasMade, IsChangeRefused}
 use Rattle.ee_plan.specs.declared.planned.PlanFault.{PlanFault}

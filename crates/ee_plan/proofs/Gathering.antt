@@ -13,18 +13,14 @@ use Rattle.std.specs.Ordering.{nat_cmp}
 use Rattle.std.specs.BTreeSet.{BTreeSet, IsFromIterResult}
 use Rattle.ee_codec.specs.Words.{IsAddress}
 use Rattle.ee_pages.specs.Meaning.{AreLiveThrough, AreNextLive, IsNextLive, IsNoneLive, Map, last_of, live_in, live_to}
-use Rattle.ee_pages.proofs.Counts.{gap_to, last_below, live_to-end, live_to-next, live_to-zero}
-use Rattle.ee_pages.proofs.LiveCounts.{live_within_fill}
+use Rattle.ee_pages.proofs.Public.{gap_to, last_below, live_to-end, live_to-next, live_to-zero, live_within_fill}
 use Rattle.ee_pages.specs.Sets.{live_of, set_of, slots_of}
 use Rattle.ee_pages.specs.declared.side.Side.{Side}
 use Rattle.ee_flash.specs.Device.{Device}
 use Rattle.ee_flash.specs.Size.{slot_count}
 use Rattle.ee_core.specs.Finished.{IsStore}
 use Rattle.ee_core.specs.State.{State, state_in, state_of}
-use Rattle.ee_core.proofs.CopiedMaps.{meaning-zero}
-use Rattle.ee_core.proofs.Making.{few_within}
-use Rattle.ee_core.proofs.MovingFacts.{few_slots}
-use Rattle.ee_core.proofs.States.{state_is}
+use Rattle.ee_core.proofs.Public.{meaning-zero, few_within, few_slots, state_is}
 use Rattle.ee_check.specs.Start.{IsStart}
 use Rattle.ee_plan.specs.Start.{AreLive, with_addresses}
 

@@ -13,10 +13,7 @@ use Rattle.ee_pages.specs.Page.{is_blank}
 use Rattle.ee_pages.specs.Sets.{first_page, live_of, other}
 use Rattle.ee_pages.specs.declared.side.Side.{Side}
 use Rattle.ee_pages.specs.declared.side.Side.TheVariants.{First, Second}
-use Rattle.ee_core.proofs.PageWears.{Ages, ages, each_page_wears_every_second_transfer_lem}
-use Rattle.ee_core.proofs.PendingPages.{length-pending_pages, times_in_set, waits}
-use Rattle.ee_core.proofs.States.{other_twice}
-use Rattle.ee_core.proofs.Wears.{times, times_few}
+use Rattle.ee_core.proofs.Public.{Ages, ages, each_page_wears_every_second_transfer_lem, length-pending_pages, times_in_set, waits, other_twice, times, times_few}
 use Rattle.ee_core.specs.Runs.{Call, Wrote, Forgot, Cleaned, DidRead, Follows, IsRun, is_cut, is_transfer, transfers}
 use Rattle.ee_core.specs.State.{pending_pages, pending_pages_in, state_of, next_live}
 use Rattle.ee_core.specs.declared.variables.ForgetFault.TheVariants as forget

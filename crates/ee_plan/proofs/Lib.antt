@@ -1,15 +1,16 @@
-pub mod Fitting
-pub mod Following
-pub mod Prefixes
-pub mod Best
-pub mod Whole
-pub mod Gathering
-pub mod LiveLists
-pub mod Repeating
-pub mod Counted
-pub mod Stations
-pub mod Demanded
-pub mod Answering
-pub mod Lasting
-pub mod Wearing
-pub mod Premises
+mod Fitting
+mod Following
+mod Prefixes
+mod Best
+mod Whole
+mod Gathering
+mod LiveLists
+mod Repeating
+mod Counted
+mod Stations
+mod Demanded
+mod Answering
+mod Lasting
+mod Wearing
+mod Premises
+pub mod Public

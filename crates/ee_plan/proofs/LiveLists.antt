@@ -19,14 +19,12 @@ use Rattle.ee_flash.specs.Device.{Device, IsFormed}
 use Rattle.ee_pages.specs.Meaning as meaning
 use Rattle.ee_pages.specs.Sets.{live_of, set_of, slots_of}
 use Rattle.ee_pages.specs.declared.side.Side.{Side}
-use Rattle.ee_pages.proofs.LiveCounts.{live_within_fill}
-use Rattle.ee_pages.proofs.Counts.{gap_to, live_to-next, live_to-zero}
+use Rattle.ee_pages.proofs.Public.{live_within_fill, gap_to, live_to-next, live_to-zero}
 use Rattle.ee_check.specs.declared.change.Change.TheVariants.{Forget, Write}
 use Rattle.ee_check.specs.Live.{live_after_one}
 use Rattle.ee_check.specs.Schedule.{IsProper, Situation}
 use Rattle.ee_core.specs.State.{State, capacity, empty_state, state_in, state_of}
-use Rattle.ee_core.proofs.CopiedMaps.{live_in-nothing}
-use Rattle.ee_core.proofs.Making.{few_within}
+use Rattle.ee_core.proofs.Public.{live_in-nothing, few_within}
 use Rattle.ee_plan.specs.Start.{AreLive, IsStartOf}
 
 -- ---- numbers in ascending order

@@ -8,7 +8,7 @@ use Rattle.ee_check.specs.declared.certificate.Stretch.{Stretch}
 use Rattle.ee_check.specs.Live.{live_after}
 use Rattle.ee_check.specs.Schedule.{Situation}
 use Rattle.ee_check.specs.Certificate.{Claim, EachStretch, IsTight, IsTightStretch, Place, first_place, place_at}
-use Rattle.ee_check.proofs.Dominance.{end_from}
+use Rattle.ee_check.proofs.Public.{end_from}
 use Rattle.ee_plan.specs.Plan.{moments_within}
 
 -- those that end within the first n changes

@@ -5,7 +5,7 @@ use Rattle.std.specs.List.{All}
 use Rattle.std.proofs.lemmas.Bool.{cases_Bool, cases_eq, eq-eqb, eqb-true, true≢false}
 use Rattle.std.proofs.lemmas.List.Elements.{All-head}
 use Rattle.std.proofs.lemmas.List.Folds.{list_any_at}
-use Rattle.ee_flash.proofs.Endurance.{behind, more_erases_of}
+use Rattle.ee_flash.proofs.Public.{behind, more_erases_of}
 use Rattle.ee_flash.specs.Device.{Device, IsFormed, page_at, word_at}
 use Rattle.ee_flash.specs.Endurance.{AreTaken, erases_of}
 use Rattle.ee_flash.specs.Laws.{IsStep, page_of}
@@ -14,15 +14,12 @@ use Rattle.ee_flash.specs.Step.{Step, Program, Erase, device_after}
 use Rattle.ee_flash.specs.declared.word.Word.{Word}
 use Rattle.ee_flash.specs.declared.word.Word.TheVariants.{Erased, Held, Torn}
 use Rattle.ee_codec.specs.Reading.{receive_of}
-use Rattle.ee_pages.proofs.Commits.{live_commits}
-use Rattle.ee_pages.proofs.OtherPages.{step_keeps_other_pages, written_page}
-use Rattle.ee_pages.proofs.OtherSet.{commits_by}
-use Rattle.ee_pages.proofs.Slots.{length-page_at}
+use Rattle.ee_pages.proofs.Public.{live_commits, step_keeps_other_pages, written_page, commits_by, length-page_at}
 use Rattle.ee_pages.specs.Page.{is_blank, is_written}
 use Rattle.ee_pages.specs.Sets.{first_page, live_of, other}
 use Rattle.ee_pages.specs.declared.side.Side.{Side}
 use Rattle.ee_pages.specs.declared.side.Side.TheVariants.{First, Second}
-use Rattle.ee_core.proofs.States.{other_twice}
+use Rattle.ee_core.proofs.Public.{other_twice}
 use Rattle.ee_check.specs.declared.change.Change.{Change}
 use Rattle.ee_check.specs.Schedule.{IsSchedule, Move, Situation, cost}
 use Rattle.ee_plan.specs.Wearing.{EnterBlank, NoneWearsLess, by_turns, entered_sets, entered_by, is_entry}

@@ -5,7 +5,7 @@ use Rattle.ee_check.specs.declared.change.Change.{Change}
 use Rattle.ee_check.specs.Live.{KeepsWithin}
 use Rattle.ee_check.specs.Schedule.{Situation, IsProper}
 use Rattle.ee_check.specs.Certificate.{Claim, first_place, IsTightStretch, EachStretch, IsCertificateHeader, IsCertificate, IsTight, used_at_end}
-use Rattle.ee_check.proofs.Bounds.{tight_are_certificates_lem}
+use Rattle.ee_check.proofs.Public.{tight_are_certificates_lem}
 use Rattle.ee_plan.specs.Plan.{IsReached, IsBestThroughout, IsFirstNotFitting, IsPlanFault}
 use Rattle.ee_plan.specs.LateStore.{LateStore, HasMade}
 use Rattle.ee_plan.specs.declared.planned.PlanFault.{PlanFault}

@@ -7,7 +7,7 @@ use Rattle.ee_flash.specs.Size.{Size}
 use Rattle.ee_flash.specs.declared.fuse.Fuse.{Fuse}
 use Rattle.ee_pages.specs.Meaning.{Change, Put}
 use Rattle.ee_pages.specs.Meaning as meaning
-use Rattle.ee_core.proofs.Running.{runs_go_on_lem}
+use Rattle.ee_core.proofs.Public.{runs_go_on_lem}
 use Rattle.ee_core.specs.Changes.{IsCutChange}
 use Rattle.ee_core.specs.Points.{Point, with_power_on}
 use Rattle.ee_core.specs.Runs.{Call, Cleaned as DidClean, DidRead, Follows, Forgot, Wrote, is_cut}

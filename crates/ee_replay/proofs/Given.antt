@@ -5,8 +5,7 @@ use Rattle.std.specs.Io.KnownBytes.{Consumes}
 use Rattle.ee_script.specs.Script.{IsFirstBadCommandLine}
 use Rattle.ee_script.specs.declared.session.ScriptFault.TheVariants as script
 use Rattle.ee_script.specs.declared.session.StreamFault.TheVariants as stream
-use Rattle.ee_script.proofs.Reading.{scripts_are_good_lem}
-use Rattle.ee_script.proofs.Streams.{all_given, stream_names}
+use Rattle.ee_script.proofs.Public.{scripts_are_good_lem, all_given, stream_names}
 use Rattle.ee_faults.specs.ReplayFault.{of_stream}
 use Rattle.ee_faults.specs.declared.replay_fault.ReplayFault.{ReplayFault}
 use Rattle.ee_faults.specs.declared.replay_fault.ReplayFault.TheVariants.{Script, Memory, Read}
@@ -14,7 +13,7 @@ use Rattle.ee_replay.specs.Reading.{IsGiven, IsNotAnswered}
 use Rattle.ee_image_store.specs.Opening.{HasStore, IsOpenFault}
 use Rattle.ee_replay.specs.Replaying.{IsReplayed}
 use Rattle.ee_replay.proofs.OneReplayCause.{memory_or}
-use Rattle.ee_image_store.proofs.OneCause.{store_is_good}
+use Rattle.ee_image_store.proofs.Public.{store_is_good}
 
 -- where there is a store, only want of memory keeps it from being opened
 pub only_memory : (image : List ℕ) (fault : ReplayFault) → HasStore image → IsOpenFault image fault → fault ≡ Memory

@@ -7,7 +7,7 @@ use Rattle.ee_flash.specs.Size.{Size, slot_count}
 use Rattle.ee_pages.specs.Meaning.{Change, Map, Put, map_after}
 use Rattle.ee_pages.specs.Meaning as meaning
 use Rattle.ee_pages.specs.Pending.{address_of}
-use Rattle.ee_core.proofs.CopiedMaps.{forget-at, forget-other, put-at, put-other}
+use Rattle.ee_core.proofs.Public.{forget-at, forget-other, put-at, put-other}
 use Rattle.ee_core.specs.Changes.{HasChange, IsCutAppend, IsCutMove}
 use Rattle.ee_core.specs.State.{State, with_pending}
 use Rattle.ee_script.specs.Run.{Run}

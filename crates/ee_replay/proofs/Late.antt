@@ -9,8 +9,7 @@ use Rattle.ee_check.specs.declared.change.Change.TheVariants as changes
 use Rattle.ee_check.specs.Certificate.{Claim, IsTight, used_at_end}
 use Rattle.ee_check.specs.Live.{KeepsWithin, live_after_one}
 use Rattle.ee_check.specs.Schedule.{Append, Carry, EachMove, IsLate, IsProper, Move, Situation, after_move, after_moves, carried_at, changes_of}
-use Rattle.ee_check.proofs.Sizes.{changed-le}
-use Rattle.ee_check.proofs.Bounds.{certificates_bound_schedules_lem, certificates_dominate_lem, late_stores_meet_it_lem, tight_are_certificates_lem, tight_is_met_lem}
+use Rattle.ee_check.proofs.Public.{changed-le, certificates_bound_schedules_lem, certificates_dominate_lem, late_stores_meet_it_lem, tight_are_certificates_lem, tight_is_met_lem}
 use Rattle.ee_plan.specs.Start.{AreLive, IsStartOf}
 use Rattle.ee_script.specs.Run.{Run}
 use Rattle.ee_script.specs.Script.{AreCommands}
@@ -20,9 +19,8 @@ use Rattle.ee_script.specs.declared.command.Command.{Command}
 use Rattle.ee_script.specs.declared.command.Command.TheVariants.{Write, Read, Forget, Clean, Arm, PowerOn}
 use Rattle.ee_image_store.specs.Machine.{MachineStep}
 use Rattle.ee_image_store.specs.Trace.{AreFewest, TraceFits, ForgetsWhatIsHeld, NoneEndsWithMoreRoom, accepted_commands, moved_at, moves, map_changes, trace_of}
-use Rattle.ee_plan.proofs.Fitting.{keeps_more, keeps_tail}
-use Rattle.ee_plan.proofs.LiveLists.{live_after_forget, live_after_put}
-use Rattle.ee_image_store.proofs.Starts.{appends, forgetting_fits, length_map, moves_on, not_full, start_stays, stays, write_fits}
+use Rattle.ee_plan.proofs.Public.{keeps_more, keeps_tail, live_after_forget, live_after_put}
+use Rattle.ee_image_store.proofs.Public.{appends, forgetting_fits, length_map, moves_on, not_full, start_stays, stays, write_fits}
 
 -- ---- a run
 

@@ -1,16 +1,16 @@
-pub mod Causes
-pub mod OneReplayCause
-pub mod Runs
-pub mod NotedRuns
-pub mod Replays
-pub mod Reported
-pub mod Late
-pub mod Given
-pub mod Desks
-pub mod Arming
-pub mod Kept
-pub mod UncutRuns
-pub mod ScriptWears
-pub mod LegalAlone
-pub mod Powering
-pub mod Calling
+mod Causes
+mod OneReplayCause
+mod Runs
+mod NotedRuns
+mod Replays
+mod Reported
+mod Late
+mod Given
+mod Desks
+mod Arming
+mod Kept
+mod UncutRuns
+mod ScriptWears
+mod LegalAlone
+mod Powering
+mod Calling

@@ -11,20 +11,16 @@ use Rattle.ee_core.specs.Changes.{Appends, IsAccepted, IsCutAppend, IsCutChange,
 use Rattle.ee_core.specs.Finished.{IsStore}
 use Rattle.ee_core.specs.State.{State, appended_state, moved_state, state_of}
 use Rattle.std.proofs.lemmas.Bool.{cases_order}
-use Rattle.ee_core.proofs.Making.{generation_proper}
-use Rattle.ee_core.proofs.MovingFacts.{few_slots}
-use Rattle.ee_core.proofs.States.{state_is}
+use Rattle.ee_core.proofs.Public.{generation_proper, few_slots, state_is}
 use Rattle.ee_check.specs.declared.change.Change.{Change}
 use Rattle.ee_check.specs.declared.change.Change.TheVariants as changes
 use Rattle.ee_check.specs.Certificate.{IsCertificateHeader, IsTight}
 use Rattle.ee_check.specs.Live.{live_after_one}
 use Rattle.ee_check.specs.Schedule.{Append, Carry, IsProper, Situation, after_move}
-use Rattle.ee_check.proofs.Sizes.{changed-le}
+use Rattle.ee_check.proofs.Public.{changed-le}
 use Rattle.ee_plan.specs.LateStore.{HasMade}
 use Rattle.ee_plan.specs.Start.{AreLive, IsStartOf}
-use Rattle.ee_plan.proofs.Following.{made_more, made_none}
-use Rattle.ee_plan.proofs.LiveLists.{live_after_forget, live_after_put}
-use Rattle.ee_plan.proofs.Whole.{whole_tight}
+use Rattle.ee_plan.proofs.Public.{made_more, made_none, live_after_forget, live_after_put, whole_tight}
 use Rattle.ee_script.specs.Run.{Run}
 use Rattle.ee_script.specs.Script.{AreCommands}
 use Rattle.ee_script.specs.Whole.{IsAnswered}
@@ -32,7 +28,7 @@ use Rattle.ee_script.specs.declared.answer.Answer.{Answer}
 use Rattle.ee_script.specs.declared.answer.Answer.TheVariants.{Appended, Moved, Full, Spent, Cleaned, Idle, Value, NoValue, Absent, Armed, Cut, Opened}
 use Rattle.ee_script.specs.declared.command.Command.{Command}
 use Rattle.ee_script.specs.declared.command.Command.TheVariants.{Write, Read, Forget, Clean, Arm, PowerOn}
-use Rattle.ee_script.proofs.Seen.{IsAnswered-seen}
+use Rattle.ee_script.proofs.Public.{IsAnswered-seen}
 use Rattle.ee_core.specs.Points.{Point}
 use Rattle.ee_core.specs.Runs.{Forgot, Wrote}
 use Rattle.ee_core.specs.declared.variables.ForgetFault.{ForgetFault}
@@ -43,7 +39,7 @@ use Rattle.ee_replay.specs.Desk.{CallsAtDesk, SaysTheSame}
 use Rattle.ee_image_store.specs.Machine.{is_cut_answer, was_cut}
 use Rattle.ee_replay.specs.Serving.{Attends, IsCounted, IsTraced, Noted, Notes, Records, Serves, claim_noted, no_notes, notes_after, serving_on}
 use Rattle.ee_image_store.specs.Trace.{accepted_commands, moved_at, trace_of}
-use Rattle.ee_image_store.proofs.Starts.{appends, forgetting_fits, moves_on, start_stays, write_fits}
+use Rattle.ee_image_store.proofs.Public.{appends, forgetting_fits, moves_on, start_stays, write_fits}
 use Rattle.ee_replay.proofs.Powering.{state_armed}
 use Rattle.ee_replay.proofs.Runs.{neither}
 use Rattle.ee_replay.proofs.UncutRuns.{at_open, served_open}

@@ -2,11 +2,11 @@
 use Rattle.std.proofs.Common.{◌≡◌, ◌≢◌, ◌⊎◌, inl, inr, ℕ, List, refl, ap}
 use Rattle.ee_flash.specs.Size.{Size}
 use Rattle.ee_core.specs.State.{State}
-use Rattle.ee_script.proofs.Reading.{one_first_bad_line_lem, scripts_are_good_lem}
+use Rattle.ee_script.proofs.Public.{one_first_bad_line_lem, scripts_are_good_lem}
 use Rattle.ee_faults.specs.declared.replay_fault.ReplayFault.{ReplayFault}
 use Rattle.ee_faults.specs.declared.replay_fault.ReplayFault.TheVariants.{Image, Open, Script, Memory, Read}
 use Rattle.ee_replay.specs.Replaying.{IsReplayFault, IsReplayed, IsScriptRun, IsRunFault}
-use Rattle.ee_image_store.proofs.OneCause.{one_open_fault, store_is_good}
+use Rattle.ee_image_store.proofs.Public.{one_open_fault, store_is_good}
 
 -- ---- the faults of a script
 

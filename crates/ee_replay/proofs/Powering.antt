@@ -1,14 +1,14 @@
 -- What a device's image says stays as power comes on and a cut is armed.
 use Rattle.std.proofs.Common.{◌≡◌, ◌∙◌, ◌≤◌, ℕ, arith, Bool, Option, Some, None, ap, false, refl, subst, sym, true}
 use Rattle.ee_flash.specs.Device.{Device, IsFormed, IsOn, all_ones}
-use Rattle.ee_pages.proofs.ScanFaults.{legal_is_good}
+use Rattle.ee_pages.proofs.Public.{legal_is_good}
 use Rattle.ee_pages.specs.Layout.{IsScanFault}
 use Rattle.ee_pages.specs.Legal.{IsLegal, IsLive}
 use Rattle.ee_pages.specs.Sets.{live_of}
 use Rattle.ee_pages.specs.declared.find.ScanFault.{ScanFault}
 use Rattle.ee_pages.specs.declared.side.Side.{Side}
 use Rattle.ee_pages.specs.declared.side.Side.TheVariants.{First, Second}
-use Rattle.ee_core.proofs.Powered.{legal_on}
+use Rattle.ee_core.proofs.Public.{legal_on}
 use Rattle.ee_core.specs.Points.{Point, closed_point, with_power_on, open_point}
 use Rattle.ee_core.specs.Finished.{IsFinished, IsMarked, IsStore}
 use Rattle.ee_core.specs.State.{state_in, state_of, state_with}

@@ -8,7 +8,7 @@ use Rattle.ee_image_store.specs.Erases.{ErasesRise, erases_of_all}
 use Rattle.ee_image_store.specs.Opening.{IsNewStore, IsOpened, SpellsDevice}
 use Rattle.ee_replay.specs.Replaying.{IsReplayed, IsScriptRun, IsRunOn, IsTried}
 use Rattle.ee_replay.specs.Serving.{IsMade, IsServed, IsSound}
-use Rattle.ee_image_store.proofs.Erasing.{both, wear_since}
+use Rattle.ee_image_store.proofs.Public.{both, wear_since}
 use Rattle.ee_replay.proofs.ScriptWears.{wears_since_opening}
 
 pub is_run_on : (old flash : Device) (new : Point) (text image reported : List ℕ) → IsServed old text new reported → IsSound new → flash ≡ new.device → SpellsDevice image flash

@@ -7,7 +7,7 @@ use Rattle.ee_check.specs.Text.{text_of}
 use Rattle.ee_plan.specs.Start.{IsStartOf}
 use Rattle.ee_script.specs.Answer.{report}
 use Rattle.ee_script.specs.Script.{IsFirstBadCommandLine}
-use Rattle.ee_script.proofs.Reading.{scripts_are_good_lem}
+use Rattle.ee_script.proofs.Public.{scripts_are_good_lem}
 use Rattle.ee_pages.specs.Meaning.{live_in}
 use Rattle.ee_core.specs.State.{State, state_of}
 use Rattle.ee_core.specs.Points.{Point}
@@ -17,7 +17,7 @@ use Rattle.ee_replay.specs.Report.{IsReported, cut_report_text, desk_line, end_l
 use Rattle.ee_replay.specs.Serving.{IsServed, IsTraced, Notes, claim_noted, desk_of, serving_on}
 use Rattle.ee_image_store.specs.Opening.{StaysOn}
 use Rattle.ee_image_store.specs.Trace.{accepted_commands, moves, trace_of}
-use Rattle.ee_plan.proofs.Wearing.{fewest_transfers_wear_lem}
+use Rattle.ee_plan.proofs.Public.{fewest_transfers_wear_lem}
 use Rattle.ee_replay.proofs.Desks.{desk_run}
 use Rattle.ee_replay.proofs.Kept.{keeps_all}
 use Rattle.ee_replay.proofs.Late.{all_put, run_fewest, run_room, values_are}

@@ -19,9 +19,9 @@ use Rattle.ee_image_store.specs.Erases.{ErasesRise, erases_left_by, erases_of_al
 use Rattle.ee_image_store.specs.Machine.{MachineStep, is_arming}
 use Rattle.ee_replay.specs.Serving.{Serves, call_of_command, calls_of, is_armed_by, with_call}
 use Rattle.ee_image_store.specs.Steps.{Steps}
-use Rattle.ee_core.proofs.Wears.{no_wear}
+use Rattle.ee_core.proofs.Public.{no_wear}
 use Rattle.ee_replay.proofs.Powering.{state_armed}
-use Rattle.ee_image_store.proofs.Erasing.{as_before, both, by_append, by_clean, by_move, by_wear}
+use Rattle.ee_image_store.proofs.Public.{as_before, both, by_append, by_clean, by_move, by_wear}
 
 -- ---- one call
 

@@ -12,7 +12,7 @@ use Rattle.ee_core.specs.State.{not_blank_in, pending_pages_in}
 use Rattle.ee_core.specs.declared.variables.ForgetFault.TheVariants as forgetting
 use Rattle.ee_core.specs.declared.variables.WriteFault.TheVariants as fault
 use Rattle.ee_core.specs.declared.variables.Written.TheVariants as written
-use Rattle.ee_core.proofs.PageWears.{Aged, Ages, ages, none_more, one_more, stays, wears_at_most}
+use Rattle.ee_core.proofs.Public.{Aged, Ages, ages, none_more, one_more, stays, wears_at_most}
 use Rattle.ee_script.specs.Run.{Run}
 use Rattle.ee_script.specs.declared.answer.Answer.{Answer}
 use Rattle.ee_script.specs.declared.answer.Answer.TheVariants.{Appended, Moved, Full, Spent, Cleaned, Idle, Value, NoValue, Absent, Armed, Cut, Off, Opened}

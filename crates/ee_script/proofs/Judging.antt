@@ -6,7 +6,7 @@ use Rattle.ee_flash.specs.declared.fuse.Fuse.{Fuse}
 use Rattle.ee_flash.specs.declared.fuse.Tear.{Tear}
 use Rattle.ee_flash.specs.declared.fuse.Tear.TheVariants.{Nothing, Done, Torn, Mixed}
 use Rattle.ee_text.specs.Line.{line_of}
-use Rattle.ee_text.proofs.Deciding.{begins_so, some_below}
+use Rattle.ee_text.proofs.Public.{begins_so, some_below}
 use Rattle.ee_script.specs.declared.command.Command.{Command}
 use Rattle.ee_script.specs.declared.command.Command.TheVariants.{Write, Read, Forget, Clean, Arm, PowerOn}
 use Rattle.ee_script.specs.Command.{IsCommand, command_text}

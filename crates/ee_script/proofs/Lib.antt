@@ -1,8 +1,9 @@
-pub mod Spelling
-pub mod Steps
-pub mod Faults
-pub mod Reading
-pub mod WholeScript
-pub mod Seen
-pub mod Judging
-pub mod Streams
+mod Spelling
+mod Steps
+mod Faults
+mod Reading
+mod WholeScript
+mod Seen
+mod Judging
+mod Streams
+pub mod Public

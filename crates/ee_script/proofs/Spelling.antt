@@ -6,7 +6,7 @@ use Rattle.ee_codec.specs.Words.{IsAddress}
 use Rattle.ee_flash.specs.declared.fuse.Tear.{Tear}
 use Rattle.ee_flash.specs.declared.fuse.Tear.TheVariants.{Nothing, Done, Torn, Mixed}
 use Rattle.ee_text.specs.Field.{IsField, Lacks}
-use Rattle.ee_text.proofs.Lacking.{Lacks-append, Lacks-decimal, first_place}
+use Rattle.ee_text.proofs.Public.{Lacks-append, Lacks-decimal, first_place}
 use Rattle.ee_script.specs.declared.command.Command.{Command}
 use Rattle.ee_script.specs.declared.command.Command.TheVariants.{Write, Read, Forget, Clean, Arm, PowerOn}
 use Rattle.ee_script.specs.Command.{IsCommand, letter, command_text}

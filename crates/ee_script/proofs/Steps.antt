@@ -3,7 +3,7 @@ use Rattle.std.proofs.Common.{◌≡◌, ◌≢◌, ℕ, ◌+◌, ◌<◌, ◌++
 use Rattle.std.proofs.lemmas.List.{append-nil}
 use Rattle.std.proofs.lemmas.List.Concat.{flat_map-append}
 use Rattle.ee_text.specs.Field.{Lacks}
-use Rattle.ee_text.proofs.Lacking.{first_place, front_ends, no_place, Lacks-append}
+use Rattle.ee_text.proofs.Public.{first_place, front_ends, no_place, Lacks-append}
 use Rattle.ee_script.specs.declared.command.Command.{Command}
 use Rattle.ee_script.specs.declared.answer.Answer.{Answer}
 use Rattle.ee_text.specs.Line.{IsLine, line_of}

@@ -5,8 +5,7 @@ use Rattle.std.proofs.lemmas.List.Elements.{All-head, All-tail}
 use Rattle.ee_flash.specs.Device.{Device, IsOn}
 use Rattle.ee_flash.specs.Power.{GoesOn}
 use Rattle.ee_pages.specs.Meaning.{AreNextLive, Forget, Map, map_after}
-use Rattle.ee_core.proofs.AfterCalls.{goes_on_both, goes_on_same}
-use Rattle.ee_core.proofs.CopiedMaps.{forget-other}
+use Rattle.ee_core.proofs.Public.{goes_on_both, goes_on_same, forget-other}
 use Rattle.ee_core.specs.Calls.{Forgets}
 use Rattle.ee_core.specs.State.{State, state_of}
 use Rattle.ee_core.specs.declared.variables.ForgetFault.{ForgetFault}

@@ -1,17 +1,18 @@
-pub mod Trees
-pub mod Readings
-pub mod Addresses
-pub mod Proper
-pub mod Stored
-pub mod Listings
-pub mod ExactListings
-pub mod Outdated
-pub mod Forgetting
-pub mod Unnamed
-pub mod Tidied
-pub mod TidiedMaps
-pub mod Entries
-pub mod Names
-pub mod Once
-pub mod First
-pub mod Total
+mod Trees
+mod Readings
+mod Addresses
+mod Proper
+mod Stored
+mod Listings
+mod ExactListings
+mod Outdated
+mod Forgetting
+mod Unnamed
+mod Tidied
+mod TidiedMaps
+mod Entries
+mod Names
+mod Once
+mod First
+mod Total
+pub mod Public

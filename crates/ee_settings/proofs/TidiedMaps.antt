@@ -7,7 +7,7 @@ use Rattle.std.proofs.lemmas.List.Elements.{All-append, All-cons, All-head, All-
 use Rattle.ee_flash.specs.Device.{Device, IsFormed}
 use Rattle.ee_flash.specs.Size.{slot_count}
 use Rattle.ee_pages.specs.Meaning.{Forget, Map, map_after}
-use Rattle.ee_core.proofs.CopiedMaps.{forget-at, forget-other}
+use Rattle.ee_core.proofs.Public.{forget-at, forget-other, cut_map}
 use Rattle.ee_core.specs.Calls.{Forgets}
 use Rattle.ee_core.specs.Runs.{Call, Forgot, IsWholeRun, changes_of_call, is_cut}
 use Rattle.ee_core.specs.State.{appended_state, moved_state, state_of}
@@ -18,7 +18,6 @@ use Rattle.ee_core.specs.Changes.{IsSpent}
 use Rattle.ee_settings.proofs.Addresses.{found_taken}
 use Rattle.ee_settings.proofs.Forgetting.{map_without}
 use Rattle.ee_settings.proofs.Proper.{none_outside, proper_or_not}
-use Rattle.ee_core.proofs.CutMaps.{cut_map}
 use Rattle.ee_settings.proofs.Unnamed.{begins_with, unnamed_to-suc, unnamed_to-zero}
 use Rattle.ee_settings.specs.Laws.{KeepsAll}
 use Rattle.ee_settings.specs.Setting.{Setting, has_address, reading_of}

@@ -7,7 +7,7 @@ use Rattle.std.proofs.lemmas.List.{append-nil, drop_more, take_more}
 use Rattle.std.proofs.Common.{take-append-drop}
 use Rattle.std.proofs.lemmas.List.Elements.{All-append, All-cons, All-nil, All-weaker}
 use Rattle.ee_pages.specs.Meaning.{AreLiveThrough, AreNextLive, IsNextLive, IsNoneLive, Map, last_of}
-use Rattle.ee_pages.proofs.Counts.{last_rises}
+use Rattle.ee_pages.proofs.Public.{last_rises}
 use Rattle.ee_settings.proofs.Forgetting.{still_next}
 use Rattle.ee_settings.specs.Setting.{Setting, has_address}
 use Rattle.ee_settings.specs.Tidying.{is_unnamed, unnamed_among, unnamed_in, unnamed_of, unnamed_to}

@@ -12,7 +12,7 @@ use Rattle.ee_flash.specs.Formed.{length-page_words, page-pages_of}
 use Rattle.ee_flash.specs.Pages.{page_words, pages_of}
 use Rattle.ee_flash.specs.Size.{Size, page_count}
 use Rattle.ee_flash.specs.Step.{Erase, Step, IsCutIn, IsPartlyErased, with_page_erased, with_page, with_page_worn}
-use Rattle.ee_flash.proofs.Pages.{All-rewritten, pages_of-rewritten, refilled}
+use Rattle.ee_flash.proofs.Public.{All-rewritten, pages_of-rewritten, refilled}
 use Rattle.ee_flash.specs.declared.word.Word.{Word}
 use Rattle.ee_flash.specs.declared.word.Word.TheVariants.{Erased, Torn}
 use Rattle.ee_tests.specs.Listed.{Listed}

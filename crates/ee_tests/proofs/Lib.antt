@@ -1,3 +1,3 @@
-pub mod Walking
-pub mod Asking
-pub mod Leaving
+mod Walking
+mod Asking
+mod Leaving

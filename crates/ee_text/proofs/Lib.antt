@@ -1,9 +1,10 @@
-pub mod Deciding
-pub mod Digits
-pub mod FirstPlace
-pub mod Joining
-pub mod Lacking
-pub mod LineFeeds
-pub mod NumberText
-pub mod Parting
-pub mod Leading
+mod Deciding
+mod Digits
+mod FirstPlace
+mod Joining
+mod Lacking
+mod LineFeeds
+mod NumberText
+mod Parting
+mod Leading
+pub mod Public

@@ -1,5 +1,5 @@
 use Rattle.std.proofs.Common.{rules}
-use Rattle.ee_settings.proofs.TidiedMaps.{spent_among}
+use Rattle.ee_settings.proofs.Public.{spent_among}
 use Rattle.ee_commands.proofs.TidiedImages.{is_tidied, never_cut}
 use Rattle.ee_commands.proofs.second_schema.tidy_on.Goals as goal
 

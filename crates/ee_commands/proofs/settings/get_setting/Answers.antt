@@ -1,5 +1,5 @@
 use Rattle.std.proofs.Common.{inl, inr, refl}
-use Rattle.ee_check.proofs.Fields.{error_passed_on, passed_on}
+use Rattle.ee_check.proofs.Public.{error_passed_on, passed_on}
 use Rattle.ee_commands.proofs.Named.{get_unknown, get_unopened, get_unspelled, got_good, no_memory_to_open}
 use Rattle.ee_commands.proofs.settings.get_setting.Goals as goal
 

@@ -1,6 +1,6 @@
 use Rattle.std.proofs.Common.{inl, inr}
 use Rattle.std.proofs.lemmas.Result.{err_from_is_err_and}
-use Rattle.ee_check.proofs.Fields.{passed_on}
+use Rattle.ee_check.proofs.Public.{passed_on}
 use Rattle.ee_commands.proofs.Named.{is_refused_in, is_set, no_memory_to_open, set_good, set_refused, set_unopened, set_unspelled}
 use Rattle.ee_commands.proofs.settings.set_setting.Goals as goal
 

@@ -1,7 +1,6 @@
 use Rattle.std.proofs.lemmas.Result.{err_from_is_err_and}
 use Rattle.ee_flash.specs.Memory.{device_of}
-use Rattle.ee_image_store.proofs.FileFaults.{no_memory_for}
-use Rattle.ee_image_store.proofs.Stores.{formed_of}
+use Rattle.ee_image_store.proofs.Public.{no_memory_for, formed_of}
 use Rattle.ee_commands.proofs.wear.read_ledger.Goals as goal
 
 pub returns-in_err-ledger-clause-fault : goal.returns-in_err-ledger-clause-fault

@@ -1,6 +1,6 @@
 use Rattle.std.proofs.lemmas.Result.{err_from_is_err_and}
 use Rattle.ee_faults.specs.declared.fault.File.TheVariants.{Image}
-use Rattle.ee_image_store.proofs.FileFaults.{no_memory_for}
+use Rattle.ee_image_store.proofs.Public.{no_memory_for}
 use Rattle.ee_commands.proofs.wear.whole_wear.Goals as goal
 
 pub returns-in_err-text-clause-fault : goal.returns-in_err-text-clause-fault

@@ -1,7 +1,7 @@
 use Rattle.std.proofs.Common.{◌≡◌, ◌<◌, ℕ, ◌+◌, None, refl, ap, subst, ◌∙◌, arith}
 use Rattle.ee_flash.specs.Device.{Device}
 use Rattle.ee_flash.specs.Size.{slot_count}
-use Rattle.ee_flash.proofs.Outcomes.{calls_compose}
+use Rattle.ee_flash.proofs.Public.{calls_compose}
 use Rattle.ee_pages.specs.Meaning.{IsNextLive, meaning}
 use Rattle.ee_pages.specs.Sets.{other as other_of, set_of, slots_of}
 use Rattle.ee_core.specs.Parts.{map_to, replaced_map}

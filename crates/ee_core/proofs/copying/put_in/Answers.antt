@@ -1,7 +1,7 @@
 use Rattle.std.proofs.Common.{inl, inr}
 use Rattle.std.proofs.Common.{◌+◌, arith}
 use Rattle.ee_pages.specs.Sets.{first_page, other as other_of, page_of_slot, place_of_slot}
-use Rattle.ee_pages.proofs.Slots.{page_in_range, place_in_range}
+use Rattle.ee_pages.proofs.Public.{page_in_range, place_in_range}
 use Rattle.ee_core.specs.Parts.{meant}
 use Rattle.ee_core.proofs.Drawings.{page_of_its_set, put_apart, put_there, same_size_of}
 use Rattle.ee_core.proofs.FilledSets.{slot_holds}

@@ -1,5 +1,5 @@
 use Rattle.std.proofs.Common.{◌≡◌, ◌+◌, refl, arith}
-use Rattle.ee_pages.proofs.Slots.{page_in_range}
+use Rattle.ee_pages.proofs.Public.{page_in_range}
 use Rattle.ee_pages.specs.Sets.{first_page, other as other_of, page_of_slot}
 use Rattle.ee_pages.specs.declared.state.Mark.TheVariants.{Receive}
 use Rattle.ee_core.proofs.Drawings.{page_of_its_set, put_apart, sets_mark_at}

@@ -7,7 +7,7 @@ use Rattle.ee_core.proofs.copying.stage.Goals.{then-place-eq-HEADER_WORDS+in_ok-
 use Rattle.ee_core.proofs.Cuts.{put_apart_partly}
 use Rattle.ee_core.proofs.CutMoves.{receive_partly, stage_partly}
 use Rattle.ee_core.proofs.Drawings.{page_of_its_set}
-use Rattle.ee_pages.proofs.Slots.{page_in_range, place_in_range}
+use Rattle.ee_pages.proofs.Public.{page_in_range, place_in_range}
 use Rattle.ee_core.proofs.Making.{always_on_err}
 use Rattle.ee_pages.specs.Sets.{other as other_of, page_of_slot}
 use Rattle.ee_core.proofs.copying.stage.Goals as goal

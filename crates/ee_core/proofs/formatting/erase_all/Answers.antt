@@ -9,7 +9,7 @@ use Rattle.ee_core.specs.Starts.{IsStartable}
 use Rattle.ee_core.proofs.ErasedPages.{all_wear, front_wears, wears_next}
 use Rattle.ee_core.proofs.Cuts.{erase_partly, erases_partly}
 use Rattle.ee_core.proofs.Making.{always_on_err}
-use Rattle.ee_pages.proofs.OtherPages.{step_keeps_other_pages}
+use Rattle.ee_pages.proofs.Public.{step_keeps_other_pages}
 use Rattle.ee_flash.specs.Step.{Erase}
 use Rattle.ee_core.specs.Parts.{IsSameBut}
 use Rattle.ee_core.proofs.Wears.{cut_page_wears, front_begun}

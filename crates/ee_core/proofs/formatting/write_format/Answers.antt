@@ -6,7 +6,7 @@ use Rattle.ee_core.proofs.Marks.{mark_step, program_keeps_wear}
 use Rattle.ee_core.proofs.Cuts.{mark_partly}
 use Rattle.ee_core.proofs.CutMoves.{format_cut, format_cut_then}
 use Rattle.ee_flash.specs.Size.{page_count}
-use Rattle.ee_flash.proofs.Outcomes.{step_changes_one_page}
+use Rattle.ee_flash.proofs.Public.{step_changes_one_page}
 use Rattle.ee_pages.specs.declared.state.Mark.TheVariants.{Active, Receive}
 use Rattle.ee_core.proofs.FirstSet.{active_unset, first_layout, first_marked, first_state, proper_active, proper_first, receiving, unmarked}
 use Rattle.ee_core.proofs.Making.{always_on_err}

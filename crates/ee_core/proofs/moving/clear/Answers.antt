@@ -3,10 +3,10 @@ use Rattle.std.proofs.lemmas.Bool.{cases_eq}
 use Rattle.std.proofs.lemmas.Result.{err_from_is_err_and}
 use Rattle.ee_flash.specs.Device.{page_at}
 use Rattle.ee_flash.specs.Size.{Size}
-use Rattle.ee_flash.proofs.Outcomes.{calls_compose}
+use Rattle.ee_flash.proofs.Public.{calls_compose}
 use Rattle.ee_pages.specs.Page.{is_blank}
 use Rattle.ee_pages.specs.Sets.{first_page, other as other_of, set_of}
-use Rattle.ee_pages.proofs.Slots.{length-set_of}
+use Rattle.ee_pages.proofs.Public.{length-set_of}
 use Rattle.ee_core.specs.State.{Wears, WearsFront, not_blank_from}
 use Rattle.ee_core.proofs.ErasedPages.{all_wear, blank_wears, front_wears, none_wears, wears_next, written_wears}
 use Rattle.ee_core.proofs.MovingFacts.{all_blank, goes_on-same, keeps_both, keeps_same}

@@ -8,7 +8,7 @@ use Rattle.ee_core.specs.Parts.{map_in, meant, number_written}
 use Rattle.ee_core.proofs.KeptMarks.{appended_marked}
 use Rattle.ee_core.proofs.CutMarks.{cut_marks, cut_word}
 use Rattle.ee_core.proofs.Making.{always_on_err}
-use Rattle.ee_pages.proofs.Slots.{page_in_range, place_in_range}
+use Rattle.ee_pages.proofs.Public.{page_in_range, place_in_range}
 use Rattle.ee_core.proofs.writing.append.Goals as goal
 
 pub returns-clause-marked : goal.returns-clause-marked

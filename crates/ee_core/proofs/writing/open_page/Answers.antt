@@ -1,6 +1,6 @@
 use Rattle.std.proofs.Common.{◌≡◌, ◌+◌, ◌-◌, inl, inr, ap, ◌∙◌, ◌<◌, arith, sym, subst}
 use Rattle.ee_flash.specs.Size.{Size}
-use Rattle.ee_pages.proofs.Slots.{page_in_range}
+use Rattle.ee_pages.proofs.Public.{page_in_range}
 use Rattle.ee_pages.specs.Sets.{first_page, page_of_slot}
 use Rattle.ee_pages.specs.declared.state.Mark.TheVariants.{Active, Valid}
 use Rattle.ee_core.proofs.Drawings.{marks_drawn}

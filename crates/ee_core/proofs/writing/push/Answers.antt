@@ -1,7 +1,7 @@
 use Rattle.std.proofs.Common.{◌+◌, ap, subst, ◌∙◌}
 use Rattle.ee_flash.specs.Size.{Size}
 use Rattle.ee_pages.specs.Sets.{first_page, page_of_slot, place_of_slot}
-use Rattle.ee_pages.proofs.Slots.{page_in_range, place_in_range}
+use Rattle.ee_pages.proofs.Public.{page_in_range, place_in_range}
 use Rattle.ee_core.proofs.Drawings.{put_there}
 use Rattle.ee_core.proofs.SetPages.{page_in_device}
 use Rattle.ee_core.specs.Parts.{meant}

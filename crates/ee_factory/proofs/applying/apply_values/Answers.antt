@@ -1,7 +1,7 @@
 use Rattle.std.proofs.Common.{◌∙◌, ap, inl, inr}
 use Rattle.std.proofs.lemmas.Result.{err_from_is_err_and}
 use Rattle.toml.specs.View.{table_view}
-use Rattle.ee_commands.proofs.Named.{no_memory_to_open}
+use Rattle.ee_commands.proofs.Public.{no_memory_to_open}
 use Rattle.ee_factory.proofs.Causes.{apply_good, apply_stopped, apply_unopened, apply_unread, apply_unspelled, is_applied, stopped_fault, unread_fault}
 use Rattle.ee_factory.specs.Applying.{applied_text}
 use Rattle.ee_factory.proofs.applying.apply_values.Goals as goal

@@ -4,7 +4,7 @@ use Rattle.std.proofs.lemmas.Result.{err_from_is_err_and}
 use Rattle.std.proofs.lemmas.Map.Iter.{iter_end, iter_turn, rest_more, rest_so_far}
 use Rattle.std.specs.Map.Iter.{deref_pair}
 use Rattle.toml.specs.View.{view}
-use Rattle.ee_settings.proofs.Trees.{entries_counted, entries_seen, gone_more, seen, split_entries}
+use Rattle.ee_settings.proofs.Public.{entries_counted, entries_seen, gone_more, seen, split_entries}
 use Rattle.ee_factory.proofs.Steps.{as_many, entry_refused, entry_taken}
 use Rattle.ee_factory.proofs.Taken.{few_applied, few_taken, taken_keeps}
 use Rattle.ee_factory.specs.Applying.{Applies}

@@ -1,6 +1,6 @@
 use Rattle.std.proofs.Common.{◌≡◌, length, map}
 use Rattle.std.specs.Map.Iter.{deref_pair}
-use Rattle.ee_settings.proofs.Trees.{seen}
+use Rattle.ee_settings.proofs.Public.{seen}
 use Rattle.ee_image_store.specs.Opening.{StaysOn}
 use Rattle.ee_factory.specs.Applying.{Applies}
 use Rattle.ee_factory.proofs.applying.take_entries.Given as goal

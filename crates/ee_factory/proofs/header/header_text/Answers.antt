@@ -1,6 +1,6 @@
 use Rattle.std.proofs.Common.{inr, refl, rules}
 use Rattle.std.proofs.lemmas.Result.{err_from_is_err_and}
-use Rattle.ee_commands.proofs.Named.{settings_good}
+use Rattle.ee_commands.proofs.Public.{settings_good}
 use Rattle.ee_factory.proofs.header.header_text.Goals as goal
 
 pub returns-in_err-text-clause-fault : goal.returns-in_err-text-clause-fault

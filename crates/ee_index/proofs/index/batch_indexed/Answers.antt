@@ -1,6 +1,6 @@
 use Rattle.std.proofs.Common.{rules, ℕ, Some, None, arith, inl, refl}
 use Rattle.ee_pages.specs.Sets.{set_of, slots_of}
-use Rattle.ee_pages.proofs.Slots.{length-slots}
+use Rattle.ee_pages.proofs.Public.{length-slots}
 use Rattle.ee_core.specs.Parts.{map_in}
 use Rattle.ee_index.specs.Index.{IsNextShown}
 use Rattle.ee_index.proofs.IndexReaders.{left_behind, shown_left, shown_next, shown_stands, stands_proper}

@@ -1,7 +1,7 @@
 use Rattle.std.proofs.Common.{arith}
 use Rattle.ee_pages.specs.Meaning.{above_of}
 use Rattle.ee_pages.specs.Sets.{set_of, slots_of}
-use Rattle.ee_pages.proofs.Slots.{length-slots}
+use Rattle.ee_pages.proofs.Public.{length-slots}
 use Rattle.ee_index.specs.Index.{slot_for}
 use Rattle.ee_index.proofs.Indexing.{next_some, stands}
 use Rattle.ee_index.proofs.index.next_indexed.Goals as goal

@@ -2,7 +2,7 @@ use Rattle.std.proofs.Common.{rules, ◌≡◌, inl, false, true, subst, sym, ar
 use Rattle.std.proofs.lemmas.Result.{err_from_is_err_and}
 use Rattle.ee_flash.specs.Memory.{device_of}
 use Rattle.ee_faults.specs.declared.fault.Fault.TheVariants.{Base}
-use Rattle.ee_image_store.proofs.Stores.{formed_of}
+use Rattle.ee_image_store.proofs.Public.{formed_of}
 use Rattle.ee_part.specs.Hex.{PartFits}
 use Rattle.ee_part.proofs.HexCauses.{dump_fits, far_placed, hex_exported_good, is_told, no_memory_told, not_dumped, one_hex_export_fault}
 use Rattle.ee_part.proofs.hex.export_hex.Goals as goal

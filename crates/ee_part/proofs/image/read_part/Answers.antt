@@ -1,7 +1,6 @@
 use Rattle.std.proofs.Common.{rules}
 use Rattle.ee_flash.specs.Memory.{device_of}
-use Rattle.ee_image_store.proofs.Stores.{formed_of}
-use Rattle.ee_image_store.proofs.FileFaults.{reading_good, reading_named}
+use Rattle.ee_image_store.proofs.Public.{formed_of, reading_good, reading_named}
 use Rattle.ee_part.proofs.image.read_part.Goals as goal
 
 pub returns-in-Ok-clause-read : goal.returns-in-Ok-clause-read

@@ -1,7 +1,7 @@
 use Rattle.std.proofs.lemmas.Result.{err_from_is_err_and}
 use Rattle.ee_flash.specs.Memory.{device_of}
 use Rattle.ee_faults.specs.declared.fault.File.TheVariants.{Image}
-use Rattle.ee_image_store.proofs.FileFaults.{no_memory_for}
+use Rattle.ee_image_store.proofs.Public.{no_memory_for}
 use Rattle.ee_part.proofs.inspecting.inspect_text.Goals as goal
 
 pub returns-in_err-text-clause-fault : goal.returns-in_err-text-clause-fault

@@ -1,7 +1,7 @@
 use Rattle.std.proofs.Common.{◌∙◌, ◌<◌, ◌≤◌, length, ap, arith}
 use Rattle.std.proofs.lemmas.List.{take_all}
 use Rattle.ee_flash.specs.Size.{slot_count}
-use Rattle.ee_pages.proofs.Slots.{length-slots}
+use Rattle.ee_pages.proofs.Public.{length-slots}
 use Rattle.ee_part.specs.Inspecting.{live_slots, speaks_of, up_to_last}
 use Rattle.ee_part.proofs.Inspections.{spoken_more}
 use Rattle.ee_part.proofs.inspecting.last_spoken.Goals as goal

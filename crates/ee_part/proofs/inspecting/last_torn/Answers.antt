@@ -2,7 +2,7 @@ use Rattle.std.proofs.Common.{◌≡◌, ◌∙◌, ◌<◌, ◌≤◌, length, 
 use Rattle.std.proofs.lemmas.List.{take_all}
 use Rattle.ee_flash.specs.Size.{slot_count}
 use Rattle.ee_pages.specs.Page.{is_torn}
-use Rattle.ee_pages.proofs.Slots.{length-slots}
+use Rattle.ee_pages.proofs.Public.{length-slots}
 use Rattle.ee_part.specs.Inspecting.{live_slots, up_to_last}
 use Rattle.ee_part.proofs.Inspections.{last_same, last_there}
 use Rattle.ee_part.proofs.inspecting.last_torn.Goals as goal

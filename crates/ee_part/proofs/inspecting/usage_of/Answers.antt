@@ -1,6 +1,6 @@
 use Rattle.std.proofs.Common.{◌∙◌, ◌+◌, ◌≤◌, ap, arith, sym}
 use Rattle.ee_flash.specs.Size.{slot_count}
-use Rattle.ee_pages.proofs.Slots.{length-slots}
+use Rattle.ee_pages.proofs.Public.{length-slots}
 use Rattle.ee_part.specs.Inspecting.{live_slots}
 use Rattle.ee_part.proofs.Inspections.{parts_fit, room_fits}
 use Rattle.ee_part.proofs.inspecting.usage_of.Goals as goal

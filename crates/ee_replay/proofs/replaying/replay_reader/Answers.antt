@@ -1,7 +1,7 @@
 use Rattle.std.proofs.Common.{rules, inl, inr}
 use Rattle.std.proofs.lemmas.Result.{err_from_is_err_and}
 use Rattle.ee_replay.proofs.Given.{given_is_good, named_of_stream, only_memory}
-use Rattle.ee_image_store.proofs.OneCause.{one_open_fault, store_is_good}
+use Rattle.ee_image_store.proofs.Public.{one_open_fault, store_is_good}
 use Rattle.ee_replay.proofs.Replays.{is_replayed}
 use Rattle.ee_replay.proofs.replaying.replay_reader.Goals as goal
 

@@ -1,6 +1,6 @@
 use Rattle.std.proofs.Common.{◌-◌, ap, arith, rules}
 use Rattle.ee_core.specs.State.{state_of}
-use Rattle.ee_core.proofs.CutMaps.{fill_within}
+use Rattle.ee_core.proofs.Public.{fill_within}
 use Rattle.ee_replay.proofs.Reported.{end_written}
 use Rattle.ee_replay.proofs.reporting.push_end.Goals as goal
 

@@ -6,7 +6,7 @@ use Rattle.ee_settings.specs.Calls.{Sets}
 use Rattle.ee_settings.specs.Laws.{KeepsAll, KeepsOthers, ReadsStored}
 use Rattle.ee_settings.specs.Setting.{IsSchema, Setting, reading_in}
 use Rattle.ee_settings.specs.declared.fault.SetFault.TheVariants as set
-use Rattle.ee_core.proofs.CutMaps.{cut_map}
+use Rattle.ee_core.proofs.Public.{cut_map}
 use Rattle.ee_settings.proofs.Readings.{addresses_apart, other_read, stored_read}
 use Rattle.ee_settings.proofs.laws.cut_keeps_others.Goals as goal
 

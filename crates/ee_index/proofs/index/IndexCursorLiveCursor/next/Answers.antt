@@ -1,6 +1,6 @@
 use Rattle.std.proofs.Common.{arith}
 use Rattle.ee_pages.specs.Sets.{set_of, slots_of}
-use Rattle.ee_pages.proofs.Slots.{length-slots}
+use Rattle.ee_pages.proofs.Public.{length-slots}
 use Rattle.ee_index.proofs.IndexReaders.{shown_left, shown_next, shown_stands}
 use Rattle.ee_index.proofs.index.IndexCursorLiveCursor.next.Goals as goal
 

@@ -1,4 +1,4 @@
-use Rattle.ee_core.proofs.OpeningFacts.{opening_cut, opens}
+use Rattle.ee_core.proofs.Public.{opening_cut, opens}
 use Rattle.ee_index.proofs.indexed.IndexedStore.open.Goals as goal
 
 pub returns-in-Ok-finish-clause-opened : goal.returns-in-Ok-finish-clause-opened

@@ -1,5 +1,5 @@
 use Rattle.std.proofs.Common.{sym}
-use Rattle.ee_core.proofs.Making.{clean_store}
+use Rattle.ee_core.proofs.Public.{clean_store}
 use Rattle.ee_index.proofs.IndexedStores.{kept_on}
 use Rattle.ee_index.proofs.indexed.IndexedStoreVariables.clean_step.Goals as goal
 

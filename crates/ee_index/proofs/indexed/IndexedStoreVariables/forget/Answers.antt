@@ -1,7 +1,7 @@
 use Rattle.std.proofs.Common.{rules, ◌≡◌, refl, sym, ap, ◌∙◌, arith}
 use Rattle.ee_flash.specs.Size.{slot_count}
 use Rattle.ee_core.specs.State.{capacity}
-use Rattle.ee_core.proofs.Making.{few_within, store_marked}
+use Rattle.ee_core.proofs.Public.{few_within, store_marked}
 use Rattle.ee_index.specs.Index.{slot_for}
 use Rattle.ee_index.proofs.indexed.IndexedStoreVariables.forget.Goals as goal
 

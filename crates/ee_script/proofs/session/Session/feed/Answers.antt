@@ -1,6 +1,6 @@
 use Rattle.std.proofs.Common.{◌++◌, ap, subst, sym}
 use Rattle.std.proofs.lemmas.Result.{err_from_is_err_and}
-use Rattle.ee_text.proofs.Lacking.{Lacks-append}
+use Rattle.ee_text.proofs.Public.{Lacks-append}
 use Rattle.ee_script.specs.Session.{Goes, IsUnfinished}
 use Rattle.ee_script.specs.Fault.{IsFault}
 use Rattle.ee_script.proofs.Steps.{goes_on, no_line_at_end}

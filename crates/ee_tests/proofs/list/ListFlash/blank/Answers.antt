@@ -2,7 +2,7 @@ use Rattle.std.proofs.Common.{◌*◌, ◌≡◌, replicate, ap, ◌∙◌, rule
 use Rattle.ee_flash.specs.Size.{page_count}
 use Rattle.ee_flash.specs.Pages.{pages_of}
 use Rattle.ee_flash.specs.declared.word.Word.TheVariants.{Erased}
-use Rattle.ee_flash.proofs.Pages.{pages_of-replicate}
+use Rattle.ee_flash.proofs.Public.{pages_of-replicate}
 use Rattle.ee_tests.proofs.list.ListFlash.blank.Goals as goal
 
 pub returns : goal.returns

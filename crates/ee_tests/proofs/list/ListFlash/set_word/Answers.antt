@@ -2,7 +2,7 @@ use Rattle.std.proofs.Common.{ℕ, ◌+◌, ◌≡◌, List, set, sym, ◌∙◌
 use Rattle.ee_flash.specs.Device.{Device}
 use Rattle.ee_flash.specs.Pages.{pages_of}
 use Rattle.ee_flash.specs.declared.word.Word.{Word}
-use Rattle.ee_flash.proofs.Pages.{pages_of-set}
+use Rattle.ee_flash.proofs.Public.{pages_of-set}
 use Rattle.ee_tests.specs.Listed.{Listed, device_of_list, state_of_list}
 use Rattle.ee_tests.proofs.list.ListFlash.set_word.Goals as goal
 

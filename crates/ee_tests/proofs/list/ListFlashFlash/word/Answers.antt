@@ -1,7 +1,7 @@
 use Rattle.std.proofs.Common.{ℕ, ◌+◌, ◌<◌, length, get_or, sym, ap, ◌∙◌, arith}
 use Rattle.std.proofs.lemmas.List.{get_or_read}
 use Rattle.ee_flash.specs.declared.word.Word.TheVariants.{Erased}
-use Rattle.ee_flash.proofs.Pages.{get_or-pages_of}
+use Rattle.ee_flash.proofs.Public.{get_or-pages_of}
 use Rattle.ee_tests.proofs.list.ListFlashFlash.word.Goals as goal
 
 pub returns-clause-value : goal.returns-clause-value

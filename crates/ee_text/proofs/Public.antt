@@ -1,0 +1,6 @@
+-- The lemmas that other crates may use. The files that they stand in are this crate's own.
+pub use Rattle.ee_text.proofs.Deciding.{begins_and, begins_so, some_below}
+pub use Rattle.ee_text.proofs.Joining.{Lacks-joined, joined-append, joined_injective}
+pub use Rattle.ee_text.proofs.Lacking.{Lacks-append, Lacks-cons, Lacks-decimal, Lacks-parts, first_place, front_ends, no_place}
+pub use Rattle.ee_text.proofs.LineFeeds.{first_line, no_line}
+pub use Rattle.ee_text.proofs.NumberText.{IsField-decimal, IsLine-decimal, length-decimal-u64}
