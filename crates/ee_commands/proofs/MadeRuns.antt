@@ -2,7 +2,7 @@
 use Rattle.std.proofs.Common.{◌≡◌, ◌∙◌, ℕ, zero, suc, ◌+◌, ◌<◌, ◌≤◌, true, false, cond, Ok, Err, List, [], ◌∷◌, ◌++◌, length, refl, sym, subst, ap, arith}
 use Rattle.std.proofs.lemmas.List.Elements.{All-tail}
 use Rattle.std.proofs.lemmas.List.Sums.{sum_by-cons}
-use Rattle.std.specs.List.{All}
+use Rattle.std.specs.List.{All, AllByRecursion}
 use Rattle.ee_flash.specs.Device.{Device}
 use Rattle.ee_flash.specs.Size.{Size, slot_count}
 use Rattle.ee_codec.specs.Words.{IsAddress}
@@ -22,9 +22,9 @@ use Rattle.ee_check.specs.Schedule.{Append, Carry, EachMove, IsLate, IsProper, M
 use Rattle.ee_plan.proofs.Public.{keeps_more, live_after_forget, live_after_put}
 use Rattle.ee_plan.specs.Rounds.{repeated_trace}
 use Rattle.ee_plan.specs.Start.{AreLive, IsStartOf}
-use Rattle.ee_script.specs.Script.{AreCommands}
 use Rattle.ee_script.specs.declared.command.Command.{Command}
 use Rattle.ee_script.specs.declared.command.Command.TheVariants as command
+use Rattle.ee_commands.specs.Planning.{IsTraceCommand}
 use Rattle.ee_commands.specs.ToldSizes.{made_by_calls}
 use Rattle.ee_image_store.specs.Trace.{trace_of}
 use Rattle.ee_image_store.proofs.Public.{appends, forgetting_fits, moves_on, start_stays, write_fits}
@@ -37,9 +37,9 @@ AreProper [] = Unit {0}
 AreProper (changes.Write address ∷ trace) = IsAddress address × AreProper trace
 AreProper (changes.Forget address ∷ trace) = AreProper trace
 
-pub trace_proper : (commands : List Command) → AreCommands commands → AreProper (trace_of commands)
+pub trace_proper : (commands : List Command) → AllByRecursion IsTraceCommand commands → AreProper (trace_of commands)
 trace_proper [] are = tt
-trace_proper (command.Write address value ∷ commands) are = (are.0.0, trace_proper commands are.1)
+trace_proper (command.Write address value ∷ commands) are = (are.0.0.0, trace_proper commands are.1)
 trace_proper (command.Forget address ∷ commands) are = trace_proper commands are.1
 trace_proper (command.Read address ∷ commands) are = trace_proper commands are.1
 trace_proper (command.Clean ∷ commands) are = trace_proper commands are.1

@@ -18,7 +18,7 @@ use Rattle.ee_image.specs.Text.{at_rest}
 use Rattle.ee_image.proofs.Public.{one_device_lem}
 use Rattle.ee_script.specs.declared.session.ScriptFault.{ScriptFault}
 use Rattle.ee_script.specs.declared.session.ScriptFault.TheVariants as script
-use Rattle.ee_script.proofs.Public.{one_script_lem}
+use Rattle.ee_script.proofs.Public.{one_reading}
 use Rattle.ee_check.specs.declared.change.Change.{Change}
 use Rattle.ee_check.specs.declared.checking.CheckFault.{CheckFault}
 use Rattle.ee_check.specs.declared.checking.CheckFault.TheVariants as check
@@ -39,7 +39,7 @@ use Rattle.ee_faults.specs.declared.fault.Fault.TheVariants.{Memory, NotFitting}
 use Rattle.ee_faults.specs.declared.replay_fault.ReplayFault.{ReplayFault}
 use Rattle.ee_faults.specs.declared.replay_fault.ReplayFault.TheVariants as replay
 use Rattle.ee_image_store.specs.Opening.{IsOpenFault, IsOpened, IsStoreText, SpellsDevice}
-use Rattle.ee_commands.specs.Planning.{IsCertificateFault, IsCheckingFault, IsImageStart, IsPlanningFault, IsRefusal, IsTask, IsTaskFault, IsTrace, IsTraceFault}
+use Rattle.ee_commands.specs.Planning.{IsCertificateFault, IsCheckingFault, IsImageStart, IsPlanningFault, IsRefusal, IsTask, IsTaskFault, IsTrace, IsTraceCommand, IsTraceFault}
 use Rattle.ee_image_store.specs.Trace.{trace_of}
 use Rattle.ee_image_store.proofs.Public.{one_open_fault, store_is_good}
 use Rattle.ee_commands.proofs.Traces.{one_first_bad_line, traces_are_good}
@@ -99,7 +99,8 @@ one_start image start other first second =
 
 pub one_trace : (text : List ℕ) (trace other : List Change) → IsTrace text trace → IsTrace text other → trace ≡ other
 one_trace text trace other first second =
-    first.trace_is ∙ ap trace_of (one_script_lem text first.commands second.commands first.is_script second.is_script) ∙ sym second.trace_is
+    first.trace_is ∙ ap trace_of (one_reading IsTraceCommand (λ command is. is.0) text first.commands second.commands first.proper first.text_is second.proper second.text_is)
+    ∙ sym second.trace_is
 
 -- ---- names
 

@@ -144,7 +144,7 @@ wears cycles most calls blank old new formats whole few =
 -- the addresses of the script that is made so many times
 all_proper : (words cycles runs : ℕ) (text told : List ℕ) (some_enough : Bool) (sized : IsSized words text cycles runs told some_enough) → AreProper (repeated_trace runs sized.trace)
 all_proper words cycles runs text told some_enough sized =
-    let once = trace_proper sized.trace_is.commands sized.trace_is.is_script.proper in
+    let once = trace_proper sized.trace_is.commands sized.trace_is.proper in
     repeated_proper runs sized.trace (subst AreProper (sym sized.trace_is.trace_is) once)
 
 pub each_size_wears_as_told_lem : (text told : List ℕ) (cycles runs most : ℕ) (some_enough : Bool) (calls : List Call) (blank old new : Device)

@@ -8,24 +8,22 @@ use Rattle.ee_check.specs.declared.change.Change.TheVariants as change
 use Rattle.ee_text.specs.Line.{line_of}
 use Rattle.ee_script.specs.declared.command.Command.{Command}
 use Rattle.ee_script.specs.declared.command.Command.TheVariants.{Write, Read, Forget, Clean, Arm, PowerOn}
-use Rattle.ee_script.specs.Command.{IsCommand, command_text}
-use Rattle.ee_script.specs.Script.{AreCommands, script}
-use Rattle.ee_script.proofs.Public.{spelling_injective, Lacks-spelling}
-use Rattle.ee_text.proofs.Public.{first_line}
-use Rattle.ee_commands.specs.Planning.{IsFirstBadTraceLine, IsTrace, KeepsPower, NoTraceLine}
+use Rattle.ee_script.specs.Command.{command_text}
+use Rattle.ee_script.specs.Script.{IsFirstBadLineOf, NoLineOf, script}
+use Rattle.ee_script.proofs.Public.{no_bad_line, one_bad_line}
+use Rattle.ee_commands.specs.Planning.{IsTrace, IsTraceCommand}
 use Rattle.ee_image_store.specs.Trace.{trace_of}
 
 -- The lines of some commands were read off the text, and so much is left; their writes are the trace so far.
 pub record HasRead (text rest : List ℕ) (trace : List Change) (lines : ℕ) : Type 0 where
   pub commands : List Command
-  pub proper : AreCommands commands
-  pub keep_power : AllByRecursion KeepsPower commands
+  pub proper : AllByRecursion IsTraceCommand commands
   pub text_is : text ≡ script commands ++ rest
   pub trace_is : trace ≡ trace_of commands
   pub lines_are : lines ≡ length commands
 
 pub nothing_read : (text : List ℕ) (trace : List Change) → trace ≡ [] → HasRead text text trace 0
-nothing_read text trace empty = record { commands = []; proper = tt; keep_power = tt; text_is = refl; trace_is = empty; lines_are = refl }
+nothing_read text trace empty = record { commands = []; proper = tt; text_is = refl; trace_is = empty; lines_are = refl }
 
 trace_of-append : (commands more : List Command) → trace_of (commands ++ more) ≡ trace_of commands ++ trace_of more
 trace_of-append [] more = refl
@@ -43,22 +41,17 @@ script_append (first ∷ commands) command rest =
     ∙ ap (λ l. line_of (command_text first) ++ l) (script_append commands command rest)
     ∙ sym (append_assoc (line_of (command_text first)) (script (commands ++ command ∷ [])) rest)
 
-proper_append : (commands : List Command) (command : Command) → AreCommands commands → IsCommand command → AreCommands (commands ++ command ∷ [])
+proper_append : (commands : List Command) (command : Command) → AllByRecursion IsTraceCommand commands → IsTraceCommand command → AllByRecursion IsTraceCommand (commands ++ command ∷ [])
 proper_append [] command proper one = (one, tt)
 proper_append (first ∷ commands) command proper one = (proper.0, proper_append commands command proper.1 one)
 
-keeping_append : (commands : List Command) (command : Command) → AllByRecursion KeepsPower commands → KeepsPower command → AllByRecursion KeepsPower (commands ++ command ∷ [])
-keeping_append [] command keep one = (one, tt)
-keeping_append (first ∷ commands) command keep one = (keep.0, keeping_append commands command keep.1 one)
-
 -- one line more is read
 pub one_line_more : (text rest more : List ℕ) (old new : List Change) (lines number : ℕ) (command : Command) → HasRead text rest old lines → number ≡ lines + 1
-    → IsCommand command × KeepsPower command × (rest ≡ line_of (command_text command) ++ more) → new ≡ old ++ trace_of (command ∷ []) → HasRead text more new number
+    → IsTraceCommand command × (rest ≡ line_of (command_text command) ++ more) → new ≡ old ++ trace_of (command ∷ []) → HasRead text more new number
 one_line_more text rest more old new lines number command read counted found pushed = record {
   commands = read.commands ++ command ∷ [];
   proper = proper_append read.commands command read.proper found.0;
-  keep_power = keeping_append read.commands command read.keep_power found.1;
-  text_is = read.text_is ∙ ap (λ l. script read.commands ++ l) found.2 ∙ script_append read.commands command more;
+  text_is = read.text_is ∙ ap (λ l. script read.commands ++ l) found.1 ∙ script_append read.commands command more;
   trace_is = pushed ∙ ap (λ l. l ++ trace_of (command ∷ [])) read.trace_is ∙ sym (trace_of-append read.commands (command ∷ []));
   lines_are = let a = read.lines_are in omega (arith, length-append read.commands (command ∷ []));
 }
@@ -68,12 +61,11 @@ pub line_is_longer : (rest more : List ℕ) (command : Command) → rest ≡ lin
 line_is_longer rest more command e =
     omega (arith, ap length e, length-append (line_of (command_text command)) more, length-append (command_text command) (10 ∷ []))
 
-pub bad_line : (text rest : List ℕ) (trace : List Change) (lines number : ℕ) → HasRead text rest trace lines → number ≡ lines + 1 → rest ≢ [] → NoTraceLine rest → IsFirstBadTraceLine text number
+pub bad_line : (text rest : List ℕ) (trace : List Change) (lines number : ℕ) → HasRead text rest trace lines → number ≡ lines + 1 → rest ≢ [] → NoLineOf IsTraceCommand rest → IsFirstBadLineOf IsTraceCommand text number
 bad_line text rest trace lines number read counted goes_on bad = record {
   good = read.commands;
   rest = rest;
   proper = read.proper;
-  keep_power = read.keep_power;
   text_is = read.text_is;
   goes_on = goes_on;
   bad = bad;
@@ -83,43 +75,19 @@ bad_line text rest trace lines number read counted goes_on bad = record {
 pub all_read : (text rest : List ℕ) (trace : List Change) (lines : ℕ) → HasRead text rest trace lines → rest ≡ [] → IsTrace text trace
 all_read text rest trace lines read empty = record {
   commands = read.commands;
-  is_script = record { proper = read.proper; text_is = read.text_is ∙ ap (λ l. script read.commands ++ l) empty ∙ append-nil (script read.commands) };
-  keep_power = read.keep_power;
+  proper = read.proper;
+  text_is = read.text_is ∙ ap (λ l. script read.commands ++ l) empty ∙ append-nil (script read.commands);
   trace_is = read.trace_is;
 }
 
 -- ---- one first bad line
 
--- the good lines before the bad one are determined
-good_front : (cs ds : List Command) (x y : List ℕ) → AreCommands cs → AreCommands ds → AllByRecursion KeepsPower cs → AllByRecursion KeepsPower ds
-    → NoTraceLine x → NoTraceLine y → script cs ++ x ≡ script ds ++ y → (cs ≡ ds) × (x ≡ y)
-good_front [] [] x y h k p q no_x no_y e = (refl, e)
-good_front [] (d ∷ ds) x y h k p q no_x no_y e = absurd (no_x d (script ds ++ y) k.0 q.0 (e ∙ append_assoc (line_of (command_text d)) (script ds) y))
-good_front (c ∷ cs) [] x y h k p q no_x no_y e = absurd (no_y c (script cs ++ x) h.0 p.0 (sym e ∙ append_assoc (line_of (command_text c)) (script cs) x))
-good_front (c ∷ cs) (d ∷ ds) x y h k p q no_x no_y e =
-    let first = first_line (command_text c) (command_text d) (script cs ++ x) (script ds ++ y) (Lacks-spelling c h.0) (Lacks-spelling d k.0)
-    (sym (append_assoc (line_of (command_text c)) (script cs) x) ∙ e ∙ append_assoc (line_of (command_text d)) (script ds) y) in
-    let command : c ≡ d = spelling_injective c d h.0 k.0 first.0 in
-    let rest = good_front cs ds x y h.1 k.1 p.1 q.1 no_x no_y first.1 in
-    let commands = rest.0 in
-    (cc, rest.1)
-
-no_line_in_nothing : NoTraceLine []
-no_line_in_nothing command more proper keeps e =
-    omega (arith, ap length e, length-append (line_of (command_text command)) more, length-append (command_text command) (10 ∷ []))
-
-pub one_first_bad_line : (text : List ℕ) (m n : ℕ) → IsFirstBadTraceLine text m → IsFirstBadTraceLine text n → m ≡ n
-one_first_bad_line text m n first second =
-    let same = good_front first.good second.good first.rest second.rest first.proper second.proper first.keep_power second.keep_power first.bad second.bad
-    (sym first.text_is ∙ second.text_is) in
-    first.number ∙ ap (λ good. length good + 1) same.0 ∙ sym second.number
+pub one_first_bad_line : (text : List ℕ) (m n : ℕ) → IsFirstBadLineOf IsTraceCommand text m → IsFirstBadLineOf IsTraceCommand text n → m ≡ n
+one_first_bad_line = one_bad_line IsTraceCommand (λ command is. is.0)
 
 -- a trace's script has none
-pub traces_are_good : (text : List ℕ) (trace : List Change) (n : ℕ) → IsTrace text trace → IsFirstBadTraceLine text n → ⊥
-traces_are_good text trace n is bad =
-    let same = good_front is.commands bad.good [] bad.rest is.is_script.proper bad.proper is.keep_power bad.keep_power no_line_in_nothing bad.bad
-    (append-nil (script is.commands) ∙ sym is.is_script.text_is ∙ bad.text_is) in
-    bad.goes_on (sym same.1)
+pub traces_are_good : (text : List ℕ) (trace : List Change) (n : ℕ) → IsTrace text trace → IsFirstBadLineOf IsTraceCommand text n → ⊥
+traces_are_good text trace n is = no_bad_line IsTraceCommand (λ command good. good.0) text is.commands n is.proper is.text_is
 
 -- ---- how much is left
 

@@ -19,8 +19,8 @@ use Rattle.ee_script.specs.declared.command.Command.{Command}
 use Rattle.ee_script.specs.declared.command.Command.TheVariants.{Arm, PowerOn}
 use Rattle.ee_script.specs.declared.session.ScriptFault.{ScriptFault}
 use Rattle.ee_script.specs.declared.session.ScriptFault.TheVariants.{BadLine, Memory}
-use Rattle.ee_script.specs.Command.{IsCommand, command_text}
-use Rattle.ee_script.specs.Script.{AreCommands, IsScript, script}
+use Rattle.ee_script.specs.Command.{IsCommand}
+use Rattle.ee_script.specs.Script.{IsFirstBadLineOf, script}
 use Rattle.ee_faults.specs.Fault.{fault_of_certificate, fault_of_check, fault_of_plan, fault_of_script}
 use Rattle.ee_faults.specs.declared.fault.Fault.{Fault}
 use Rattle.ee_commands.specs.Images.{IsOpeningFault}
@@ -39,12 +39,15 @@ KeepsPower (Arm fuse) = ⊥
 KeepsPower PowerOn = ⊥
 KeepsPower command = Unit {0}
 
+abbrev pub IsTraceCommand : Command → Type 0
+IsTraceCommand command = IsCommand command × KeepsPower command
+
 -- these are the writes and forgettings of the script that the text is, which neither cuts power nor turns it on; what it
 -- reads and what it cleans changes no value
 pub record IsTrace (text : List ℕ) (trace : List Change) : Type 0 where
   pub commands : List Command
-  pub is_script : IsScript text commands
-  pub keep_power : AllByRecursion KeepsPower commands
+  pub proper : AllByRecursion IsTraceCommand commands
+  pub text_is : text ≡ script commands
   pub trace_is : trace ≡ trace_of commands
 
 -- the start that the image gives, and the trace of the script
@@ -87,25 +90,9 @@ pub record NamesFault {Cause : Type 0} (named : Cause → Fault) (Applies : Caus
   pub applies : Applies cause
   pub fault_is : fault ≡ named cause
 
--- no line of a command that a trace's script may have stands at the front of the text
-abbrev pub NoTraceLine : List ℕ → Type 0
-NoTraceLine text = (command : Command) (more : List ℕ) → IsCommand command → KeepsPower command → text ≢ line_of (command_text command) ++ more
-
--- Line n is the first bad one of a trace's script: the good lines before it are one fewer, and after them the text goes
--- on, but not with a good line. A line that cuts power or turns it on is bad too.
-pub record IsFirstBadTraceLine (text : List ℕ) (n : ℕ) : Type 0 where
-  pub good : List Command
-  pub rest : List ℕ
-  pub proper : AreCommands good
-  pub keep_power : AllByRecursion KeepsPower good
-  pub text_is : text ≡ script good ++ rest
-  pub goes_on : rest ≢ []
-  pub bad : NoTraceLine rest
-  pub number : n ≡ length good + 1
-
--- why a text gives no trace: its first bad line, or want of memory
+-- why a text gives no trace: its first bad line, as is here one that cuts power or turns it on; or want of memory
 abbrev pub IsTraceFault : List ℕ → ScriptFault → Type 0
-IsTraceFault text (BadLine n) = IsFirstBadTraceLine text n
+IsTraceFault text (BadLine n) = IsFirstBadLineOf IsTraceCommand text n
 IsTraceFault text Memory = Unit {0}
 
 -- why a start and a trace can't be had, the first cause that applies: no store is opened from the image, or one is and the

@@ -1,8 +1,9 @@
 //! Plans of scripts on images, and the certificates that prove them.
 ghost use Rattle.std.specs.Prelude.{◌≡◌, ◌≢◌, ◌⊎◌, ◌++◌, ◌∷◌, [], IfErr, IfNone, IfOk, IfSome, MatchResult, OnOk};
 ghost use Rattle.ee_text.specs.Line.{line_of};
-ghost use Rattle.ee_script.specs.Command.{IsCommand, command_text};
-ghost use Rattle.ee_commands.specs.Planning.{IsCheckingFault, IsPlanned, IsPlanningFault, IsProved, IsTask, IsTaskFault, IsTrace, IsTraceFault, KeepsPower, NoTraceLine, proved_text};
+ghost use Rattle.ee_script.specs.Command.{command_text};
+ghost use Rattle.ee_script.specs.Script.{NoLineOf};
+ghost use Rattle.ee_commands.specs.Planning.{IsCheckingFault, IsPlanned, IsPlanningFault, IsProved, IsTask, IsTaskFault, IsTrace, IsTraceCommand, IsTraceFault, proved_text};
 ghost use Rattle.ee_image_store.specs.Trace.{trace_of};
 
 use ee_check::{Change, Start, check, read_certificate, write_certificate};
@@ -117,9 +118,9 @@ pub(crate) fn read_trace<A: Allocator + Copy>(
 /// The command whose line stands at the front of a text, and what stands behind the line. None where
 /// no line stands there that a trace's script may have.
 fn next_of_trace(text: &[u8]) -> Option<(Command, &[u8])>
-    ensures found { IfSome result (λ parts. IsCommand parts.0 × KeepsPower parts.0
+    ensures found { IfSome result (λ parts. IsTraceCommand parts.0
         × (text.now ≡ line_of (command_text parts.0) ++ parts.1.now)) }
-    ensures none { IfNone result (NoTraceLine text.now) }
+    ensures none { IfNone result (NoLineOf IsTraceCommand text.now) }
 {
     match next_command(text) {
         Some((Command::Arm { .. } | Command::PowerOn, _)) => None,

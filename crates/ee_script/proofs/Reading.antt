@@ -1,6 +1,7 @@
 -- A text is read in one way.
 use Rattle.std.proofs.Common.{◌≡◌, ℕ, ◌+◌, ◌<◌, ◌^◌, ◌++◌, List, [], ◌∷◌, length, get_or, refl, sym, ◌∙◌, ap, arith, append_assoc, length-append, inl}
 use Rattle.std.specs.Fmt.{decimal}
+use Rattle.std.specs.List.{AllByRecursion}
 use Rattle.std.proofs.lemmas.Fmt.{decimal_injective}
 use Rattle.std.proofs.lemmas.List.{append-nil}
 use Rattle.ee_codec.specs.Words.{IsAddress, IsValue}
@@ -12,7 +13,7 @@ use Rattle.ee_text.proofs.Public.{first_place, Lacks-decimal, first_line}
 use Rattle.ee_script.specs.declared.command.Command.{Command}
 use Rattle.ee_script.specs.declared.command.Command.TheVariants.{Write, Read, Forget, Clean, Arm, PowerOn}
 use Rattle.ee_script.specs.Command.{IsCommand, letter, command_text}
-use Rattle.ee_script.specs.Script.{script, AreCommands, NoLine, IsScript, IsFirstBadCommandLine}
+use Rattle.ee_script.specs.Script.{script, NoLine, NoLineOf, IsScript, IsFirstBadCommandLine, IsFirstBadLineOf}
 use Rattle.ee_script.proofs.Spelling.{Lacks-spelling}
 
 -- ---- two commands are never spelled alike
@@ -104,35 +105,53 @@ spelling_injective PowerOn PowerOn h k e = refl
 
 -- ---- the good lines at the front of a text
 
--- the lines in front of what is no good line are determined
-pub good_front : (cs ds : List Command) (x y : List ℕ) → AreCommands cs → AreCommands ds → NoLine x → NoLine y → script cs ++ x ≡ script ds ++ y → (cs ≡ ds) × (x ≡ y)
-good_front [] [] x y h k no_x no_y e = (refl, e)
-good_front [] (d ∷ ds) x y h k no_x no_y e = absurd (no_x d (script ds ++ y) k.0 (e ∙ append_assoc (line_of (command_text d)) (script ds) y))
-good_front (c ∷ cs) [] x y h k no_x no_y e = absurd (no_y c (script cs ++ x) h.0 (sym e ∙ append_assoc (line_of (command_text c)) (script cs) x))
-good_front (c ∷ cs) (d ∷ ds) x y h k no_x no_y e =
-    let lines : line_of (command_text c) ++ (script cs ++ x) ≡ line_of (command_text d) ++ (script ds ++ y) =
-    sym (append_assoc (line_of (command_text c)) (script cs) x) ∙ e ∙ append_assoc (line_of (command_text d)) (script ds) y in
-    let first = first_line (command_text c) (command_text d) (script cs ++ x) (script ds ++ y) (Lacks-spelling c h.0) (Lacks-spelling d k.0) lines in
-    let command : c ≡ d = spelling_injective c d h.0 k.0 first.0 in
-    let rest = good_front cs ds x y h.1 k.1 no_x no_y first.1 in
-    let commands = rest.0 in
-    (cc, rest.1)
-
 -- nothing has no line
 pub no_line_in_nothing : NoLine []
 no_line_in_nothing command more proper e = omega (arith, ap length e, length-append (line_of (command_text command)) more, length-append (command_text command) (10 ∷ []))
 
+-- the lines in front of what is no good line are determined, whichever commands are good
+module _ (IsGood : Command → Type 0) (proper : (command : Command) → IsGood command → IsCommand command) where
+  none_in_nothing : NoLineOf IsGood []
+  none_in_nothing command more is = no_line_in_nothing command more (proper command is)
+
+  good_front : (cs ds : List Command) (x y : List ℕ) → AllByRecursion IsGood cs → AllByRecursion IsGood ds → NoLineOf IsGood x → NoLineOf IsGood y
+      → script cs ++ x ≡ script ds ++ y → (cs ≡ ds) × (x ≡ y)
+  good_front [] [] x y h k no_x no_y e = (refl, e)
+  good_front [] (d ∷ ds) x y h k no_x no_y e = absurd (no_x d (script ds ++ y) k.0 (e ∙ append_assoc (line_of (command_text d)) (script ds) y))
+  good_front (c ∷ cs) [] x y h k no_x no_y e = absurd (no_y c (script cs ++ x) h.0 (sym e ∙ append_assoc (line_of (command_text c)) (script cs) x))
+  good_front (c ∷ cs) (d ∷ ds) x y h k no_x no_y e =
+      let lines : line_of (command_text c) ++ (script cs ++ x) ≡ line_of (command_text d) ++ (script ds ++ y) =
+      sym (append_assoc (line_of (command_text c)) (script cs) x) ∙ e ∙ append_assoc (line_of (command_text d)) (script ds) y in
+      let first = first_line (command_text c) (command_text d) (script cs ++ x) (script ds ++ y)
+      (Lacks-spelling c (proper c h.0)) (Lacks-spelling d (proper d k.0)) lines in
+      let command : c ≡ d = spelling_injective c d (proper c h.0) (proper d k.0) first.0 in
+      let rest = good_front cs ds x y h.1 k.1 no_x no_y first.1 in
+      let commands = rest.0 in
+      (cc, rest.1)
+
+  pub one_reading : (text : List ℕ) (commands others : List Command) → AllByRecursion IsGood commands → text ≡ script commands → AllByRecursion IsGood others → text ≡ script others
+      → commands ≡ others
+  one_reading text commands others good is good_too is_too =
+      (good_front commands others [] [] good good_too none_in_nothing none_in_nothing
+      (append-nil (script commands) ∙ sym is ∙ is_too ∙ sym (append-nil (script others)))).0
+
+  pub one_bad_line : (text : List ℕ) (m n : ℕ) → IsFirstBadLineOf IsGood text m → IsFirstBadLineOf IsGood text n → m ≡ n
+  one_bad_line text m n first second =
+      let same = good_front first.good second.good first.rest second.rest first.proper second.proper first.bad second.bad (sym first.text_is ∙ second.text_is) in
+      first.number ∙ ap (λ good. length good + 1) same.0 ∙ sym second.number
+
+  pub no_bad_line : (text : List ℕ) (commands : List Command) (n : ℕ) → AllByRecursion IsGood commands → text ≡ script commands → IsFirstBadLineOf IsGood text n → ⊥
+  no_bad_line text commands n good whole bad =
+      let same = good_front commands bad.good [] bad.rest good bad.proper none_in_nothing bad.bad
+      (append-nil (script commands) ∙ sym whole ∙ bad.text_is) in
+      bad.goes_on (sym same.1)
+
 pub one_script_lem : (text : List ℕ) (commands others : List Command) → IsScript text commands → IsScript text others → commands ≡ others
 one_script_lem text commands others first second =
-    (good_front commands others [] [] first.proper second.proper no_line_in_nothing no_line_in_nothing
-    (append-nil (script commands) ∙ sym first.text_is ∙ second.text_is ∙ sym (append-nil (script others)))).0
+    one_reading IsCommand (λ command is. is) text commands others first.proper first.text_is second.proper second.text_is
 
 pub one_first_bad_line_lem : (text : List ℕ) (m n : ℕ) → IsFirstBadCommandLine text m → IsFirstBadCommandLine text n → m ≡ n
-one_first_bad_line_lem text m n first second =
-    let same = good_front first.good second.good first.rest second.rest first.proper second.proper first.bad second.bad (sym first.text_is ∙ second.text_is) in
-    first.number ∙ ap (λ good. length good + 1) same.0 ∙ sym second.number
+one_first_bad_line_lem = one_bad_line IsCommand (λ command is. is)
 
 pub scripts_are_good_lem : (text : List ℕ) (commands : List Command) (n : ℕ) → IsScript text commands → IsFirstBadCommandLine text n → ⊥
-scripts_are_good_lem text commands n whole bad =
-    let same = good_front commands bad.good [] bad.rest whole.proper bad.proper no_line_in_nothing bad.bad (append-nil (script commands) ∙ sym whole.text_is ∙ bad.text_is) in
-    bad.goes_on (sym same.1)
+scripts_are_good_lem text commands n whole = no_bad_line IsCommand (λ command is. is) text commands n whole.proper whole.text_is

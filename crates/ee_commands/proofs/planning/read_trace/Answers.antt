@@ -14,11 +14,11 @@ returns-in_default-clause-fault g c =
     (goes_on c.lines.rest.now (sym c.lines-test.true ∙ c.is_empty.ensures)) c.in_default.ensures.none
 
 pub lines-smaller : goal.lines-smaller
-lines-smaller g c = let longer = line_is_longer c.lines.rest.now c.in-Some.more.now c.in-Some.command c.in-Some.ensures.found.2 in omega arith
+lines-smaller g c = let longer = line_is_longer c.lines.rest.now c.in-Some.more.now c.in-Some.command c.in-Some.ensures.found.1 in omega arith
 
 pub lines-preserved : goal.lines-preserved
 lines-preserved g c =
-    let longer = line_is_longer c.lines.rest.now c.in-Some.more.now c.in-Some.command c.in-Some.ensures.found.2 in
+    let longer = line_is_longer c.lines.rest.now c.in-Some.more.now c.in-Some.command c.in-Some.ensures.found.1 in
     record {
       read = one_line_more c.args.script.now c.lines.rest.now c.in-Some.more.now c.lines.trace.items _ c.lines.line _ c.in-Some.command c.lines.invariant.read
           (omega arith) c.in-Some.ensures.found c.in_ok-push_change.ensures;
