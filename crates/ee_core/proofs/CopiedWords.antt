@@ -1,16 +1,13 @@
 -- The elements of the addresses that are copied, address by address.
-use Rattle.std.proofs.Common.{◌≡◌, inl, inr, ℕ, ◌+◌, ◌<◌, ◌≤◌, Some, None, List, [], ◌∷◌, ◌++◌, length, refl, sym, subst, ap, ◌∙◌, arith, suc, zero, append-nil, length-append}
+use Rattle.std.proofs.Common.{◌≡◌, inl, inr, ℕ, ◌<◌, ◌≤◌, Some, None, List, [], ◌∷◌, ◌++◌, refl, ap, ◌∙◌, arith, suc, zero, append-nil}
 use Rattle.std.proofs.lemmas.Bool.{cases_eq, cases_lt}
 use Rattle.ee_codec.specs.Words.{element}
-use Rattle.ee_flash.specs.Device.{Device}
 use Rattle.ee_flash.specs.declared.word.Word.{Word}
 use Rattle.ee_flash.specs.declared.word.Word.TheVariants.{Held}
 use Rattle.ee_pages.specs.Meaning.{Change, Forget, IsNextLive, Map, Put, map_after}
 use Rattle.ee_pages.specs.Pending.{address_of}
-use Rattle.ee_pages.specs.declared.side.Side.{Side}
-use Rattle.ee_core.proofs.FilledSets.{adds_both}
 use Rattle.ee_core.proofs.CopiedMaps.{forget-at, forget-other}
-use Rattle.ee_core.specs.Parts.{AddsWords, put_words}
+use Rattle.ee_core.specs.Parts.{put_words}
 use Rattle.ee_core.specs.Picture.{element_at, elements_of, elements_to, moved_words}
 
 pub no_elements : (map : Map) → elements_to map zero ≡ []
@@ -69,43 +66,7 @@ module _ (map : Map) (except : ℕ) where
   pub no_words : elements_to others 0 ≡ []
   no_words = no_elements others
 
--- the set that is filled, after the next address that has a value, whether it is the one that is not copied or not
-pub adds_next : (map : Map) (except above next value : ℕ) (old mid new : Device) (side : Side) (generation count so_far more : ℕ) → mid.size ≡ old.size → new.size ≡ mid.size → IsNextLive map above (Some (next, value))
-    → AddsWords old mid side generation count (elements_to (others map except) above) → so_far ≡ count + length (elements_to (others map except) above)
-    → (next ≡ except → (more ≡ so_far) × (new ≡ mid))
-    → ((next ≡ except → ⊥) → (more ≡ so_far + 1) × AddsWords mid new side generation so_far (Held (element next value) ∷ []))
-    → AddsWords old new side generation count (elements_to (others map except) next) × (more ≡ count + length (elements_to (others map except) next))
-adds_next map except above next value old mid new side generation count so_far more first_sizes second_sizes is adds counted passing copying = elim (cases_eq next except) [
-  | inl here ↦
-      let left = passing here in
-      let same = passed_word map except above next value is here in (
-        subst (λ (device : Device). AddsWords old device side generation count (elements_to (others map except) next)) (sym left.1)
-            (subst (λ (words : List Word). AddsWords old mid side generation count words) (sym same) adds),
-        left.0 ∙ counted ∙ ap (λ (words : List Word). count + length words) (sym same),
-      )
-  | inr away ↦
-      let taken = copying away in
-      let one = copied_word map except above next value is away in
-      let further : AddsWords mid new side generation (count + length (elements_to (others map except) above)) (Held (element next value) ∷ []) =
-      subst (λ n. AddsWords mid new side generation n (Held (element next value) ∷ [])) counted taken.1 in
-      let both = adds_both old mid new side generation count (elements_to (others map except) above) (Held (element next value) ∷ []) first_sizes second_sizes adds further in
-      let long = length-append (elements_to (others map except) above) (Held (element next value) ∷ []) in (
-        subst (λ (words : List Word). AddsWords old new side generation count words) (sym one) both,
-        omega (arith, taken.0, counted, long, ap length one),
-      )
-]
-
 -- the change first, and then the others
 pub all_moved : (change : Change) (map : Map) → put_words change ++ elements_of (others map (address_of change)) ≡ moved_words change map
 all_moved (Put address value) map = refl
 all_moved (Forget address) map = refl
-
-pub adds_all : (change : Change) (old mid new : Device) (side : Side) (generation count except : ℕ) (map now : Map) → mid.size ≡ old.size → new.size ≡ mid.size → except ≡ address_of change → now ≡ map → count ≡ length (put_words change)
-    → AddsWords old mid side generation 0 (put_words change) → AddsWords mid new side generation count (elements_of (others now except)) → AddsWords old new side generation 0 (moved_words change map)
-adds_all change old mid new side generation count except map now first_sizes second_sizes named same counted first second =
-    let there : AddsWords mid new side generation count (elements_of (others map except)) = subst (λ (said : Map). AddsWords mid new side generation count (elements_of (others said except))) same second in
-    let of_change : AddsWords mid new side generation count (elements_of (others map (address_of change))) = subst (λ n. AddsWords mid new side generation count (elements_of (others map n))) named there in
-    let from : count ≡ 0 + length (put_words change) = omega arith in
-    let further : AddsWords mid new side generation (0 + length (put_words change)) (elements_of (others map (address_of change))) = subst (λ n. AddsWords mid new side generation n (elements_of (others map (address_of change)))) from of_change in
-    subst (λ (words : List Word). AddsWords old new side generation 0 words) (all_moved change map)
-    (adds_both old mid new side generation 0 (put_words change) (elements_of (others map (address_of change))) first_sizes second_sizes first further)

@@ -1,5 +1,5 @@
 -- What is drawn where power was cut in filling a set, and in committing it.
-use Rattle.std.proofs.Common.{◌≡◌, ◌≢◌, Some, suc, zero, append-nil, inl, inr, ℕ, ◌+◌, ◌-◌, ◌<◌, ◌≤◌, ◌/◌, true, List, [], ◌∷◌, ◌++◌, length, refl, sym, subst, ap, ◌∙◌, arith, append_assoc, length-append}
+use Rattle.std.proofs.Common.{◌≡◌, suc, zero, append-nil, inl, inr, ℕ, ◌+◌, ◌-◌, ◌<◌, ◌≤◌, ◌/◌, true, List, [], ◌∷◌, ◌++◌, length, refl, sym, subst, ap, ◌∙◌, arith, append_assoc, length-append}
 use Rattle.std.proofs.Math.Nat.{div-mul-le_self}
 use Rattle.std.proofs.lemmas.Bool.{cases_eq, cases_lt, le-leb, le-ltb, lt-leb, lt-ltb, ne_eqb}
 use Rattle.std.proofs.lemmas.List.{get_or_append_left, get_or_past}
@@ -7,7 +7,7 @@ use Rattle.std.proofs.lemmas.Nat.{le-div}
 use Rattle.ee_flash.specs.Device.{Device, IsFormed}
 use Rattle.ee_flash.specs.Size.{Size, slot_count}
 use Rattle.ee_flash.specs.declared.word.Word.{Word}
-use Rattle.ee_flash.specs.declared.word.Word.TheVariants.{Erased, Held}
+use Rattle.ee_flash.specs.declared.word.Word.TheVariants.{Erased}
 use Rattle.ee_pages.specs.Legal.{IsLive, slots_before}
 use Rattle.ee_core.proofs.MarkedSets.{waits}
 use Rattle.ee_pages.specs.Sets.{fill_of, first_page, other, page_of_slot, place_of_slot, set_of, slots_of}
@@ -21,15 +21,14 @@ use Rattle.ee_core.specs.Openings.{ShowsCutFormat}
 use Rattle.ee_pages.specs.declared.state.Mark.TheVariants.{Active, Receive}
 use Rattle.ee_core.proofs.Cuts.{IsOnTheWay, drawn_between, mark_drawn_partly, put_apart_partly, put_partly}
 use Rattle.ee_core.proofs.Drawings.{drawn_both, page_of_its_set, put_apart, with_mark}
-use Rattle.ee_core.proofs.FilledSets.{OpensForSlot, near, one_word_more, opens_further}
+use Rattle.ee_core.proofs.FilledSets.{near, one_word_more, opens_further}
+use Rattle.ee_core.specs.Transfers.{OpensForSlot}
 use Rattle.ee_core.proofs.MovedSets.{all_marked, all_waiting, blank_drawn, committed, first_opened, opens_blank}
 use Rattle.ee_core.specs.Cuts.{AddsPartly, FillsPartly, IsDrawnPartly, PutsPartly, SetsPartly}
-use Rattle.ee_core.specs.Parts.{AddsWords, Holds, SetsMark, opened_set, put_words}
-use Rattle.ee_core.proofs.CopiedWords.{all_moved, copied_word, one_further, others}
-use Rattle.ee_codec.specs.Words.{element}
-use Rattle.ee_pages.specs.Meaning.{Change, IsNextLive, Map}
-use Rattle.ee_pages.specs.Pending.{address_of}
-use Rattle.ee_core.specs.Picture.{IsDrawn, blank, element_at, elements_of, elements_to, filled_set, marked_to, moved_words, picture_of, retired_pages}
+use Rattle.ee_core.specs.Parts.{AddsWords, Holds, SetsMark, opened_set}
+use Rattle.ee_core.proofs.CopiedWords.{one_further}
+use Rattle.ee_pages.specs.Meaning.{Map}
+use Rattle.ee_core.specs.Picture.{IsDrawn, blank, element_at, elements_to, filled_set, marked_to, picture_of, retired_pages}
 
 page_later : (size : Size) (n m : ℕ) → 0 < size.words - 4 → n ≤ m → page_of_slot size n ≤ page_of_slot size m
 page_later size n m some h = let fits = div-mul-le_self n (size.words - 4) in le-div (n / (size.words - 4)) m (size.words - 4) some (omega (arith, fits))
@@ -242,7 +241,7 @@ stage_partly old mid new side generation count word first formed sizes h inside 
 }
 
 -- the elements up to an address come first
-elements_front : (map : Map) (n m : ℕ) → n ≤ m → (rest : List Word) × (elements_to map m ≡ elements_to map n ++ rest)
+pub elements_front : (map : Map) (n m : ℕ) → n ≤ m → (rest : List Word) × (elements_to map m ≡ elements_to map n ++ rest)
 elements_front map n zero h = let e : zero ≡ n = omega arith in ([], ap (elements_to map) e ∙ sym (append-nil (elements_to map n)))
 elements_front map n (suc m) h = elim (cases_lt n (suc m)) [
   | inr last ↦ let e : suc m ≡ n = omega arith in ([], ap (elements_to map) e ∙ sym (append-nil (elements_to map n)))
@@ -253,37 +252,6 @@ elements_front map n (suc m) h = elim (cases_lt n (suc m)) [
         one_further map m ∙ ap (λ words. words ++ next) front.1 ∙ append_assoc (elements_to map n) front.0 next,
       )
 ]
-
--- cut in copying the next address that has a value
-pub copies_partly : (map : Map) (except above next value : ℕ) (old mid new : Device) (side : Side) (generation count so_far : ℕ) → IsFormed new → mid.size ≡ old.size → new.size ≡ mid.size → IsNextLive map above (Some (next, value)) → next < 65535
-    → AddsWords old mid side generation count (elements_to (others map except) above) → so_far ≡ count + length (elements_to (others map except) above)
-    → (next ≢ except) × AddsPartly mid new side generation so_far (Held (element next value) ∷ [])
-    → AddsPartly old new side generation count (elements_of (others map except))
-copies_partly map except above next value old mid new side generation count so_far formed first_sizes second_sizes is proper adds counted copying =
-    let one = copied_word map except above next value is copying.0 in
-    let further : AddsPartly mid new side generation (count + length (elements_to (others map except) above)) (Held (element next value) ∷ []) =
-    subst (λ n. AddsPartly mid new side generation n (Held (element next value) ∷ [])) counted copying.1 in
-    let both = adds_then old mid new side generation count (elements_to (others map except) above) (Held (element next value) ∷ []) first_sizes second_sizes adds further in
-    let there : AddsPartly old new side generation count (elements_to (others map except) next) = subst (λ (words : List Word). AddsPartly old new side generation count words) (sym one) both in
-    let front = elements_front (others map except) next 65534 (omega arith) in
-    subst (λ (words : List Word). AddsPartly old new side generation count words) (sym front.1) (partly_longer old new side generation count (elements_to (others map except) next) front.0 formed there)
-
--- cut in the change that comes first
-pub first_partly : (change : Change) (old new : Device) (side : Side) (generation : ℕ) (map : Map) → IsFormed new → AddsPartly old new side generation 0 (put_words change) → AddsPartly old new side generation 0 (moved_words change map)
-first_partly change old new side generation map formed adds =
-    subst (λ (words : List Word). AddsPartly old new side generation 0 words) (all_moved change map)
-    (partly_longer old new side generation 0 (put_words change) (elements_of (others map (address_of change))) formed adds)
-
--- or in the others
-pub others_partly : (change : Change) (old mid new : Device) (side : Side) (generation count except : ℕ) (map now : Map) → mid.size ≡ old.size → new.size ≡ mid.size → except ≡ address_of change → now ≡ map → count ≡ length (put_words change)
-    → AddsWords old mid side generation 0 (put_words change) → AddsPartly mid new side generation count (elements_of (others now except)) → AddsPartly old new side generation 0 (moved_words change map)
-others_partly change old mid new side generation count except map now first_sizes second_sizes named same counted first second =
-    let there : AddsPartly mid new side generation count (elements_of (others map except)) = subst (λ (said : Map). AddsPartly mid new side generation count (elements_of (others said except))) same second in
-    let of_change : AddsPartly mid new side generation count (elements_of (others map (address_of change))) = subst (λ n. AddsPartly mid new side generation count (elements_of (others map n))) named there in
-    let from : count ≡ 0 + length (put_words change) = omega arith in
-    let further : AddsPartly mid new side generation (0 + length (put_words change)) (elements_of (others map (address_of change))) = subst (λ n. AddsPartly mid new side generation n (elements_of (others map (address_of change)))) from of_change in
-    subst (λ (words : List Word). AddsPartly old new side generation 0 words) (all_moved change map)
-    (adds_then old mid new side generation 0 (put_words change) (elements_of (others map (address_of change))) first_sizes second_sizes first further)
 
 -- cut in a mark of the set that was left
 pub retires_partly : (side : Side) (old mid new : Device) (generation : ℕ) → IsLive old side generation → fill_of (slots_of (set_of side old)) ≡ slot_count old.size → IsFormed mid → mid.size ≡ old.size → new.size ≡ mid.size → IsDrawn side mid (picture_of side old)

@@ -7,7 +7,8 @@ use Rattle.std.proofs.lemmas.Nat.{div-mul-add, mod-mul-add}
 use Rattle.ee_flash.specs.Device.{Device, IsFormed}
 use Rattle.ee_flash.specs.Size.{Size}
 use Rattle.ee_flash.specs.declared.word.Word.{Word}
-use Rattle.ee_flash.specs.declared.word.Word.TheVariants.{Erased}
+use Rattle.ee_flash.specs.declared.word.Word.TheVariants.{Erased, Held}
+use Rattle.ee_pages.specs.Filling.{IsFilling}
 use Rattle.ee_pages.specs.Legal.{slots_before}
 use Rattle.ee_pages.specs.Sets.{first_page, other, page_of_slot, place_of_slot}
 use Rattle.ee_pages.specs.declared.side.Side.{Side}
@@ -15,8 +16,10 @@ use Rattle.ee_pages.specs.declared.state.Mark.TheVariants.{Receive}
 use Rattle.ee_pages.proofs.Public.{split_by}
 use Rattle.ee_core.proofs.Drawings.{drawn_as, drawn_both, drawn_same, mark_drawn, put_drawn, with_mark, with_word-elsewhere, with_word-there}
 use Rattle.ee_core.proofs.OpenedPages.{next_place, same_place}
-use Rattle.ee_core.specs.Parts.{AddsWords, Holds, PutsWord, SetsMark, opened_set}
-use Rattle.ee_core.specs.Picture.{IsDrawn, picture_of, picture_with_word}
+use Rattle.ee_core.specs.Parts.{AddsWords, Holds, PutsWord, SetsMark, number_written, opened_set}
+use Rattle.ee_core.specs.Picture.{IsDrawn, picture_with_word}
+use Rattle.ee_core.specs.Transfers.{OpensForSlot, PutsInSlot}
+use Rattle.ee_core.specs.declared.change.Change.{Change}
 
 -- the receive word of the page up to which the set is open, or of the next one
 pub opens_further : (size : Size) (generation last k : ℕ) (words : List Word) (page at : ℕ) → (k ≡ last) ⊎ (k ≡ last + 1) → with_mark k (Receive generation) (opened_set size generation last words) page at ≡ opened_set size generation k words page at
@@ -119,37 +122,31 @@ adds_both old mid new side generation count more further first_sizes second_size
       (second.new_pages (words ++ more) (length-append words more ∙ ap (λ n. n + length more) long) (first.new_pages words long holds));
 }
 
--- the page of the first free slot is open
-pub record OpensForSlot (old mid : Device) (side : Side) (generation count : ℕ) : Type 0 where
-  pub sizes : mid.size ≡ old.size
-  pub live_pages : IsDrawn side mid (picture_of side old)
-  pub opens : (words : List Word) → length words ≡ count
-      → IsDrawn (other side) old (opened_set old.size generation (page_of_slot old.size (count - 1)) words)
-      → IsDrawn (other side) mid (opened_set old.size generation (page_of_slot old.size count) words)
-
-pub open_already : (device : Device) (side : Side) (generation count : ℕ) → IsFormed device → count % (device.size.words - 4) ≢ 0 → OpensForSlot device device side generation count
-open_already device side generation count formed inside = record {
+-- the page of the first free slot may be open
+pub open_already : (device : Device) (side : Side) (generation count : ℕ) → IsFilling device (other side) generation count → count % (device.size.words - 4) ≢ 0 → OpensForSlot device device side generation count
+open_already device side generation count filling inside = record {
   sizes = refl;
+  filling = filling;
+  same_slots = refl;
   live_pages = drawn_same side device;
   opens = λ words long drawn.
       subst (λ last. IsDrawn (other side) device (opened_set device.size generation last words))
-      (sym (same_place count (device.size.words - 4) (omega (arith, formed.within_limits.some_words)) (inr inside))) drawn;
+      (sym (same_place count (device.size.words - 4) (omega (arith, filling.formed.within_limits.some_words)) (inr inside))) drawn;
 }
 
 -- and then a word stands in it
-pub stages : (old mid new : Device) (side : Side) (generation count : ℕ) (word : Word) → OpensForSlot old mid side generation count → new.size ≡ mid.size → IsDrawn side new (picture_of side mid)
-    → ((words : List Word) → length words ≡ count → IsDrawn (other side) mid (opened_set mid.size generation (page_of_slot mid.size count) words) → IsDrawn (other side) new (opened_set mid.size generation (page_of_slot mid.size count) (words ++ (word ∷ []))))
-    → AddsWords old new side generation count (word ∷ [])
-stages old mid new side generation count word first sizes live_pages puts = record {
-  live_pages = drawn_both side old mid new first.sizes sizes first.live_pages live_pages;
+pub stages : (old mid new : Device) (side : Side) (generation count : ℕ) (change : Change) → OpensForSlot old mid side generation count → PutsInSlot mid new side generation count change → AddsWords old new side generation count (Held (number_written change) ∷ [])
+stages old mid new side generation count change first second = record {
+  live_pages = drawn_both side old mid new first.sizes second.sizes first.live_pages second.live_pages;
   new_pages = λ words long holds.
+      let word = Held (number_written change) in
       let before : IsDrawn (other side) old (opened_set old.size generation (page_of_slot old.size (count - 1)) words) = subst (λ n. IsDrawn (other side) old (opened_set old.size generation (page_of_slot old.size (n - 1)) words)) long holds in
       let open_now : IsDrawn (other side) mid (opened_set mid.size generation (page_of_slot mid.size count) words) =
       subst (λ (size : Size). IsDrawn (other side) mid (opened_set size generation (page_of_slot size count) words)) (sym first.sizes) (first.opens words long before) in
       let last : count ≡ length (words ++ (word ∷ [])) - 1 = omega (arith, length-append words (word ∷ []), long) in
       let there : IsDrawn (other side) new (opened_set mid.size generation (page_of_slot mid.size (length (words ++ (word ∷ [])) - 1)) (words ++ (word ∷ []))) =
-      subst (λ n. IsDrawn (other side) new (opened_set mid.size generation (page_of_slot mid.size n) (words ++ (word ∷ [])))) last (puts words long open_now) in
-      subst (λ (size : Size). IsDrawn (other side) new (opened_set size generation (page_of_slot size (length (words ++ (word ∷ [])) - 1)) (words ++ (word ∷ [])))) (sym sizes) there;
+      subst (λ n. IsDrawn (other side) new (opened_set mid.size generation (page_of_slot mid.size n) (words ++ (word ∷ [])))) last (second.puts words long open_now) in
+      subst (λ (size : Size). IsDrawn (other side) new (opened_set size generation (page_of_slot size (length (words ++ (word ∷ [])) - 1)) (words ++ (word ∷ [])))) (sym second.sizes) there;
 }
 
 pub adds_none : (device : Device) (side : Side) (generation count : ℕ) → AddsWords device device side generation count []

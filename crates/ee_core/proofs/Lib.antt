@@ -19,6 +19,7 @@ mod OpenedPages
 mod CopiedMaps
 mod Courses
 mod MovingFacts
+mod Fillings
 mod OtherSteps
 mod Making
 mod Running

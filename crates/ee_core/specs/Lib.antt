@@ -7,6 +7,7 @@ pub mod Openings
 pub mod Points
 pub mod Parts
 pub mod Cuts
+pub mod Transfers
 pub mod Course
 pub mod Runs
 pub mod PageStates

@@ -1,19 +1,17 @@
-ghost use Rattle.std.specs.Prelude.{◌≡◌, ◌≢◌, ◌<◌, ◌≤◌, ℕ, ◌+◌, ◌-◌, IfOk, IfSome, List, [], ◌∷◌, ◌++◌, None, Ok, OnErr, OnOk, OnSome, length, slice_set};
-ghost use Rattle.std.specs.List.{All};
-ghost use Rattle.ee_codec.specs.Words.{IsAddress, IsGeneration, element};
+ghost use Rattle.std.specs.Prelude.{◌≡◌, ◌≢◌, ◌<◌, ◌≤◌, ℕ, ◌+◌, IfOk, IfSome, [], ◌∷◌, None, Ok, OnErr, OnOk, OnSome, length, slice_set};
+ghost use Rattle.ee_codec.specs.Words.{IsAddress, element};
 ghost use Rattle.ee_flash.specs.Power.{Ends};
 ghost use Rattle.ee_flash.specs.Size.{slot_count};
-ghost use Rattle.ee_flash.specs.declared.word.Word.{Word};
 ghost use Rattle.ee_flash.specs.declared.word.Word.TheVariants.{Held};
-ghost use Rattle.ee_pages.specs.Filling.{IsFilling};
 ghost use Rattle.ee_pages.specs.Laws.{KeepsLiveSet};
 ghost use Rattle.ee_pages.specs.Layout.{IsLayout};
-ghost use Rattle.ee_pages.specs.Meaning.{AreLiveThrough, Forget, IsNextLive, Put, SpellsChange, map_after, live_in};
+ghost use Rattle.ee_pages.specs.Meaning.{Forget, IsNextLive, Put, SpellsChange, map_after, live_in};
 ghost use Rattle.ee_pages.specs.Sets.{first_page as first_of, other as other_of, page_of_slot, place_of_slot, set_of, slots_of};
 ghost use Rattle.ee_core.specs.Course.{GoesOver, course_of, last_given};
-ghost use Rattle.ee_core.specs.Cuts.{AddsPartly, PutsPartly, SetsPartly};
-ghost use Rattle.ee_core.specs.Parts.{AddsWords, Stands, map_in, meant, number_written, opened_set, put_words, replaced_map};
-ghost use Rattle.ee_core.specs.Picture.{IsDrawn, elements_of, moved_words, picture_of};
+ghost use Rattle.ee_core.specs.Cuts.{PutsPartly, SetsPartly};
+ghost use Rattle.ee_core.specs.Parts.{Stands, map_in, meant, number_written, put_words, replaced_map};
+ghost use Rattle.ee_core.specs.Picture.{elements_of, moved_words};
+ghost use Rattle.ee_core.specs.Transfers.{Fills, IsOpenAt, IsNewlyOpened, OpensForSlot, PutsInSlot};
 
 use crate::change::Change;
 use crate::live_cursor::LiveCursor;
@@ -122,36 +120,16 @@ pub(crate) fn fill_set<F: Flash, C: LiveCursor>(
     change: Change,
     cursor: &mut C,
 ) -> Result<usize, Cut>
-    requires layout { IsLayout (F.device flash.old) layout.now }
+    requires opened { IsNewlyOpened (F.device flash.old) layout.now }
     requires first { C.behind cursor.old ≡ 0 }
     requires over { C.goes_over cursor.old (slots_of (set_of layout.now.side (F.device flash.old))) }
-    requires generation { IsGeneration (layout.now.generation + 1) }
-    requires filling { IsFilling (F.device flash.old) (other_of layout.now.side)
-        (layout.now.generation + 1) 0 }
-    requires nothing { (address : ℕ)
-        → map_in (other_of layout.now.side) (F.device flash.old) address ≡ None }
     requires fits { live_in (map_after (meant change) (map_in layout.now.side (F.device flash.old)))
         ≤ slot_count (F.device flash.old).size }
-    ensures keeps { KeepsLiveSet (F.device flash.old)
-        (F.device flash.new) layout.now.side layout.now.generation }
-    ensures filling { IfOk result
-        (IsFilling (F.device flash.new) (other_of layout.now.side) (layout.now.generation + 1)) }
-    ensures map { OnOk result ((address : ℕ)
-        → map_in (other_of layout.now.side) (F.device flash.new) address
-        ≡ map_after (meant change) (map_in layout.now.side (F.device flash.old)) address) }
+    ensures fills { let map = map_in layout.now.side (F.device flash.old) in
+        Fills result (λ count. count) (F.device flash.old) (F.device flash.new) layout.now 0
+        (moved_words (meant change) map) (map_after (meant change) map) }
     ensures each_once { IfOk result (λ count. count
         ≡ live_in (map_after (meant change) (map_in layout.now.side (F.device flash.old)))) }
-    ensures adds { OnOk result
-        (AddsWords (F.device flash.old) (F.device flash.new) layout.now.side
-        (layout.now.generation + 1) 0
-        (moved_words (meant change) (map_in layout.now.side (F.device flash.old)))) }
-    ensures as_many { IfOk result (λ count. count ≡ length
-        (moved_words (meant change) (map_in layout.now.side (F.device flash.old)))) }
-    ensures begun { OnErr result
-        (AddsPartly (F.device flash.old) (F.device flash.new) layout.now.side
-        (layout.now.generation + 1) 0
-        (moved_words (meant change) (map_in layout.now.side (F.device flash.old)))) }
-    ensures wear { (F.device flash.new).wear ≡ (F.device flash.old).wear }
     ensures power { Ends result (F.device flash.old) (F.device flash.new) }
 {
     let address = change.address();
@@ -163,32 +141,11 @@ pub(crate) fn fill_set<F: Flash, C: LiveCursor>(
 // Writes a value that is put into the first slot of the other set; a forgetting takes no slot.
 // Gives the place of the next slot.
 fn put_first<F: Flash>(flash: &mut F, layout: &Layout, change: Change) -> Result<Place, Cut>
-    requires layout { IsLayout (F.device flash.old) layout.now }
-    requires generation { IsGeneration (layout.now.generation + 1) }
-    requires filling { IsFilling (F.device flash.old) (other_of layout.now.side)
-        (layout.now.generation + 1) 0 }
-    requires nothing { (address : ℕ)
-        → map_in (other_of layout.now.side) (F.device flash.old) address ≡ None }
-    ensures keeps { KeepsLiveSet (F.device flash.old)
-        (F.device flash.new) layout.now.side layout.now.generation }
-    ensures filling { IfOk result (λ place.
-        IsFilling (F.device flash.new) (other_of layout.now.side)
-        (layout.now.generation + 1) place.slot) }
-    ensures map { OnOk result ((address : ℕ)
-        → map_in (other_of layout.now.side) (F.device flash.new) address
-        ≡ map_after (meant change) (λ address. None) address) }
-    ensures each_once { IfOk result (λ place. place.slot
-        ≡ live_in (map_in (other_of layout.now.side) (F.device flash.new))) }
-    ensures adds { OnOk result
-        (AddsWords (F.device flash.old) (F.device flash.new) layout.now.side
-        (layout.now.generation + 1) 0 (put_words (meant change))) }
-    ensures as_many { IfOk result (λ place. place.slot ≡ length (put_words (meant change))) }
+    requires opened { IsNewlyOpened (F.device flash.old) layout.now }
+    ensures fills { Fills result (λ place. place.slot) (F.device flash.old) (F.device flash.new)
+        layout.now 0 (put_words (meant change)) (map_after (meant change) (λ address. None)) }
     ensures stands { IfOk result
         (Stands (F.device flash.new).size (other_of layout.now.side)) }
-    ensures begun { OnErr result
-        (AddsPartly (F.device flash.old) (F.device flash.new) layout.now.side
-        (layout.now.generation + 1) 0 (put_words (meant change))) }
-    ensures wear { (F.device flash.new).wear ≡ (F.device flash.old).wear }
     ensures power { Ends result (F.device flash.old) (F.device flash.new) }
 {
     let mut place = first_place(flash, layout);
@@ -208,45 +165,18 @@ fn copy_others<F: Flash, C: LiveCursor>(
     place: Place,
     cursor: &mut C,
 ) -> Result<usize, Cut>
-    requires layout { IsLayout (F.device flash.old) layout.now }
+    requires at { IsOpenAt (F.device flash.old) layout.now place }
     requires first { C.behind cursor.old ≡ 0 }
     requires over { C.goes_over cursor.old (slots_of (set_of layout.now.side (F.device flash.old))) }
-    requires generation { IsGeneration (layout.now.generation + 1) }
-    requires filling { IsFilling (F.device flash.old) (other_of layout.now.side)
-        (layout.now.generation + 1) place.slot }
-    requires stands { Stands (F.device flash.old).size (other_of layout.now.side) place }
     requires only { (address : ℕ) → address ≢ except
         → map_in (other_of layout.now.side) (F.device flash.old) address ≡ None }
-    requires each_once { place.slot
-        ≡ live_in (map_in (other_of layout.now.side) (F.device flash.old)) }
-    requires fits { live_in (replaced_map
-        (map_in (other_of layout.now.side) (F.device flash.old)) except
-        (map_in layout.now.side (F.device flash.old))) ≤ slot_count (F.device flash.old).size }
-    ensures keeps { KeepsLiveSet (F.device flash.old)
-        (F.device flash.new) layout.now.side layout.now.generation }
-    ensures filling { IfOk result
-        (IsFilling (F.device flash.new) (other_of layout.now.side) (layout.now.generation + 1)) }
-    ensures map { OnOk result ((address : ℕ)
-        → map_in (other_of layout.now.side) (F.device flash.new) address
-        ≡ replaced_map (map_in (other_of layout.now.side) (F.device flash.old)) except
-        (map_in layout.now.side (F.device flash.old)) address) }
-    ensures each_once { IfOk result (λ all. all
-        ≡ live_in (replaced_map (map_in (other_of layout.now.side) (F.device flash.old)) except
-        (map_in layout.now.side (F.device flash.old)))) }
-    ensures adds { OnOk result
-        (AddsWords (F.device flash.old) (F.device flash.new) layout.now.side
-        (layout.now.generation + 1) place.slot
-        (elements_of
-        (map_after (Forget except) (map_in layout.now.side (F.device flash.old))))) }
-    ensures as_many { IfOk result (λ all. all ≡ place.slot + length
-        (elements_of
-        (map_after (Forget except) (map_in layout.now.side (F.device flash.old))))) }
-    ensures begun { OnErr result
-        (AddsPartly (F.device flash.old) (F.device flash.new) layout.now.side
-        (layout.now.generation + 1) place.slot
-        (elements_of
-        (map_after (Forget except) (map_in layout.now.side (F.device flash.old))))) }
-    ensures wear { (F.device flash.new).wear ≡ (F.device flash.old).wear }
+    requires fits { place.slot + length
+        (elements_of (map_after (Forget except) (map_in layout.now.side (F.device flash.old))))
+        ≤ slot_count (F.device flash.old).size }
+    ensures fills { let map = map_in layout.now.side (F.device flash.old) in
+        Fills result (λ all. all) (F.device flash.old) (F.device flash.new) layout.now place.slot
+        (elements_of (map_after (Forget except) map))
+        (replaced_map (map_in (other_of layout.now.side) (F.device flash.old)) except map) }
     ensures power { Ends result (F.device flash.old) (F.device flash.new) }
 {
     let mut place = place;
@@ -266,32 +196,17 @@ fn copy_one<F: Flash>(
     address: Address,
     value: u32,
 ) -> Result<(), Cut>
-    requires layout { IsLayout (F.device flash.old) layout.now }
-    requires generation { IsGeneration (layout.now.generation + 1) }
-    requires filling { IsFilling (F.device flash.old) (other_of layout.now.side)
-        (layout.now.generation + 1) place.old.slot }
-    requires stands { Stands (F.device flash.old).size (other_of layout.now.side) place.old }
+    requires at { IsOpenAt (F.device flash.old) layout.now place.old }
     requires free { address ≢ except → place.old.slot < slot_count (F.device flash.old).size }
     ensures keeps { KeepsLiveSet (F.device flash.old)
         (F.device flash.new) layout.now.side layout.now.generation }
-    ensures filling { OnOk result
-        (IsFilling (F.device flash.new) (other_of layout.now.side)
-        (layout.now.generation + 1) place.new.slot) }
-    ensures stands { OnOk result
-        (Stands (F.device flash.new).size (other_of layout.now.side) place.new) }
+    ensures at { OnOk result (IsOpenAt (F.device flash.new) layout.now place.new) }
     ensures passed { address ≡ except → (result ≡ Ok tt) × (place.new ≡ place.old)
         × (F.device flash.new ≡ F.device flash.old) }
-    ensures one_more { address ≢ except → OnOk result (place.new.slot ≡ place.old.slot + 1) }
-    ensures map { address ≢ except → OnOk result ((named : ℕ)
-        → map_in (other_of layout.now.side) (F.device flash.new) named
-        ≡ map_after (Put address value)
-        (map_in (other_of layout.now.side) (F.device flash.old)) named) }
-    ensures adds { address ≢ except → OnOk result
-        (AddsWords (F.device flash.old) (F.device flash.new) layout.now.side
-        (layout.now.generation + 1) place.old.slot (Held (element address value) ∷ [])) }
-    ensures begun { OnErr result ((address ≢ except)
-        × AddsPartly (F.device flash.old) (F.device flash.new) layout.now.side
-        (layout.now.generation + 1) place.old.slot (Held (element address value) ∷ [])) }
+    ensures fills { address ≢ except
+        → Fills result (λ done. place.new.slot) (F.device flash.old) (F.device flash.new)
+        layout.now place.old.slot (Held (element address value) ∷ [])
+        (map_after (Put address value) (map_in (other_of layout.now.side) (F.device flash.old))) }
     ensures wear { (F.device flash.new).wear ≡ (F.device flash.old).wear }
     ensures power { Ends result (F.device flash.old) (F.device flash.new) }
 {
@@ -310,18 +225,11 @@ fn stage<F: Flash>(
     place: &mut Place,
     change: Change,
 ) -> Result<(), Cut>
-    requires layout { IsLayout (F.device flash.old) layout.now }
-    requires generation { IsGeneration (layout.now.generation + 1) }
-    requires filling { IsFilling (F.device flash.old) (other_of layout.now.side)
-        (layout.now.generation + 1) place.old.slot }
-    requires stands { Stands (F.device flash.old).size (other_of layout.now.side) place.old }
+    requires at { IsOpenAt (F.device flash.old) layout.now place.old }
     requires free { place.old.slot < slot_count (F.device flash.old).size }
-    ensures keeps { KeepsLiveSet (F.device flash.old)
-        (F.device flash.new) layout.now.side layout.now.generation }
-    ensures filling { OnOk result
-        (IsFilling (F.device flash.new) (other_of layout.now.side) (layout.now.generation + 1)
-        (place.old.slot + 1)) }
-    ensures next { OnOk result (place.new.slot ≡ place.old.slot + 1) }
+    ensures fills { Fills result (λ done. place.new.slot) (F.device flash.old) (F.device flash.new)
+        layout.now place.old.slot (Held (number_written change) ∷ [])
+        (map_after (meant change) (map_in (other_of layout.now.side) (F.device flash.old))) }
     ensures stands { OnOk result
         (Stands (F.device flash.new).size (other_of layout.now.side) place.new) }
     // The change stands in the slot of this number.
@@ -329,16 +237,6 @@ fn stage<F: Flash>(
         × (slots_of (set_of (other_of layout.now.side) (F.device flash.new))
         ≡ slice_set (slots_of (set_of (other_of layout.now.side) (F.device flash.old))) place.old.slot
         (Held number))) }
-    ensures map { OnOk result ((address : ℕ)
-        → map_in (other_of layout.now.side) (F.device flash.new) address
-        ≡ map_after (meant change) (map_in (other_of layout.now.side) (F.device flash.old)) address) }
-    ensures adds { OnOk result
-        (AddsWords (F.device flash.old) (F.device flash.new) layout.now.side
-        (layout.now.generation + 1) place.old.slot (Held (number_written change) ∷ [])) }
-    ensures begun { OnErr result
-        (AddsPartly (F.device flash.old) (F.device flash.new) layout.now.side
-        (layout.now.generation + 1) place.old.slot (Held (number_written change) ∷ [])) }
-    ensures wear { (F.device flash.new).wear ≡ (F.device flash.old).wear }
     ensures power { Ends result (F.device flash.old) (F.device flash.new) }
 {
     if place.at == HEADER_WORDS {
@@ -351,31 +249,13 @@ fn stage<F: Flash>(
 
 // Gives the page of this place of the other set the receive word, if it has none.
 fn receive<F: Flash>(flash: &mut F, layout: &Layout, place: Place) -> Result<(), Cut>
-    requires layout { IsLayout (F.device flash.old) layout.now }
-    requires generation { IsGeneration (layout.now.generation + 1) }
-    requires filling { IsFilling (F.device flash.old) (other_of layout.now.side)
-        (layout.now.generation + 1) place.slot }
-    requires stands { Stands (F.device flash.old).size (other_of layout.now.side) place }
+    requires at { IsOpenAt (F.device flash.old) layout.now place }
     requires free { place.slot < slot_count (F.device flash.old).size }
     ensures keeps { KeepsLiveSet (F.device flash.old)
         (F.device flash.new) layout.now.side layout.now.generation }
-    ensures filling { OnOk result
-        (IsFilling (F.device flash.new) (other_of layout.now.side)
+    ensures opens { OnOk result
+        (OpensForSlot (F.device flash.old) (F.device flash.new) layout.now.side
         (layout.now.generation + 1) place.slot) }
-    ensures same_slots { OnOk result
-        (slots_of (set_of (other_of layout.now.side) (F.device flash.new))
-        ≡ slots_of (set_of (other_of layout.now.side) (F.device flash.old))) }
-    ensures live_pages { OnOk result
-        (IsDrawn layout.now.side (F.device flash.new)
-        (picture_of layout.now.side (F.device flash.old))) }
-    ensures opens { let side = other_of layout.now.side in OnOk result
-        ((words : List Word) → length words ≡ place.slot
-        → IsDrawn side (F.device flash.old)
-        (opened_set (F.device flash.old).size (layout.now.generation + 1)
-        (page_of_slot (F.device flash.old).size (place.slot - 1)) words)
-        → IsDrawn side (F.device flash.new)
-        (opened_set (F.device flash.old).size (layout.now.generation + 1)
-        (page_of_slot (F.device flash.old).size place.slot) words)) }
     ensures begun { let old = F.device flash.old in OnErr result
         (SetsPartly (first_of old.size (other_of layout.now.side)
         + page_of_slot old.size place.slot) (Mark.Receive (layout.now.generation + 1))
@@ -389,35 +269,13 @@ fn receive<F: Flash>(flash: &mut F, layout: &Layout, place: Place) -> Result<(),
 
 // Programs a change into this place of the other set, its first free slot.
 fn put_in<F: Flash>(flash: &mut F, layout: &Layout, place: Place, change: Change) -> Result<(), Cut>
-    requires layout { IsLayout (F.device flash.old) layout.now }
-    requires filling { IsFilling (F.device flash.old) (other_of layout.now.side)
-        (layout.now.generation + 1) place.slot }
-    requires stands { Stands (F.device flash.old).size (other_of layout.now.side) place }
+    requires at { IsOpenAt (F.device flash.old) layout.now place }
     requires free { place.slot < slot_count (F.device flash.old).size }
     ensures keeps { KeepsLiveSet (F.device flash.old)
         (F.device flash.new) layout.now.side layout.now.generation }
-    ensures filling { OnOk result
-        (IsFilling (F.device flash.new) (other_of layout.now.side) (layout.now.generation + 1)
-        (place.slot + 1)) }
-    ensures slot { OnOk result ((number : ℕ) × SpellsChange number (meant change)
-        × (slots_of (set_of (other_of layout.now.side) (F.device flash.new))
-        ≡ slice_set (slots_of (set_of (other_of layout.now.side) (F.device flash.old))) place.slot
-        (Held number))) }
-    ensures map { OnOk result ((address : ℕ)
-        → map_in (other_of layout.now.side) (F.device flash.new) address
-        ≡ map_after (meant change) (map_in (other_of layout.now.side) (F.device flash.old)) address) }
-    ensures live_pages { OnOk result
-        (IsDrawn layout.now.side (F.device flash.new)
-        (picture_of layout.now.side (F.device flash.old))) }
-    ensures puts { let side = other_of layout.now.side in OnOk result
-        ((words : List Word) → length words ≡ place.slot
-        → IsDrawn side (F.device flash.old)
-        (opened_set (F.device flash.old).size (layout.now.generation + 1)
-        (page_of_slot (F.device flash.old).size place.slot) words)
-        → IsDrawn side (F.device flash.new)
-        (opened_set (F.device flash.old).size (layout.now.generation + 1)
-        (page_of_slot (F.device flash.old).size place.slot)
-        (words ++ (Held (number_written change) ∷ [])))) }
+    ensures puts { OnOk result
+        (PutsInSlot (F.device flash.old) (F.device flash.new) layout.now.side
+        (layout.now.generation + 1) place.slot change) }
     ensures begun { let old = F.device flash.old in OnErr result
         (PutsPartly (first_of old.size (other_of layout.now.side)
         + page_of_slot old.size place.slot) (place_of_slot old.size place.slot)

@@ -1,4 +1,4 @@
-ghost use Rattle.std.specs.Prelude.{◌≡◌, ◌<◌, ◌≤◌, ◌⊎◌, ℕ, ◌+◌, IfOk, List, [], None, OnErr, OnOk, length, true};
+ghost use Rattle.std.specs.Prelude.{◌≡◌, ◌<◌, ◌≤◌, ◌⊎◌, ℕ, ◌+◌, IfOk, List, [], OnErr, OnOk, true};
 ghost use Rattle.std.specs.List.{All};
 ghost use Rattle.ee_codec.specs.Words.{IsGeneration};
 ghost use Rattle.ee_flash.specs.Power.{Ends};
@@ -6,15 +6,16 @@ ghost use Rattle.ee_flash.specs.Size.{slot_count};
 ghost use Rattle.ee_pages.specs.Filling.{IsCommitted, IsFilling};
 ghost use Rattle.ee_pages.specs.Laws.{KeepsLiveSet};
 ghost use Rattle.ee_pages.specs.Layout.{IsLayout};
-ghost use Rattle.ee_pages.specs.Meaning.{map_after, live_in, meaning};
+ghost use Rattle.ee_pages.specs.Meaning.{map_after, live_in};
 ghost use Rattle.ee_pages.specs.Page.{is_blank};
 ghost use Rattle.ee_pages.specs.Sets.{first_page as first_of, other as other_of, set_of, slots_of};
 ghost use Rattle.ee_flash.specs.declared.word.Word.{Word};
 ghost use Rattle.ee_core.specs.Cuts.{ErasesPartly, FillsPartly, IsDrawnPartly, MovesMapPartly, MovesPartly};
 ghost use Rattle.ee_core.specs.Finished.{IsMarked};
-ghost use Rattle.ee_core.specs.Parts.{HasMoved, Holds, IsCommittedWith, IsSameSet, SetsMark, map_in, meant};
+ghost use Rattle.ee_core.specs.Parts.{Holds, IsCommittedWith, IsSameSet, SetsMark, map_in, meant};
 ghost use Rattle.ee_core.specs.Picture.{IsDrawn, blank, filled_set, moved_words, picture_of, retired_pages};
 ghost use Rattle.ee_core.specs.State.{Wears, WearsFront, not_blank_in};
+ghost use Rattle.ee_core.specs.Transfers.{IsNewlyOpened, MovesMap};
 
 use crate::change::Change;
 use crate::cleaning::erase_other;
@@ -40,13 +41,10 @@ pub(crate) fn transfer<F: Flash, C: LiveCursor>(
     requires generation { IsGeneration (layout.old.generation + 1) }
     requires fits { live_in (map_after (meant change) (map_in layout.old.side (F.device flash.old)))
         ≤ slot_count (F.device flash.old).size }
-    ensures moved { OnOk result
-        (HasMoved (F.device flash.old) (F.device flash.new) layout.old.side layout.old.generation
-        (meant change)) }
+    ensures moves { MovesMap result (λ done. layout.new.fill) (F.device flash.old)
+        (F.device flash.new) layout.old (meant change) MovesPartly }
     ensures layout { OnOk result (IsLayout (F.device flash.new) layout.new) }
     ensures other_set { OnOk result (layout.new.side ≡ other_of layout.old.side) }
-    ensures as_many { OnOk result (layout.new.fill ≡ length
-        (moved_words (meant change) (map_in layout.old.side (F.device flash.old)))) }
     ensures marked { OnOk result (IsMarked (F.device flash.new) (other_of layout.old.side)) }
     ensures new_pages { OnOk result
         (IsDrawn (other_of layout.old.side) (F.device flash.new)
@@ -55,21 +53,6 @@ pub(crate) fn transfer<F: Flash, C: LiveCursor>(
     ensures old_pages { OnOk result
         (IsDrawn layout.old.side (F.device flash.new)
         (retired_pages (λ page. true) (picture_of layout.old.side (F.device flash.old)))) }
-    ensures wear { OnOk result
-        (Wears (not_blank_in (other_of layout.old.side) (F.device flash.old))
-        (F.device flash.old) (F.device flash.new)) }
-    ensures begun { OnErr result
-        (WearsFront (not_blank_in (other_of layout.old.side) (F.device flash.old))
-        (F.device flash.old) (F.device flash.new)) }
-    ensures words { let old = F.device flash.old in
-        let first = first_of old.size (other_of layout.old.side) in OnErr result (
-        ErasesPartly first (first + old.size.pages) old (F.device flash.new)
-        ⊎ MovesPartly old (F.device flash.new) layout.old.side layout.old.generation
-        (moved_words (meant change) (map_in layout.old.side old))) }
-    ensures cut { OnErr result (
-        KeepsLiveSet (F.device flash.old) (F.device flash.new) layout.old.side layout.old.generation
-        ⊎ HasMoved (F.device flash.old) (F.device flash.new) layout.old.side layout.old.generation
-        (meant change)) }
     ensures power { Ends result (F.device flash.old) (F.device flash.new) }
 {
     let count = move_map(flash, layout, change, cursor)?;
@@ -99,13 +82,10 @@ fn move_map<F: Flash, C: LiveCursor>(
     requires generation { IsGeneration (layout.now.generation + 1) }
     requires fits { live_in (map_after (meant change) (map_in layout.now.side (F.device flash.old)))
         ≤ slot_count (F.device flash.old).size }
-    ensures moved { OnOk result
-        (HasMoved (F.device flash.old) (F.device flash.new) layout.now.side layout.now.generation
-        (meant change)) }
+    ensures moves { MovesMap result (λ count. count) (F.device flash.old) (F.device flash.new)
+        layout.now (meant change) MovesMapPartly }
     ensures each_once { IfOk result (λ count. count
         ≡ live_in (map_after (meant change) (map_in layout.now.side (F.device flash.old)))) }
-    ensures as_many { IfOk result (λ count. count ≡ length
-        (moved_words (meant change) (map_in layout.now.side (F.device flash.old)))) }
     ensures new_pages { OnOk result
         (IsCommittedWith (F.device flash.new) (other_of layout.now.side)
         (layout.now.generation + 1)
@@ -113,21 +93,6 @@ fn move_map<F: Flash, C: LiveCursor>(
     ensures live_pages { OnOk result
         (IsDrawn layout.now.side (F.device flash.new)
         (picture_of layout.now.side (F.device flash.old))) }
-    ensures wear { OnOk result
-        (Wears (not_blank_in (other_of layout.now.side) (F.device flash.old))
-        (F.device flash.old) (F.device flash.new)) }
-    ensures begun { OnErr result
-        (WearsFront (not_blank_in (other_of layout.now.side) (F.device flash.old))
-        (F.device flash.old) (F.device flash.new)) }
-    ensures words { let old = F.device flash.old in
-        let first = first_of old.size (other_of layout.now.side) in OnErr result (
-        ErasesPartly first (first + old.size.pages) old (F.device flash.new)
-        ⊎ MovesMapPartly old (F.device flash.new) layout.now.side layout.now.generation
-        (moved_words (meant change) (map_in layout.now.side old))) }
-    ensures cut { OnErr result (
-        KeepsLiveSet (F.device flash.old) (F.device flash.new) layout.now.side layout.now.generation
-        ⊎ HasMoved (F.device flash.old) (F.device flash.new) layout.now.side layout.now.generation
-        (meant change)) }
     ensures power { Ends result (F.device flash.old) (F.device flash.new) }
 {
     clear(flash, layout)?;
@@ -175,21 +140,14 @@ fn open_set<F: Flash>(flash: &mut F, layout: &Layout) -> Result<(), Cut>
         (set_of (other_of layout.now.side) (F.device flash.old)) }
     ensures keeps { KeepsLiveSet (F.device flash.old)
         (F.device flash.new) layout.now.side layout.now.generation }
-    ensures filling { OnOk result
-        (IsFilling (F.device flash.new) (other_of layout.now.side) (layout.now.generation + 1) 0) }
-    ensures nothing { OnOk result ((address : ℕ)
-        → map_in (other_of layout.now.side) (F.device flash.new) address ≡ None) }
+    ensures opened { OnOk result (IsNewlyOpened (F.device flash.new) layout.now) }
     ensures holds { OnOk result
         (Holds (F.device flash.new) (other_of layout.now.side) (layout.now.generation + 1) []) }
-    ensures live_pages { OnOk result
-        (IsDrawn layout.now.side (F.device flash.new)
-        (picture_of layout.now.side (F.device flash.old))) }
+    ensures live_pages { IsDrawn layout.now.side (F.device flash.new)
+        (picture_of layout.now.side (F.device flash.old)) }
     ensures begun { OnErr result ((words : List Word)
         → FillsPartly (F.device flash.new) (other_of layout.now.side)
         (layout.now.generation + 1) words) }
-    ensures live_pages_stay { OnErr result
-        (IsDrawn layout.now.side (F.device flash.new)
-        (picture_of layout.now.side (F.device flash.old))) }
     ensures wear { (F.device flash.new).wear ≡ (F.device flash.old).wear }
     ensures power { Ends result (F.device flash.old) (F.device flash.new) }
 {

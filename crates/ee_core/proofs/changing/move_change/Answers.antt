@@ -25,8 +25,8 @@ returns-in_err-transfer-clause-cut g c =
     let few = few_pending new (other layout.side) (g.met.F.Flash.formed c.transfer.new.flash) in
     always_on_err c.from_residual.result
     (cut_in_move old new layout.side layout.generation c.requires.layout.live (meant c.args.change) c.requires.proceeds cut
-    (omega (arith, c.requires.all_used, c.requires.layout.fill)) (omega (arith, few, ap (λ size. size.pages) cut.same_size)) c.in_err-transfer.ensures.cut c.in_err-transfer.ensures.begun
-    (shows_cut_move old new layout.side layout.generation c.requires.layout.live (meant c.args.change) c.in_err-transfer.ensures.words))
+    (omega (arith, c.requires.all_used, c.requires.layout.fill)) (omega (arith, few, ap (λ size. size.pages) cut.same_size)) c.in_err-transfer.ensures.moves.cut c.in_err-transfer.ensures.moves.begun
+    (shows_cut_move old new layout.side layout.generation c.requires.layout.live (meant c.args.change) c.in_err-transfer.ensures.moves.words))
 
 pub returns-in_err-transfer-clause-store : goal.returns-in_err-transfer-clause-store
 returns-in_err-transfer-clause-store g c =
@@ -34,7 +34,7 @@ returns-in_err-transfer-clause-store g c =
     let new = g.F.Flash.device c.transfer.new.flash in
     let layout = c.args.layout.now in
     let cut = c.in_err-transfer.ensures.power.cut c.requires.proceeds.on in
-    store_after_move old new layout.side layout.generation (meant c.args.change) cut.is_off c.in_err-transfer.ensures.cut
+    store_after_move old new layout.side layout.generation (meant c.args.change) cut.is_off c.in_err-transfer.ensures.moves.cut
 
 pub returns-clause-moved : goal.returns-clause-moved
 returns-clause-moved g c =
@@ -42,5 +42,5 @@ returns-clause-moved g c =
     let new = g.F.Flash.device c.transfer.new.flash in
     let layout = c.args.layout.now in
     moves old new layout.side layout.generation c.requires.layout.live (meant c.args.change) c.requires.proceeds c.in_ok-transfer.ensures.power.ok
-    (omega (arith, c.requires.all_used, c.requires.layout.fill)) c.in_ok-transfer.ensures.moved c.in_ok-transfer.ensures.wear
+    (omega (arith, c.requires.all_used, c.requires.layout.fill)) c.in_ok-transfer.ensures.moves.moved c.in_ok-transfer.ensures.moves.wear
     (shows_moved old new layout.side layout.generation c.requires.layout.live (meant c.args.change) c.in_ok-transfer.ensures.new_pages c.in_ok-transfer.ensures.old_pages)

@@ -1,4 +1,4 @@
-use Rattle.std.proofs.Common.{◌≡◌, ◌+◌, [], inl, inr, refl, subst, sym, ◌∙◌}
+use Rattle.std.proofs.Common.{◌≡◌, ◌+◌, [], ap, arith, inl, inr, length, refl, subst, sym, ◌∙◌}
 use Rattle.std.proofs.Math.Path.{fun_ext}
 use Rattle.std.proofs.lemmas.Result.{err_from_is_err_and}
 use Rattle.ee_pages.specs.Meaning.{Map}
@@ -10,26 +10,29 @@ use Rattle.ee_core.specs.Parts.{Holds, IsCommittedWith, map_in, meant}
 use Rattle.ee_core.proofs.MovingFacts.{has_moved, keeps_both}
 use Rattle.ee_flash.specs.Size.{Size}
 use Rattle.ee_core.proofs.CutMoves.{filled_partly}
-use Rattle.ee_core.proofs.Making.{always_on_err}
+use Rattle.ee_core.proofs.Wears.{front_all, wears_still}
+use Rattle.ee_core.specs.State.{not_blank_in}
 use Rattle.ee_core.specs.Cuts.{AddsPartly, IsDrawnPartly}
 use Rattle.ee_core.proofs.moving.move_map.Goals as goal
 
-pub returns-in_err-commit-clause-cut : goal.returns-in_err-commit-clause-cut
-returns-in_err-commit-clause-cut g c =
-    let failed = err_from_is_err_and c.from_residual-in_err-commit.result c.from_residual-in_err-commit.ensures.1 in
+pub returns-clause-moves : goal.returns-clause-moves
+returns-clause-moves g c =
     let old = g.F.Flash.device c.args.flash.now in
-    let opened = keeps_both old (g.F.Flash.device c.clear.new.flash) (g.F.Flash.device c.open_set.new.flash) c.args.layout.now.side c.args.layout.now.generation c.in_ok-clear.ensures.keeps c.in_ok-open_set.ensures.keeps in
-    let filled_set = keeps_both old (g.F.Flash.device c.open_set.new.flash) (g.F.Flash.device c.fill_set.new.flash) c.args.layout.now.side c.args.layout.now.generation opened c.in_ok-count.ensures.keeps in
-    rw failed.1 (elim c.in_err-commit.ensures.cut [
-      | inl keeps ↦ inl (keeps_both old (g.F.Flash.device c.fill_set.new.flash) (g.F.Flash.device c.commit.new.flash) c.args.layout.now.side c.args.layout.now.generation filled_set keeps)
-      | inr committed ↦ inr (has_moved old (g.F.Flash.device c.open_set.new.flash) (g.F.Flash.device c.fill_set.new.flash) (g.F.Flash.device c.commit.new.flash) c.args.layout.now.side c.args.layout.now.generation c.in_ok-count.count (meant c.args.change) opened c.in_ok-count.ensures.keeps (sym c.requires.layout.fill ∙ c.requires.all_used) c.in_ok-count.ensures.filling c.in_ok-count.ensures.map c.in_ok-count.ensures.each_once c.in_err-commit.ensures.same_set committed)
-    ])
-
-pub returns-clause-moved : goal.returns-clause-moved
-returns-clause-moved g c =
-    let old = g.F.Flash.device c.args.flash.now in
-    let opened = keeps_both old (g.F.Flash.device c.clear.new.flash) (g.F.Flash.device c.open_set.new.flash) c.args.layout.now.side c.args.layout.now.generation c.in_ok-clear.ensures.keeps c.in_ok-open_set.ensures.keeps in
-    has_moved old (g.F.Flash.device c.open_set.new.flash) (g.F.Flash.device c.fill_set.new.flash) (g.F.Flash.device c.commit.new.flash) c.args.layout.now.side c.args.layout.now.generation c.in_ok-count.count (meant c.args.change) opened c.in_ok-count.ensures.keeps (sym c.requires.layout.fill ∙ c.requires.all_used) c.in_ok-count.ensures.filling c.in_ok-count.ensures.map c.in_ok-count.ensures.each_once c.in_ok-commit.ensures.same_set c.in_ok-commit.ensures.committed
+    let cleared = g.F.Flash.device c.clear.new.flash in
+    let opened = g.F.Flash.device c.open_set.new.flash in
+    let filling = g.F.Flash.device c.fill_set.new.flash in
+    let new = g.F.Flash.device c.commit.new.flash in
+    let side = c.args.layout.now.side in
+    let generation = c.args.layout.now.generation in
+    let change = meant c.args.change in
+    let fills = c.in_ok-count.ensures.fills in
+    let keeps = keeps_both old cleared opened side generation c.in_ok-clear.ensures.keeps c.in_ok-open_set.ensures.keeps in
+    let same : map_in side opened ≡ map_in side old = fun_ext keeps.same_map in
+    record {
+      moved = has_moved old opened filling new side generation c.in_ok-count.count change keeps fills.keeps (sym c.requires.layout.fill ∙ c.requires.all_used) fills.filling fills.map_is c.in_ok-count.ensures.each_once c.in_ok-commit.ensures.same_set c.in_ok-commit.ensures.committed;
+      as_many = omega (arith, fills.as_many, ap (λ (map : Map). length (moved_words change map)) same);
+      wear = wears_still (not_blank_in (other_of side) old) old cleared new c.in_ok-clear.ensures.wear (c.commit.ensures.wear ∙ fills.wear ∙ c.open_set.ensures.wear);
+    }
 
 pub returns-clause-new_pages : goal.returns-clause-new_pages
 returns-clause-new_pages g c =
@@ -41,8 +44,8 @@ returns-clause-new_pages g c =
     let generation = c.args.layout.now.generation + 1 in
     let keeps = keeps_both old (g.F.Flash.device c.clear.new.flash) opened side c.args.layout.now.generation c.in_ok-clear.ensures.keeps c.in_ok-open_set.ensures.keeps in
     let same : map_in side opened ≡ map_in side old = fun_ext keeps.same_map in
-    let holds = c.in_ok-count.ensures.adds.new_pages [] refl c.in_ok-open_set.ensures.holds in
-    let held = commits (other_of side) filled_set new generation (moved_words (meant c.args.change) (map_in side opened)) c.in_ok-count.ensures.keeps.live.formed c.in_ok-commit.ensures.committed.same_size c.in_ok-commit.ensures.sets holds in
+    let holds = c.in_ok-count.ensures.fills.adds.new_pages [] refl c.in_ok-open_set.ensures.holds in
+    let held = commits (other_of side) filled_set new generation (moved_words (meant c.args.change) (map_in side opened)) c.in_ok-count.ensures.fills.keeps.live.formed c.in_ok-commit.ensures.committed.same_size c.in_ok-commit.ensures.sets holds in
     subst (λ (map : Map). IsCommittedWith new (other_of side) generation (moved_words (meant c.args.change) map)) same held
 
 pub returns-clause-live_pages : goal.returns-clause-live_pages
@@ -55,79 +58,106 @@ returns-clause-live_pages g c =
     let side = c.args.layout.now.side in
     let first = c.in_ok-clear.ensures.keeps.same_size in
     let second = c.in_ok-open_set.ensures.keeps.same_size in
-    let third = c.in_ok-count.ensures.keeps.same_size in
+    let third = c.in_ok-count.ensures.fills.keeps.same_size in
     let last = c.in_ok-commit.ensures.committed.same_size in
     drawn_both side old filled_set new (third ∙ second ∙ first) last
     (drawn_both side old opened filled_set (second ∙ first) third
-    (drawn_both side old cleared opened first second (same_drawn side old cleared first c.in_ok-clear.ensures.live_pages) c.in_ok-open_set.ensures.live_pages)
-    c.in_ok-count.ensures.adds.live_pages)
+    (drawn_both side old cleared opened first second (same_drawn side old cleared first c.in_ok-clear.ensures.live_pages) c.open_set.ensures.live_pages)
+    c.in_ok-count.ensures.fills.adds.live_pages)
     (same_drawn side filled_set new last c.in_ok-commit.ensures.same_set)
 
-pub returns-in_err-clear-clause-words : goal.returns-in_err-clear-clause-words
-returns-in_err-clear-clause-words g c = always_on_err c.from_residual.result (inl c.in_err-clear.ensures.partly)
+pub returns-in_err-clear-clause-moves : goal.returns-in_err-clear-clause-moves
+returns-in_err-clear-clause-moves g c =
+    let failed = err_from_is_err_and c.from_residual.result c.from_residual.ensures.1 in
+    let cut = c.in_err-clear.ensures in
+    rw failed.1 (record { begun = cut.begun; words = inl cut.partly; cut = inl cut.keeps })
 
-pub returns-in_err-open_set-clause-words : goal.returns-in_err-open_set-clause-words
-returns-in_err-open_set-clause-words g c =
+pub returns-in_err-open_set-clause-moves : goal.returns-in_err-open_set-clause-moves
+returns-in_err-open_set-clause-moves g c =
     let old = g.F.Flash.device c.args.flash.now in
     let cleared = g.F.Flash.device c.clear.new.flash in
     let new = g.F.Flash.device c.open_set.new.flash in
     let side = c.args.layout.now.side in
     let generation = c.args.layout.now.generation + 1 in
+    let pages = not_blank_in (other_of side) old in
     let words = moved_words (meant c.args.change) (map_in side old) in
-    let first = c.in_ok-clear.ensures.keeps.same_size in
-    let second = c.open_set.ensures.keeps.same_size in
-    always_on_err c.from_residual-in_err-open_set.result (inr (record {
-      new_pages = subst (λ (size : Size). IsDrawnPartly (other_of side) new blank (filled_set size generation words)) (second ∙ first)
-          (filled_partly (other_of side) new generation words (c.in_err-open_set.ensures.begun words));
-      live_pages = drawn_both side old cleared new first second (same_drawn side old cleared first c.in_ok-clear.ensures.live_pages) c.in_err-open_set.ensures.live_pages_stay;
-    }))
+    let clears = c.in_ok-clear.ensures in
+    let cut = c.in_err-open_set.ensures in
+    let keeps = keeps_both old cleared new side c.args.layout.now.generation clears.keeps cut.keeps in
+    let failed = err_from_is_err_and c.from_residual-in_err-open_set.result c.from_residual-in_err-open_set.ensures.1 in
+    rw failed.1 (record {
+      begun = front_all pages old new (wears_still pages old cleared new clears.wear cut.wear);
+      words = inr (record {
+        new_pages = subst (λ (size : Size). IsDrawnPartly (other_of side) new blank (filled_set size generation words)) keeps.same_size
+            (filled_partly (other_of side) new generation words (cut.begun words));
+        live_pages = drawn_both side old cleared new clears.keeps.same_size cut.keeps.same_size (same_drawn side old cleared clears.keeps.same_size clears.live_pages) cut.live_pages;
+      });
+      cut = inl keeps;
+    })
 
-pub returns-in_err-count-clause-words : goal.returns-in_err-count-clause-words
-returns-in_err-count-clause-words g c =
+pub returns-in_err-count-clause-moves : goal.returns-in_err-count-clause-moves
+returns-in_err-count-clause-moves g c =
     let old = g.F.Flash.device c.args.flash.now in
     let cleared = g.F.Flash.device c.clear.new.flash in
     let opened = g.F.Flash.device c.open_set.new.flash in
     let new = g.F.Flash.device c.fill_set.new.flash in
     let side = c.args.layout.now.side in
     let generation = c.args.layout.now.generation + 1 in
+    let pages = not_blank_in (other_of side) old in
     let words = moved_words (meant c.args.change) (map_in side old) in
-    let first = c.in_ok-clear.ensures.keeps.same_size in
-    let second = c.in_ok-open_set.ensures.keeps.same_size in
-    let third = c.fill_set.ensures.keeps.same_size in
-    let keeps = keeps_both old cleared opened side c.args.layout.now.generation c.in_ok-clear.ensures.keeps c.in_ok-open_set.ensures.keeps in
-    let same : map_in side opened ≡ map_in side old = fun_ext keeps.same_map in
-    let adds = subst (λ (map : Map). AddsPartly opened new side generation 0 (moved_words (meant c.args.change) map)) same c.in_err-count.ensures.begun in
-    always_on_err c.from_residual-in_err-count.result (inr (record {
-      new_pages = subst (λ (size : Size). IsDrawnPartly (other_of side) new blank (filled_set size generation words)) (third ∙ second ∙ first)
-          (filled_partly (other_of side) new generation words (adds.new_pages [] refl c.in_ok-open_set.ensures.holds));
-      live_pages = drawn_both side old opened new (second ∙ first) third
-          (drawn_both side old cleared opened first second (same_drawn side old cleared first c.in_ok-clear.ensures.live_pages) c.in_ok-open_set.ensures.live_pages)
-          adds.live_pages;
-    }))
+    let clears = c.in_ok-clear.ensures in
+    let opens = c.in_ok-open_set.ensures in
+    let cut = c.in_err-count.ensures.fills in
+    let before = keeps_both old cleared opened side c.args.layout.now.generation clears.keeps opens.keeps in
+    let keeps = keeps_both old opened new side c.args.layout.now.generation before cut.keeps in
+    let same : map_in side opened ≡ map_in side old = fun_ext before.same_map in
+    let adds = subst (λ (map : Map). AddsPartly opened new side generation 0 (moved_words (meant c.args.change) map)) same cut.begun in
+    let failed = err_from_is_err_and c.from_residual-in_err-count.result c.from_residual-in_err-count.ensures.1 in
+    rw failed.1 (record {
+      begun = front_all pages old new (wears_still pages old cleared new clears.wear (cut.wear ∙ opens.wear));
+      words = inr (record {
+        new_pages = subst (λ (size : Size). IsDrawnPartly (other_of side) new blank (filled_set size generation words)) keeps.same_size
+            (filled_partly (other_of side) new generation words (adds.new_pages [] refl opens.holds));
+        live_pages = drawn_both side old opened new before.same_size cut.keeps.same_size
+            (drawn_both side old cleared opened clears.keeps.same_size opens.keeps.same_size (same_drawn side old cleared clears.keeps.same_size clears.live_pages) opens.live_pages)
+            adds.live_pages;
+      });
+      cut = inl keeps;
+    })
 
-pub returns-in_err-commit-clause-words : goal.returns-in_err-commit-clause-words
-returns-in_err-commit-clause-words g c =
+pub returns-in_err-commit-clause-moves : goal.returns-in_err-commit-clause-moves
+returns-in_err-commit-clause-moves g c =
     let old = g.F.Flash.device c.args.flash.now in
     let cleared = g.F.Flash.device c.clear.new.flash in
     let opened = g.F.Flash.device c.open_set.new.flash in
     let filling = g.F.Flash.device c.fill_set.new.flash in
     let new = g.F.Flash.device c.commit.new.flash in
     let side = c.args.layout.now.side in
-    let generation = c.args.layout.now.generation + 1 in
-    let words = moved_words (meant c.args.change) (map_in side old) in
-    let first = c.in_ok-clear.ensures.keeps.same_size in
-    let second = c.in_ok-open_set.ensures.keeps.same_size in
-    let third = c.in_ok-count.ensures.keeps.same_size in
-    let last = c.commit.ensures.same_size in
-    let keeps = keeps_both old cleared opened side c.args.layout.now.generation c.in_ok-clear.ensures.keeps c.in_ok-open_set.ensures.keeps in
-    let same : map_in side opened ≡ map_in side old = fun_ext keeps.same_map in
-    let holds = subst (λ (map : Map). Holds filling (other_of side) generation (moved_words (meant c.args.change) map)) same (c.in_ok-count.ensures.adds.new_pages [] refl c.in_ok-open_set.ensures.holds) in
-    always_on_err c.from_residual-in_err-commit.result (inr (record {
-      new_pages = subst (λ (size : Size). IsDrawnPartly (other_of side) new blank (filled_set size generation words)) (third ∙ second ∙ first)
-          (c.in_err-commit.ensures.begun words holds);
-      live_pages = drawn_both side old filling new (third ∙ second ∙ first) last
-          (drawn_both side old opened filling (second ∙ first) third
-          (drawn_both side old cleared opened first second (same_drawn side old cleared first c.in_ok-clear.ensures.live_pages) c.in_ok-open_set.ensures.live_pages)
-          c.in_ok-count.ensures.adds.live_pages)
-          (same_drawn side filling new last c.commit.ensures.same_set);
-    }))
+    let generation = c.args.layout.now.generation in
+    let pages = not_blank_in (other_of side) old in
+    let change = meant c.args.change in
+    let words = moved_words change (map_in side old) in
+    let clears = c.in_ok-clear.ensures in
+    let opens = c.in_ok-open_set.ensures in
+    let fills = c.in_ok-count.ensures.fills in
+    let cut = c.in_err-commit.ensures in
+    let before = keeps_both old cleared opened side generation clears.keeps opens.keeps in
+    let filled = keeps_both old opened filling side generation before fills.keeps in
+    let same : map_in side opened ≡ map_in side old = fun_ext before.same_map in
+    let holds = subst (λ (map : Map). Holds filling (other_of side) (generation + 1) (moved_words change map)) same (fills.adds.new_pages [] refl opens.holds) in
+    let failed = err_from_is_err_and c.from_residual-in_err-commit.result c.from_residual-in_err-commit.ensures.1 in
+    rw failed.1 (record {
+      begun = front_all pages old new (wears_still pages old cleared new clears.wear (cut.wear ∙ fills.wear ∙ opens.wear));
+      words = inr (record {
+        new_pages = subst (λ (size : Size). IsDrawnPartly (other_of side) new blank (filled_set size (generation + 1) words)) filled.same_size (cut.begun words holds);
+        live_pages = drawn_both side old filling new filled.same_size cut.same_size
+            (drawn_both side old opened filling before.same_size fills.keeps.same_size
+            (drawn_both side old cleared opened clears.keeps.same_size opens.keeps.same_size (same_drawn side old cleared clears.keeps.same_size clears.live_pages) opens.live_pages)
+            fills.adds.live_pages)
+            (same_drawn side filling new cut.same_size cut.same_set);
+      });
+      cut = elim cut.cut [
+        | inl keeps ↦ inl (keeps_both old filling new side generation filled keeps)
+        | inr committed ↦ inr (has_moved old opened filling new side generation c.in_ok-count.count change before fills.keeps (sym c.requires.layout.fill ∙ c.requires.all_used) fills.filling fills.map_is c.in_ok-count.ensures.each_once cut.same_set committed)
+      ];
+    })

@@ -8,6 +8,7 @@ use Rattle.ee_core.proofs.OtherSteps.{first_in_set, opening_done, opening_keeps,
 use Rattle.ee_core.proofs.Cuts.{mark_partly_at, put_apart_partly}
 use Rattle.ee_core.proofs.CutMoves.{open_partly}
 use Rattle.ee_core.proofs.Making.{always_on_err}
+use Rattle.ee_core.proofs.MovingFacts.{layout_kept}
 use Rattle.ee_core.specs.Cuts.{SetsPartly}
 use Rattle.ee_core.proofs.moving.open_set.Goals as goal
 
@@ -25,21 +26,20 @@ returns-clause-keeps g c =
     opening_keeps device _ c.args.layout.now.side c.args.layout.now.generation c.requires.layout.live c.requires.generation c.requires.blank _ page
     (inl (record { was_on = c.in_ok-mark.ensures.on unmarked; done = c.in_ok-mark.ensures.done unmarked }))
 
-pub returns-clause-filling : goal.returns-clause-filling
-returns-clause-filling g c =
+pub returns-clause-opened : goal.returns-clause-opened
+returns-clause-opened g c =
     let device = g.F.Flash.device c.args.flash.now in
+    let new = g.F.Flash.device c.mark.new.flash in
     let page : c.first_page-first.result ≡ first_page device.size (other_of c.args.layout.now.side) = cc (c.first_page-first.ensures, c.other.ensures) in
     let unmarked = opening_unmarked device device c.args.layout.now.side c.args.layout.now.generation c.requires.layout.live c.requires.generation c.requires.blank _ page in
-    (opening_done device _ c.args.layout.now.side c.args.layout.now.generation c.requires.layout.live c.requires.generation c.requires.blank _ page
-    (c.in_ok-mark.ensures.on unmarked) (c.in_ok-mark.ensures.done unmarked)).0
-
-pub returns-clause-nothing : goal.returns-clause-nothing
-returns-clause-nothing g c =
-    let device = g.F.Flash.device c.args.flash.now in
-    let page : c.first_page-first.result ≡ first_page device.size (other_of c.args.layout.now.side) = cc (c.first_page-first.ensures, c.other.ensures) in
-    let unmarked = opening_unmarked device device c.args.layout.now.side c.args.layout.now.generation c.requires.layout.live c.requires.generation c.requires.blank _ page in
-    (opening_done device _ c.args.layout.now.side c.args.layout.now.generation c.requires.layout.live c.requires.generation c.requires.blank _ page
-    (c.in_ok-mark.ensures.on unmarked) (c.in_ok-mark.ensures.done unmarked)).1
+    let opened = opening_done device new c.args.layout.now.side c.args.layout.now.generation c.requires.layout.live c.requires.generation c.requires.blank _ page
+    (c.in_ok-mark.ensures.on unmarked) (c.in_ok-mark.ensures.done unmarked) in
+    record {
+      found = layout_kept device new c.args.layout.now c.requires.layout (returns-clause-keeps g c);
+      generation = c.requires.generation;
+      filling = opened.0;
+      nothing = opened.1;
+    }
 
 pub returns-clause-holds : goal.returns-clause-holds
 returns-clause-holds g c =
@@ -65,8 +65,8 @@ returns-in_err-mark-clause-begun g c =
     always_on_err c.from_residual.result
     (λ words. open_partly side old new (c.args.layout.now.generation + 1) words formed (returns-in_err-mark-clause-keeps g c).same_size (blank_drawn side old formed c.requires.blank) sets)
 
-pub returns-in_err-mark-clause-live_pages_stay : goal.returns-in_err-mark-clause-live_pages_stay
-returns-in_err-mark-clause-live_pages_stay g c =
+pub returns-in_err-mark-clause-live_pages : goal.returns-in_err-mark-clause-live_pages
+returns-in_err-mark-clause-live_pages g c =
     let old = g.F.Flash.device c.args.flash.now in
     let new = g.F.Flash.device c.mark.new.flash in
     let side = other_of c.args.layout.now.side in
@@ -75,5 +75,4 @@ returns-in_err-mark-clause-live_pages_stay g c =
     mark_partly_at _ (first_page old.size side) (Receive (c.args.layout.now.generation + 1)) old new formed
     (page_of_device old.size side (first_page old.size side) (first_in_set side old formed)) (cc (c.first_page-first.ensures, c.other.ensures))
     (λ set. (c.mark.ensures.present set).1) c.in_err-mark.ensures.cut in
-    always_on_err c.from_residual.result
-    (put_apart_partly c.args.layout.now.side old new (first_page old.size side) _ _ (returns-in_err-mark-clause-keeps g c).same_size (first_in_set side old formed) sets)
+    put_apart_partly c.args.layout.now.side old new (first_page old.size side) _ _ (returns-in_err-mark-clause-keeps g c).same_size (first_in_set side old formed) sets

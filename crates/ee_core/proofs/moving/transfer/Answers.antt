@@ -12,34 +12,22 @@ use Rattle.ee_core.proofs.Wears.{front_all, wears_still}
 use Rattle.ee_core.specs.State.{not_blank_in}
 use Rattle.ee_core.proofs.Cuts.{drawn_before}
 use Rattle.ee_core.proofs.CutMoves.{marked_partly, retires_partly}
-use Rattle.ee_core.proofs.Making.{always_on_err}
 use Rattle.ee_core.specs.Cuts.{IsDrawnPartly}
 use Rattle.ee_core.specs.Finished.{last_used}
 use Rattle.ee_core.proofs.moving.transfer.Goals as goal
 
-pub returns-in_err-finish-clause-cut : goal.returns-in_err-finish-clause-cut
-returns-in_err-finish-clause-cut g c =
-    let failed = err_from_is_err_and c.from_residual-in_err-finish.result c.from_residual-in_err-finish.ensures.1 in
-    let stays = rw c.other.ensures at c.in_err-finish.ensures.stays in
-    rw failed.1 (inr (moved_stays (g.F.Flash.device c.args.flash.now) (g.F.Flash.device c.move_map.new.flash) (g.F.Flash.device c.finish.new.flash) c.args.layout.now.side c.args.layout.now.generation (meant c.args.change) c.in_ok-count.ensures.moved stays))
-
-pub returns-clause-moved : goal.returns-clause-moved
-returns-clause-moved g c =
-    let stays = rw c.other.ensures at c.in_ok-finish.ensures.stays in
-    moved_stays (g.F.Flash.device c.args.flash.now) (g.F.Flash.device c.move_map.new.flash) (g.F.Flash.device c.finish.new.flash) c.args.layout.now.side c.args.layout.now.generation (meant c.args.change) c.in_ok-count.ensures.moved stays
-
-pub returns-clause-wear : goal.returns-clause-wear
-returns-clause-wear g c =
+pub returns-clause-moves : goal.returns-clause-moves
+returns-clause-moves g c =
     let old = g.F.Flash.device c.args.flash.now in
-    wears_still (not_blank_in (other_of c.args.layout.now.side) old) old (g.F.Flash.device c.move_map.new.flash) (g.F.Flash.device c.finish.new.flash) c.in_ok-count.ensures.wear c.in_ok-finish.ensures.stays.same_wear
-
-pub returns-in_err-finish-clause-begun : goal.returns-in_err-finish-clause-begun
-returns-in_err-finish-clause-begun g c =
-    let old = g.F.Flash.device c.args.flash.now in
+    let mid = g.F.Flash.device c.move_map.new.flash in
     let new = g.F.Flash.device c.finish.new.flash in
-    let failed = err_from_is_err_and c.from_residual-in_err-finish.result c.from_residual-in_err-finish.ensures.1 in
-    let pages = not_blank_in (other_of c.args.layout.now.side) old in
-    rw failed.1 (front_all pages old new (wears_still pages old (g.F.Flash.device c.move_map.new.flash) new c.in_ok-count.ensures.wear c.in_err-finish.ensures.stays.same_wear))
+    let moves = c.in_ok-count.ensures.moves in
+    let stays = rw c.other.ensures at c.in_ok-finish.ensures.stays in
+    record {
+      moved = moved_stays old mid new c.args.layout.now.side c.args.layout.now.generation (meant c.args.change) moves.moved stays;
+      as_many = moves.as_many;
+      wear = wears_still (not_blank_in (other_of c.args.layout.now.side) old) old mid new moves.wear stays.same_wear;
+    }
 
 pub returns-clause-new_pages : goal.returns-clause-new_pages
 returns-clause-new_pages g c =
@@ -48,10 +36,10 @@ returns-clause-new_pages g c =
     let new = g.F.Flash.device c.finish.new.flash in
     let side = c.args.layout.now.side in
     let words = moved_words (meant c.args.change) (map_in side old) in
-    let moved = c.in_ok-count.ensures.moved in
+    let moved = c.in_ok-count.ensures.moves.moved in
     let stays = rw c.other.ensures at c.in_ok-finish.ensures.stays in
     let shows = rw c.other.ensures at c.in_ok-finish.ensures.shows in
-    let fill : fill_of (slots_of (set_of (other_of side) mid)) ≡ length words = moved.fill_is ∙ sym c.in_ok-count.ensures.each_once ∙ c.in_ok-count.ensures.as_many in
+    let fill : fill_of (slots_of (set_of (other_of side) mid)) ≡ length words = moved.fill_is ∙ sym c.in_ok-count.ensures.each_once ∙ c.in_ok-count.ensures.moves.as_many in
     subst (λ (size : Size). IsDrawn (other_of side) new (filled_set size (c.args.layout.now.generation + 1) words)) moved.same_size
     (filled_up (other_of side) mid new (c.args.layout.now.generation + 1) words stays.keeps.same_size c.in_ok-count.ensures.new_pages fill shows.live_pages)
 
@@ -61,7 +49,7 @@ returns-clause-old_pages g c =
     let mid = g.F.Flash.device c.move_map.new.flash in
     let new = g.F.Flash.device c.finish.new.flash in
     let side = c.args.layout.now.side in
-    let moved = c.in_ok-count.ensures.moved in
+    let moved = c.in_ok-count.ensures.moves.moved in
     let stays = rw c.other.ensures at c.in_ok-finish.ensures.stays in
     let shows = rw c.other.ensures at c.in_ok-finish.ensures.shows in
     let drawn : IsDrawn side new (retired_pages (waits side mid) (picture_of side mid)) =
@@ -69,33 +57,45 @@ returns-clause-old_pages g c =
     all_retired side old mid new c.args.layout.now.generation c.requires.layout.live (sym c.requires.layout.fill ∙ c.requires.all_used) moved.live.formed moved.same_size stays.keeps.same_size
     c.in_ok-count.ensures.live_pages drawn
 
-pub returns-in_err-count-clause-words : goal.returns-in_err-count-clause-words
-returns-in_err-count-clause-words g c =
+pub returns-in_err-count-clause-moves : goal.returns-in_err-count-clause-moves
+returns-in_err-count-clause-moves g c =
     let old = g.F.Flash.device c.args.flash.now in
     let new = g.F.Flash.device c.move_map.new.flash in
     let side = c.args.layout.now.side in
-    always_on_err c.from_residual.result (elim c.in_err-count.ensures.words [
-      | inl erasing ↦ inl erasing
-      | inr moving ↦ inr (record { new_pages = moving.new_pages; old_pages = drawn_before side new (picture_of side old) (retired_pages (λ page. true) (picture_of side old)) moving.live_pages })
-    ])
+    let failed = err_from_is_err_and c.from_residual.result c.from_residual.ensures.1 in
+    let partly = c.in_err-count.ensures.moves in
+    rw failed.1 (record {
+      begun = partly.begun;
+      words = elim partly.words [
+        | inl erasing ↦ inl erasing
+        | inr moving ↦ inr (record { new_pages = moving.new_pages; old_pages = drawn_before side new (picture_of side old) (retired_pages (λ page. true) (picture_of side old)) moving.live_pages })
+      ];
+      cut = partly.cut;
+    })
 
-pub returns-in_err-finish-clause-words : goal.returns-in_err-finish-clause-words
-returns-in_err-finish-clause-words g c =
+pub returns-in_err-finish-clause-moves : goal.returns-in_err-finish-clause-moves
+returns-in_err-finish-clause-moves g c =
     let old = g.F.Flash.device c.args.flash.now in
     let mid = g.F.Flash.device c.move_map.new.flash in
     let new = g.F.Flash.device c.finish.new.flash in
     let side = c.args.layout.now.side in
+    let pages = not_blank_in (other_of side) old in
     let words = moved_words (meant c.args.change) (map_in side old) in
-    let moved = c.in_ok-count.ensures.moved in
+    let moves = c.in_ok-count.ensures.moves in
     let stays = rw c.other.ensures at c.in_err-finish.ensures.stays in
     let shows = rw c.other.ensures at c.in_err-finish.ensures.begun in
-    let fill : fill_of (slots_of (set_of (other_of side) mid)) ≡ length words = moved.fill_is ∙ sym c.in_ok-count.ensures.each_once ∙ c.in_ok-count.ensures.as_many in
+    let fill : fill_of (slots_of (set_of (other_of side) mid)) ≡ length words = moves.moved.fill_is ∙ sym c.in_ok-count.ensures.each_once ∙ moves.as_many in
     let last : last_used mid (other_of side) ≡ page_of_slot mid.size (length words - 1) = ap (λ n. page_of_slot mid.size (n - 1)) fill in
     let drawn : IsDrawnPartly side new (picture_of side mid) (retired_pages (waits side mid) (picture_of side mid)) =
     subst (λ (set : Side). IsDrawnPartly set new (picture_of set mid) (retired_pages (waits set mid) (picture_of set mid))) (other_other side) shows.old_pages in
-    always_on_err c.from_residual-in_err-finish.result (inr (record {
-      new_pages = subst (λ (size : Size). IsDrawnPartly (other_of side) new blank (filled_set size (c.args.layout.now.generation + 1) words)) moved.same_size
-          (marked_partly (other_of side) mid new (c.args.layout.now.generation + 1) (last_used mid (other_of side)) words stays.keeps.same_size c.in_ok-count.ensures.new_pages last shows.live_pages);
-      old_pages = retires_partly side old mid new c.args.layout.now.generation c.requires.layout.live (sym c.requires.layout.fill ∙ c.requires.all_used) moved.live.formed moved.same_size stays.keeps.same_size
-          c.in_ok-count.ensures.live_pages drawn;
-    }))
+    let failed = err_from_is_err_and c.from_residual-in_err-finish.result c.from_residual-in_err-finish.ensures.1 in
+    rw failed.1 (record {
+      begun = front_all pages old new (wears_still pages old mid new moves.wear stays.same_wear);
+      words = inr (record {
+        new_pages = subst (λ (size : Size). IsDrawnPartly (other_of side) new blank (filled_set size (c.args.layout.now.generation + 1) words)) moves.moved.same_size
+            (marked_partly (other_of side) mid new (c.args.layout.now.generation + 1) (last_used mid (other_of side)) words stays.keeps.same_size c.in_ok-count.ensures.new_pages last shows.live_pages);
+        old_pages = retires_partly side old mid new c.args.layout.now.generation c.requires.layout.live (sym c.requires.layout.fill ∙ c.requires.all_used) moves.moved.live.formed moves.moved.same_size stays.keeps.same_size
+            c.in_ok-count.ensures.live_pages drawn;
+      });
+      cut = inr (moved_stays old mid new side c.args.layout.now.generation (meant c.args.change) moves.moved stays);
+    })
