@@ -1,6 +1,4 @@
 mod DraftSteps
 mod PlayedSteps
 mod Mirrors
-mod DraftedCalls
-mod ExportedCalls
-mod LookedStates
+mod AnsweredCalls

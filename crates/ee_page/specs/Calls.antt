@@ -1,104 +1,69 @@
--- What each call answers, and what it leaves of the device that its mirror means: one relation for each, by cases on the
--- answer. A call opens the store first, which sets the marks that a cut left.
+-- What a request is answered, and what it leaves of the device that the mirror means, by cases on the request and on the
+-- answer. Where the list is too short that is a device whose power is cut in the step that finds no place in it.
 use Rattle.std.specs.Prelude.{◌≡◌, ◌<◌, ◌≤◌, ◌⊎◌, ℕ, Ok, Err, true, false, List, length, take}
 use Rattle.std.specs.List.{All}
 use Rattle.ee_flash.specs.Device.{Device}
 use Rattle.ee_flash.specs.Endurance.{CanTakeAll}
 use Rattle.ee_flash.specs.Laws.{all_completed}
 use Rattle.ee_flash.specs.Size.{page_count}
-use Rattle.ee_flash.specs.Step.{with_page_worn}
+use Rattle.ee_flash.specs.Step.{one_more, with_page_worn}
 use Rattle.ee_pages.specs.Layout.{IsScanFault}
 use Rattle.ee_core.specs.Calls.{Cleans, Forgets, Writes}
 use Rattle.ee_core.specs.Openings.{IsCutFormat, IsCutOpening, IsFormatted, Opens}
 use Rattle.ee_core.specs.declared.variables.Written.TheVariants as written
 use Rattle.ee_core.specs.declared.variables.WriteFault.TheVariants as write
 use Rattle.ee_core.specs.declared.variables.ForgetFault.TheVariants as forget
+use Rattle.ee_page.specs.Draft.{IsFresh}
 use Rattle.ee_page.specs.Listing.{IsZeroIfErase, steps_of}
 use Rattle.ee_page.specs.declared.answer.Answer.{Answer}
-use Rattle.ee_page.specs.declared.answer.Answer.TheVariants.{Done, Moved, Nothing, Full, Spent, Absent, NoStore, ListTooShort, WrongShape, ImproperAddress}
+use Rattle.ee_page.specs.declared.answer.Answer.TheVariants.{Done, Moved, Nothing, Full, Spent, Absent, NoStore, ListTooShort}
 use Rattle.ee_page.specs.declared.listing.ListedStep.{ListedStep}
+use Rattle.ee_page.specs.declared.request.Request.{Request}
+use Rattle.ee_page.specs.declared.request.Request.TheVariants.{Format, Open, Write, Forget, Clean}
 
--- the store was opened, and then this came of it
-abbrev pub Opened : Device → (Device → Type 0) → Type 0
-Opened old ends = (opened : Device) × Opens old opened × ends opened
+-- a format makes a store with nothing in it
+abbrev pub Formats : Device → Answer → Device → Type 0
+Formats old Done new = IsFormatted old new
+Formats old ListTooShort new = IsCutFormat old new
+Formats old answer new = ⊥
 
--- power was cut in opening the store or behind it
-abbrev pub CutIn : Device → (Device → Type 0) → Device → Type 0
-CutIn old ends new = IsCutOpening old new ⊎ Opened old ends
+-- an opening that fails, and why
+abbrev pub IsNotOpened : Device → Answer → Device → Type 0
+IsNotOpened old (NoStore fault) new = IsScanFault old fault × (new ≡ old)
+IsNotOpened old ListTooShort new = IsCutOpening old new
+IsNotOpened old answer new = ⊥
 
--- a write; where the list is too short, of a device whose power is cut in the step that finds no place in it
-abbrev pub WritesCells : Device → ℕ → ℕ → Answer → Device → Type 0
-WritesCells old address value Done new = Opened old (λ opened. Writes opened address value (Ok written.Appended) new)
-WritesCells old address value Moved new = Opened old (λ opened. Writes opened address value (Ok written.Moved) new)
-WritesCells old address value Full new = Opened old (λ opened. Writes opened address value (Err write.Full) new)
-WritesCells old address value Spent new = Opened old (λ opened. Writes opened address value (Err write.Spent) new)
-WritesCells old address value (NoStore fault) new = IsScanFault old fault × (new ≡ old)
-WritesCells old address value ListTooShort new = CutIn old (λ opened. Writes opened address value (Err write.Cut) new) new
-WritesCells old address value Nothing new = ⊥
-WritesCells old address value Absent new = ⊥
-WritesCells old address value WrongShape new = ⊥
-WritesCells old address value ImproperAddress new = ⊥
+-- what a store that was opened is asked, if anything
+abbrev pub AnswersOpen : Request ℕ → Device → Answer → Device → Type 0
+AnswersOpen Open old Done new = new ≡ old
+AnswersOpen (Write address value) old Done new = Writes old address value (Ok written.Appended) new
+AnswersOpen (Write address value) old Moved new = Writes old address value (Ok written.Moved) new
+AnswersOpen (Write address value) old Full new = Writes old address value (Err write.Full) new
+AnswersOpen (Write address value) old Spent new = Writes old address value (Err write.Spent) new
+AnswersOpen (Write address value) old ListTooShort new = Writes old address value (Err write.Cut) new
+AnswersOpen (Forget address) old Done new = Forgets old address (Ok written.Appended) new
+AnswersOpen (Forget address) old Moved new = Forgets old address (Ok written.Moved) new
+AnswersOpen (Forget address) old Absent new = Forgets old address (Err forget.Absent) new
+AnswersOpen (Forget address) old Spent new = Forgets old address (Err forget.Spent) new
+AnswersOpen (Forget address) old ListTooShort new = Forgets old address (Err forget.Cut) new
+AnswersOpen Clean old Done new = Cleans old (Ok true) new
+AnswersOpen Clean old Nothing new = Cleans old (Ok false) new
+AnswersOpen Clean old ListTooShort new = Cleans old (Err write.Cut) new
+AnswersOpen request old answer new = ⊥
 
--- a forgetting likewise
-abbrev pub ForgetsCells : Device → ℕ → Answer → Device → Type 0
-ForgetsCells old address Done new = Opened old (λ opened. Forgets opened address (Ok written.Appended) new)
-ForgetsCells old address Moved new = Opened old (λ opened. Forgets opened address (Ok written.Moved) new)
-ForgetsCells old address Absent new = Opened old (λ opened. Forgets opened address (Err forget.Absent) new)
-ForgetsCells old address Spent new = Opened old (λ opened. Forgets opened address (Err forget.Spent) new)
-ForgetsCells old address (NoStore fault) new = IsScanFault old fault × (new ≡ old)
-ForgetsCells old address ListTooShort new = CutIn old (λ opened. Forgets opened address (Err forget.Cut) new) new
-ForgetsCells old address Nothing new = ⊥
-ForgetsCells old address Full new = ⊥
-ForgetsCells old address WrongShape new = ⊥
-ForgetsCells old address ImproperAddress new = ⊥
+-- what a request is answered, and what it leaves: all but a format open the store first, which sets the marks that a cut
+-- left
+abbrev pub Answers : Request ℕ → Device → Answer → Device → Type 0
+Answers Format old answer new = Formats old answer new
+Answers request old answer new =
+    IsNotOpened old answer new ⊎ ((opened : Device) × Opens old opened × AnswersOpen request opened answer new)
 
--- a clean step likewise
-abbrev pub CleansCells : Device → Answer → Device → Type 0
-CleansCells old Done new = Opened old (λ opened. Cleans opened (Ok true) new)
-CleansCells old Nothing new = Opened old (λ opened. Cleans opened (Ok false) new)
-CleansCells old (NoStore fault) new = IsScanFault old fault × (new ≡ old)
-CleansCells old ListTooShort new = CutIn old (λ opened. Cleans opened (Err write.Cut) new) new
-CleansCells old Moved new = ⊥
-CleansCells old Full new = ⊥
-CleansCells old Spent new = ⊥
-CleansCells old Absent new = ⊥
-CleansCells old WrongShape new = ⊥
-CleansCells old ImproperAddress new = ⊥
-
--- an opening alone
-abbrev pub OpensCells : Device → Answer → Device → Type 0
-OpensCells old Done new = Opens old new
-OpensCells old (NoStore fault) new = IsScanFault old fault × (new ≡ old)
-OpensCells old ListTooShort new = IsCutOpening old new
-OpensCells old Moved new = ⊥
-OpensCells old Nothing new = ⊥
-OpensCells old Full new = ⊥
-OpensCells old Spent new = ⊥
-OpensCells old Absent new = ⊥
-OpensCells old WrongShape new = ⊥
-OpensCells old ImproperAddress new = ⊥
-
--- a new store with nothing in it
-abbrev pub FormatsCells : Device → Answer → Device → Type 0
-FormatsCells old Done new = IsFormatted old new
-FormatsCells old ListTooShort new = IsCutFormat old new
-FormatsCells old (NoStore fault) new = ⊥
-FormatsCells old Moved new = ⊥
-FormatsCells old Nothing new = ⊥
-FormatsCells old Full new = ⊥
-FormatsCells old Spent new = ⊥
-FormatsCells old Absent new = ⊥
-FormatsCells old WrongShape new = ⊥
-FormatsCells old ImproperAddress new = ⊥
+-- how often power was cut by then: once more where the list is too short
+abbrev pub cuts_after : Answer → ℕ → ℕ
+cuts_after ListTooShort cuts = one_more cuts
+cuts_after answer cuts = cuts
 
 -- ---- the list
-
--- the first so many of the listed steps can be taken, each when it comes, and lead to this
-pub record Lists (start : Device) (listed : List ListedStep) (count : ℕ) (leaves : Device → Type 0) : Type 0 where
-  pub within : count ≤ length listed
-  pub taken : CanTakeAll (steps_of count listed) start
-  pub zeros : All IsZeroIfErase (take count listed)
-  pub leads : leaves (all_completed (steps_of count listed) start)
 
 -- The wears when power was cut in one more step: in a program, or in the erase of a page, which wears it.
 abbrev pub WearsOnceMore : Device → List ℕ → Type 0
@@ -115,19 +80,6 @@ pub record FillsList (start : Device) (listed : List ListedStep) (leaves : Devic
   pub wear : WearsOnceMore (all_completed (steps_of (length listed) listed) start) cut.wear
   pub leads : leaves cut
 
--- what a call lists for what it leaves; where the words are no store its list is not played, and says nothing
-abbrev pub Drafts : (Answer → Device → Type 0) → Answer → Device → List ListedStep → ℕ → Type 0
-Drafts leaves ListTooShort start listed count = FillsList start listed (leaves ListTooShort)
-Drafts leaves Done start listed count = Lists start listed count (leaves Done)
-Drafts leaves Moved start listed count = Lists start listed count (leaves Moved)
-Drafts leaves Nothing start listed count = Lists start listed count (leaves Nothing)
-Drafts leaves Full start listed count = Lists start listed count (leaves Full)
-Drafts leaves Spent start listed count = Lists start listed count (leaves Spent)
-Drafts leaves Absent start listed count = Lists start listed count (leaves Absent)
-Drafts leaves (NoStore fault) start listed count = leaves (NoStore fault) start
-Drafts leaves WrongShape start listed count = Lists start listed count (leaves WrongShape)
-Drafts leaves ImproperAddress start listed count = Lists start listed count (leaves ImproperAddress)
-
 -- what a draft says of its list when it ends
 pub record IsEnded (start device : Device) (listed : List ListedStep) (count : ℕ) : Type 0 where
   pub within : count ≤ length listed
@@ -137,3 +89,11 @@ pub record IsEnded (start device : Device) (listed : List ListedStep) (count : �
   pub whole : device.cuts ≡ 0 → device ≡ all_completed (steps_of count listed) start
   pub further : device.cuts ≡ 1 → WearsOnceMore (all_completed (steps_of count listed) start) device.wear
   pub full : (device.cuts ≡ 0 → ⊥) → count ≡ length listed
+
+-- what a draft of a request ends with: a device that is what the answer says, and the list of the steps to it
+pub record Drafts (request : Request ℕ) (start : Device) (answer : Answer) (listed : List ListedStep) (count : ℕ) : Type 0 where
+  pub fresh : IsFresh start
+  pub left : Device
+  pub answers : Answers request start answer left
+  pub cuts : left.cuts ≡ cuts_after answer start.cuts
+  pub ended : IsEnded start left listed count

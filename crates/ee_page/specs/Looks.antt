@@ -10,7 +10,7 @@ use Rattle.ee_flash.specs.Size.{Size}
 use Rattle.ee_page.specs.Answers.{foreign_at, status_of}
 use Rattle.ee_page.specs.Mirror.{MirrorFits, Mirror, device_in}
 use Rattle.ee_page.specs.declared.answer.Answer.{Answer}
-use Rattle.ee_page.specs.declared.answer.Answer.TheVariants.{Done, Moved, Nothing, Full, Spent, Absent, NoStore, ListTooShort, WrongShape, ImproperAddress}
+use Rattle.ee_page.specs.declared.answer.Answer.TheVariants.{Done, Nothing, NoStore, WrongShape, ImproperAddress}
 use Rattle.ee_page.specs.declared.looking.Found.{Found}
 use Rattle.ee_page.specs.declared.looking.FoundResult.{FoundResult}
 use Rattle.ee_page.specs.declared.looking.CountsResult.{CountsResult}
@@ -20,35 +20,25 @@ use Rattle.ee_page.specs.declared.looking.Counts.{Counts}
 abbrev pub none_found : Answer → Found
 none_found answer = record { answer = answer; address = 0; value = 0 }
 
--- no address and no value
-abbrev pub IsZero : ℕ → ℕ → Type 0
-IsZero address value = (address ≡ 0) × (value ≡ 0)
-
 -- the value of an address, or that it has none, or why the words are no store
-abbrev pub IsValueRead : Device → ℕ → Answer → ℕ → ℕ → Type 0
-IsValueRead device asked Done address value = IsLegal device × (address ≡ asked) × ((state_of device).map asked ≡ Some value)
-IsValueRead device asked Nothing address value = IsLegal device × IsZero address value × ((state_of device).map asked ≡ None)
-IsValueRead device asked (NoStore fault) address value = IsScanFault device fault × IsZero address value
-IsValueRead device asked Moved address value = ⊥
-IsValueRead device asked Full address value = ⊥
-IsValueRead device asked Spent address value = ⊥
-IsValueRead device asked Absent address value = ⊥
-IsValueRead device asked ListTooShort address value = ⊥
-IsValueRead device asked WrongShape address value = ⊥
-IsValueRead device asked ImproperAddress address value = ⊥
+abbrev pub ReadsValue : Device → ℕ → Answer → Found → Type 0
+ReadsValue device asked Done found = IsLegal device × (found.address ≡ asked) × ((state_of device).map asked ≡ Some found.value)
+ReadsValue device asked Nothing found = IsLegal device × (found ≡ none_found Nothing) × ((state_of device).map asked ≡ None)
+ReadsValue device asked (NoStore fault) found = IsScanFault device fault × (found ≡ none_found (NoStore fault))
+ReadsValue device asked answer found = ⊥
+
+abbrev pub IsValueRead : Device → ℕ → Found → Type 0
+IsValueRead device asked found = ReadsValue device asked found.answer found
 
 -- the next address above this one that has a value, with the value, or that there is none, or why the words are no store
-abbrev pub IsNext : Device → ℕ → Answer → ℕ → ℕ → Type 0
-IsNext device above Done address value = IsLegal device × IsNextLive (state_of device).map above (Some (address, value))
-IsNext device above Nothing address value = IsLegal device × IsZero address value × IsNextLive (state_of device).map above None
-IsNext device above (NoStore fault) address value = IsScanFault device fault × IsZero address value
-IsNext device above Moved address value = ⊥
-IsNext device above Full address value = ⊥
-IsNext device above Spent address value = ⊥
-IsNext device above Absent address value = ⊥
-IsNext device above ListTooShort address value = ⊥
-IsNext device above WrongShape address value = ⊥
-IsNext device above ImproperAddress address value = ⊥
+abbrev pub FindsNext : Device → ℕ → Answer → Found → Type 0
+FindsNext device above Done found = IsLegal device × IsNextLive (state_of device).map above (Some (found.address, found.value))
+FindsNext device above Nothing found = IsLegal device × (found ≡ none_found Nothing) × IsNextLive (state_of device).map above None
+FindsNext device above (NoStore fault) found = IsScanFault device fault × (found ≡ none_found (NoStore fault))
+FindsNext device above answer found = ⊥
+
+abbrev pub IsNext : Device → ℕ → Found → Type 0
+IsNext device above found = FindsNext device above found.answer found
 
 -- these are the counts of a store in this state, which has so many slots
 pub record AreStoreCountsOf (slots : ℕ) (state : State) (counts : Counts) : Type 0 where
@@ -66,14 +56,7 @@ none_counted answer = record { answer = answer; live = 0; fill = 0; room = 0; ge
 abbrev pub CountsFor : Device → Answer → Counts → Type 0
 CountsFor device Done counts = IsLegal device × AreStoreCountsOf (capacity device) (state_of device) counts
 CountsFor device (NoStore fault) counts = IsScanFault device fault × (counts ≡ none_counted (NoStore fault))
-CountsFor device Moved counts = ⊥
-CountsFor device Nothing counts = ⊥
-CountsFor device Full counts = ⊥
-CountsFor device Spent counts = ⊥
-CountsFor device Absent counts = ⊥
-CountsFor device ListTooShort counts = ⊥
-CountsFor device WrongShape counts = ⊥
-CountsFor device ImproperAddress counts = ⊥
+CountsFor device answer counts = ⊥
 
 abbrev pub AreStoreCounts : Device → Counts → Type 0
 AreStoreCounts device counts = CountsFor device counts.answer counts
@@ -81,13 +64,13 @@ AreStoreCounts device counts = CountsFor device counts.answer counts
 -- ---- what the exports tell
 
 -- what the caller is told of a look
-abbrev pub found_result : Answer → ℕ → ℕ → FoundResult
-found_result answer address value = record {
-  status = status_of answer;
-  address = address;
-  value = value;
-  page = (foreign_at answer).0;
-  place = (foreign_at answer).1;
+abbrev pub found_result : Found → FoundResult
+found_result found = record {
+  status = status_of found.answer;
+  address = found.address;
+  value = found.value;
+  page = (foreign_at found.answer).0;
+  place = (foreign_at found.answer).1;
 }
 
 -- and of a count
@@ -103,17 +86,16 @@ counts_result counts = record {
   place = (foreign_at counts.answer).1;
 }
 
--- what an answer says: the mirror has another shape, or the arguments are not proper, or it is what the look finds
-abbrev pub Finds : Size → (Device → Answer → ℕ → ℕ → Type 0) → Type 0 → Answer → Mirror → ℕ → ℕ → Type 0
-Finds size finds proper answer mirror address value =
-    ((answer ≡ WrongShape) × ¬ MirrorFits size mirror × IsZero address value)
-    ⊎ ((answer ≡ ImproperAddress) × MirrorFits size mirror × ¬ proper × IsZero address value)
-    ⊎ (MirrorFits size mirror × proper × finds (device_in size mirror) answer address value)
+-- what a look says: the mirror has another shape, or the argument is not proper, or it is what the look finds
+abbrev pub Finds : Size → (Device → Found → Type 0) → Type 0 → Found → Mirror → Type 0
+Finds size finds proper found mirror =
+    ((found ≡ none_found WrongShape) × ¬ MirrorFits size mirror)
+    ⊎ ((found ≡ none_found ImproperAddress) × MirrorFits size mirror × ¬ proper)
+    ⊎ (MirrorFits size mirror × proper × finds (device_in size mirror) found)
 
--- a look tells one answer, which says what it says
-abbrev pub Looks : Size → (Device → Answer → ℕ → ℕ → Type 0) → Type 0 → FoundResult → Mirror → Type 0
-Looks size finds proper result mirror =
-    (answer : Answer) × (result ≡ found_result answer result.address result.value) × Finds size finds proper answer mirror result.address result.value
+-- a look tells what it finds
+abbrev pub Looks : Size → (Device → Found → Type 0) → Type 0 → FoundResult → Mirror → Type 0
+Looks size finds proper result mirror = (found : Found) × (result ≡ found_result found) × Finds size finds proper found mirror
 
 -- and a count
 abbrev pub CountsIn : Size → CountsResult → Mirror → Type 0

@@ -1,6 +1,5 @@
 ghost use Rattle.std.specs.Prelude.{◌≡◌};
 
-use ee_core::{ForgetFault, OpenFault, WriteFault, Written};
 use ee_pages::ScanFault;
 
 /// What a call answers.
@@ -47,7 +46,7 @@ pub struct CallResult {
 }
 
 impl Answer {
-    ghost use Rattle.ee_page.specs.Answers.{answer_of_clean, answer_of_forget, answer_of_opening, answer_of_write, foreign_at, is_played, result_of, status_of};
+    ghost use Rattle.ee_page.specs.Answers.{foreign_at, is_played, result_of, status_of};
 
     /// The number of this answer.
     pub(crate) fn status(self) -> usize
@@ -104,53 +103,6 @@ impl Answer {
             listed,
             page,
             place,
-        }
-    }
-
-    /// What a failed opening is answered with.
-    pub(crate) fn of_opening(fault: OpenFault) -> Answer
-        ensures { result ≡ answer_of_opening fault }
-    {
-        match fault {
-            OpenFault::Scan(fault) => Answer::NoStore(fault),
-            OpenFault::Cut => Answer::ListTooShort,
-        }
-    }
-
-    /// What a write is answered with. A draft is on, and its store keeps no index.
-    pub(crate) fn of_write(written: Result<Written, WriteFault>) -> Answer
-        ensures { result ≡ answer_of_write written }
-    {
-        match written {
-            Ok(Written::Appended) => Answer::Done,
-            Ok(Written::Moved) => Answer::Moved,
-            Err(WriteFault::Full) => Answer::Full,
-            Err(WriteFault::Spent) => Answer::Spent,
-            Err(WriteFault::Off | WriteFault::Memory | WriteFault::Cut) => Answer::ListTooShort,
-        }
-    }
-
-    /// What a forgetting is answered with.
-    pub(crate) fn of_forget(forgotten: Result<Written, ForgetFault>) -> Answer
-        ensures { result ≡ answer_of_forget forgotten }
-    {
-        match forgotten {
-            Ok(Written::Appended) => Answer::Done,
-            Ok(Written::Moved) => Answer::Moved,
-            Err(ForgetFault::Absent) => Answer::Absent,
-            Err(ForgetFault::Spent) => Answer::Spent,
-            Err(ForgetFault::Off | ForgetFault::Cut) => Answer::ListTooShort,
-        }
-    }
-
-    /// What a clean step is answered with.
-    pub(crate) fn of_clean(cleaned: Result<bool, WriteFault>) -> Answer
-        ensures { result ≡ answer_of_clean cleaned }
-    {
-        match cleaned {
-            Ok(true) => Answer::Done,
-            Ok(false) => Answer::Nothing,
-            Err(_) => Answer::ListTooShort,
         }
     }
 }

@@ -1,145 +1,91 @@
-ghost use Rattle.std.specs.Prelude.{◌≡◌};
-ghost use Rattle.ee_page.specs.Calls.{CleansCells, Drafts, ForgetsCells, FormatsCells, OpensCells, WritesCells};
+ghost use Rattle.std.specs.Prelude.{◌≡◌, ◌≢◌};
+ghost use Rattle.ee_flash.specs.Device.{IsOn};
+ghost use Rattle.ee_page.specs.Calls.{Answers, AnswersOpen, Drafts, cuts_after};
 ghost use Rattle.ee_page.specs.Mirror.{IsMirror, mirrored_device};
 
 use crate::answer::Answer;
 use crate::draft::{DraftFlash, Drafted, Lent};
 use crate::listing::ListedStep;
+use crate::request::Request;
 use ee_codec::Address;
-use ee_core::{Variables, format, open};
-use ee_flash::Shape;
+use ee_core::{ForgetFault, OpenFault, Store, Variables, WriteFault, Written, format, open};
+use ee_flash::{Flash, Shape};
 
-/// Drafts a write.
-pub(crate) fn draft_write<'w, 'l, K: Lent>(
+/// Drafts what is requested.
+#[tactic(auto, using(crate::proofs::AnsweredCalls::drafted))]
+pub(crate) fn draft<'w, 'l, K: Lent>(
     shape: Shape,
     words: &'w [u64],
     flags: &'w [u8],
     wears: &[u64],
     listed: &'l mut [ListedStep],
-    address: Address,
-    value: u32,
+    request: Request<Address>,
 ) -> Drafted<'l>
     requires mirror { IsMirror shape words.now flags.now wears.now }
     requires start { K.start ≡ mirrored_device shape words.now flags.now wears.now }
     requires list { listed.ghost_name ≡ K.list }
     ensures same_list { result.listed.ghost_name ≡ listed.entry.ghost_name }
-    ensures drafts { Drafts (WritesCells K.start address value) result.answer K.start
-        result.listed.now result.count }
+    ensures drafts { Drafts request K.start result.answer result.listed.now result.count }
 {
-    match open(DraftFlash::<K>::of(shape, words, flags, wears, listed)) {
-        Err(failed) => {
-            let (draft, fault) = failed;
-            draft.ended(Answer::of_opening(fault))
-        }
+    let draft = DraftFlash::<K>::of(shape, words, flags, wears, listed);
+    let (draft, answer) = ask(draft, request);
+    draft.ended(answer)
+}
+
+// Asks a device for what is requested: it is formatted, or its store is opened first. A cut of power
+// says that the list is too short.
+#[tactic(auto, using(crate::proofs::AnsweredCalls::opened_first))]
+fn ask<F: Flash + Drop>(flash: F, request: Request<Address>) -> (F, Answer)
+    requires { IsOn (F.device flash) }
+    ensures answers { Answers request (F.device flash) result.1 (F.device result.0) }
+    ensures cuts { (F.device result.0).cuts ≡ cuts_after result.1 (F.device flash).cuts }
+{
+    if let Request::Format = request {
+        return match format(flash) {
+            Ok(store) => (store.into_flash(), Answer::Done),
+            Err((flash, _cut)) => (flash, Answer::ListTooShort),
+        };
+    }
+    match open(flash) {
         Ok(store) => {
             let mut store = store;
-            let answer = Answer::of_write(store.write(address, value));
-            store.into_flash().ended(answer)
+            let answer = ask_open(&mut store, request);
+            (store.into_flash(), answer)
         }
+        Err((flash, fault)) => match fault {
+            OpenFault::Scan(fault) => (flash, Answer::NoStore(fault)),
+            OpenFault::Cut => (flash, Answer::ListTooShort),
+        },
     }
 }
 
-/// Drafts a forgetting.
-pub(crate) fn draft_forget<'w, 'l, K: Lent>(
-    shape: Shape,
-    words: &'w [u64],
-    flags: &'w [u8],
-    wears: &[u64],
-    listed: &'l mut [ListedStep],
-    address: Address,
-) -> Drafted<'l>
-    requires mirror { IsMirror shape words.now flags.now wears.now }
-    requires start { K.start ≡ mirrored_device shape words.now flags.now wears.now }
-    requires list { listed.ghost_name ≡ K.list }
-    ensures same_list { result.listed.ghost_name ≡ listed.entry.ghost_name }
-    ensures drafts { Drafts (ForgetsCells K.start address) result.answer K.start
-        result.listed.now result.count }
+// Asks a store that was opened. It is on and keeps no index, so it answers neither `Off` nor `Memory`.
+fn ask_open<F: Flash + Drop>(store: &mut Store<F>, request: Request<Address>) -> Answer
+    requires on { IsOn store.old }
+    requires opened { request ≢ Request.Format }
+    ensures answers { AnswersOpen request store.old result store.new }
+    ensures cuts { store.new.cuts ≡ cuts_after result store.old.cuts }
 {
-    match open(DraftFlash::<K>::of(shape, words, flags, wears, listed)) {
-        Err(failed) => {
-            let (draft, fault) = failed;
-            draft.ended(Answer::of_opening(fault))
-        }
-        Ok(store) => {
-            let mut store = store;
-            let answer = Answer::of_forget(store.forget(address));
-            store.into_flash().ended(answer)
-        }
-    }
-}
-
-/// Drafts a clean step.
-pub(crate) fn draft_clean<'w, 'l, K: Lent>(
-    shape: Shape,
-    words: &'w [u64],
-    flags: &'w [u8],
-    wears: &[u64],
-    listed: &'l mut [ListedStep],
-) -> Drafted<'l>
-    requires mirror { IsMirror shape words.now flags.now wears.now }
-    requires start { K.start ≡ mirrored_device shape words.now flags.now wears.now }
-    requires list { listed.ghost_name ≡ K.list }
-    ensures same_list { result.listed.ghost_name ≡ listed.entry.ghost_name }
-    ensures drafts { Drafts (CleansCells K.start) result.answer K.start
-        result.listed.now result.count }
-{
-    match open(DraftFlash::<K>::of(shape, words, flags, wears, listed)) {
-        Err(failed) => {
-            let (draft, fault) = failed;
-            draft.ended(Answer::of_opening(fault))
-        }
-        Ok(store) => {
-            let mut store = store;
-            let answer = Answer::of_clean(store.clean_step());
-            store.into_flash().ended(answer)
-        }
-    }
-}
-
-/// Drafts an opening.
-pub(crate) fn draft_open<'w, 'l, K: Lent>(
-    shape: Shape,
-    words: &'w [u64],
-    flags: &'w [u8],
-    wears: &[u64],
-    listed: &'l mut [ListedStep],
-) -> Drafted<'l>
-    requires mirror { IsMirror shape words.now flags.now wears.now }
-    requires start { K.start ≡ mirrored_device shape words.now flags.now wears.now }
-    requires list { listed.ghost_name ≡ K.list }
-    ensures same_list { result.listed.ghost_name ≡ listed.entry.ghost_name }
-    ensures drafts { Drafts (OpensCells K.start) result.answer K.start
-        result.listed.now result.count }
-{
-    match open(DraftFlash::<K>::of(shape, words, flags, wears, listed)) {
-        Err(failed) => {
-            let (draft, fault) = failed;
-            draft.ended(Answer::of_opening(fault))
-        }
-        Ok(store) => { store.into_flash().ended(Answer::Done) }
-    }
-}
-
-/// Drafts a format.
-pub(crate) fn draft_format<'w, 'l, K: Lent>(
-    shape: Shape,
-    words: &'w [u64],
-    flags: &'w [u8],
-    wears: &[u64],
-    listed: &'l mut [ListedStep],
-) -> Drafted<'l>
-    requires mirror { IsMirror shape words.now flags.now wears.now }
-    requires start { K.start ≡ mirrored_device shape words.now flags.now wears.now }
-    requires list { listed.ghost_name ≡ K.list }
-    ensures same_list { result.listed.ghost_name ≡ listed.entry.ghost_name }
-    ensures drafts { Drafts (FormatsCells K.start) result.answer K.start
-        result.listed.now result.count }
-{
-    match format(DraftFlash::<K>::of(shape, words, flags, wears, listed)) {
-        Err(failed) => {
-            let (draft, _cut) = failed;
-            draft.ended(Answer::ListTooShort)
-        }
-        Ok(store) => { store.into_flash().ended(Answer::Done) }
+    match request {
+        Request::Format | Request::Open => Answer::Done,
+        Request::Write { address, value } => match store.write(address, value) {
+            Ok(Written::Appended) => Answer::Done,
+            Ok(Written::Moved) => Answer::Moved,
+            Err(WriteFault::Full) => Answer::Full,
+            Err(WriteFault::Spent) => Answer::Spent,
+            Err(WriteFault::Off | WriteFault::Memory | WriteFault::Cut) => Answer::ListTooShort,
+        },
+        Request::Forget { address } => match store.forget(address) {
+            Ok(Written::Appended) => Answer::Done,
+            Ok(Written::Moved) => Answer::Moved,
+            Err(ForgetFault::Absent) => Answer::Absent,
+            Err(ForgetFault::Spent) => Answer::Spent,
+            Err(ForgetFault::Off | ForgetFault::Cut) => Answer::ListTooShort,
+        },
+        Request::Clean => match store.clean_step() {
+            Ok(true) => Answer::Done,
+            Ok(false) => Answer::Nothing,
+            Err(_) => Answer::ListTooShort,
+        },
     }
 }

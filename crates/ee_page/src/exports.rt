@@ -1,16 +1,13 @@
-ghost use Rattle.std.specs.Prelude.{◌≡◌};
-ghost use Rattle.ee_codec.specs.Words.{IsAddress};
 ghost use Rattle.ee_flash.specs.Size.{size_of};
-ghost use Rattle.ee_page.specs.Calls.{CleansCells, ForgetsCells, FormatsCells, OpensCells, WritesCells};
 ghost use Rattle.ee_page.specs.Exports.{MakesCall};
 ghost use Rattle.ee_page.specs.Mirror.{mirror_of};
 
 use crate::answer::{Answer, CallResult};
 use crate::draft::Drafted;
-use crate::drafting::{draft_clean, draft_forget, draft_format, draft_open, draft_write};
+use crate::drafting::draft;
 use crate::listing::ListedStep;
 use crate::mirror::{settle, shape_of};
-use ee_codec::Address;
+use crate::request::{Request, proper};
 use std::marker::Brand;
 
 /// Makes a store with nothing in it, whatever the words are: erases each page that is not blank, and
@@ -29,20 +26,12 @@ pub extern "C" fn ee_format(
     wears: &mut [u64],
     listed: &mut [ListedStep],
 ) -> CallResult
-    ensures { MakesCall (size_of pages page_words) FormatsCells (Unit {0}) result
+    ensures { MakesCall (size_of pages page_words) Request.Format result
         (mirror_of words.old flags.old wears.old) (mirror_of words.new flags.new wears.new)
         listed.new }
 {
-    let Some(shape) = shape_of(pages, page_words, words, flags, wears) else {
-        return Answer::WrongShape.told(0);
-    };
-    let drafted = draft_format::<Brand>(shape, words, flags, wears, listed);
-    let Drafted {
-        listed: used,
-        count,
-        answer,
-    } = drafted;
-    settle(shape, words, flags, wears, used, count, answer)
+    let request = Request::Format;
+    make_call(pages, page_words, words, flags, wears, listed, request)
 }
 
 /// Opens the store: sets the marks that a cut left to set. The variables are as before.
@@ -59,20 +48,12 @@ pub extern "C" fn ee_open(
     wears: &mut [u64],
     listed: &mut [ListedStep],
 ) -> CallResult
-    ensures { MakesCall (size_of pages page_words) OpensCells (Unit {0}) result
+    ensures { MakesCall (size_of pages page_words) Request.Open result
         (mirror_of words.old flags.old wears.old) (mirror_of words.new flags.new wears.new)
         listed.new }
 {
-    let Some(shape) = shape_of(pages, page_words, words, flags, wears) else {
-        return Answer::WrongShape.told(0);
-    };
-    let drafted = draft_open::<Brand>(shape, words, flags, wears, listed);
-    let Drafted {
-        listed: used,
-        count,
-        answer,
-    } = drafted;
-    settle(shape, words, flags, wears, used, count, answer)
+    let request = Request::Open;
+    make_call(pages, page_words, words, flags, wears, listed, request)
 }
 
 /// Writes a value of an address, 1 to 65534. It opens the store first.
@@ -92,24 +73,12 @@ pub extern "C" fn ee_write(
     address: u16,
     value: u32,
 ) -> CallResult
-    ensures { MakesCall (size_of pages page_words) (λ old. WritesCells old address value)
-        (IsAddress address) result
+    ensures { MakesCall (size_of pages page_words) (Request.Write address value) result
         (mirror_of words.old flags.old wears.old) (mirror_of words.new flags.new wears.new)
         listed.new }
 {
-    let Some(shape) = shape_of(pages, page_words, words, flags, wears) else {
-        return Answer::WrongShape.told(0);
-    };
-    let Some(address) = Address::new(address) else {
-        return Answer::ImproperAddress.told(0);
-    };
-    let drafted = draft_write::<Brand>(shape, words, flags, wears, listed, address, value);
-    let Drafted {
-        listed: used,
-        count,
-        answer,
-    } = drafted;
-    settle(shape, words, flags, wears, used, count, answer)
+    let request = Request::Write { address, value };
+    make_call(pages, page_words, words, flags, wears, listed, request)
 }
 
 /// Takes the value of an address, 1 to 65534, away. It opens the store first.
@@ -128,24 +97,12 @@ pub extern "C" fn ee_forget(
     listed: &mut [ListedStep],
     address: u16,
 ) -> CallResult
-    ensures { MakesCall (size_of pages page_words) (λ old. ForgetsCells old address)
-        (IsAddress address) result
+    ensures { MakesCall (size_of pages page_words) (Request.Forget address) result
         (mirror_of words.old flags.old wears.old) (mirror_of words.new flags.new wears.new)
         listed.new }
 {
-    let Some(shape) = shape_of(pages, page_words, words, flags, wears) else {
-        return Answer::WrongShape.told(0);
-    };
-    let Some(address) = Address::new(address) else {
-        return Answer::ImproperAddress.told(0);
-    };
-    let drafted = draft_forget::<Brand>(shape, words, flags, wears, listed, address);
-    let Drafted {
-        listed: used,
-        count,
-        answer,
-    } = drafted;
-    settle(shape, words, flags, wears, used, count, answer)
+    let request = Request::Forget { address };
+    make_call(pages, page_words, words, flags, wears, listed, request)
 }
 
 /// Erases the lowest page that waits to be erased, if there is one. It opens the store first.
@@ -162,18 +119,40 @@ pub extern "C" fn ee_clean(
     wears: &mut [u64],
     listed: &mut [ListedStep],
 ) -> CallResult
-    ensures { MakesCall (size_of pages page_words) CleansCells (Unit {0}) result
+    ensures { MakesCall (size_of pages page_words) Request.Clean result
+        (mirror_of words.old flags.old wears.old) (mirror_of words.new flags.new wears.new)
+        listed.new }
+{
+    let request = Request::Clean;
+    make_call(pages, page_words, words, flags, wears, listed, request)
+}
+
+// Makes a call: it judges the shape first, and then the address.
+#[tactic(auto, using(crate::proofs::AnsweredCalls::shape_refused, crate::proofs::AnsweredCalls::address_refused))]
+fn make_call(
+    pages: usize,
+    page_words: usize,
+    words: &mut [u64],
+    flags: &mut [u8],
+    wears: &mut [u64],
+    listed: &mut [ListedStep],
+    request: Request<u16>,
+) -> CallResult
+    ensures { MakesCall (size_of pages page_words) request result
         (mirror_of words.old flags.old wears.old) (mirror_of words.new flags.new wears.new)
         listed.new }
 {
     let Some(shape) = shape_of(pages, page_words, words, flags, wears) else {
         return Answer::WrongShape.told(0);
     };
-    let drafted = draft_clean::<Brand>(shape, words, flags, wears, listed);
+    let Some(request) = proper(request) else {
+        return Answer::ImproperAddress.told(0);
+    };
+    let drafted = draft::<Brand>(shape, words, flags, wears, listed, request);
     let Drafted {
-        listed: used,
+        listed,
         count,
         answer,
     } = drafted;
-    settle(shape, words, flags, wears, used, count, answer)
+    settle(shape, words, flags, wears, listed, count, answer)
 }

@@ -45,3 +45,4 @@ mod looking;
 mod looks;
 mod mirror;
 mod playing;
+mod request;

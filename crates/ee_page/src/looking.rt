@@ -27,7 +27,7 @@ impl Found {
 
     /// What the caller is told.
     pub(crate) fn told(self) -> FoundResult
-        ensures { result ≡ found_result self.answer self.address self.value }
+        ensures { result ≡ found_result self }
     {
         let (page, place) = self.answer.foreign();
         FoundResult {
@@ -157,7 +157,7 @@ pub(crate) fn look_up<'w, 'l, K: Lent>(
     requires mirror { IsMirror shape words.now flags.now wears.now }
     requires start { K.start ≡ mirrored_device shape words.now flags.now wears.now }
     requires list { listed.ghost_name ≡ K.list }
-    ensures { IsValueRead K.start address result.0.answer result.0.address result.0.value }
+    ensures { IsValueRead K.start address result.0 }
 {
     let draft = DraftFlash::<K>::of(shape, words, flags, wears, listed);
     let found = find(&draft, address);
@@ -167,7 +167,7 @@ pub(crate) fn look_up<'w, 'l, K: Lent>(
 
 // Looks an address up in any device.
 fn find<F: Flash>(flash: &F, address: Address) -> Found
-    ensures { IsValueRead (F.device flash.now) address result.answer result.address result.value }
+    ensures { IsValueRead (F.device flash.now) address result }
 {
     let layout = match scan(flash) {
         Ok(layout) => layout,
@@ -195,7 +195,7 @@ pub(crate) fn look_on<'w, 'l, K: Lent>(
     requires mirror { IsMirror shape words.now flags.now wears.now }
     requires start { K.start ≡ mirrored_device shape words.now flags.now wears.now }
     requires list { listed.ghost_name ≡ K.list }
-    ensures { IsNext K.start (above_of after) result.0.answer result.0.address result.0.value }
+    ensures { IsNext K.start (above_of after) result.0 }
 {
     let draft = DraftFlash::<K>::of(shape, words, flags, wears, listed);
     let found = find_next(&draft, after);
@@ -205,7 +205,7 @@ pub(crate) fn look_on<'w, 'l, K: Lent>(
 
 // Looks for the next address in any device.
 fn find_next<F: Flash>(flash: &F, after: Option<Address>) -> Found
-    ensures { IsNext (F.device flash.now) (above_of after) result.answer result.address result.value }
+    ensures { IsNext (F.device flash.now) (above_of after) result }
 {
     let layout = match scan(flash) {
         Ok(layout) => layout,

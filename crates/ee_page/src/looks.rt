@@ -1,7 +1,6 @@
-ghost use Rattle.std.specs.Prelude.{◌≡◌, ◌<◌, IfNone, IfSome};
+ghost use Rattle.std.specs.Prelude.{◌<◌};
 ghost use Rattle.ee_codec.specs.Words.{IsAddress};
 ghost use Rattle.ee_flash.specs.Size.{size_of};
-ghost use Rattle.ee_pages.specs.Meaning.{above_of};
 ghost use Rattle.ee_page.specs.Looks.{CountsIn, IsNext, IsValueRead, Looks};
 ghost use Rattle.ee_page.specs.Mirror.{mirror_of};
 
@@ -61,27 +60,13 @@ pub extern "C" fn ee_next(
     let Some(shape) = shape_of(pages, page_words, words, flags, wears) else {
         return Found::none(Answer::WrongShape).told();
     };
-    let Some(begin) = begin_of(after) else {
+    if after == u16::MAX {
         return Found::none(Answer::ImproperAddress).told();
-    };
+    }
+    let begin = Address::new(after);
     let mut no_steps: [ListedStep; 0] = [];
     let (found, _list) = look_on::<Brand>(shape, words, flags, wears, &mut no_steps, begin);
     found.told()
-}
-
-// Where a reader begins: behind an address, or before all at 0. `None` of 65535.
-fn begin_of(after: u16) -> Option<Option<Address>>
-    ensures some { IfSome result (λ begin. above_of begin ≡ after) }
-    ensures below { IfSome result (λ begin. after < 65535) }
-    ensures none { IfNone result (after ≡ 65535) }
-{
-    if after == 0 {
-        return Some(None);
-    }
-    match Address::new(after) {
-        Some(address) => Some(Some(address)),
-        None => None,
-    }
 }
 
 /// How far the store is used. It takes no step, and sets no mark.

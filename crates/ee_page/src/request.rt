@@ -1,0 +1,40 @@
+ghost use Rattle.std.specs.Prelude.{SomeIff};
+ghost use Rattle.ee_page.specs.Exports.{IsProperRequest};
+
+use ee_codec::Address;
+
+/// What is asked of a store. An address is a number as it was passed, or one that is proper.
+///
+/// Source: ours.
+#[derive(Drop)]
+pub enum Request<A> {
+    /// To be made, with nothing in it.
+    Format,
+    /// To be opened.
+    Open,
+    /// To write a value of an address.
+    Write { address: A, value: u32 },
+    /// To take the value of an address away.
+    Forget { address: A },
+    /// To erase the lowest page that waits to be erased.
+    Clean,
+}
+
+/// The same request with a proper address, where it has one; `None` if its number is 0 or 65535.
+pub(crate) fn proper(request: Request<u16>) -> Option<Request<Address>>
+    ensures { SomeIff result (IsProperRequest request) request }
+{
+    match request {
+        Request::Format => Some(Request::Format),
+        Request::Open => Some(Request::Open),
+        Request::Write { address, value } => {
+            let address = Address::new(address)?;
+            Some(Request::Write { address, value })
+        }
+        Request::Forget { address } => {
+            let address = Address::new(address)?;
+            Some(Request::Forget { address })
+        }
+        Request::Clean => Some(Request::Clean),
+    }
+}
