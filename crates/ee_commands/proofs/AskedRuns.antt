@@ -7,13 +7,12 @@ use Rattle.ee_flash.specs.Size.{slot_count}
 use Rattle.ee_pages.specs.Meaning.{Map, Put, live_in, live_to}
 use Rattle.ee_pages.specs.Meaning as meaning
 use Rattle.ee_pages.proofs.Public.{live_to-suc, live_to-zero}
+use Rattle.ee_core.proofs.Public.{by_effect}
 use Rattle.ee_core.specs.Calls.{ErasesOne}
 use Rattle.ee_core.specs.Changes.{Appends, IsSpent, Moves}
-use Rattle.ee_core.specs.Runs.{Call, Wrote, Forgot, Cleaned, DidRead, Follows, IsRun, is_cut, is_transfer, transfers}
+use Rattle.ee_core.specs.Runs.{Call, Wrote, Forgot, Cleaned, DidRead, Follows, IsRun, changes_of_call, is_cut, is_transfer, transfers}
 use Rattle.ee_core.specs.State.{State, state_of}
 use Rattle.ee_core.specs.declared.variables.ForgetFault.TheVariants as forget
-use Rattle.ee_core.specs.declared.variables.WriteFault.TheVariants as write
-use Rattle.ee_core.specs.declared.variables.Written.TheVariants.{Appended, Moved}
 use Rattle.ee_check.proofs.Public.{changed-le}
 use Rattle.ee_check.specs.declared.change.Change.{Change}
 use Rattle.ee_check.specs.declared.change.Change.TheVariants as changes
@@ -23,7 +22,7 @@ use Rattle.ee_plan.proofs.Public.{live_after_forget, live_after_put, live_count_
 use Rattle.ee_plan.specs.Start.{AreLive}
 use Rattle.ee_commands.specs.ToldSizes.{asked_by_calls}
 use Rattle.ee_image_store.proofs.Public.{forgetting_fits}
-use Rattle.ee_commands.proofs.MadeRuns.{AreProper, NotCut, counted, not_counted, uncut_behind}
+use Rattle.ee_commands.proofs.MadeRuns.{AreProper, NotCut, behind_proper, counted, live_after, not_counted, traced, uncut_behind}
 
 -- ---- maps of which one has a value wherever the other has one
 
@@ -93,27 +92,10 @@ as_before : (old new : Device) → new ≡ old → IsDone old → IsDone new
 as_before old new same done = subst (λ (device : Device). IsDone device) (sym same) done
 
 stays_done : (call : Call) (old new : Device) → is_cut call ≡ false → Follows call old new → IsDone old → (is_transfer call ≡ false) × IsDone new
-stays_done (Wrote address value (Ok Appended)) old new whole call done = absurd (never_appends old new (Put address value) call done)
-stays_done (Wrote address value (Ok Moved)) old new whole call done = absurd (never_moves old new (Put address value) call done)
-stays_done (Wrote address value (Err write.Off)) old new whole call done = (refl, as_before old new call.1 done)
-stays_done (Wrote address value (Err write.Full)) old new whole call done = (refl, as_before old new call.2 done)
-stays_done (Wrote address value (Err write.Spent)) old new whole call done = (refl, as_before old new call.3 done)
-stays_done (Wrote address value (Err write.Memory)) old new whole call done = (refl, as_before old new call.2 done)
-stays_done (Wrote address value (Err write.Cut)) old new whole call done = absurd cc
-stays_done (Forgot address (Ok Appended)) old new whole call done = absurd (never_appends old new (meaning.Forget address) call done)
-stays_done (Forgot address (Ok Moved)) old new whole call done = absurd (never_moves old new (meaning.Forget address) call done)
-stays_done (Forgot address (Err forget.Off)) old new whole call done = (refl, as_before old new call.1 done)
-stays_done (Forgot address (Err forget.Absent)) old new whole call done = (refl, as_before old new call.2 done)
-stays_done (Forgot address (Err forget.Spent)) old new whole call done = (refl, as_before old new call.3 done)
-stays_done (Forgot address (Err forget.Cut)) old new whole call done = absurd cc
-stays_done (Cleaned (Ok true)) old new whole call done = (refl, done_behind old new call done)
-stays_done (Cleaned (Ok false)) old new whole call done = (refl, as_before old new call.2 done)
-stays_done (Cleaned (Err write.Off)) old new whole call done = (refl, as_before old new call.1 done)
-stays_done (Cleaned (Err write.Full)) old new whole call done = absurd call
-stays_done (Cleaned (Err write.Spent)) old new whole call done = absurd call
-stays_done (Cleaned (Err write.Memory)) old new whole call done = absurd call
-stays_done (Cleaned (Err write.Cut)) old new whole call done = absurd cc
-stays_done (DidRead address answer) old new whole call done = (refl, as_before old new call.1 done)
+stays_done call old new whole did done =
+    by_effect (λ transfer changes. (transfer ≡ false) × IsDone new) call old new whole did
+    (λ same. (refl, as_before old new same done)) (λ change did. absurd (never_appends old new change did done))
+    (λ change did. absurd (never_moves old new change did done)) (λ cleaned did. (refl, done_behind old new did done))
 
 no_more_moves : (calls : List Call) (old new : Device) → IsRun calls old new → NotCut calls → IsDone old → transfers calls ≡ 0
 no_more_moves [] old new run whole done = refl
@@ -321,66 +303,51 @@ module _ (old mid : Device) (call : Call) (calls : List Call) where
 
 -- ---- a run
 
+-- a call that made a change asked for it
+asked_first : (call : Call) (calls : List Call) (change : meaning.Change) → changes_of_call call ≡ change ∷ [] → asked_by_calls (call ∷ calls) ≡ traced change ∷ asked_by_calls calls
+asked_first (Wrote address value (Ok written)) calls change made = let is : Put address value ≡ change = cc in ap (λ one. traced one ∷ asked_by_calls calls) is
+asked_first (Wrote address value (Err fault)) calls change made = absurd cc
+asked_first (Forgot address (Ok written)) calls change made = let is : meaning.Forget address ≡ change = cc in ap (λ one. traced one ∷ asked_by_calls calls) is
+asked_first (Forgot address (Err fault)) calls change made = absurd cc
+asked_first (Cleaned answer) calls change made = absurd cc
+asked_first (DidRead address answer) calls change made = absurd cc
+
+-- a call that left the device as it was, and what follows
+unwritten : (call : Call) (calls : List Call) (old mid new : Device) → is_cut call ≡ false → Follows call old mid → IsRun calls mid new → NotCut calls
+    → AreProper (asked_by_calls (call ∷ calls)) → is_transfer call ≡ false → changes_of_call call ≡ [] → mid ≡ old
+    → (AreProper (asked_by_calls calls) → IsBounded mid calls) → IsBounded old (call ∷ calls)
+unwritten (Wrote address value answer) calls old mid new uncut done run whole are still none same later =
+    refused old mid (Wrote address value answer) calls (changes.Write address) (Put address value) refl (λ wide live is. live_after_put wide live address value are.0 is) still same
+    (λ wide under. still_under (state_of old).map wide address value under) (later are.1)
+unwritten (Forgot address (Ok written)) calls old mid new uncut done run whole are still none same later = absurd cc
+unwritten (Forgot address (Err forget.Absent)) calls old mid new uncut done run whole are still none same later =
+    refused old mid (Forgot address (Err forget.Absent)) calls (changes.Forget address) (meaning.Forget address) refl (λ wide live is. live_after_forget wide live address is) still same
+    (λ wide under. absent_under (state_of old).map wide address done.1 under) (later are)
+unwritten (Forgot address (Err forget.Off)) calls old mid new uncut done run whole are still none same later =
+    none_follows old mid (Forgot address (Err forget.Off)) calls still (no_more_moves calls mid new run whole (as_before old mid same (inl done.0)))
+unwritten (Forgot address (Err forget.Spent)) calls old mid new uncut done run whole are still none same later =
+    none_follows old mid (Forgot address (Err forget.Spent)) calls still (no_more_moves calls mid new run whole (as_before old mid same (inr done.2)))
+unwritten (Forgot address (Err forget.Cut)) calls old mid new uncut done run whole are still none same later = absurd cc
+unwritten (Cleaned answer) calls old mid new uncut done run whole are still none same later = none_done old mid (Cleaned answer) calls refl still same (later are)
+unwritten (DidRead address answer) calls old mid new uncut done run whole are still none same later =
+    none_done old mid (DidRead address answer) calls refl still same (later are)
+
 pub bounded : (calls : List Call) (old new : Device) → IsRun calls old new → NotCut calls → AreProper (asked_by_calls calls) → IsBounded old calls
 bounded [] old new run whole are = λ now moves moved spent allowed same below. let few = below.few in let none : transfers [] ≡ 0 = refl in omega (arith, few, none)
-bounded (Wrote address value (Ok Appended) ∷ calls) old new run whole are =
-    let call = Wrote address value (Ok Appended) in
-    appended old run.0 call calls (changes.Write address) (Put address value) refl (λ wide live is. live_after_put wide live address value are.0 is) refl run.1
-    (bounded calls run.0 new run.2 (uncut_behind call calls whole) are.1)
-bounded (Wrote address value (Ok Moved) ∷ calls) old new run whole are =
-    let call = Wrote address value (Ok Moved) in
-    carried old run.0 call calls (changes.Write address) (Put address value) refl (λ wide live is. live_after_put wide live address value are.0 is) refl run.1
-    (bounded calls run.0 new run.2 (uncut_behind call calls whole) are.1)
-bounded (Wrote address value (Err write.Off) ∷ calls) old new run whole are =
-    let call = Wrote address value (Err write.Off) in
-    refused old run.0 call calls (changes.Write address) (Put address value) refl (λ wide live is. live_after_put wide live address value are.0 is) refl run.1.1
-    (λ wide under. still_under (state_of old).map wide address value under) (bounded calls run.0 new run.2 (uncut_behind call calls whole) are.1)
-bounded (Wrote address value (Err write.Full) ∷ calls) old new run whole are =
-    let call = Wrote address value (Err write.Full) in
-    refused old run.0 call calls (changes.Write address) (Put address value) refl (λ wide live is. live_after_put wide live address value are.0 is) refl run.1.2
-    (λ wide under. still_under (state_of old).map wide address value under) (bounded calls run.0 new run.2 (uncut_behind call calls whole) are.1)
-bounded (Wrote address value (Err write.Spent) ∷ calls) old new run whole are =
-    let call = Wrote address value (Err write.Spent) in
-    refused old run.0 call calls (changes.Write address) (Put address value) refl (λ wide live is. live_after_put wide live address value are.0 is) refl run.1.3
-    (λ wide under. still_under (state_of old).map wide address value under) (bounded calls run.0 new run.2 (uncut_behind call calls whole) are.1)
-bounded (Wrote address value (Err write.Memory) ∷ calls) old new run whole are =
-    let call = Wrote address value (Err write.Memory) in
-    refused old run.0 call calls (changes.Write address) (Put address value) refl (λ wide live is. live_after_put wide live address value are.0 is) refl run.1.2
-    (λ wide under. still_under (state_of old).map wide address value under) (bounded calls run.0 new run.2 (uncut_behind call calls whole) are.1)
-bounded (Wrote address value (Err write.Cut) ∷ calls) old new run whole are =
-    let cut : is_cut (Wrote address value (Err write.Cut)) ≡ false = whole 0 (Wrote address value (Err write.Cut)) (omega arith) in absurd cc
-bounded (Forgot address (Ok Appended) ∷ calls) old new run whole are =
-    let call = Forgot address (Ok Appended) in
-    appended old run.0 call calls (changes.Forget address) (meaning.Forget address) refl (λ wide live is. live_after_forget wide live address is) refl run.1
-    (bounded calls run.0 new run.2 (uncut_behind call calls whole) are)
-bounded (Forgot address (Ok Moved) ∷ calls) old new run whole are =
-    let call = Forgot address (Ok Moved) in
-    carried old run.0 call calls (changes.Forget address) (meaning.Forget address) refl (λ wide live is. live_after_forget wide live address is) refl run.1
-    (bounded calls run.0 new run.2 (uncut_behind call calls whole) are)
-bounded (Forgot address (Err forget.Absent) ∷ calls) old new run whole are =
-    let call = Forgot address (Err forget.Absent) in
-    refused old run.0 call calls (changes.Forget address) (meaning.Forget address) refl (λ wide live is. live_after_forget wide live address is) refl run.1.2
-    (λ wide under. absent_under (state_of old).map wide address run.1.1 under) (bounded calls run.0 new run.2 (uncut_behind call calls whole) are)
-bounded (Forgot address (Err forget.Off) ∷ calls) old new run whole are =
-    let call = Forgot address (Err forget.Off) in
-    none_follows old run.0 call calls refl (no_more_moves calls run.0 new run.2 (uncut_behind call calls whole) (as_before old run.0 run.1.1 (inl run.1.0)))
-bounded (Forgot address (Err forget.Spent) ∷ calls) old new run whole are =
-    let call = Forgot address (Err forget.Spent) in
-    none_follows old run.0 call calls refl (no_more_moves calls run.0 new run.2 (uncut_behind call calls whole) (as_before old run.0 run.1.3 (inr run.1.2)))
-bounded (Forgot address (Err forget.Cut) ∷ calls) old new run whole are =
-    let cut : is_cut (Forgot address (Err forget.Cut)) ≡ false = whole 0 (Forgot address (Err forget.Cut)) (omega arith) in absurd cc
-bounded (Cleaned (Ok true) ∷ calls) old new run whole are =
-    let call = Cleaned (Ok true) in
-    none_asked old run.0 call calls refl refl run.1.goes_on.same_size (ap (λ (s : State). s.map) run.1.state_is) (ap (λ (s : State). s.fill) run.1.state_is)
-    (bounded calls run.0 new run.2 (uncut_behind call calls whole) are)
-bounded (Cleaned (Ok false) ∷ calls) old new run whole are =
-    let call = Cleaned (Ok false) in none_done old run.0 call calls refl refl run.1.2 (bounded calls run.0 new run.2 (uncut_behind call calls whole) are)
-bounded (Cleaned (Err write.Off) ∷ calls) old new run whole are =
-    let call = Cleaned (Err write.Off) in none_done old run.0 call calls refl refl run.1.1 (bounded calls run.0 new run.2 (uncut_behind call calls whole) are)
-bounded (Cleaned (Err write.Cut) ∷ calls) old new run whole are =
-    let cut : is_cut (Cleaned (Err write.Cut)) ≡ false = whole 0 (Cleaned (Err write.Cut)) (omega arith) in absurd cc
-bounded (Cleaned (Err write.Full) ∷ calls) old new run whole are = absurd run.1
-bounded (Cleaned (Err write.Spent) ∷ calls) old new run whole are = absurd run.1
-bounded (Cleaned (Err write.Memory) ∷ calls) old new run whole are = absurd run.1
-bounded (DidRead address answer ∷ calls) old new run whole are =
-    let call = DidRead address answer in none_done old run.0 call calls refl refl run.1.1 (bounded calls run.0 new run.2 (uncut_behind call calls whole) are)
+bounded (call ∷ calls) old new run whole are =
+    let mid = run.0 in
+    let trace = asked_by_calls calls in
+    let uncut = whole 0 call (omega arith) in
+    let uncut_later = uncut_behind call calls whole in
+    let later : AreProper trace → IsBounded mid calls = λ behind. bounded calls mid new run.2 uncut_later behind in
+    let first : (change : meaning.Change) → changes_of_call call ≡ change ∷ [] → AreProper (traced change ∷ trace) = λ change one. subst AreProper (asked_first call calls change one) are in
+    let none : call ≡ Cleaned (Ok true) → asked_by_calls (call ∷ calls) ≡ trace = λ cleaned. ap (λ one. asked_by_calls (one ∷ calls)) cleaned in
+    by_effect (λ transfer list. is_transfer call ≡ transfer → changes_of_call call ≡ list → IsBounded old (call ∷ calls)) call old mid uncut run.1
+    (λ same still empty. unwritten call calls old mid new uncut run.1 run.2 uncut_later are still empty same later)
+    (λ change done still one. appended old mid call calls (traced change) change (asked_first call calls change one) (λ wide live is. live_after change trace wide live (first change one) is)
+    still done (later (behind_proper (traced change) trace (first change one))))
+    (λ change done turns one. carried old mid call calls (traced change) change (asked_first call calls change one) (λ wide live is. live_after change trace wide live (first change one) is)
+    turns done (later (behind_proper (traced change) trace (first change one))))
+    (λ cleaned done still empty. none_asked old mid call calls (none cleaned) still done.goes_on.same_size (ap (λ (s : State). s.map) done.state_is)
+    (ap (λ (s : State). s.fill) done.state_is) (later (subst AreProper (none cleaned) are)))
+    refl refl

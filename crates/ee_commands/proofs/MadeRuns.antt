@@ -1,5 +1,5 @@
 -- Calls of a store move the map as the store does that transfers exactly when each slot is used.
-use Rattle.std.proofs.Common.{◌≡◌, ◌∙◌, ℕ, zero, suc, ◌+◌, ◌<◌, ◌≤◌, true, false, cond, Ok, Err, List, [], ◌∷◌, ◌++◌, length, refl, sym, subst, ap, arith}
+use Rattle.std.proofs.Common.{◌≡◌, ◌∙◌, ℕ, zero, suc, ◌+◌, ◌<◌, ◌≤◌, true, false, cond, Ok, Err, List, [], ◌∷◌, ◌++◌, length, map, refl, sym, subst, ap, arith}
 use Rattle.std.proofs.lemmas.List.Elements.{All-tail}
 use Rattle.std.proofs.lemmas.List.Sums.{sum_by-cons}
 use Rattle.std.specs.List.{All, AllByRecursion}
@@ -8,12 +8,10 @@ use Rattle.ee_flash.specs.Size.{Size, slot_count}
 use Rattle.ee_codec.specs.Words.{IsAddress}
 use Rattle.ee_pages.specs.Meaning.{Put}
 use Rattle.ee_pages.specs.Meaning as meaning
-use Rattle.ee_core.specs.Changes.{Appends, Moves}
-use Rattle.ee_core.specs.Runs.{Call, Wrote, Forgot, Cleaned, DidRead, IsRun, is_cut, is_transfer, transfers}
+use Rattle.ee_core.proofs.Public.{by_effect}
+use Rattle.ee_core.specs.Changes.{Appends, HasNoPlace, Moves}
+use Rattle.ee_core.specs.Runs.{Call, Wrote, Forgot, Cleaned, DidRead, IsRun, changes_of_call, is_cut, is_transfer, transfers}
 use Rattle.ee_core.specs.State.{State, state_of}
-use Rattle.ee_core.specs.declared.variables.ForgetFault.TheVariants as forget
-use Rattle.ee_core.specs.declared.variables.WriteFault.TheVariants as write
-use Rattle.ee_core.specs.declared.variables.Written.TheVariants.{Appended, Moved}
 use Rattle.ee_check.proofs.Public.{changed-le}
 use Rattle.ee_check.specs.declared.change.Change.{Change}
 use Rattle.ee_check.specs.declared.change.Change.TheVariants as changes
@@ -122,11 +120,13 @@ Starts device start = IsStartOf (slot_count device.size) (state_of device) start
 abbrev Follows : Device → Situation → List Call → Type 0
 Follows device start calls = Starts device start → IsProper start → IsLateOf start calls
 
--- a call that leaves the device as it was, and what follows
-same_then : (old mid : Device) (start : Situation) (call : Call) (calls : List Call) → made_by_calls (call ∷ calls) ≡ made_by_calls calls
-    → is_transfer call ≡ false → mid ≡ old → Starts old start → IsProper start → Follows mid start calls → IsLateOf start (call ∷ calls)
-same_then old mid start call calls none still same is proper follows =
-    none_first start call calls none still (follows (subst (λ (device : Device). Starts device start) (sym same) is) proper)
+-- a call that leaves the map and the slots as they were, and what follows
+stays_then : (old mid : Device) (start : Situation) (call : Call) (calls : List Call) → made_by_calls (call ∷ calls) ≡ made_by_calls calls
+    → is_transfer call ≡ false → mid.size ≡ old.size → (state_of mid).map ≡ (state_of old).map → (state_of mid).fill ≡ (state_of old).fill
+    → Starts old start → IsProper start → Follows mid start calls → IsLateOf start (call ∷ calls)
+stays_then old mid start call calls none still sized same_map same_fill is proper follows =
+    let here = start_stays (slot_count old.size) (state_of old) (state_of mid) start is same_map same_fill in
+    none_first start call calls none still (follows (subst (λ (size : Size). IsStartOf (slot_count size) (state_of mid) start) (sym sized) here) proper)
 
 -- an append, and what follows
 append_then : (old mid : Device) (start : Situation) (call : Call) (calls : List Call) (change : Change) (meant : meaning.Change)
@@ -162,78 +162,53 @@ NotCut calls = All (λ call. is_cut call ≡ false) calls
 pub uncut_behind : (call : Call) (calls : List Call) → NotCut (call ∷ calls) → NotCut calls
 uncut_behind call calls whole = All-tail (λ (one : Call). is_cut one ≡ false) call calls whole
 
+-- a change of the map, as a change of a trace
+abbrev pub traced : meaning.Change → Change
+traced (Put address value) = changes.Write address
+traced (meaning.Forget address) = changes.Forget address
+
+-- what a call made comes before what the calls behind it made
+made_first : (call : Call) (calls : List Call) → made_by_calls (call ∷ calls) ≡ map traced (changes_of_call call) ++ made_by_calls calls
+made_first (Wrote address value (Ok written)) calls = refl
+made_first (Wrote address value (Err fault)) calls = refl
+made_first (Forgot address (Ok written)) calls = refl
+made_first (Forgot address (Err fault)) calls = refl
+made_first (Cleaned answer) calls = refl
+made_first (DidRead address answer) calls = refl
+
+pub behind_proper : (change : Change) (trace : List Change) → AreProper (change ∷ trace) → AreProper trace
+behind_proper (changes.Write address) trace are = are.1
+behind_proper (changes.Forget address) trace are = are
+
+pub live_after : (change : meaning.Change) (trace : List Change) (wide : meaning.Map) (live : List ℕ) → AreProper (traced change ∷ trace) → AreLive wide live
+    → AreLive (meaning.map_after change wide) (live_after_one live (traced change))
+live_after (Put address value) trace wide live are is = live_after_put wide live address value are.0 is
+live_after (meaning.Forget address) trace wide live are is = live_after_forget wide live address is
+
+-- an accepted change leaves no more live addresses than there are slots
+change_fits : (slots : ℕ) (state : State) (start : Situation) (change : meaning.Change) (trace : List Change) → AreProper (traced change ∷ trace)
+    → IsStartOf slots state start → IsProper start → ¬ HasNoPlace slots state change → length (live_after_one start.live (traced change)) ≤ start.slots
+change_fits slots state start (Put address value) trace are is proper has_place = write_fits slots state start address value are.0 is proper has_place
+change_fits slots state start (meaning.Forget address) trace are is proper has_place = forgetting_fits start address proper
+
 pub late_calls : (calls : List Call) (old new : Device) (start : Situation) → IsRun calls old new → NotCut calls → AreProper (made_by_calls calls)
     → Starts old start → IsProper start → IsLateOf start calls
 late_calls [] old new start run whole are is proper = record { moves = []; changes_are = refl; late = tt; keeps = tt; carried = λ n. refl }
-late_calls (Wrote address value (Ok Appended) ∷ calls) old new start run whole are is proper =
-    let call = Wrote address value (Ok Appended) in
-    let change = changes.Write address in
-    append_then old run.0 start call calls change (Put address value) refl refl run.1 is
-    (live_after_put (state_of old).map start.live address value are.0 is.are_live) proper
-    (λ here kept. late_calls calls run.0 new (after_move start (Append change)) run.2 (uncut_behind call calls whole) are.1 here kept)
-late_calls (Wrote address value (Ok Moved) ∷ calls) old new start run whole are is proper =
-    let call = Wrote address value (Ok Moved) in
-    let change = changes.Write address in
-    carry_then old run.0 start call calls change (Put address value) refl refl run.1 is
-    (live_after_put (state_of old).map start.live address value are.0 is.are_live)
-    (write_fits (slot_count old.size) (state_of old) start address value are.0 is proper run.1.proceeds.accepted.has_place)
-    (λ here kept. late_calls calls run.0 new (after_move start (Carry change)) run.2 (uncut_behind call calls whole) are.1 here kept)
-late_calls (Forgot address (Ok Appended) ∷ calls) old new start run whole are is proper =
-    let call = Forgot address (Ok Appended) in
-    let change = changes.Forget address in
-    append_then old run.0 start call calls change (meaning.Forget address) refl refl run.1 is
-    (live_after_forget (state_of old).map start.live address is.are_live) proper
-    (λ here kept. late_calls calls run.0 new (after_move start (Append change)) run.2 (uncut_behind call calls whole) are here kept)
-late_calls (Forgot address (Ok Moved) ∷ calls) old new start run whole are is proper =
-    let call = Forgot address (Ok Moved) in
-    let change = changes.Forget address in
-    carry_then old run.0 start call calls change (meaning.Forget address) refl refl run.1 is
-    (live_after_forget (state_of old).map start.live address is.are_live)
-    (forgetting_fits start address proper)
-    (λ here kept. late_calls calls run.0 new (after_move start (Carry change)) run.2 (uncut_behind call calls whole) are here kept)
-late_calls (Cleaned (Ok true) ∷ calls) old new start run whole are is proper =
-    let call = Cleaned (Ok true) in
+late_calls (call ∷ calls) old new start run whole are is proper =
     let mid = run.0 in
-    let state = run.1.state_is in
-    let here = start_stays (slot_count old.size) (state_of old) (state_of mid) start is (ap (λ (s : State). s.map) state) (ap (λ (s : State). s.fill) state) in
-    let there : Starts mid start = subst (λ (size : Size). IsStartOf (slot_count size) (state_of mid) start) (sym run.1.goes_on.same_size) here in
-    none_first start call calls refl refl (late_calls calls mid new start run.2 (uncut_behind call calls whole) are there proper)
-late_calls (Wrote address value (Err write.Off) ∷ calls) old new start run whole are is proper =
-    let call = Wrote address value (Err write.Off) in
-    same_then old run.0 start call calls refl refl run.1.1 is proper (λ here kept. late_calls calls run.0 new start run.2 (uncut_behind call calls whole) are here kept)
-late_calls (Wrote address value (Err write.Full) ∷ calls) old new start run whole are is proper =
-    let call = Wrote address value (Err write.Full) in
-    same_then old run.0 start call calls refl refl run.1.2 is proper (λ here kept. late_calls calls run.0 new start run.2 (uncut_behind call calls whole) are here kept)
-late_calls (Wrote address value (Err write.Spent) ∷ calls) old new start run whole are is proper =
-    let call = Wrote address value (Err write.Spent) in
-    same_then old run.0 start call calls refl refl run.1.3 is proper (λ here kept. late_calls calls run.0 new start run.2 (uncut_behind call calls whole) are here kept)
-late_calls (Wrote address value (Err write.Memory) ∷ calls) old new start run whole are is proper =
-    let call = Wrote address value (Err write.Memory) in
-    same_then old run.0 start call calls refl refl run.1.2 is proper (λ here kept. late_calls calls run.0 new start run.2 (uncut_behind call calls whole) are here kept)
-late_calls (Wrote address value (Err write.Cut) ∷ calls) old new start run whole are is proper =
-    let cut : is_cut (Wrote address value (Err write.Cut)) ≡ false = whole 0 (Wrote address value (Err write.Cut)) (omega arith) in cc
-late_calls (Forgot address (Err forget.Off) ∷ calls) old new start run whole are is proper =
-    let call = Forgot address (Err forget.Off) in
-    same_then old run.0 start call calls refl refl run.1.1 is proper (λ here kept. late_calls calls run.0 new start run.2 (uncut_behind call calls whole) are here kept)
-late_calls (Forgot address (Err forget.Absent) ∷ calls) old new start run whole are is proper =
-    let call = Forgot address (Err forget.Absent) in
-    same_then old run.0 start call calls refl refl run.1.2 is proper (λ here kept. late_calls calls run.0 new start run.2 (uncut_behind call calls whole) are here kept)
-late_calls (Forgot address (Err forget.Spent) ∷ calls) old new start run whole are is proper =
-    let call = Forgot address (Err forget.Spent) in
-    same_then old run.0 start call calls refl refl run.1.3 is proper (λ here kept. late_calls calls run.0 new start run.2 (uncut_behind call calls whole) are here kept)
-late_calls (Forgot address (Err forget.Cut) ∷ calls) old new start run whole are is proper =
-    let cut : is_cut (Forgot address (Err forget.Cut)) ≡ false = whole 0 (Forgot address (Err forget.Cut)) (omega arith) in cc
-late_calls (Cleaned (Ok false) ∷ calls) old new start run whole are is proper =
-    let call = Cleaned (Ok false) in
-    same_then old run.0 start call calls refl refl run.1.2 is proper (λ here kept. late_calls calls run.0 new start run.2 (uncut_behind call calls whole) are here kept)
-late_calls (Cleaned (Err write.Off) ∷ calls) old new start run whole are is proper =
-    let call = Cleaned (Err write.Off) in
-    same_then old run.0 start call calls refl refl run.1.1 is proper (λ here kept. late_calls calls run.0 new start run.2 (uncut_behind call calls whole) are here kept)
-late_calls (Cleaned (Err write.Cut) ∷ calls) old new start run whole are is proper =
-    let cut : is_cut (Cleaned (Err write.Cut)) ≡ false = whole 0 (Cleaned (Err write.Cut)) (omega arith) in cc
-late_calls (Cleaned (Err write.Full) ∷ calls) old new start run whole are is proper = absurd run.1
-late_calls (Cleaned (Err write.Spent) ∷ calls) old new start run whole are is proper = absurd run.1
-late_calls (Cleaned (Err write.Memory) ∷ calls) old new start run whole are is proper = absurd run.1
-late_calls (DidRead address answer ∷ calls) old new start run whole are is proper =
-    let call = DidRead address answer in
-    same_then old run.0 start call calls refl refl run.1.1 is proper (λ here kept. late_calls calls run.0 new start run.2 (uncut_behind call calls whole) are here kept)
+    let trace = made_by_calls calls in
+    let made = made_first call calls in
+    let later : (next : Situation) → AreProper trace → Follows mid next calls = λ next behind here kept.
+    late_calls calls mid new next run.2 (uncut_behind call calls whole) behind here kept in
+    by_effect (λ transfer list. is_transfer call ≡ transfer → made_by_calls (call ∷ calls) ≡ map traced list ++ trace → AreProper (map traced list ++ trace) → IsLateOf start (call ∷ calls))
+    call old mid (whole 0 call (omega arith)) run.1
+    (λ same still none these. stays_then old mid start call calls none still (ap (λ (d : Device). d.size) same) (ap (λ (d : Device). (state_of d).map) same)
+    (ap (λ (d : Device). (state_of d).fill) same) is proper (later start these))
+    (λ change done still one these. append_then old mid start call calls (traced change) change one still done is (live_after change trace (state_of old).map start.live these is.are_live)
+    proper (later (after_move start (Append (traced change))) (behind_proper (traced change) trace these)))
+    (λ change done moved one these. carry_then old mid start call calls (traced change) change one moved done is (live_after change trace (state_of old).map start.live these is.are_live)
+    (change_fits (slot_count old.size) (state_of old) start change trace these is proper done.proceeds.accepted.has_place)
+    (later (after_move start (Carry (traced change))) (behind_proper (traced change) trace these)))
+    (λ cleaned done still none these. stays_then old mid start call calls none still done.goes_on.same_size (ap (λ (s : State). s.map) done.state_is)
+    (ap (λ (s : State). s.fill) done.state_is) is proper (later start these))
+    refl made (subst AreProper made are)

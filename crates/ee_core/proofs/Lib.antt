@@ -22,6 +22,7 @@ mod MovingFacts
 mod Fillings
 mod OtherSteps
 mod Making
+mod Effects
 mod Running
 mod Drawings
 mod Places

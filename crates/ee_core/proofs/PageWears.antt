@@ -1,6 +1,6 @@
 -- How often a page is erased in a run, by where it stands.
 use Rattle.ee_pages.specs.Legal.{IsLegal}
-use Rattle.std.proofs.Common.{◌≡◌, ◌≢◌, ◌⊎◌, inl, inr, ℕ, ◌+◌, ◌/◌, ◌<◌, ◌≤◌, Bool, true, false, cond, eqb, Ok, Err, Option, Some, None, List, [], ◌∷◌, get_or, refl, sym, subst, ap, ◌∙◌, arith}
+use Rattle.std.proofs.Common.{◌≡◌, ◌≢◌, ◌⊎◌, inl, inr, ℕ, ◌+◌, ◌/◌, ◌<◌, ◌≤◌, Bool, true, false, cond, eqb, Option, Some, None, List, [], ◌∷◌, get_or, refl, sym, subst, ap, ◌∙◌, arith}
 use Rattle.std.specs.List.{All}
 use Rattle.std.proofs.lemmas.Bool.{cases_eq, cases_lt, ne_eqb}
 use Rattle.std.proofs.lemmas.List.Elements.{All-tail}
@@ -9,21 +9,19 @@ use Rattle.ee_flash.specs.Device.{Device, page_at, wear_at}
 use Rattle.ee_flash.specs.Size.{Size, page_count}
 use Rattle.ee_flash.specs.declared.word.Word.{Word}
 use Rattle.ee_pages.specs.Laws.{IsPageOf}
-use Rattle.ee_pages.specs.Meaning.{Change, Put, Forget}
+use Rattle.ee_pages.specs.Meaning.{Change}
 use Rattle.ee_pages.specs.Page.{is_blank}
 use Rattle.ee_pages.specs.Sets.{live_of, other}
 use Rattle.ee_pages.specs.declared.side.Side.{Side}
 use Rattle.ee_pages.specs.declared.side.Side.TheVariants.{First, Second}
+use Rattle.ee_core.proofs.Effects.{by_effect}
 use Rattle.ee_core.proofs.PendingPages.{length-pending_pages, times_in_other, times_in_set, waits}
 use Rattle.ee_core.proofs.States.{other_twice}
 use Rattle.ee_core.proofs.Wears.{times, times_few, worn_at_most}
 use Rattle.ee_core.specs.Calls.{ErasesOne}
 use Rattle.ee_core.specs.Changes.{Appends, Moves}
-use Rattle.ee_core.specs.Runs.{Call, Wrote, Forgot, Cleaned, DidRead, Follows, IsRun, IsWholeRun, WearsAtMost, is_cut, is_transfer, transfers}
+use Rattle.ee_core.specs.Runs.{Call, Follows, IsRun, IsWholeRun, WearsAtMost, is_cut, is_transfer, transfers}
 use Rattle.ee_core.specs.State.{pending_pages, pending_pages_in, state_of, next_live}
-use Rattle.ee_core.specs.declared.variables.ForgetFault.TheVariants as forget
-use Rattle.ee_core.specs.declared.variables.WriteFault.TheVariants as write
-use Rattle.ee_core.specs.declared.variables.Written.TheVariants.{Appended, Moved}
 
 abbrev Live : Device → Side → ℕ → Type 0
 Live device side generation = live_of device ≡ Some (side, generation)
@@ -133,28 +131,8 @@ erases old new done =
     }
 
 pub ages : (call : Call) (old new : Device) → is_cut call ≡ false → Follows call old new → Ages (is_transfer call) old new
-ages (Wrote address value (Ok Appended)) old new whole done = appends old new (Put address value) done
-ages (Wrote address value (Ok Moved)) old new whole done = moves old new (Put address value) done
-ages (Wrote address value (Err write.Off)) old new whole done = unchanged old new done.1
-ages (Wrote address value (Err write.Full)) old new whole done = unchanged old new done.2
-ages (Wrote address value (Err write.Spent)) old new whole done = unchanged old new done.3
-ages (Wrote address value (Err write.Memory)) old new whole done = unchanged old new done.2
-ages (Wrote address value (Err write.Cut)) old new whole done = cc
-ages (Forgot address (Ok Appended)) old new whole done = appends old new (Forget address) done
-ages (Forgot address (Ok Moved)) old new whole done = moves old new (Forget address) done
-ages (Forgot address (Err forget.Off)) old new whole done = unchanged old new done.1
-ages (Forgot address (Err forget.Absent)) old new whole done = unchanged old new done.2
-ages (Forgot address (Err forget.Spent)) old new whole done = unchanged old new done.3
-ages (Forgot address (Err forget.Cut)) old new whole done = cc
-ages (Cleaned (Ok true)) old new whole done = erases old new done
-ages (Cleaned (Ok false)) old new whole done = unchanged old new done.2
-ages (Cleaned (Err write.Off)) old new whole done = unchanged old new done.1
-ages (Cleaned (Err write.Full)) old new whole done = absurd done
-ages (Cleaned (Err write.Spent)) old new whole done = absurd done
-ages (Cleaned (Err write.Memory)) old new whole done = absurd done
-ages (Cleaned (Err write.Cut)) old new whole done = cc
-ages (DidRead address (Ok value)) old new whole done = unchanged old new done.1
-ages (DidRead address (Err off)) old new whole done = unchanged old new done.1
+ages call old new whole done =
+    by_effect (λ transfer changes. Ages transfer old new) call old new whole done (unchanged old new) (appends old new) (moves old new) (λ is. erases old new)
 
 -- ---- a run
 

@@ -5,6 +5,7 @@ pub use Rattle.ee_core.proofs.CopiedMaps.{forget-at, forget-other, live_in-nothi
 pub use Rattle.ee_core.proofs.CopiedWords.{next_element, no_words, none_between, one_further}
 pub use Rattle.ee_core.proofs.CutMaps.{cut_map, fill_within}
 pub use Rattle.ee_core.proofs.Drawings.{with_word-elsewhere, with_word-there}
+pub use Rattle.ee_core.proofs.Effects.{by_effect}
 pub use Rattle.ee_core.proofs.Making.{clean_store, few_within, generation_proper, map_was, store_marked}
 pub use Rattle.ee_core.proofs.MovingFacts.{few_slots}
 pub use Rattle.ee_core.proofs.NotBlank.{length-not_blank}

@@ -8,16 +8,14 @@ use Rattle.ee_flash.specs.Device.{Device}
 use Rattle.ee_flash.specs.Power.{GoesOn}
 use Rattle.ee_flash.specs.Size.{Size}
 use Rattle.ee_flash.specs.Wear.{total_wear_of}
-use Rattle.ee_pages.specs.Meaning.{Change, Put, Forget, Map, map_after, changed_by}
+use Rattle.ee_pages.specs.Meaning.{Change, Map, map_after, changed_by}
+use Rattle.ee_core.proofs.Effects.{by_effect}
 use Rattle.ee_core.proofs.PendingPages.{length-pending_pages}
 use Rattle.ee_core.proofs.Wears.{no_wear, total_rises, wears_rise}
 use Rattle.ee_core.specs.Calls.{ErasesOne}
 use Rattle.ee_core.specs.Changes.{Appends, Moves}
 use Rattle.ee_core.specs.Runs.{Call, Wrote, Forgot, Cleaned, DidRead, AreAnsweredFrom, Follows, IsAnsweredBy, IsRun, changes_of_call, is_cut, is_transfer, transfers, IsWholeRun}
 use Rattle.ee_core.specs.State.{CountsWear, State, pending_pages, state_of}
-use Rattle.ee_core.specs.declared.variables.ForgetFault.TheVariants as forget
-use Rattle.ee_core.specs.declared.variables.WriteFault.TheVariants as write
-use Rattle.ee_core.specs.declared.variables.Written.TheVariants.{Appended, Moved}
 
 -- ---- one call
 
@@ -79,28 +77,8 @@ erases old new done = record {
 }
 
 pub goes : (call : Call) (old new : Device) → is_cut call ≡ false → Follows call old new → Goes (is_transfer call) (changes_of_call call) old new
-goes (Wrote address value (Ok Appended)) old new whole done = assumption (appends old new (Put address value) done)
-goes (Wrote address value (Ok Moved)) old new whole done = assumption (moves old new (Put address value) done)
-goes (Wrote address value (Err write.Off)) old new whole done = nothing old new done.1
-goes (Wrote address value (Err write.Full)) old new whole done = nothing old new done.2
-goes (Wrote address value (Err write.Spent)) old new whole done = nothing old new done.3
-goes (Wrote address value (Err write.Memory)) old new whole done = nothing old new done.2
-goes (Wrote address value (Err write.Cut)) old new whole done = cc
-goes (Forgot address (Ok Appended)) old new whole done = assumption (appends old new (Forget address) done)
-goes (Forgot address (Ok Moved)) old new whole done = assumption (moves old new (Forget address) done)
-goes (Forgot address (Err forget.Off)) old new whole done = nothing old new done.1
-goes (Forgot address (Err forget.Absent)) old new whole done = nothing old new done.2
-goes (Forgot address (Err forget.Spent)) old new whole done = nothing old new done.3
-goes (Forgot address (Err forget.Cut)) old new whole done = cc
-goes (Cleaned (Ok true)) old new whole done = erases old new done
-goes (Cleaned (Ok false)) old new whole done = nothing old new done.2
-goes (Cleaned (Err write.Off)) old new whole done = nothing old new done.1
-goes (Cleaned (Err write.Full)) old new whole done = absurd done
-goes (Cleaned (Err write.Spent)) old new whole done = absurd done
-goes (Cleaned (Err write.Memory)) old new whole done = absurd done
-goes (Cleaned (Err write.Cut)) old new whole done = cc
-goes (DidRead address (Ok value)) old new whole done = nothing old new done.1
-goes (DidRead address (Err off)) old new whole done = nothing old new done.1
+goes call old new whole done =
+    by_effect (λ transfer changes. Goes transfer changes old new) call old new whole done (nothing old new) (appends old new) (moves old new) (λ is. erases old new)
 
 answered : (call : Call) (old new : Device) → Follows call old new → IsAnsweredBy (state_of old).map call
 answered (Wrote address value answer) old new done = tt

@@ -1,5 +1,5 @@
 -- How often pages are erased in a run without clean steps, and by any schedule beside it.
-use Rattle.std.proofs.Common.{◌≡◌, ◌⊎◌, ◌∙◌, inl, inr, ℕ, ◌+◌, ◌-◌, ◌/◌, ◌<◌, ◌≤◌, Bool, true, false, cond, Some, None, Option, Ok, Err, List, [], ◌∷◌, get_or, refl, sym, subst, ap, arith}
+use Rattle.std.proofs.Common.{◌≡◌, ◌⊎◌, ◌∙◌, inl, inr, ℕ, ◌+◌, ◌/◌, ◌<◌, ◌≤◌, Bool, true, false, cond, Some, None, Option, List, [], ◌∷◌, get_or, refl, sym, subst, ap, arith}
 use Rattle.std.specs.List.{All}
 use Rattle.std.proofs.lemmas.Bool.{cases_Bool, cases_lt}
 use Rattle.std.proofs.lemmas.List.Elements.{All-tail}
@@ -13,12 +13,9 @@ use Rattle.ee_pages.specs.Page.{is_blank}
 use Rattle.ee_pages.specs.Sets.{first_page, live_of, other}
 use Rattle.ee_pages.specs.declared.side.Side.{Side}
 use Rattle.ee_pages.specs.declared.side.Side.TheVariants.{First, Second}
-use Rattle.ee_core.proofs.Public.{Ages, ages, each_page_wears_every_second_transfer_lem, length-pending_pages, times_in_set, waits, other_twice, times, times_few}
-use Rattle.ee_core.specs.Runs.{Call, Wrote, Forgot, Cleaned, DidRead, Follows, IsRun, is_cut, is_transfer, transfers}
+use Rattle.ee_core.proofs.Public.{Ages, ages, by_effect, each_page_wears_every_second_transfer_lem, length-pending_pages, times_in_set, waits, other_twice, times, times_few}
+use Rattle.ee_core.specs.Runs.{Call, Follows, IsRun, is_cut, is_transfer, transfers}
 use Rattle.ee_core.specs.State.{pending_pages, pending_pages_in, state_of, next_live}
-use Rattle.ee_core.specs.declared.variables.ForgetFault.TheVariants as forget
-use Rattle.ee_core.specs.declared.variables.WriteFault.TheVariants as write
-use Rattle.ee_core.specs.declared.variables.Written.TheVariants.{Appended, Moved}
 use Rattle.ee_check.specs.declared.change.Change.{Change}
 use Rattle.ee_check.specs.Schedule.{Situation, cost}
 use Rattle.ee_plan.proofs.Wearing.{fewest_transfers_wear_lem, first_in_device}
@@ -58,28 +55,13 @@ same_device old new same = rw same (record { same_size = refl; live_is = refl; s
 
 -- a call that is neither a transfer nor a clean step that erased
 still : (call : Call) (old new : Device) → is_cut call ≡ false → is_transfer call ≡ false → is_cleaning call ≡ false → Follows call old new → IsStill old new
-still (Wrote address value (Ok Appended)) old new whole stays spares done = record { same_size = done.goes_on.same_size; live_is = done.live_is; same_pending = done.same_pending; no_wear = done.no_wear }
-still (Wrote address value (Ok Moved)) old new whole stays spares done = cc
-still (Wrote address value (Err write.Off)) old new whole stays spares done = same_device old new done.1
-still (Wrote address value (Err write.Full)) old new whole stays spares done = same_device old new done.2
-still (Wrote address value (Err write.Spent)) old new whole stays spares done = same_device old new done.3
-still (Wrote address value (Err write.Memory)) old new whole stays spares done = same_device old new done.2
-still (Wrote address value (Err write.Cut)) old new whole stays spares done = cc
-still (Forgot address (Ok Appended)) old new whole stays spares done = record { same_size = done.goes_on.same_size; live_is = done.live_is; same_pending = done.same_pending; no_wear = done.no_wear }
-still (Forgot address (Ok Moved)) old new whole stays spares done = cc
-still (Forgot address (Err forget.Off)) old new whole stays spares done = same_device old new done.1
-still (Forgot address (Err forget.Absent)) old new whole stays spares done = same_device old new done.2
-still (Forgot address (Err forget.Spent)) old new whole stays spares done = same_device old new done.3
-still (Forgot address (Err forget.Cut)) old new whole stays spares done = cc
-still (Cleaned (Ok true)) old new whole stays spares done = cc
-still (Cleaned (Ok false)) old new whole stays spares done = same_device old new done.2
-still (Cleaned (Err write.Off)) old new whole stays spares done = same_device old new done.1
-still (Cleaned (Err write.Full)) old new whole stays spares done = absurd done
-still (Cleaned (Err write.Spent)) old new whole stays spares done = absurd done
-still (Cleaned (Err write.Memory)) old new whole stays spares done = absurd done
-still (Cleaned (Err write.Cut)) old new whole stays spares done = cc
-still (DidRead address (Ok value)) old new whole stays spares done = same_device old new done.1
-still (DidRead address (Err off)) old new whole stays spares done = same_device old new done.1
+still call old new whole stays spares done =
+    by_effect (λ transfer changes. transfer ≡ false → IsStill old new) call old new whole done
+    (λ same kept. same_device old new same)
+    (λ change did kept. record { same_size = did.goes_on.same_size; live_is = did.live_is; same_pending = did.same_pending; no_wear = did.no_wear })
+    (λ change did kept. absurd cc)
+    (λ cleaned did kept. let cleans : true ≡ false = sym (ap is_cleaning cleaned) ∙ spares in absurd cc)
+    stays
 
 -- ---- a run
 
