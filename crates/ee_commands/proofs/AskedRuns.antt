@@ -18,10 +18,9 @@ use Rattle.ee_check.specs.declared.change.Change.{Change}
 use Rattle.ee_check.specs.declared.change.Change.TheVariants as changes
 use Rattle.ee_check.specs.Live.{live_after_one}
 use Rattle.ee_check.specs.Schedule.{Append, Carry, Copy, EachMove, IsAllowed, IsProper, Move, Situation, after_move, changes_of, cost}
-use Rattle.ee_plan.proofs.Public.{live_after_forget, live_after_put, live_count_is}
+use Rattle.ee_plan.proofs.Public.{live_after_forget, live_after_put, live_count_is, forgetting_fits}
 use Rattle.ee_plan.specs.Start.{AreLive}
 use Rattle.ee_commands.specs.ToldSizes.{asked_by_calls}
-use Rattle.ee_image_store.proofs.Public.{forgetting_fits}
 use Rattle.ee_commands.proofs.MadeRuns.{AreProper, NotCut, behind_proper, counted, live_after, not_counted, traced, uncut_behind}
 
 -- ---- maps of which one has a value wherever the other has one

@@ -1,19 +1,15 @@
 mod Cleaning
 mod Fronts
 mod Ledgers
-mod Named
 mod NewImages
 mod Pages
 mod PageStates
 mod Traces
 mod OneTask
 mod Planned
-mod TidiedImages
-mod Listings
 mod Sizes
 mod MadeRuns
 mod AskedRuns
 mod SizeWears
 mod AllMade
 mod SizedRuns
-pub mod Public

@@ -17,7 +17,7 @@ use Rattle.ee_check.specs.declared.change.Change.{Change}
 use Rattle.ee_check.specs.declared.change.Change.TheVariants as changes
 use Rattle.ee_check.specs.Live.{KeepsWithin, live_after_one}
 use Rattle.ee_check.specs.Schedule.{Append, Carry, EachMove, IsLate, IsProper, Move, Situation, after_move, carried_at, changes_of}
-use Rattle.ee_plan.proofs.Public.{keeps_more, live_after_forget, live_after_put}
+use Rattle.ee_plan.proofs.Public.{keeps_more, live_after_forget, live_after_put, appends, forgetting_fits, moves_on, start_stays, write_fits}
 use Rattle.ee_plan.specs.Rounds.{repeated_trace}
 use Rattle.ee_plan.specs.Start.{AreLive, IsStartOf}
 use Rattle.ee_script.specs.declared.command.Command.{Command}
@@ -25,7 +25,6 @@ use Rattle.ee_script.specs.declared.command.Command.TheVariants as command
 use Rattle.ee_commands.specs.Planning.{IsTraceCommand}
 use Rattle.ee_commands.specs.ToldSizes.{made_by_calls}
 use Rattle.ee_image_store.specs.Trace.{trace_of}
-use Rattle.ee_image_store.proofs.Public.{appends, forgetting_fits, moves_on, start_stays, write_fits}
 
 -- ---- the addresses of a script
 

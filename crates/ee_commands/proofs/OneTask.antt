@@ -33,7 +33,8 @@ use Rattle.ee_plan.specs.Plan.{IsFirstNotFitting, IsPlanFault}
 use Rattle.ee_plan.specs.Start.{AreLive, IsStartOf}
 use Rattle.ee_plan.specs.declared.planned.PlanFault.{PlanFault}
 use Rattle.ee_plan.specs.declared.planned.PlanFault.TheVariants as plan
-use Rattle.ee_faults.specs.Fault.{fault_of_certificate, fault_of_check, fault_of_plan, fault_of_replay, fault_of_script}
+use Rattle.ee_faults.specs.Fault.{fault_of_certificate, fault_of_check, fault_of_replay, fault_of_script}
+use Rattle.ee_commands.specs.Planning.{fault_of_plan}
 use Rattle.ee_faults.specs.declared.fault.Fault.{Fault}
 use Rattle.ee_faults.specs.declared.fault.Fault.TheVariants.{Memory, NotFitting}
 use Rattle.ee_faults.specs.declared.replay_fault.ReplayFault.{ReplayFault}

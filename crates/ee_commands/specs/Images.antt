@@ -11,10 +11,7 @@ use Rattle.ee_pages.specs.declared.state.State.TheVariants.{Erased, Receive, Act
 use Rattle.ee_core.specs.Openings.{IsFormatted, Opens}
 use Rattle.ee_core.specs.Runs.{Cleaned, IsWholeRun}
 use Rattle.ee_core.specs.State.{Wears, formatted_state, pending_pages, state_of, with_pending}
-use Rattle.ee_faults.specs.Fault.{fault_of_replay}
-use Rattle.ee_image_store.specs.Opening.{IsOpenFault, IsStoreLeft, IsStoreText, SpellsDevice}
-use Rattle.ee_faults.specs.declared.fault.Fault.{Fault}
-use Rattle.ee_faults.specs.declared.replay_fault.ReplayFault.{ReplayFault}
+use Rattle.ee_image_store.specs.Opening.{IsStoreLeft, IsStoreText, SpellsDevice}
 
 -- the text of a store with nothing in it, as formatting leaves a device of this size that was never used: no page of it
 -- was erased
@@ -65,9 +62,3 @@ pub record AreStates (text lines : List ℕ) : Type 0 where
   pub device : Device
   pub spelled : SpellsDevice text device
   pub lines_are : lines ≡ state_lines 0 device.image
-
--- why a command finds no store in an image
-pub record IsOpeningFault (text : List ℕ) (fault : Fault) : Type 0 where
-  pub cause : ReplayFault
-  pub applies : IsOpenFault text cause
-  pub fault_is : fault ≡ fault_of_replay cause

@@ -1,5 +1,5 @@
 -- What is planned and what is checked for a script on an image, and why not.
-use Rattle.std.specs.Prelude.{◌≡◌, ◌≢◌, ◌⊎◌, ◌≤◌, ◌+◌, ◌++◌, ℕ, List, [], ◌∷◌, length, decimal, codes}
+use Rattle.std.specs.Prelude.{◌≡◌, ◌⊎◌, ◌≤◌, ℕ, List, [], ◌∷◌, length, decimal, codes}
 use Rattle.std.specs.List.{AllByRecursion}
 use Rattle.ee_text.specs.Field.{joined_fields}
 use Rattle.ee_text.specs.Line.{line_of}
@@ -15,17 +15,25 @@ use Rattle.ee_check.specs.Schedule.{IsSchedule, Move, Situation, cost}
 use Rattle.ee_check.specs.Text.{IsText, IsCertificateTextFault, text_of}
 use Rattle.ee_plan.specs.Plan.{IsPlanFault}
 use Rattle.ee_plan.specs.Start.{IsStartOf}
+use Rattle.ee_plan.specs.declared.planned.PlanFault.{PlanFault}
+use Rattle.ee_plan.specs.declared.planned.PlanFault.TheVariants as plan
 use Rattle.ee_script.specs.declared.command.Command.{Command}
 use Rattle.ee_script.specs.declared.command.Command.TheVariants.{Arm, PowerOn}
 use Rattle.ee_script.specs.declared.session.ScriptFault.{ScriptFault}
 use Rattle.ee_script.specs.declared.session.ScriptFault.TheVariants.{BadLine, Memory}
 use Rattle.ee_script.specs.Command.{IsCommand}
 use Rattle.ee_script.specs.Script.{IsFirstBadLineOf, script}
-use Rattle.ee_faults.specs.Fault.{fault_of_certificate, fault_of_check, fault_of_plan, fault_of_script}
+use Rattle.ee_faults.specs.Fault.{fault_of_certificate, fault_of_check, fault_of_script}
 use Rattle.ee_faults.specs.declared.fault.Fault.{Fault}
-use Rattle.ee_commands.specs.Images.{IsOpeningFault}
+use Rattle.ee_faults.specs.declared.fault.Fault.TheVariants as fault
+use Rattle.ee_image_store.specs.FileFaults.{IsOpeningFault}
 use Rattle.ee_image_store.specs.Opening.{IsStoreText}
 use Rattle.ee_image_store.specs.Trace.{trace_of}
+
+-- the fault of a trace that has no plan
+abbrev pub fault_of_plan : PlanFault → Fault
+fault_of_plan (plan.NotFitting change) = fault.NotFitting change
+fault_of_plan plan.Memory = fault.Memory
 
 -- this is what the store of the image that the text spells gives a trace to start from
 pub record IsImageStart (image : List ℕ) (start : Situation) : Type 0 where

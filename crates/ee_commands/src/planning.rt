@@ -3,13 +3,13 @@ ghost use Rattle.std.specs.Prelude.{◌≡◌, ◌≢◌, ◌⊎◌, ◌++◌, �
 ghost use Rattle.ee_text.specs.Line.{line_of};
 ghost use Rattle.ee_script.specs.Command.{command_text};
 ghost use Rattle.ee_script.specs.Script.{NoLineOf};
-ghost use Rattle.ee_commands.specs.Planning.{IsCheckingFault, IsPlanned, IsPlanningFault, IsProved, IsTask, IsTaskFault, IsTrace, IsTraceCommand, IsTraceFault, proved_text};
+ghost use Rattle.ee_commands.specs.Planning.{IsCheckingFault, IsPlanned, IsPlanningFault, IsProved, IsTask, IsTaskFault, IsTrace, IsTraceCommand, IsTraceFault, fault_of_plan, proved_text};
 ghost use Rattle.ee_image_store.specs.Trace.{trace_of};
 
 use ee_check::{Change, Start, check, read_certificate, write_certificate};
 use ee_faults::Fault;
 use ee_image_store::open_image;
-use ee_plan::{plan, start_of};
+use ee_plan::{PlanFault, plan, start_of};
 use ee_script::{Command, ScriptFault, next_command};
 use ee_text::push_number;
 use std::alloc::{AllocError, Allocator};
@@ -38,7 +38,10 @@ pub fn plan_script<A: Allocator + Copy>(
         → MatchResult result (λ _. ⊥) (λ fault. (fault ≡ cause) ⊎ (fault ≡ Fault.Memory)) }
 {
     let (start, trace) = read_task(alloc, image, script)?;
-    let plan = plan(alloc, &start, &trace)?;
+    let plan = match plan(alloc, &start, &trace) {
+        Ok(plan) => plan,
+        Err(fault) => return Err(fault_of(fault)),
+    };
     let mut text = Vec::new(alloc);
     write_certificate(&plan.certificate, &mut text)?;
     Ok(text)
@@ -75,6 +78,16 @@ pub fn check_script<A: Allocator + Copy>(
     let mut text = Vec::new(alloc);
     push_proved(&mut text, transfers)?;
     Ok(text)
+}
+
+/// The fault of a trace that has no plan.
+fn fault_of(fault: PlanFault) -> Fault
+    ensures { result ≡ fault_of_plan fault }
+{
+    match fault {
+        PlanFault::NotFitting(change) => Fault::NotFitting(change),
+        PlanFault::Memory => Fault::Memory,
+    }
 }
 
 /// The start that the image of a text gives, and the trace of a script.

@@ -15,10 +15,6 @@ use Rattle.ee_check.specs.declared.reading.TextFault.{TextFault}
 use Rattle.ee_check.specs.declared.reading.TextFault.TheVariants as text
 use Rattle.ee_check.specs.declared.checking.CheckFault.{CheckFault}
 use Rattle.ee_check.specs.declared.checking.CheckFault.TheVariants as check
-use Rattle.ee_plan.specs.declared.planned.PlanFault.{PlanFault}
-use Rattle.ee_plan.specs.declared.planned.PlanFault.TheVariants as plan
-use Rattle.ee_settings.specs.declared.fault.SchemaFault.{SchemaFault}
-use Rattle.ee_settings.specs.declared.fault.SchemaFault.TheVariants as schema
 use Rattle.ee_wear.specs.declared.since.SinceFault.{SinceFault}
 use Rattle.ee_wear.specs.declared.since.SinceFault.TheVariants as since
 use Rattle.ee_command_line.specs.declared.files.ReadFault.{ReadFault}
@@ -141,19 +137,6 @@ fault_of_script script.Memory = Memory
 abbrev pub fault_of_certificate : TextFault → Fault
 fault_of_certificate (text.BadText line) = BadLine Certificate line
 fault_of_certificate text.Memory = Memory
-
--- the fault of a table of settings that is no schema
-abbrev pub fault_of_schema : SchemaFault → Fault
-fault_of_schema (schema.BadName entry) = BadName entry
-fault_of_schema (schema.BadField entry) = BadField entry
-fault_of_schema (schema.BadRange entry) = BadRange entry
-fault_of_schema (schema.SameAddress entry) = SameAddress entry
-fault_of_schema schema.Memory = Memory
-
--- the fault of a trace that has no plan
-abbrev pub fault_of_plan : PlanFault → Fault
-fault_of_plan (plan.NotFitting change) = NotFitting change
-fault_of_plan plan.Memory = Memory
 
 -- the fault of a certificate that the checker refuses
 abbrev pub fault_of_check : CheckFault → Fault

@@ -1,19 +1,17 @@
 //! Every fault that the program tells, each with its one line and its status.
 ghost use Rattle.std.specs.Prelude.{◌≡◌, IfOk};
-ghost use Rattle.ee_faults.specs.Fault.{cause, fault_of_image, fault_of_read, fault_text, status};
+ghost use Rattle.ee_faults.specs.Fault.{fault_of_image, fault_of_read, fault_text, status};
 
 use super::replay_fault::ReplayFault;
 use ee_check::{CheckFault, TextFault};
 use ee_command_line::ReadFault;
 use ee_image::ImageFault;
 use ee_pages::ScanFault;
-use ee_plan::PlanFault;
 use ee_script::ScriptFault;
-use ee_settings::SchemaFault;
 use ee_wear::SinceFault;
 use std::alloc::{AllocError, Allocator};
+use std::error::Error;
 use std::fmt;
-use thiserror::Error;
 
 /// A file that the program reads; the script may be standard input.
 #[derive(Clone, Copy, Debug, PartialEq, Eq)]
@@ -47,128 +45,146 @@ impl fmt::Display for File {
 }
 
 /// What keeps the program from its work.
-#[derive(Clone, Copy, Debug, PartialEq, Eq, Error)]
+#[derive(Clone, Copy, Debug, PartialEq, Eq)]
 pub enum Fault {
     /// Opening or reading failed, or the most read calls were made.
-    #[error("cannot read {0}")]
     CannotRead(File),
     /// More bytes than are read of one file.
-    #[error("{0} too long")]
     TooLong(File),
     /// Opening or writing the image's file failed.
-    #[error("cannot write image")]
     CannotWriteImage,
     /// The image's file is not the one that was read, or another run is writing it.
-    #[error("image changed")]
     ImageChanged,
     /// Opening or writing the dump's file failed.
-    #[error("cannot write dump")]
     CannotWriteDump,
     /// Writing to standard output failed.
-    #[error("cannot write output")]
     CannotWriteOutput,
     /// The first bad line, counted from 1.
-    #[error("{file} line {line}")]
     BadLine { file: File, line: u64 },
     /// The first line says no size of a device.
-    #[error("{0} shape")]
     BadShape(File),
     /// Every word of the image is erased.
-    #[error("image unformatted")]
     Unformatted,
     /// No set of the image is live.
-    #[error("image no live set")]
     NoLiveSet,
     /// Both sets of the image are live, with one generation.
-    #[error("image two live sets")]
     TwoLive,
     /// The first word of the live set that may not stand in its place, by its page and its place.
-    #[error("image foreign word {page} {at}")]
     Foreign { page: usize, at: usize },
     /// The settings file is no TOML.
-    #[error("settings text")]
     SettingsText,
     /// The name of this entry, counted from 1 by rising name, is none that a setting may have.
-    #[error("settings entry {0} bad name")]
     BadName(u64),
     /// This entry is no table of the four whole numbers of a setting.
-    #[error("settings entry {0} bad field")]
     BadField(u64),
     /// The numbers of this entry are not those of a setting.
-    #[error("settings entry {0} bad range")]
     BadRange(u64),
     /// An earlier entry has the address of this one.
-    #[error("settings entry {0} same address")]
     SameAddress(u64),
     /// No setting has the name.
-    #[error("unknown name")]
     UnknownName,
     /// The value is not in the range of the setting.
-    #[error("out of range {min} {max}")]
     OutOfRange { min: u32, max: u32 },
     /// The address has no value, and as many addresses have one as there are slots.
-    #[error("full")]
     Full,
     /// No slot is free, and no generation is left for a transfer.
-    #[error("spent")]
     Spent,
     /// This change of the trace, counted from 1, is the first that makes more addresses live than
     /// there are slots.
-    #[error("not fitting {0}")]
     NotFitting(u64),
     /// The certificate's header is not that of the start and the trace.
-    #[error("wrong start")]
     WrongStart,
     /// This stretch of the certificate, counted from 1, does not end behind the one before it, or
     /// it ends behind the trace.
-    #[error("not rising {0}")]
     NotRising(u64),
     /// This stretch states another number of used slots than there are where it begins.
-    #[error("wrong from {0}")]
     WrongFrom(u64),
     /// This stretch has no more changes than there are free slots.
-    #[error("not forced {0}")]
     NotForced(u64),
     /// The images have not as many pages.
-    #[error("other shape")]
     OtherShape,
     /// This page, counted from 0 and the lowest of its kind, has less wear than before.
-    #[error("wear backwards {0}")]
     Backwards(usize),
     /// No number of pages bears so many runs.
-    #[error("no size is enough")]
     NoSizeEnough,
     /// The dump has not as many bytes as a part of the size has.
-    #[error("dump length")]
     DumpLength,
     /// The first torn word of the image, by its page and its place: no dump has one.
-    #[error("torn word {page} {at}")]
     TornWord { page: usize, at: usize },
     /// The part would reach past the addresses of 32 bits.
-    #[error("base")]
     Base,
     /// The values file is no TOML.
-    #[error("values text")]
     ValuesText,
     /// What this entry of the values, counted from 1 by rising name, has is no whole number.
-    #[error("values entry {0} bad field")]
     BadValue(u64),
     /// No setting has the name of this entry of the values.
-    #[error("values entry {0} unknown name")]
     UnknownValue(u64),
     /// The value of this entry is not in the range of the setting.
-    #[error("values entry {entry} out of range {min} {max}")]
     ValueOutOfRange { entry: u64, min: u32, max: u32 },
     /// The setting of this entry has no value, and as many addresses have one as there are slots.
-    #[error("values entry {0} full")]
     FullAt(u64),
     /// At this entry no slot is free, and no generation is left for a transfer.
-    #[error("values entry {0} spent")]
     SpentAt(u64),
     /// Memory ran out.
-    #[error("out of memory")]
     Memory,
 }
+
+/// What the line of a fault says behind `ee: `.
+impl fmt::Display for Fault {
+    ghost use Rattle.std.specs.Prelude.{Some};
+    ghost use Rattle.ee_faults.specs.Fault.{cause};
+
+    ghost output = { λ fault. Some (cause fault) };
+
+    fn fmt<W: fmt::Write>(&self, f: &mut fmt::Formatter<W>) -> fmt::Result {
+        match self {
+            Fault::CannotRead(file) => write!(f, "cannot read {file}"),
+            Fault::TooLong(file) => write!(f, "{file} too long"),
+            Fault::CannotWriteImage => f.write_str("cannot write image"),
+            Fault::ImageChanged => f.write_str("image changed"),
+            Fault::CannotWriteDump => f.write_str("cannot write dump"),
+            Fault::CannotWriteOutput => f.write_str("cannot write output"),
+            Fault::BadLine { file, line } => write!(f, "{file} line {line}"),
+            Fault::BadShape(file) => write!(f, "{file} shape"),
+            Fault::Unformatted => f.write_str("image unformatted"),
+            Fault::NoLiveSet => f.write_str("image no live set"),
+            Fault::TwoLive => f.write_str("image two live sets"),
+            Fault::Foreign { page, at } => write!(f, "image foreign word {page} {at}"),
+            Fault::SettingsText => f.write_str("settings text"),
+            Fault::BadName(entry) => write!(f, "settings entry {entry} bad name"),
+            Fault::BadField(entry) => write!(f, "settings entry {entry} bad field"),
+            Fault::BadRange(entry) => write!(f, "settings entry {entry} bad range"),
+            Fault::SameAddress(entry) => write!(f, "settings entry {entry} same address"),
+            Fault::UnknownName => f.write_str("unknown name"),
+            Fault::OutOfRange { min, max } => write!(f, "out of range {min} {max}"),
+            Fault::Full => f.write_str("full"),
+            Fault::Spent => f.write_str("spent"),
+            Fault::NotFitting(change) => write!(f, "not fitting {change}"),
+            Fault::WrongStart => f.write_str("wrong start"),
+            Fault::NotRising(stretch) => write!(f, "not rising {stretch}"),
+            Fault::WrongFrom(stretch) => write!(f, "wrong from {stretch}"),
+            Fault::NotForced(stretch) => write!(f, "not forced {stretch}"),
+            Fault::OtherShape => f.write_str("other shape"),
+            Fault::Backwards(page) => write!(f, "wear backwards {page}"),
+            Fault::NoSizeEnough => f.write_str("no size is enough"),
+            Fault::DumpLength => f.write_str("dump length"),
+            Fault::TornWord { page, at } => write!(f, "torn word {page} {at}"),
+            Fault::Base => f.write_str("base"),
+            Fault::ValuesText => f.write_str("values text"),
+            Fault::BadValue(entry) => write!(f, "values entry {entry} bad field"),
+            Fault::UnknownValue(entry) => write!(f, "values entry {entry} unknown name"),
+            Fault::ValueOutOfRange { entry, min, max } => write!(
+                f,
+                "values entry {entry} out of range {min} {max}"
+            ),
+            Fault::FullAt(entry) => write!(f, "values entry {entry} full"),
+            Fault::SpentAt(entry) => write!(f, "values entry {entry} spent"),
+            Fault::Memory => f.write_str("out of memory"),
+        }
+    }
+}
+
+impl Error for Fault {}
 
 impl Fault {
     /// The fault of a file that can't be read whole.
@@ -262,37 +278,6 @@ impl From<TextFault> for Fault {
     }
 }
 
-impl From<SchemaFault> for Fault {
-    ghost use Rattle.std.specs.Prelude.{◌≡◌};
-    ghost use Rattle.ee_faults.specs.Fault.{fault_of_schema};
-
-    ghost from_gives = { λ schema fault. fault ≡ fault_of_schema schema };
-
-    fn from(fault: SchemaFault) -> Fault {
-        match fault {
-            SchemaFault::BadName(entry) => Fault::BadName(entry),
-            SchemaFault::BadField(entry) => Fault::BadField(entry),
-            SchemaFault::BadRange(entry) => Fault::BadRange(entry),
-            SchemaFault::SameAddress(entry) => Fault::SameAddress(entry),
-            SchemaFault::Memory => Fault::Memory,
-        }
-    }
-}
-
-impl From<PlanFault> for Fault {
-    ghost use Rattle.std.specs.Prelude.{◌≡◌};
-    ghost use Rattle.ee_faults.specs.Fault.{fault_of_plan};
-
-    ghost from_gives = { λ plan fault. fault ≡ fault_of_plan plan };
-
-    fn from(fault: PlanFault) -> Fault {
-        match fault {
-            PlanFault::NotFitting(change) => Fault::NotFitting(change),
-            PlanFault::Memory => Fault::Memory,
-        }
-    }
-}
-
 impl From<CheckFault> for Fault {
     ghost use Rattle.std.specs.Prelude.{◌≡◌};
     ghost use Rattle.ee_faults.specs.Fault.{fault_of_check};
@@ -340,58 +325,8 @@ impl From<AllocError> for Fault {
 pub fn fault_line<A: Allocator + Copy>(alloc: A, fault: &Fault) -> Result<Vec<u8, A>, AllocError>
     ensures { IfOk result (λ line. line.items ≡ fault_text fault.now) }
 {
-    let cause = cause_text(alloc, fault)?;
-    let line = format!(in alloc; "ee: {cause}\n")?;
+    let line = format!(in alloc; "ee: {fault}\n")?;
     Ok(line.into_bytes())
-}
-
-/// What the line of a fault says behind `ee: `.
-fn cause_text<A: Allocator + Copy>(alloc: A, fault: &Fault) -> Result<String<A>, AllocError>
-    ensures { IfOk result (λ text. text.bytes.items ≡ cause fault.now) }
-{
-    match fault {
-        Fault::CannotRead(file) => format!(in alloc; "cannot read {file}"),
-        Fault::TooLong(file) => format!(in alloc; "{file} too long"),
-        Fault::CannotWriteImage => format!(in alloc; "cannot write image"),
-        Fault::ImageChanged => format!(in alloc; "image changed"),
-        Fault::CannotWriteDump => format!(in alloc; "cannot write dump"),
-        Fault::CannotWriteOutput => format!(in alloc; "cannot write output"),
-        Fault::BadLine { file, line } => format!(in alloc; "{file} line {line}"),
-        Fault::BadShape(file) => format!(in alloc; "{file} shape"),
-        Fault::Unformatted => format!(in alloc; "image unformatted"),
-        Fault::NoLiveSet => format!(in alloc; "image no live set"),
-        Fault::TwoLive => format!(in alloc; "image two live sets"),
-        Fault::Foreign { page, at } => format!(in alloc; "image foreign word {page} {at}"),
-        Fault::SettingsText => format!(in alloc; "settings text"),
-        Fault::BadName(entry) => format!(in alloc; "settings entry {entry} bad name"),
-        Fault::BadField(entry) => format!(in alloc; "settings entry {entry} bad field"),
-        Fault::BadRange(entry) => format!(in alloc; "settings entry {entry} bad range"),
-        Fault::SameAddress(entry) => format!(in alloc; "settings entry {entry} same address"),
-        Fault::UnknownName => format!(in alloc; "unknown name"),
-        Fault::OutOfRange { min, max } => format!(in alloc; "out of range {min} {max}"),
-        Fault::Full => format!(in alloc; "full"),
-        Fault::Spent => format!(in alloc; "spent"),
-        Fault::NotFitting(change) => format!(in alloc; "not fitting {change}"),
-        Fault::WrongStart => format!(in alloc; "wrong start"),
-        Fault::NotRising(stretch) => format!(in alloc; "not rising {stretch}"),
-        Fault::WrongFrom(stretch) => format!(in alloc; "wrong from {stretch}"),
-        Fault::NotForced(stretch) => format!(in alloc; "not forced {stretch}"),
-        Fault::OtherShape => format!(in alloc; "other shape"),
-        Fault::Backwards(page) => format!(in alloc; "wear backwards {page}"),
-        Fault::NoSizeEnough => format!(in alloc; "no size is enough"),
-        Fault::DumpLength => format!(in alloc; "dump length"),
-        Fault::TornWord { page, at } => format!(in alloc; "torn word {page} {at}"),
-        Fault::Base => format!(in alloc; "base"),
-        Fault::ValuesText => format!(in alloc; "values text"),
-        Fault::BadValue(entry) => format!(in alloc; "values entry {entry} bad field"),
-        Fault::UnknownValue(entry) => format!(in alloc; "values entry {entry} unknown name"),
-        Fault::ValueOutOfRange { entry, min, max } => {
-            format!(in alloc; "values entry {entry} out of range {min} {max}")
-        }
-        Fault::FullAt(entry) => format!(in alloc; "values entry {entry} full"),
-        Fault::SpentAt(entry) => format!(in alloc; "values entry {entry} spent"),
-        Fault::Memory => format!(in alloc; "out of memory"),
-    }
 }
 
 /// The status that the program ends with at a fault: 3 for a bad file, 4 for what is refused, 5 for

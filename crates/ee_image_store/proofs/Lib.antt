@@ -1,6 +1,6 @@
 mod Erasing
 mod OneCause
 mod Stores
-mod Starts
 mod FileFaults
+mod Openings
 pub mod Public

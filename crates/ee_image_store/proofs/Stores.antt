@@ -13,9 +13,7 @@ use Rattle.ee_core.proofs.Public.{length-not_blank, no_wear, wears_rise}
 use Rattle.ee_core.specs.Openings.{IsFormatted, Opens}
 use Rattle.ee_core.specs.State.{not_blank_pages}
 use Rattle.ee_image.specs.Text.{at_rest, image_text}
-use Rattle.ee_faults.specs.declared.replay_fault.ReplayFault.{ReplayFault}
-use Rattle.ee_faults.specs.declared.replay_fault.ReplayFault.TheVariants as replay
-use Rattle.ee_image_store.specs.Opening.{IsNewStore, IsOpenFault, IsOpened, IsStillFault, SpellsDevice, StaysOn}
+use Rattle.ee_image_store.specs.Opening.{IsNewStore, IsOpened, StaysOn}
 use Rattle.ee_image_store.proofs.Erasing.{by_wear, unworn}
 
 -- a device in memory is formed
@@ -42,14 +40,6 @@ is_opened text old new rest spelled opens =
       no_wear = opens.no_wear;
       erases = by_wear old new opens.state_is (no_wear old new opens.no_wear);
     }
-
--- why it is not opened, as a cause of its text
-pub still_fault : (text : List ℕ) (device : Device) (fault : ReplayFault) → SpellsDevice text device → IsStillFault device fault → IsOpenFault text fault
-still_fault text device (replay.Image fault) spelled still = absurd still
-still_fault text device (replay.Open fault) spelled still = (device, spelled, still)
-still_fault text device (replay.Script n) spelled still = absurd still
-still_fault text device replay.Memory spelled still = tt
-still_fault text device replay.Read spelled still = absurd still
 
 -- ---- a new device
 

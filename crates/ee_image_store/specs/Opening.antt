@@ -67,11 +67,3 @@ IsOpenFault text (Open fault) = (device : Device) × SpellsDevice text device ×
 IsOpenFault text (Script n) = ⊥
 IsOpenFault text Memory = Unit {0}
 IsOpenFault text Read = ⊥
-
--- why a device whose power is never cut has no store that is opened: its image is not legal, or memory ran out
-abbrev pub IsStillFault : Device → ReplayFault → Type 0
-IsStillFault device (Image fault) = ⊥
-IsStillFault device (Open fault) = IsScanFault device fault
-IsStillFault device (Script n) = ⊥
-IsStillFault device Memory = Unit {0}
-IsStillFault device Read = ⊥

@@ -1,82 +1,15 @@
 //! Stores of images, and images of devices, as text.
-ghost use Rattle.std.specs.Prelude.{◌≡◌, IfOk, IfErr};
-ghost use Rattle.ee_flash.specs.Memory.{device_of};
-ghost use Rattle.ee_core.specs.Finished.{IsStore};
-ghost use Rattle.ee_flash.specs.Device.{Device, IsOn};
-ghost use Rattle.ee_core.specs.Openings.{IsFormatted, OpenFails, Opens};
-ghost use Rattle.ee_index.specs.Index.{IndexedOpenFails};
-ghost use Rattle.ee_image_store.specs.Opening.{IsNewStore, IsOpenFault, IsOpened, IsStillFault, SpellsDevice, StaysOn};
+ghost use Rattle.std.specs.Prelude.{IfOk, IfErr};
+ghost use Rattle.ee_pages.specs.Layout.{IsScanFault};
+ghost use Rattle.ee_core.specs.Openings.{IsFormatted, Opens};
+ghost use Rattle.ee_image_store.specs.Opening.{IsNewStore, IsOpenFault, IsOpened, IsStoreLeft, SpellsDevice, StaysOn};
 
-use ee_core::{OpenFault, Store, Variables, format, open};
+use ee_core::{OpenFault, Store, format, open};
 use ee_faults::ReplayFault;
 use ee_flash::{Flash, MemFlash, Shape};
 use ee_image::{read_image, write_image};
-use ee_index::{IndexedFault, IndexedStore};
+use ee_pages::ScanFault;
 use std::alloc::{AllocError, Allocator};
-
-/// A store that the commands open on a device, and close.
-pub trait Opened<F: Flash + Drop, A: Allocator + Copy>: Variables + Drop + Sized {
-    /// Opens the store of a device that is on.
-    fn open_on(alloc: A, flash: F) -> Result<Self, (F, IndexedFault)>
-        requires { IsOn (F.device flash) }
-        ensures opened { IfOk result (λ store. Opens (F.device flash) (Self.device store)) }
-        ensures failed { IfErr result
-            (λ failed. IndexedOpenFails (F.device flash) failed.1 (F.device failed.0)) };
-
-    /// Its device.
-    fn close(self) -> F
-        ensures device { F.device result ≡ Self.device self }
-        ensures store { IsStore (Self.device self) };
-}
-
-/// The same fault of a store that could also want memory.
-fn fault_of_open(fault: OpenFault) -> IndexedFault
-    ensures { (old new : Device) → OpenFails old fault new → IndexedOpenFails old result new }
-{
-    match fault {
-        OpenFault::Scan(fault) => IndexedFault::Scan(fault),
-        OpenFault::Cut => IndexedFault::Cut,
-    }
-}
-
-impl<F: Flash + Drop, A: Allocator + Copy> Opened<F, A> for Store<F> {
-    fn open_on(_alloc: A, flash: F) -> Result<Store<F>, (F, IndexedFault)>
-        requires { IsOn (F.device flash) }
-        ensures opened { IfOk result (Opens (F.device flash)) }
-        ensures failed { IfErr result
-            (λ failed. IndexedOpenFails (F.device flash) failed.1 (F.device failed.0)) }
-    {
-        match open(flash) {
-            Ok(store) => Ok(store),
-            Err((flash, fault)) => Err((flash, fault_of_open(fault))),
-        }
-    }
-
-    fn close(self) -> F
-        ensures device { F.device result ≡ self }
-        ensures store { IsStore self }
-    {
-        self.into_flash()
-    }
-}
-
-impl<F: Flash + Drop, A: Allocator + Copy> Opened<F, A> for IndexedStore<F, A> {
-    fn open_on(alloc: A, flash: F) -> Result<IndexedStore<F, A>, (F, IndexedFault)>
-        requires { IsOn (F.device flash) }
-        ensures opened { IfOk result (Opens (F.device flash)) }
-        ensures failed { IfErr result
-            (λ failed. IndexedOpenFails (F.device flash) failed.1 (F.device failed.0)) }
-    {
-        IndexedStore::open(alloc, flash)
-    }
-
-    fn close(self) -> F
-        ensures device { F.device result ≡ self }
-        ensures store { IsStore self }
-    {
-        self.into_flash()
-    }
-}
 
 /// The store of the image that a text spells, in memory.
 pub fn open_image<A: Allocator + Copy>(
@@ -86,38 +19,23 @@ pub fn open_image<A: Allocator + Copy>(
     ensures opened { IfOk result (IsOpened image.now) }
     ensures fault { IfErr result (IsOpenFault image.now) }
 {
-    open_as::<A, Store<MemFlash<A>>>(alloc, image)
-}
-
-/// The same, of either kind of store.
-pub fn open_as<A: Allocator + Copy, S: Opened<MemFlash<A>, A>>(
-    alloc: A,
-    image: &[u8],
-) -> Result<S, ReplayFault>
-    ensures opened { IfOk result (λ store. IsOpened image.now (S.device store)) }
-    ensures fault { IfErr result (IsOpenFault image.now) }
-{
     let flash = read_image(alloc, image)?;
-    match open_still(alloc, flash) {
+    match open_still(flash) {
         Ok(store) => Ok(store),
-        Err(fault) => Err(fault),
+        Err(fault) => Err(ReplayFault::Open(fault)),
     }
 }
 
-/// Opens the store of a device whose power is never cut. `Open` says why it has none.
-fn open_still<F: Flash + Drop, A: Allocator + Copy, S: Opened<F, A>>(
-    alloc: A,
-    flash: F,
-) -> Result<S, ReplayFault>
+/// Opens the store of a device whose power is never cut.
+fn open_still<F: Flash + Drop>(flash: F) -> Result<Store<F>, ScanFault>
     requires { StaysOn (F.device flash) }
-    ensures opened { IfOk result (λ store. Opens (F.device flash) (S.device store)) }
-    ensures fault { IfErr result (IsStillFault (F.device flash)) }
+    ensures opened { IfOk result (Opens (F.device flash)) }
+    ensures fault { IfErr result (IsScanFault (F.device flash)) }
 {
-    match S::open_on(alloc, flash) {
+    match open(flash) {
         Ok(store) => Ok(store),
-        Err((_, IndexedFault::Scan(fault))) => Err(ReplayFault::Open(fault)),
-        Err((_, IndexedFault::Memory)) => Err(ReplayFault::Memory),
-        Err((_, IndexedFault::Cut)) => unreachable!("power is never cut"),
+        Err((_, OpenFault::Scan(fault))) => Err(fault),
+        Err((_, OpenFault::Cut)) => unreachable!("power is never cut"),
     }
 }
 
@@ -150,4 +68,15 @@ pub fn text_of<A: Allocator, F: Flash>(alloc: A, flash: &F) -> Result<Vec<u8, A>
     let mut text = Vec::new(alloc);
     write_image(flash, &mut text)?;
     Ok(text)
+}
+
+/// Closes a store whose power stays on, and gives the text of the image that it leaves.
+pub fn text_left<A: Allocator, F: Flash + Drop>(
+    alloc: A,
+    store: Store<F>,
+) -> Result<Vec<u8, A>, AllocError>
+    requires stays_on { StaysOn store }
+    ensures left { IfOk result (λ text. IsStoreLeft store.size text.items store) }
+{
+    text_of(alloc, &store.into_flash())
 }

@@ -13,4 +13,5 @@ mod Answering
 mod Lasting
 mod Wearing
 mod Premises
+mod Starts
 pub mod Public

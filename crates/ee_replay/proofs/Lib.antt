@@ -1,3 +1,4 @@
+mod Openings
 mod Causes
 mod OneReplayCause
 mod Runs

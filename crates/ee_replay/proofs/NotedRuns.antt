@@ -20,7 +20,7 @@ use Rattle.ee_check.specs.Schedule.{Append, Carry, IsProper, Situation, after_mo
 use Rattle.ee_check.proofs.Public.{changed-le}
 use Rattle.ee_plan.specs.LateStore.{HasMade}
 use Rattle.ee_plan.specs.Start.{AreLive, IsStartOf}
-use Rattle.ee_plan.proofs.Public.{made_more, made_none, live_after_forget, live_after_put, whole_tight}
+use Rattle.ee_plan.proofs.Public.{made_more, made_none, live_after_forget, live_after_put, whole_tight, appends, forgetting_fits, moves_on, start_stays, write_fits}
 use Rattle.ee_script.specs.Run.{Run}
 use Rattle.ee_script.specs.Script.{AreCommands}
 use Rattle.ee_script.specs.Whole.{IsAnswered}
@@ -39,7 +39,6 @@ use Rattle.ee_replay.specs.Desk.{CallsAtDesk, SaysTheSame}
 use Rattle.ee_image_store.specs.Machine.{is_cut_answer, was_cut}
 use Rattle.ee_replay.specs.Serving.{Attends, IsCounted, IsTraced, Noted, Notes, Records, Serves, claim_noted, no_notes, notes_after, serving_on}
 use Rattle.ee_image_store.specs.Trace.{accepted_commands, moved_at, trace_of}
-use Rattle.ee_image_store.proofs.Public.{appends, forgetting_fits, moves_on, start_stays, write_fits}
 use Rattle.ee_replay.proofs.Powering.{state_armed}
 use Rattle.ee_replay.proofs.Runs.{neither}
 use Rattle.ee_replay.proofs.UncutRuns.{at_open, served_open}

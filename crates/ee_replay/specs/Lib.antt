@@ -1,3 +1,4 @@
+pub mod Opening
 pub mod Kept
 pub mod Report
 pub mod Serving

@@ -8,10 +8,10 @@ ghost use Rattle.ee_core.specs.State.{state_of};
 ghost use Rattle.ee_replay.specs.Desk.{CallsAtDesk, IsLegalDesk, IsLegalSo, SaysTheSame, point_of_desk};
 ghost use Rattle.ee_replay.specs.Serving.{Attends, IsArmed, IsSound, with_cut_to_come};
 
+use super::opening::Opened;
 use ee_codec::Address;
 use ee_core::{ForgetFault, Off, Variables, WriteFault, Written};
 use ee_flash::{Flash, Fuse, MemFlash};
-use ee_image_store::Opened;
 use ee_index::IndexedFault;
 use ee_script::Answer;
 use std::alloc::{AllocError, Allocator};

@@ -13,6 +13,7 @@
 mod desk;
 pub mod laws;
 mod noting;
+mod opening;
 mod replaying;
 mod reporting;
 mod serving;

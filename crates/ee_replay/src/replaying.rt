@@ -5,11 +5,12 @@ ghost use Rattle.ee_replay.specs.Replaying.{IsReplayFault, IsReplayed, IsRunFaul
 ghost use Rattle.ee_replay.specs.Reading.{IsGiven, IsNotAnswered, IsReaderFault};
 ghost use Rattle.ee_image_store.specs.Opening.{HasStore, IsOpenFault, StaysOn};
 
+use super::opening::{Opened, open_as};
 use super::reporting::{answer_on, answer_reader_on};
 use ee_core::Store;
 use ee_faults::ReplayFault;
 use ee_flash::{MemFlash, Shape};
-use ee_image_store::{Opened, new_store, open_as, open_image, text_of};
+use ee_image_store::{new_store, open_image, text_of};
 use ee_index::IndexedStore;
 use std::alloc::{Allocator, Global};
 use std::io::Read;

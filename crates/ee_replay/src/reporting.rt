@@ -20,11 +20,11 @@ ghost use Rattle.ee_image_store.specs.Opening.{StaysOn};
 
 use super::desk::Desk;
 use super::noting::Notes;
+use super::opening::Opened;
 use super::serving::{Traced, trace_on, trace_reader};
 use ee_check::{Start, write_certificate};
 use ee_core::Variables;
 use ee_flash::MemFlash;
-use ee_image_store::Opened;
 use ee_plan::start_of;
 use ee_script::{ScriptFault, StreamFault};
 use ee_text::push_number_behind;

@@ -13,11 +13,11 @@ ghost use Rattle.ee_image_store.specs.Opening.{StaysOn};
 
 use super::desk::Desk;
 use super::noting::Notes;
+use super::opening::Opened;
 use ee_codec::Address;
 use ee_command_line::MOST_READS;
 use ee_core::{ForgetFault, Off, Variables, WriteFault};
 use ee_flash::{Fuse, MemFlash};
-use ee_image_store::Opened;
 use ee_script::{Answer, Command, ScriptFault, Serve, StreamFault, answer_reader, answer_script};
 use std::alloc::{AllocError, Allocator, Global};
 use std::io::Read;

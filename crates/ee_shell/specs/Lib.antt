@@ -3,6 +3,7 @@ pub use Rattle.ee_image_store.specs.Erases
 pub use Rattle.ee_image_store.specs.Steps
 pub use Rattle.ee_image_store.specs.Trace
 pub use Rattle.ee_image_store.specs.Opening
+pub use Rattle.ee_image_store.specs.FileFaults
 pub use Rattle.ee_replay.specs.Kept
 pub use Rattle.ee_replay.specs.Report
 pub use Rattle.ee_replay.specs.Serving
@@ -13,9 +14,9 @@ pub use Rattle.ee_replay.specs.ArmedCuts
 pub use Rattle.ee_commands.specs.Images
 pub use Rattle.ee_commands.specs.Wear
 pub use Rattle.ee_commands.specs.Planning
-pub use Rattle.ee_commands.specs.Settings
-pub use Rattle.ee_commands.specs.SecondSchema
-pub use Rattle.ee_commands.specs.Listing
+pub use Rattle.ee_by_name.specs.Settings
+pub use Rattle.ee_by_name.specs.SecondSchema
+pub use Rattle.ee_by_name.specs.Listing
 pub use Rattle.ee_commands.specs.Sizing
 pub use Rattle.ee_commands.specs.ToldSizes
 pub use Rattle.ee_part.specs.Moving
@@ -24,5 +25,5 @@ pub use Rattle.ee_part.specs.Hex
 pub use Rattle.ee_part.specs.Laws
 pub use Rattle.ee_part.specs.Inspecting
 pub use Rattle.ee_part.specs.InspectLaws
-pub use Rattle.ee_factory.specs.Header
-pub use Rattle.ee_factory.specs.Applying
+pub use Rattle.ee_by_name.specs.Header
+pub use Rattle.ee_by_name.specs.Applying

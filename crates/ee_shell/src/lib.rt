@@ -1,7 +1,7 @@
 //! The commands of `ee` over bytes: what they give, and the first fault for which they give nothing.
 //!
 //! Four crates have them, so that they are proved side by side: `ee_replay` those that answer a script,
-//! `ee_part` those between images and real parts, `ee_factory` those that a factory needs, `ee_commands`
+//! `ee_part` those between images and real parts, `ee_by_name` those that take settings, `ee_commands`
 //! all others. The words that ask for them are `ee_command_line`; the line and the status of each fault, `ee_faults`.
 //!
 //! What the program above may use: these calls, each with its faults. The program opens files and
@@ -50,10 +50,13 @@
 
 pub mod laws;
 
-pub use ee_commands::{
-    PartSizes, check_script, clean_image, format_image, get_setting, list_text, plan_script,
-    set_setting, size_parts, stale_text, states_text, tidy_image, wear_text,
+pub use ee_by_name::{
+    Language, apply_values, get_setting, header_text, list_text, set_setting, stale_text,
+    tidy_image,
 };
-pub use ee_factory::{Language, apply_values, header_text};
+pub use ee_commands::{
+    PartSizes, check_script, clean_image, format_image, plan_script, size_parts, states_text,
+    wear_text,
+};
 pub use ee_part::{export_hex, export_image, import_hex, import_image, inspect_text};
 pub use ee_replay::{Replayed, replay, replay_indexed, replay_reader, try_script};

@@ -1,7 +1,7 @@
 use Rattle.std.proofs.Common.{rules}
 use Rattle.std.proofs.lemmas.Result.{err_from_is_err_and}
 use Rattle.ee_commands.proofs.Cleaning.{is_cleaned}
-use Rattle.ee_commands.proofs.Named.{opening_good, opening_named}
+use Rattle.ee_image_store.proofs.Public.{opening_good, opening_named}
 use Rattle.ee_commands.proofs.images.clean_image.Goals as goal
 
 pub returns-clause-cleaned : goal.returns-clause-cleaned

@@ -1,8 +1,7 @@
-use Rattle.std.proofs.Common.{◌≡◌, ◌⊎◌, rules, subst}
+use Rattle.std.proofs.Common.{◌≡◌, ◌⊎◌, rules, subst, sym}
 use Rattle.ee_image.proofs.Public.{error_passed_on}
 use Rattle.ee_check.specs.Schedule.{IsProper}
 use Rattle.ee_faults.specs.declared.fault.Fault.TheVariants.{Memory}
-use Rattle.ee_faults.specs.Fault.{fault_of_plan}
 use Rattle.ee_commands.specs.Planning.{IsTask}
 use Rattle.ee_commands.proofs.Planned.{is_planned}
 use Rattle.ee_commands.proofs.OneTask.{change_named, change_of_plan, first_of_plan, trace_renamed}
@@ -13,24 +12,23 @@ returns-in_err-start-clause-names g c = λ cause some applies.
     error_passed_on c.from_residual.result c.in_err-start.field-0.0 (λ text. ⊥) (λ fault. (fault ≡ cause) ⊎ (fault ≡ Memory)) c.from_residual.ensures.1
     (first_of_plan c.args.image.now c.args.script.now cause c.in_err-start.field-0.0 some applies c.in_err-start.ensures.fault)
 
-pub returns-in_err-plan-clause-names : goal.returns-in_err-plan-clause-names
-returns-in_err-plan-clause-names g c = λ cause some applies.
+pub returns-in-Err-clause-names : goal.returns-in-Err-clause-names
+returns-in-Err-clause-names g c = λ cause some applies.
     let task : IsTask c.args.image.now c.args.script.now c.in_ok-start.start c.deref.result.now =
     trace_renamed _ _ _ _ _ c.in_ok-start.ensures.task (search rules) in
     let named = change_of_plan c.args.image.now c.args.script.now c.in_ok-start.start c.deref.result.now cause some applies task in
-    error_passed_on c.from_residual-in_err-plan.result (fault_of_plan c.in_err-plan.field-0.0) (λ text. ⊥) (λ fault. (fault ≡ cause) ⊎ (fault ≡ Memory)) c.from_residual-in_err-plan.ensures.1
-    (change_named cause c.in_err-plan.field-0.0 named.n named.fault_is (c.in_err-plan.ensures.names named.n named.first))
+    subst (λ told. (told ≡ cause) ⊎ (told ≡ Memory)) (sym c.fault_of.ensures) (change_named cause c.in-Err.fault named.n named.fault_is (c.in-Err.ensures.names named.n named.first))
 
 pub returns-clause-names : goal.returns-clause-names
 returns-clause-names g c = λ cause some applies.
     let task : IsTask c.args.image.now c.args.script.now c.in_ok-start.start c.deref.result.now =
     trace_renamed _ _ _ _ _ c.in_ok-start.ensures.task (search rules) in
     let named = change_of_plan c.args.image.now c.args.script.now c.in_ok-start.start c.deref.result.now cause some applies task in
-    c.in_ok-plan.ensures.names named.n named.first
+    c.in-Ok.ensures.names named.n named.first
 
 -- the text is found anew, so that another one leaves a goal open
 pub returns-clause-planned : goal.returns-clause-planned
 returns-clause-planned g c =
     let task : IsTask c.args.image.now c.args.script.now c.in_ok-start.start c.deref.result.now =
     trace_renamed _ _ _ _ _ c.in_ok-start.ensures.task (search rules) in
-    is_planned _ _ _ _ _ _ task (subst IsProper c.start.view_is c.start.invariant.proper) c.in_ok-plan.ensures.planned (search rules)
+    is_planned _ _ _ _ _ _ task (subst IsProper c.start.view_is c.start.invariant.proper) c.in-Ok.ensures.planned (search rules)

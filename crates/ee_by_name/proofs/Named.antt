@@ -1,0 +1,331 @@
+-- What is read and set by name, and that one cause at most applies for which it is not.
+use Rattle.std.proofs.Common.{◌≡◌, ◌≢◌, ◌⊎◌, ◌∙◌, ℕ, List, [], ◌∷◌, map, inl, inr, refl, sym, ap, subst, arith, codes, Option, Some, None, Ok, Err, String, Global, string_bytes, Less, nat_cmp}
+use Rattle.std.specs.Cmp.Lexicographic.{slice_cmp}
+use Rattle.std.specs.List.{AllByRecursion}
+use Rattle.std.specs.List.Sorted.{IsStrictlySortedBy}
+use Rattle.std.specs.Map.{keys_of}
+use Rattle.std.specs.String.{string_cmp}
+use Rattle.toml.specs.Data.{Members}
+use Rattle.toml.specs.View.{members_view}
+use Rattle.toml.specs.declared.value.Value.{Value}
+use Rattle.ee_text.specs.Line.{line_of}
+use Rattle.ee_flash.specs.Device.{Device}
+use Rattle.ee_flash.specs.Size.{Size, slot_count}
+use Rattle.ee_pages.specs.Meaning.{Put}
+use Rattle.ee_pages.specs.declared.side.Side.{Side}
+use Rattle.ee_pages.specs.declared.side.Side.TheVariants.{First, Second}
+use Rattle.ee_pages.specs.Sets.{live_of}
+use Rattle.ee_core.specs.Changes.{IsAccepted}
+use Rattle.ee_core.specs.State.{State, Wears, pending_pages, state_in, state_of, state_with}
+use Rattle.ee_core.specs.declared.variables.Written.{Written}
+use Rattle.ee_core.specs.declared.variables.Written.TheVariants as written
+use Rattle.ee_image.specs.Text.{at_rest}
+use Rattle.ee_image.proofs.Public.{one_device_lem}
+use Rattle.ee_settings.proofs.Public.{one_fault, names_apart, entries_once, never_refused, entries_seen, seen}
+use Rattle.ee_settings.specs.Calls.{IsNamed, IsUnknown, Sets}
+use Rattle.ee_settings.specs.File.{Entry, GivesSchema, HaveRisingKeys, entries_of}
+use Rattle.ee_settings.specs.Setting.{HaveRisingNames, IsInRange, Setting}
+use Rattle.ee_settings.specs.declared.fault.SchemaFault.{SchemaFault}
+use Rattle.ee_settings.specs.declared.fault.SchemaFault.TheVariants as schema
+use Rattle.ee_settings.specs.declared.reading.Reading.{Reading}
+use Rattle.ee_script.specs.declared.answer.Answer.{Answer}
+use Rattle.ee_script.specs.declared.answer.Answer.TheVariants.{Appended, Moved}
+use Rattle.ee_script.specs.declared.command.Command.{Command}
+use Rattle.ee_script.specs.declared.command.Command.TheVariants.{Write}
+use Rattle.ee_faults.specs.Fault.{fault_of_replay}
+use Rattle.ee_by_name.specs.Settings.{fault_of_schema, HasTree, IsGetFault, IsSettingRead, IsSettingRefused, IsRefusedIn, IsSet, IsSetFault, IsSettingsFault, IsValueRefusal, IsWriteRefusal, IsWriteServed, IsWritten, SpellsSettings}
+use Rattle.ee_faults.specs.declared.fault.Fault.{Fault}
+use Rattle.ee_faults.specs.declared.fault.Fault.TheVariants.{UnknownName, Memory}
+use Rattle.ee_faults.specs.declared.replay_fault.ReplayFault.{ReplayFault}
+use Rattle.ee_faults.specs.declared.replay_fault.ReplayFault.TheVariants as replay
+use Rattle.ee_image_store.proofs.Public.{both, by_append, by_move, pages_since, one_open_fault, store_is_good, not_opened, opening_good, opening_named}
+use Rattle.ee_image_store.specs.Erases.{ErasesRise, erases_left_by}
+use Rattle.ee_image_store.specs.FileFaults.{IsOpeningFault}
+use Rattle.ee_image_store.specs.Machine.{MachineStep}
+use Rattle.ee_image_store.specs.Opening.{HasStore, IsOpenFault, IsOpened, IsStoreLeft, IsStoreText, StaysOn}
+use Rattle.ee_image_store.specs.Steps.{Steps}
+
+-- ---- the text of the settings
+
+below_bytes : (k : String Global) (ks : List (String Global)) → AllByRecursion (λ y. string_cmp k y ≡ Less) ks → AllByRecursion (λ y. slice_cmp nat_cmp (string_bytes k) y ≡ Less) (map string_bytes ks)
+below_bytes k [] h = tt
+below_bytes k (y ∷ ys) h = (h.0, below_bytes k ys h.1)
+
+rising_bytes : (ks : List (String Global)) → IsStrictlySortedBy string_cmp ks → IsStrictlySortedBy (slice_cmp nat_cmp) (map string_bytes ks)
+unfolding IsStrictlySortedBy
+rising_bytes [] h = tt
+rising_bytes (k ∷ ks) h = (below_bytes k ks h.0, rising_bytes ks h.1)
+
+entry_names : (es : List (String Global × Value)) → map (λ (e : Entry). e.0) (map seen es) ≡ map string_bytes (keys_of es)
+entry_names [] = refl
+entry_names (e ∷ es) = ap (λ names. string_bytes e.0 ∷ names) (entry_names es)
+
+pub rising_keys : (es : List (String Global × Value)) → IsStrictlySortedBy string_cmp (keys_of es) → HaveRisingKeys (entries_of (members_view es))
+rising_keys es sorted = subst (IsStrictlySortedBy (slice_cmp nat_cmp)) (sym (ap (map (λ (e : Entry). e.0)) (entries_seen es) ∙ entry_names es)) (rising_bytes (keys_of es) sorted)
+
+pub one_tree : (text : List ℕ) (one other : Members) → HasTree text one → HasTree text other → one ≡ other
+one_tree text one other h k = cc (h.reads, k.reads)
+
+schema_memory_or : (why : SchemaFault) → (why ≡ schema.Memory) ⊎ (why ≢ schema.Memory)
+schema_memory_or (schema.BadName n) = inr (λ e. cc e)
+schema_memory_or (schema.BadField n) = inr (λ e. cc e)
+schema_memory_or (schema.BadRange n) = inr (λ e. cc e)
+schema_memory_or (schema.SameAddress n) = inr (λ e. cc e)
+schema_memory_or schema.Memory = inl refl
+
+-- the fault of a tree is the one that was told
+pub schema_named : (text : List ℕ) (tree : Members) (why : SchemaFault) (fault cause : Fault) → HasTree text tree → HaveRisingKeys (entries_of tree) → GivesSchema tree (Err why) → fault ≡ fault_of_schema why
+    → cause ≢ Memory → IsSettingsFault text cause → (fault ≡ cause) ⊎ (fault ≡ Memory)
+schema_named text tree why fault cause has rising gives told some (inl h) = absurd (h.1 tree has)
+schema_named text tree why fault cause has rising gives told some (inr (inr h)) = absurd (some h)
+schema_named text tree why fault cause has rising gives told some (inr (inl h)) = elim (schema_memory_or why) [
+  | inl none ↦ inr (told ∙ ap fault_of_schema none)
+  | inr other ↦
+      let there : GivesSchema tree (Err h.cause) = subst (λ (t : Members). GivesSchema t (Err h.cause)) (one_tree text h.tree tree h.has_tree has) h.applies in
+      let same : why ≡ h.cause = one_fault tree rising why h.cause other (λ e. some (h.fault_is ∙ ap fault_of_schema e)) gives there in
+      inl (told ∙ ap fault_of_schema same ∙ sym h.fault_is)
+]
+
+-- a text that spells settings has no fault
+pub schema_good : (text : List ℕ) (tree : Members) (settings : List Setting) (cause : Fault) → HasTree text tree → GivesSchema tree (Ok settings) → cause ≢ Memory → IsSettingsFault text cause → ⊥
+schema_good text tree settings cause has gives some (inl h) = h.1 tree has
+schema_good text tree settings cause has gives some (inr (inr h)) = some h
+schema_good text tree settings cause has gives some (inr (inl h)) =
+    never_refused tree settings h.cause (λ e. some (h.fault_is ∙ ap fault_of_schema e)) gives
+    (subst (λ (t : Members). GivesSchema t (Err h.cause)) (one_tree text h.tree tree h.has_tree has) h.applies)
+
+pub settings_good : (text : List ℕ) (settings : List Setting) (cause : Fault) → SpellsSettings text settings → cause ≢ Memory → IsSettingsFault text cause → ⊥
+settings_good text settings cause spelled some h = schema_good text spelled.tree settings cause spelled.has_tree spelled.schema some h
+
+there_too : (text : List ℕ) (tree : Members) (others : List Setting) → HasTree text tree → SpellsSettings text others → GivesSchema tree (Ok others)
+there_too text tree others has spelled = subst (λ (t : Members). GivesSchema t (Ok others)) (one_tree text spelled.tree tree spelled.has_tree has) spelled.schema
+
+pub schema_once : (text : List ℕ) (tree : Members) (settings others : List Setting) → HasTree text tree → GivesSchema tree (Ok settings) → SpellsSettings text others → settings ≡ others
+schema_once text tree settings others has gives spelled = entries_once (entries_of tree) settings others gives.0.each (there_too text tree others has spelled).0.each
+
+pub spelled_once : (text : List ℕ) (settings others : List Setting) → SpellsSettings text settings → SpellsSettings text others → settings ≡ others
+spelled_once text settings others spelled again = schema_once text spelled.tree settings others spelled.has_tree spelled.schema again
+
+-- only want of memory refuses a text that spells settings
+pub schema_only : (text : List ℕ) (tree : Members) (why : SchemaFault) (fault : Fault) (others : List Setting) → HasTree text tree → GivesSchema tree (Err why) → fault ≡ fault_of_schema why → SpellsSettings text others
+    → fault ≡ Memory
+schema_only text tree why fault others has gives told spelled = elim (schema_memory_or why) [
+  | inl none ↦ told ∙ ap fault_of_schema none
+  | inr other ↦ absurd (never_refused tree others why other (there_too text tree others has spelled) gives)
+]
+
+-- ---- reading
+
+pub get_unopened : (image text name : List ℕ) (why : ReplayFault) (fault cause : Fault) → IsOpenFault image why → fault ≡ fault_of_replay why → cause ≢ Memory → IsGetFault image text name cause
+    → (fault ≡ cause) ⊎ (fault ≡ Memory)
+get_unopened image text name why fault cause unopened told some (inl h) = opening_named image why fault cause unopened told some h
+get_unopened image text name why fault cause unopened told some (inr (inl h)) = inr (not_opened image why fault unopened told h.0)
+get_unopened image text name why fault cause unopened told some (inr (inr h)) = inr (not_opened image why fault unopened told h.0)
+
+pub get_unspelled : (image text name : List ℕ) (store : Device) (fault cause : Fault) → IsOpened image store
+    → ((other : Fault) → other ≢ Memory → IsSettingsFault text other → (fault ≡ other) ⊎ (fault ≡ Memory)) → ((settings : List Setting) → SpellsSettings text settings → fault ≡ Memory)
+    → cause ≢ Memory → IsGetFault image text name cause → (fault ≡ cause) ⊎ (fault ≡ Memory)
+get_unspelled image text name store fault cause opened names only some (inl h) = absurd (opening_good image opened.device cause opened.old some h)
+get_unspelled image text name store fault cause opened names only some (inr (inl h)) = names cause some h.1
+get_unspelled image text name store fault cause opened names only some (inr (inr h)) = inr (only h.1.settings h.1.spelled)
+
+pub get_unknown : (image text name : List ℕ) (store : Device) (settings : List Setting) (cause : Fault) → IsOpened image store → SpellsSettings text settings → cause ≢ Memory → IsGetFault image text name cause
+    → (UnknownName ≡ cause) ⊎ (UnknownName ≡ Memory)
+get_unknown image text name store settings cause opened spelled some (inl h) = absurd (opening_good image opened.device cause opened.old some h)
+get_unknown image text name store settings cause opened spelled some (inr (inl h)) = absurd (settings_good text settings cause spelled some h.1)
+get_unknown image text name store settings cause opened spelled some (inr (inr h)) = inl (sym h.2)
+
+pub got_good : (image text name : List ℕ) (store : Device) (settings : List Setting) (reading : Reading) (cause : Fault) → IsOpened image store → SpellsSettings text settings → IsSettingRead settings (state_of store) name reading
+    → cause ≢ Memory → IsGetFault image text name cause → ⊥
+got_good image text name store settings reading cause opened spelled read some (inl h) = opening_good image opened.device cause opened.old some h
+got_good image text name store settings reading cause opened spelled read some (inr (inl h)) = settings_good text settings cause spelled some h.1
+got_good image text name store settings reading cause opened spelled read some (inr (inr h)) =
+    subst (λ (ss : List Setting). IsUnknown ss name) (spelled_once text h.1.settings settings h.1.spelled spelled) h.1.unknown read.0 read.1
+
+-- ---- setting
+
+pub is_written : (settings : List Setting) (old new : Device) (name : List ℕ) (value : ℕ) (answer : Written) → StaysOn old → Sets settings old name value (Ok answer) new → IsWritten settings old name value new
+is_written settings old new name value written.Appended on set = record {
+  setting = set.0;
+  named = set.1;
+  in_range = set.2;
+  served = inl (
+    record {
+      step = (set.3.proceeds.accepted, set.3.free, set.3.state_is);
+      same_size = set.3.goes_on.same_size;
+      erases = by_append old (Put set.0.numbers.address value) new set.3;
+    },
+    set.3.no_wear,
+  );
+  stays_on = record { on = set.3.goes_on.same_power ∙ on.on; never_cut = set.3.goes_on.same_cuts_left ∙ on.never_cut };
+  answer = written.Appended;
+  written = set.3;
+}
+is_written settings old new name value written.Moved on set = record {
+  setting = set.0;
+  named = set.1;
+  in_range = set.2;
+  served = inr (
+    record {
+      step = (set.3.proceeds.accepted, set.3.all_used, set.3.state_is);
+      same_size = set.3.goes_on.same_size;
+      erases = by_move old (Put set.0.numbers.address value) new set.3;
+    },
+    set.3.wear,
+  );
+  stays_on = record { on = set.3.goes_on.same_power ∙ on.on; never_cut = set.3.goes_on.same_cuts_left ∙ on.never_cut };
+  answer = written.Moved;
+  written = set.3;
+}
+
+-- what was served by an opened store was served by what its text spells
+from_text : (image : List ℕ) (store new : Device) (command : Command) (answer : Answer) (opened : IsOpened image store) → Steps store command answer new → Steps opened.device command answer new
+from_text image store new command answer opened serves = record {
+  step = subst (λ (size : Size). MachineStep size (state_of opened.device) command answer (state_of new)) opened.same_size
+      (subst (λ (state : State). MachineStep store.size state command answer (state_of new)) opened.state_is serves.step);
+  same_size = serves.same_size ∙ opened.same_size;
+  erases = both opened.device store new 0 (erases_left_by opened.device.size answer) (erases_left_by opened.device.size answer) opened.erases
+      (subst (λ (size : Size). ErasesRise (erases_left_by size answer) store new) opened.same_size serves.erases) (omega arith);
+}
+
+served_from_text : (image : List ℕ) (store new : Device) (address value : ℕ) (opened : IsOpened image store) → IsWriteServed store address value new → IsWriteServed opened.device address value new
+served_from_text image store new address value opened (inl h) = inl (from_text image store new (Write address value) Appended opened h.0, h.1 ∙ opened.no_wear)
+served_from_text image store new address value opened (inr h) =
+    inr (
+      from_text image store new (Write address value) Moved opened h.0,
+      subst (λ (pages : List ℕ). Wears pages opened.device new) opened.same_pending (pages_since opened.device store new (pending_pages store) opened.no_wear h.1),
+    )
+
+pub size_kept : (old new : Device) (address value : ℕ) → IsWriteServed old address value new → new.size ≡ old.size
+size_kept old new address value (inl h) = h.0.same_size
+size_kept old new address value (inr h) = h.0.same_size
+
+pub is_set : (image text name new_image line : List ℕ) (value : ℕ) (store new : Device) (settings : List Setting) → IsOpened image store → SpellsSettings text settings → IsWritten settings store name value new
+    → IsStoreLeft new.size new_image new → line ≡ line_of (codes "set") → IsSet image text name value new_image line
+is_set image text name new_image line value store new settings opened spelled done left says =
+    let served = served_from_text image store new done.setting.numbers.address value opened done.served in
+    record {
+      device = opened.device;
+      store = store;
+      last = new;
+      old = opened.old;
+      opens = opened.opens;
+      settings = settings;
+      spelled = spelled;
+      written = done;
+      served = served;
+      left = subst (λ (size : Size). IsStoreLeft size new_image new) (size_kept opened.device new done.setting.numbers.address value served) left;
+      line_is = says;
+    }
+
+pub is_refused_in : (image text name : List ℕ) (value : ℕ) (store : Device) (settings : List Setting) (fault : Fault) → IsOpened image store → SpellsSettings text settings
+    → IsSettingRefused settings store.size (state_of store) name value fault → IsRefusedIn image text name value fault
+is_refused_in image text name value store settings fault opened spelled refused = record {
+  device = opened.device;
+  old = opened.old;
+  settings = settings;
+  spelled = spelled;
+  refused = subst (λ (size : Size). IsSettingRefused settings size (state_of opened.device) name value fault) opened.same_size
+      (subst (λ (state : State). IsSettingRefused settings store.size state name value fault) opened.state_is refused);
+}
+
+-- ---- the causes for which nothing is set
+
+by_side : (device : Device) (side : Side) (generation : ℕ) → state_with (at_rest device) side generation ≡ state_with device side generation
+by_side device First generation = refl
+by_side device Second generation = refl
+
+by_live : (device : Device) (live : Option (Side × ℕ)) → state_in (at_rest device) live ≡ state_in device live
+by_live device None = refl
+by_live device (Some live) = by_side device live.0 live.1
+
+pub rested_state : (device : Device) → state_of (at_rest device) ≡ state_of device
+rested_state device = by_live device (live_of device)
+
+pub one_rest : (image : List ℕ) (one other : Device) → IsStoreText image one → IsStoreText image other → at_rest one ≡ at_rest other
+one_rest image one other h k = one_device_lem one other h.spelled.formed k.spelled.formed (sym h.spelled.text_is ∙ k.spelled.text_is)
+
+one_write : (size : Size) (state : State) (address : ℕ) (fault cause : Fault) → IsWriteRefusal size state address fault → IsWriteRefusal size state address cause → fault ≡ cause
+one_write size state address fault cause (inl h) (inl k) = h.1 ∙ sym k.1
+one_write size state address fault cause (inl h) (inr k) = absurd (k.0 h.0)
+one_write size state address fault cause (inr h) (inl k) = absurd (h.0 k.0)
+one_write size state address fault cause (inr h) (inr k) = h.2 ∙ sym k.2
+
+one_value : (setting : Setting) (size : Size) (state : State) (value : ℕ) (fault cause : Fault) → IsValueRefusal setting size state value fault → IsValueRefusal setting size state value cause → fault ≡ cause
+one_value setting size state value fault cause (inl h) (inl k) = h.1 ∙ sym k.1
+one_value setting size state value fault cause (inl h) (inr k) = absurd (h.0 k.0)
+one_value setting size state value fault cause (inr h) (inl k) = absurd (k.0 h.0)
+one_value setting size state value fault cause (inr h) (inr k) = one_write size state setting.numbers.address fault cause h.1 k.1
+
+one_named : (settings : List Setting) (name : List ℕ) (one other : Setting) → HaveRisingNames settings → IsNamed settings name one → IsNamed settings name other → one ≡ other
+one_named settings name one other rising h k = names_apart settings rising one other h.0 k.0 (h.1 ∙ sym k.1)
+
+one_refusal : (settings : List Setting) (size : Size) (state : State) (name : List ℕ) (value : ℕ) (fault cause : Fault) → HaveRisingNames settings → cause ≢ Memory → IsSettingRefused settings size state name value fault
+    → IsSettingRefused settings size state name value cause → (fault ≡ cause) ⊎ (fault ≡ Memory)
+one_refusal settings size state name value fault cause rising some (inr (inr h)) k = inr h
+one_refusal settings size state name value fault cause rising some (inl h) (inr (inr k)) = absurd (some k)
+one_refusal settings size state name value fault cause rising some (inl h) (inl k) = inl (h.1 ∙ sym k.1)
+one_refusal settings size state name value fault cause rising some (inl h) (inr (inl k)) = absurd (h.0 k.0 k.1)
+one_refusal settings size state name value fault cause rising some (inr (inl h)) (inr (inr k)) = absurd (some k)
+one_refusal settings size state name value fault cause rising some (inr (inl h)) (inl k) = absurd (k.0 h.0 h.1)
+one_refusal settings size state name value fault cause rising some (inr (inl h)) (inr (inl k)) =
+    inl (one_value h.0 size state value fault cause h.2 (subst (λ (s : Setting). IsValueRefusal s size state value cause) (one_named settings name k.0 h.0 rising k.1 h.1) k.2))
+
+accepted_write : (size : Size) (state : State) (address value : ℕ) (cause : Fault) → IsAccepted (slot_count size) state (Put address value) → IsWriteRefusal size state address cause → ⊥
+accepted_write size state address value cause accepted (inl h) = accepted.has_place h.0
+accepted_write size state address value cause accepted (inr h) = accepted.not_spent h.1
+
+accepted_value : (setting : Setting) (size : Size) (state : State) (value : ℕ) (cause : Fault) → IsInRange setting.numbers value → IsAccepted (slot_count size) state (Put setting.numbers.address value)
+    → IsValueRefusal setting size state value cause → ⊥
+accepted_value setting size state value cause within accepted (inl h) = h.0 within
+accepted_value setting size state value cause within accepted (inr h) = accepted_write size state setting.numbers.address value cause accepted h.1
+
+pub accepted_by : (old new : Device) (address value : ℕ) → IsWriteServed old address value new → IsAccepted (slot_count old.size) (state_of old) (Put address value)
+accepted_by old new address value (inl h) = h.0.step.0
+accepted_by old new address value (inr h) = h.0.step.0
+
+written_good : (settings : List Setting) (old new : Device) (name : List ℕ) (value : ℕ) (cause : Fault) → HaveRisingNames settings → cause ≢ Memory → IsWritten settings old name value new
+    → IsSettingRefused settings old.size (state_of old) name value cause → ⊥
+written_good settings old new name value cause rising some done (inl h) = h.0 done.setting done.named
+written_good settings old new name value cause rising some done (inr (inr h)) = some h
+written_good settings old new name value cause rising some done (inr (inl h)) =
+    accepted_value done.setting old.size (state_of old) value cause done.in_range (accepted_by old new done.setting.numbers.address value done.served)
+    (subst (λ (s : Setting). IsValueRefusal s old.size (state_of old) value cause) (one_named settings name h.0 done.setting rising h.1 done.named) h.2)
+
+-- what refuses a value in the image refuses it in its store
+refused_there : (image text name : List ℕ) (value : ℕ) (store : Device) (settings : List Setting) (cause : Fault) → IsOpened image store → SpellsSettings text settings → IsRefusedIn image text name value cause
+    → IsSettingRefused settings store.size (state_of store) name value cause
+refused_there image text name value store settings cause opened spelled h =
+    let rest = one_rest image h.device opened.device h.old opened.old in
+    let size : h.device.size ≡ store.size = ap (λ (d : Device). d.size) rest ∙ sym opened.same_size in
+    let state : state_of h.device ≡ state_of store = sym (rested_state h.device) ∙ ap state_of rest ∙ rested_state opened.device ∙ sym opened.state_is in
+    subst (λ (ss : List Setting). IsSettingRefused ss store.size (state_of store) name value cause) (spelled_once text h.settings settings h.spelled spelled)
+    (subst (λ (s : Size). IsSettingRefused h.settings s (state_of store) name value cause) size
+    (subst (λ (t : State). IsSettingRefused h.settings h.device.size t name value cause) state h.refused))
+
+pub set_unopened : (image text name : List ℕ) (value : ℕ) (why : ReplayFault) (fault cause : Fault) → IsOpenFault image why → fault ≡ fault_of_replay why → cause ≢ Memory → IsSetFault image text name value cause
+    → (fault ≡ cause) ⊎ (fault ≡ Memory)
+set_unopened image text name value why fault cause unopened told some (inl h) = opening_named image why fault cause unopened told some h
+set_unopened image text name value why fault cause unopened told some (inr (inl h)) = inr (not_opened image why fault unopened told h.0)
+set_unopened image text name value why fault cause unopened told some (inr (inr h)) = inr (not_opened image why fault unopened told (h.device, h.old))
+
+pub set_unspelled : (image text name : List ℕ) (value : ℕ) (store : Device) (fault cause : Fault) → IsOpened image store
+    → ((other : Fault) → other ≢ Memory → IsSettingsFault text other → (fault ≡ other) ⊎ (fault ≡ Memory)) → ((settings : List Setting) → SpellsSettings text settings → fault ≡ Memory)
+    → cause ≢ Memory → IsSetFault image text name value cause → (fault ≡ cause) ⊎ (fault ≡ Memory)
+set_unspelled image text name value store fault cause opened names only some (inl h) = absurd (opening_good image opened.device cause opened.old some h)
+set_unspelled image text name value store fault cause opened names only some (inr (inl h)) = names cause some h.1
+set_unspelled image text name value store fault cause opened names only some (inr (inr h)) = inr (only h.settings h.spelled)
+
+pub set_refused : (image text name : List ℕ) (value : ℕ) (store : Device) (settings : List Setting) (fault cause : Fault) → IsOpened image store → SpellsSettings text settings
+    → IsSettingRefused settings store.size (state_of store) name value fault → cause ≢ Memory → IsSetFault image text name value cause → (fault ≡ cause) ⊎ (fault ≡ Memory)
+set_refused image text name value store settings fault cause opened spelled refused some (inl h) = absurd (opening_good image opened.device cause opened.old some h)
+set_refused image text name value store settings fault cause opened spelled refused some (inr (inl h)) = absurd (settings_good text settings cause spelled some h.1)
+set_refused image text name value store settings fault cause opened spelled refused some (inr (inr h)) =
+    one_refusal settings store.size (state_of store) name value fault cause spelled.schema.1 some refused (refused_there image text name value store settings cause opened spelled h)
+
+pub set_good : (image text name : List ℕ) (value : ℕ) (store new : Device) (settings : List Setting) (cause : Fault) → IsOpened image store → SpellsSettings text settings → IsWritten settings store name value new
+    → cause ≢ Memory → IsSetFault image text name value cause → ⊥
+set_good image text name value store new settings cause opened spelled done some (inl h) = opening_good image opened.device cause opened.old some h
+set_good image text name value store new settings cause opened spelled done some (inr (inl h)) = settings_good text settings cause spelled some h.1
+set_good image text name value store new settings cause opened spelled done some (inr (inr h)) =
+    written_good settings store new name value cause spelled.schema.1 some done (refused_there image text name value store settings cause opened spelled h)

@@ -1,0 +1,143 @@
+-- What is told and tidied by a later schema, and that one cause at most applies for which it is not.
+use Rattle.std.proofs.Common.{◌≡◌, ◌≢◌, ◌⊎◌, ◌∙◌, ◌+◌, ℕ, Option, Some, None, List, inl, inr, sym, ap, subst, arith, Ok, Err}
+use Rattle.std.specs.Prelude.{option_map}
+use Rattle.ee_flash.specs.Device.{Device}
+use Rattle.ee_flash.specs.Size.{Size}
+use Rattle.ee_core.specs.State.{State, state_of}
+use Rattle.ee_settings.proofs.Public.{each_goes_on, leaves_named, leaves_state, none_spent}
+use Rattle.ee_settings.specs.Setting.{Setting}
+use Rattle.ee_settings.specs.Stale.{stale_in}
+use Rattle.ee_settings.specs.Tidying.{IsSpentAmong, Tidies, after_forgettings, kept_map, unnamed_in}
+use Rattle.ee_settings.specs.declared.fault.TidyFault.TheVariants as tidy
+use Rattle.ee_faults.specs.Fault.{fault_of_replay}
+use Rattle.ee_faults.specs.declared.fault.Fault.{Fault}
+use Rattle.ee_faults.specs.declared.fault.Fault.TheVariants.{Memory, Spent}
+use Rattle.ee_faults.specs.declared.replay_fault.ReplayFault.{ReplayFault}
+use Rattle.ee_image_store.proofs.Public.{not_opened, opening_good, opening_named}
+use Rattle.ee_by_name.proofs.Named.{one_rest, rested_state, settings_good, spelled_once}
+use Rattle.ee_image_store.specs.Opening.{IsOpenFault, IsOpened, IsStoreLeft, StaysOn}
+use Rattle.ee_by_name.specs.SecondSchema.{AreStaleLines, IsSpentFor, IsStaleTextFault, IsTidied, IsTidiedImage, IsTidyImageFault, stale_lines, tidied_text}
+use Rattle.ee_by_name.specs.Settings.{IsSettingsFault, SpellsSettings}
+
+-- ---- tidying a store
+
+none_left : (cuts : Option ℕ) → Some 0 ≡ option_map (λ left. left + 1) cuts → ⊥
+none_left None e = let wrong : ◌≡◌ {A = Option ℕ} (Some 0) None = e in cc wrong
+none_left (Some n) e = let wrong : 0 ≡ n + 1 = cc e in omega arith
+
+-- power that stays on is not cut in it
+pub never_cut : (settings : List Setting) (old new : Device) → StaysOn old → Tidies settings old (Err tidy.Cut) new → ⊥
+never_cut settings old new on stops =
+    let left : stops.last.cuts_left ≡ Some 0 = (each_goes_on stops.front old stops.last stops.forgotten).same_cuts_left ∙ on.never_cut in
+    none_left new.cuts_left (sym left ∙ stops.stopped.cut.one_less_left)
+
+pub is_tidied : (settings : List Setting) (old new : Device) (count : ℕ) → StaysOn old → Tidies settings old (Ok count) new → IsTidied settings old count new
+is_tidied settings old new count on done =
+    let power = each_goes_on (unnamed_in settings (state_of old).map) old new done.2 in
+    record {
+      tidied = done;
+      map_is = leaves_named settings old new count done;
+      state_is = leaves_state settings old new count done;
+      stays_on = record { on = power.same_power ∙ on.on; never_cut = power.same_cuts_left ∙ on.never_cut };
+      same_size = power.same_size;
+    }
+
+-- ---- what is told
+
+-- the lines of the opened store's stale entries are those of the image's
+pub are_stale_lines : (image text lines : List ℕ) (store : Device) (settings : List Setting) → IsOpened image store → SpellsSettings text settings
+    → lines ≡ stale_lines settings (stale_in (state_of store).map settings) → AreStaleLines image text lines
+are_stale_lines image text lines store settings opened spelled says = record {
+  device = opened.device;
+  old = opened.old;
+  settings = settings;
+  spelled = spelled;
+  lines_are = says ∙ ap (λ (state : State). stale_lines settings (stale_in state.map settings)) opened.state_is;
+}
+
+-- ---- the image that is left
+
+pub is_tidied_image : (image text new_image line : List ℕ) (store new : Device) (settings : List Setting) (count : ℕ) → IsOpened image store → SpellsSettings text settings → IsTidied settings store count new
+    → IsStoreLeft new.size new_image new → line ≡ tidied_text count → IsTidiedImage image text new_image line
+is_tidied_image image text new_image line store new settings count opened spelled done left says = record {
+  store = store;
+  opened = opened;
+  settings = settings;
+  spelled = spelled;
+  count = count;
+  last = new;
+  tidied = done.tidied;
+  map_is = λ address. done.map_is address ∙ ap (λ (state : State). kept_map settings state.map address) opened.state_is;
+  state_is =
+      done.state_is
+      ∙ ap (λ (state : State). after_forgettings store.size (unnamed_in settings state.map) state) opened.state_is
+      ∙ ap (λ (size : Size). after_forgettings size (unnamed_in settings (state_of opened.device).map) (state_of opened.device)) opened.same_size;
+  left = subst (λ (size : Size). IsStoreLeft size new_image new) (done.same_size ∙ opened.same_size) left;
+  line_is = says;
+}
+
+pub is_spent_for : (image text : List ℕ) (store : Device) (settings : List Setting) (fault : Fault) → IsOpened image store → SpellsSettings text settings → fault ≡ Spent
+    → IsSpentAmong store.size (unnamed_in settings (state_of store).map) (state_of store) → IsSpentFor image text fault
+is_spent_for image text store settings fault opened spelled told spent = record {
+  device = opened.device;
+  old = opened.old;
+  settings = settings;
+  spelled = spelled;
+  spent = subst (λ (size : Size). IsSpentAmong size (unnamed_in settings (state_of opened.device).map) (state_of opened.device)) opened.same_size
+      (subst (λ (state : State). IsSpentAmong store.size (unnamed_in settings state.map) state) opened.state_is spent);
+  fault_is = told;
+}
+
+-- ---- the causes
+
+pub stale_unopened : (image text : List ℕ) (why : ReplayFault) (fault cause : Fault) → IsOpenFault image why → fault ≡ fault_of_replay why → cause ≢ Memory → IsStaleTextFault image text cause
+    → (fault ≡ cause) ⊎ (fault ≡ Memory)
+stale_unopened image text why fault cause unopened told some (inl h) = opening_named image why fault cause unopened told some h
+stale_unopened image text why fault cause unopened told some (inr h) = inr (not_opened image why fault unopened told h.0)
+
+pub stale_unspelled : (image text : List ℕ) (store : Device) (fault cause : Fault) → IsOpened image store
+    → ((other : Fault) → other ≢ Memory → IsSettingsFault text other → (fault ≡ other) ⊎ (fault ≡ Memory))
+    → cause ≢ Memory → IsStaleTextFault image text cause → (fault ≡ cause) ⊎ (fault ≡ Memory)
+stale_unspelled image text store fault cause opened names some (inl h) = absurd (opening_good image opened.device cause opened.old some h)
+stale_unspelled image text store fault cause opened names some (inr h) = names cause some h.1
+
+pub stale_good : (image text : List ℕ) (store : Device) (settings : List Setting) (cause : Fault) → IsOpened image store → SpellsSettings text settings → cause ≢ Memory → IsStaleTextFault image text cause → ⊥
+stale_good image text store settings cause opened spelled some (inl h) = opening_good image opened.device cause opened.old some h
+stale_good image text store settings cause opened spelled some (inr h) = settings_good text settings cause spelled some h.1
+
+-- what is spent in the image is spent in its store
+spent_there : (image text : List ℕ) (store : Device) (settings : List Setting) (cause : Fault) → IsOpened image store → SpellsSettings text settings → IsSpentFor image text cause
+    → IsSpentAmong store.size (unnamed_in settings (state_of store).map) (state_of store)
+spent_there image text store settings cause opened spelled h =
+    let rest = one_rest image h.device opened.device h.old opened.old in
+    let size : h.device.size ≡ store.size = ap (λ (d : Device). d.size) rest ∙ sym opened.same_size in
+    let state : state_of h.device ≡ state_of store = sym (rested_state h.device) ∙ ap state_of rest ∙ rested_state opened.device ∙ sym opened.state_is in
+    subst (λ (ss : List Setting). IsSpentAmong store.size (unnamed_in ss (state_of store).map) (state_of store)) (spelled_once text h.settings settings h.spelled spelled)
+    (subst (λ (s : Size). IsSpentAmong s (unnamed_in h.settings (state_of store).map) (state_of store)) size
+    (subst (λ (t : State). IsSpentAmong h.device.size (unnamed_in h.settings t.map) t) state h.spent))
+
+pub tidy_unopened : (image text : List ℕ) (why : ReplayFault) (fault cause : Fault) → IsOpenFault image why → fault ≡ fault_of_replay why → cause ≢ Memory → IsTidyImageFault image text cause
+    → (fault ≡ cause) ⊎ (fault ≡ Memory)
+tidy_unopened image text why fault cause unopened told some (inl h) = opening_named image why fault cause unopened told some h
+tidy_unopened image text why fault cause unopened told some (inr (inl h)) = inr (not_opened image why fault unopened told h.0)
+tidy_unopened image text why fault cause unopened told some (inr (inr h)) = inr (not_opened image why fault unopened told (h.device, h.old))
+
+pub tidy_unspelled : (image text : List ℕ) (store : Device) (fault cause : Fault) → IsOpened image store
+    → ((other : Fault) → other ≢ Memory → IsSettingsFault text other → (fault ≡ other) ⊎ (fault ≡ Memory)) → ((settings : List Setting) → SpellsSettings text settings → fault ≡ Memory)
+    → cause ≢ Memory → IsTidyImageFault image text cause → (fault ≡ cause) ⊎ (fault ≡ Memory)
+tidy_unspelled image text store fault cause opened names only some (inl h) = absurd (opening_good image opened.device cause opened.old some h)
+tidy_unspelled image text store fault cause opened names only some (inr (inl h)) = names cause some h.1
+tidy_unspelled image text store fault cause opened names only some (inr (inr h)) = inr (only h.settings h.spelled)
+
+pub tidy_spent : (image text : List ℕ) (store : Device) (settings : List Setting) (fault cause : Fault) → IsOpened image store → SpellsSettings text settings → fault ≡ Spent → cause ≢ Memory → IsTidyImageFault image text cause
+    → (fault ≡ cause) ⊎ (fault ≡ Memory)
+tidy_spent image text store settings fault cause opened spelled told some (inl h) = absurd (opening_good image opened.device cause opened.old some h)
+tidy_spent image text store settings fault cause opened spelled told some (inr (inl h)) = absurd (settings_good text settings cause spelled some h.1)
+tidy_spent image text store settings fault cause opened spelled told some (inr (inr h)) = inl (told ∙ sym h.fault_is)
+
+pub tidy_good : (image text : List ℕ) (store new : Device) (settings : List Setting) (count : ℕ) (cause : Fault) → IsOpened image store → SpellsSettings text settings → IsTidied settings store count new → cause ≢ Memory
+    → IsTidyImageFault image text cause → ⊥
+tidy_good image text store new settings count cause opened spelled done some (inl h) = opening_good image opened.device cause opened.old some h
+tidy_good image text store new settings count cause opened spelled done some (inr (inl h)) = settings_good text settings cause spelled some h.1
+tidy_good image text store new settings count cause opened spelled done some (inr (inr h)) =
+    none_spent settings store new count done.tidied (spent_there image text store settings cause opened spelled h)

@@ -1,0 +1,5 @@
+pub mod Settings
+pub mod SecondSchema
+pub mod Listing
+pub mod Header
+pub mod Applying

@@ -1,0 +1,187 @@
+//! The command that sets many values at once.
+ghost use Rattle.std.specs.Prelude.{◌≡◌, ◌≢◌, ◌⊎◌, ◌≤◌, pos, ℕ, Some, Ok, IfOk, IfErr, IfSome, IfNone, MatchResult, length};
+ghost use Rattle.std.specs.Bool.{OnFalse, OnTrue};
+ghost use Rattle.toml.specs.View.{table_view, view};
+ghost use Rattle.ee_core.specs.Calls.{Writes};
+ghost use Rattle.ee_core.specs.State.{state_of};
+ghost use Rattle.ee_settings.specs.File.{entries_of};
+ghost use Rattle.ee_image_store.specs.Opening.{StaysOn};
+ghost use Rattle.ee_by_name.specs.Applying.{Applies, IsApplied, IsApplyFault, IsEntryRefusal, IsWriteRefusalAt, StopsAtEntry, TakesEntry, applied_text};
+
+use super::settings::{read_schema, read_table};
+use ee_codec::Address;
+use ee_core::{Variables, WriteFault, Written};
+use ee_faults::Fault;
+use ee_image_store::{open_image, text_left};
+use ee_settings::{Numbers, Schema};
+use std::alloc::{AllocError, Allocator, Global};
+use toml::{Table, Value};
+
+/// Writes the values that a text spells for the settings that it names, into the image that a text
+/// spells, and gives the text of the image that this leaves, and what there is to print: `applied N of
+/// M`, N of M entries written. An entry is a setting's name and a whole number; they come by rising
+/// name, in the order of bytes. What is stored already is not written again. `settings` is the text of
+/// the settings. `heap` is for the trees of the texts alone: `toml` takes no other allocator.
+///
+/// Source: ours.
+///
+/// # Errors
+///
+/// The first that applies: the image is no device's, or not legal; the text of the settings is no
+/// TOML, or no schema; the text of the values is no TOML; or an entry, counted from 1, is no whole
+/// number, no setting has its name, it is not in the setting's range, or the store is full, or spent.
+/// `Memory` can come in place of any answer.
+pub fn apply_values<A: Allocator + Copy>(
+    alloc: A,
+    heap: Global,
+    image: &[u8],
+    settings: &[u8],
+    values: &[u8],
+) -> Result<(Vec<u8, A>, Vec<u8, A>), Fault>
+    ensures applied { IfOk result (λ given.
+        IsApplied image.now settings.now values.now given.0.items given.1.items) }
+    ensures fault { IfErr result (IsApplyFault image.now settings.now values.now) }
+    // No cause is passed over.
+    ensures names { (cause : Fault) → cause ≢ Fault.Memory
+        → IsApplyFault image.now settings.now values.now cause
+        → MatchResult result (λ _. ⊥)
+        (λ fault. (fault ≡ cause) ⊎ (fault ≡ Fault.Memory)) }
+{
+    let mut store = open_image(alloc, image)?;
+    let schema = read_schema(alloc, heap, settings)?;
+    let table = read_table(heap, values, Fault::ValuesText)?;
+    let counts = take_entries(&mut store, &schema, &table)?;
+    let written = text_left(alloc, store)?;
+    let text = applied_line(alloc, counts)?;
+    Ok((written, text))
+}
+
+/// How many entries there are, and how many of them were written.
+#[derive(Clone, Copy)]
+struct Counts {
+    written: u64,
+    entries: u64,
+}
+
+/// Takes the entries of a table, by rising name. After an error those before it were taken.
+fn take_entries<V: Variables, A: Allocator>(
+    store: &mut V,
+    schema: &Schema<A>,
+    table: &Table,
+) -> Result<Counts, Fault>
+    requires { StaysOn (V.device store.old) }
+    ensures applied { IfOk result (λ counts. Applies schema.now (entries_of (table_view table.now))
+        (V.device store.old) counts.written (V.device store.new)) }
+    ensures entries { IfOk result (λ counts.
+        counts.entries ≡ length (entries_of (table_view table.now))) }
+    ensures stopped { IfErr result (λ fault. StopsAtEntry schema.now (entries_of (table_view table.now))
+        (V.device store.old) fault ⊎ (fault ≡ Fault.Memory)) }
+{
+    let entries = table.len() as u64;
+    let mut number = 0;
+    let mut written = 0;
+    for (name, value) in table.iter() {
+        number += 1;
+        let more = take_entry(store, schema, number, name.as_str(), value)?;
+        written += more;
+    }
+    Ok(Counts { written, entries })
+}
+
+/// Takes an entry, and gives by how many writes: 1, or 0 where its value is stored already. `entry` is its
+/// number, counted from 1.
+fn take_entry<V: Variables, A: Allocator>(
+    store: &mut V,
+    schema: &Schema<A>,
+    entry: u64,
+    name: &str,
+    value: &Value,
+) -> Result<u64, Fault>
+    requires { StaysOn (V.device store.old) }
+    ensures taken { IfOk result (λ count. TakesEntry schema.now (V.device store.old)
+        (name.now, view value.now) count (V.device store.new)) }
+    ensures refused { let old = V.device store.old in IfErr result (λ fault.
+        IsEntryRefusal schema.now old.size (state_of old) entry (name.now, view value.now) fault
+        ⊎ (fault ≡ Fault.Memory)) }
+{
+    let value = match value.as_integer() {
+        Some(value) => value,
+        None => return Err(Fault::BadValue(entry)),
+    };
+    let numbers = match schema.find(name) {
+        Some(numbers) => numbers,
+        None => return Err(Fault::UnknownValue(entry)),
+    };
+    let Numbers {
+        address,
+        min,
+        max,
+        ..
+    } = numbers;
+    let value = match in_range(min, max, value) {
+        Some(value) => value,
+        None => return Err(Fault::ValueOutOfRange { entry, min, max }),
+    };
+    if has_value(store, address, value) {
+        return Ok(0);
+    }
+    match write_on(store, address, value, entry) {
+        Ok(_) => Ok(1),
+        Err(fault) => Err(fault),
+    }
+}
+
+/// The number, if it is in the range.
+fn in_range(min: u32, max: u32, number: i64) -> Option<u32>
+    ensures found { IfSome result (λ value. (number ≡ pos value) × (min ≤ value) × (value ≤ max)) }
+    ensures none { IfNone result ((value : ℕ) → min ≤ value → value ≤ max → number ≢ pos value) }
+{
+    let value = u32::try_from(number).ok()?;
+    if value < min || max < value {
+        return None;
+    }
+    Some(value)
+}
+
+/// Whether the address has this value.
+fn has_value<V: Variables>(store: &V, address: Address, value: u32) -> bool
+    requires { StaysOn (V.device store.now) }
+    ensures stored { OnTrue result ((state_of (V.device store.now)).map address ≡ Some value) }
+    ensures another { OnFalse result ((state_of (V.device store.now)).map address ≢ Some value) }
+{
+    match store.read(address) {
+        Ok(stored) => stored == Some(value),
+        Err(_) => unreachable!("power stays on"),
+    }
+}
+
+/// Writes a value at an address for the entry of this number.
+fn write_on<V: Variables>(
+    store: &mut V,
+    address: Address,
+    value: u32,
+    number: u64,
+) -> Result<Written, Fault>
+    requires { StaysOn (V.device store.old) }
+    ensures written { IfOk result (λ answer.
+        Writes (V.device store.old) address value (Ok answer) (V.device store.new)) }
+    ensures refused { let old = V.device store.old in IfErr result (λ fault.
+        IsWriteRefusalAt old.size (state_of old) number address fault ⊎ (fault ≡ Fault.Memory)) }
+{
+    match store.write(address, value) {
+        Ok(answer) => Ok(answer),
+        Err(WriteFault::Full) => Err(Fault::FullAt(number)),
+        Err(WriteFault::Spent) => Err(Fault::SpentAt(number)),
+        Err(WriteFault::Memory) => Err(Fault::Memory),
+        Err(WriteFault::Off | WriteFault::Cut) => unreachable!("power stays on"),
+    }
+}
+
+/// The line that says how many of the entries were written.
+fn applied_line<A: Allocator + Copy>(alloc: A, counts: Counts) -> Result<Vec<u8, A>, AllocError>
+    ensures { IfOk result (λ line. line.items ≡ applied_text counts.written counts.entries) }
+{
+    let Counts { written, entries } = counts;
+    let line = format!(in alloc; "applied {written} of {entries}\n")?;
+    Ok(line.into_bytes())
+}

@@ -1,0 +1,63 @@
+//! The command that prints the settings as constants of a program.
+ghost use Rattle.std.specs.Prelude.{◌≡◌, ◌≢◌, ◌⊎◌, IfOk, IfErr, MatchResult, string_bytes};
+ghost use Rattle.ee_by_name.specs.Settings.{IsSettingsFault};
+ghost use Rattle.ee_by_name.specs.Header.{IsHeader, header};
+
+use crate::in_c::c_header;
+use crate::in_rust::rust_header;
+use crate::settings::read_schema;
+use ee_faults::Fault;
+use ee_settings::Setting;
+use std::alloc::{AllocError, Allocator, Global};
+
+/// What a header is written in.
+///
+/// Source: ours.
+#[derive(Clone, Copy, Debug, PartialEq, Eq)]
+pub enum Language {
+    /// C, from C99 on.
+    C,
+    /// Rust, from the edition of 2021 on.
+    Rust,
+}
+
+/// The settings that a text spells as constants of a program, as there is to print: for each its address,
+/// its least and its greatest value and its default, by rising name, and then a list of all of them.
+/// `heap` is for the tree of that text alone: `toml` takes no other allocator.
+///
+/// Source: ours.
+///
+/// # Errors
+///
+/// The text of the settings is no TOML, or no schema. `Memory` can come in place of any answer.
+pub fn header_text<A: Allocator + Copy>(
+    alloc: A,
+    heap: Global,
+    settings: &[u8],
+    language: Language,
+) -> Result<Vec<u8, A>, Fault>
+    ensures header { IfOk result (λ text. IsHeader settings.now language text.items) }
+    ensures fault { IfErr result (IsSettingsFault settings.now) }
+    // No cause is passed over.
+    ensures names { (cause : Fault) → cause ≢ Fault.Memory → IsSettingsFault settings.now cause
+        → MatchResult result (λ _. ⊥)
+        (λ fault. (fault ≡ cause) ⊎ (fault ≡ Fault.Memory)) }
+{
+    let schema = read_schema(alloc, heap, settings)?;
+    let text = header_of(alloc, schema.as_slice(), language)?;
+    Ok(text.into_bytes())
+}
+
+/// The header of these settings.
+fn header_of<A: Allocator + Copy>(
+    alloc: A,
+    settings: &[Setting<A>],
+    language: Language,
+) -> Result<String<A>, AllocError>
+    ensures { IfOk result (λ text. string_bytes text ≡ header language settings.now) }
+{
+    match language {
+        Language::C => c_header(alloc, settings),
+        Language::Rust => rust_header(alloc, settings),
+    }
+}

@@ -1,0 +1,163 @@
+//! The commands that look at an image with the settings of a later firmware.
+ghost use Rattle.std.specs.Prelude.{◌≡◌, ◌≢◌, ◌⊎◌, ◌<◌, ◌≤◌, ◌+◌, ◌++◌, IfOk, IfErr, OnOk, MatchResult, length};
+ghost use Rattle.std.specs.List.{All};
+ghost use Rattle.ee_core.specs.State.{state_of};
+ghost use Rattle.ee_settings.specs.Stale.{stale_in};
+ghost use Rattle.ee_settings.specs.Tidying.{IsSpentAmong, unnamed_in};
+ghost use Rattle.ee_settings.specs.declared.stale.Stale.{Stale};
+ghost use Rattle.ee_by_name.specs.SecondSchema.{AreStaleLines, IsStaleTextFault, IsTidied, IsTidiedImage, IsTidyImageFault, stale_line, stale_lines, tidied_text};
+ghost use Rattle.ee_image_store.specs.Opening.{StaysOn};
+
+use super::settings::read_schema;
+use ee_core::Variables;
+use ee_faults::Fault;
+use ee_image_store::{open_image, text_left};
+use ee_settings::{Schema, Stale, StaleFault, TidyFault};
+use ee_text::push_number;
+use std::alloc::{AllocError, Allocator, Global};
+
+/// The settings whose stored value in the image that a text spells isn't in their range, as there is
+/// to print: a line `NAME V` for each, by rising name, where V is the stored value. `settings` is the
+/// text of the settings. `heap` is for the tree of that text alone: `toml` takes no other allocator.
+///
+/// Source: ours.
+///
+/// # Errors
+///
+/// The first that applies: the image is no device's, or not legal; the text of the settings is no
+/// TOML, or no schema. `Memory` can come in place of any answer.
+pub fn stale_text<A: Allocator + Copy>(
+    alloc: A,
+    heap: Global,
+    image: &[u8],
+    settings: &[u8],
+) -> Result<Vec<u8, A>, Fault>
+    ensures stale { IfOk result (λ text. AreStaleLines image.now settings.now text.items) }
+    ensures fault { IfErr result (IsStaleTextFault image.now settings.now) }
+    // No cause is passed over.
+    ensures names { (cause : Fault) → cause ≢ Fault.Memory
+        → IsStaleTextFault image.now settings.now cause
+        → MatchResult result (λ _. ⊥)
+        (λ fault. (fault ≡ cause) ⊎ (fault ≡ Fault.Memory)) }
+{
+    let store = open_image(alloc, image)?;
+    let schema = read_schema(alloc, heap, settings)?;
+    let stale = stale_on(alloc, &store, &schema)?;
+    let mut text = Vec::new(alloc);
+    push_stale(&mut text, &schema, stale.as_slice())?;
+    Ok(text)
+}
+
+/// Forgets each address that has a value in the image that a text spells and that no setting has, and
+/// gives the text of the image that this leaves, and what there is to print: `tidied N`, N the number
+/// of addresses forgotten. `settings` is the text of the settings. `heap` is for the tree of that text
+/// alone: `toml` takes no other allocator.
+///
+/// Source: ours.
+///
+/// # Errors
+///
+/// The first that applies: the image is no device's, or not legal; the text of the settings is no
+/// TOML, or no schema; the store is spent. `Memory` can come in place of any answer.
+pub fn tidy_image<A: Allocator + Copy>(
+    alloc: A,
+    heap: Global,
+    image: &[u8],
+    settings: &[u8],
+) -> Result<(Vec<u8, A>, Vec<u8, A>), Fault>
+    ensures tidied { IfOk result (λ given.
+        IsTidiedImage image.now settings.now given.0.items given.1.items) }
+    ensures fault { IfErr result (IsTidyImageFault image.now settings.now) }
+    // No cause is passed over.
+    ensures names { (cause : Fault) → cause ≢ Fault.Memory
+        → IsTidyImageFault image.now settings.now cause
+        → MatchResult result (λ _. ⊥)
+        (λ fault. (fault ≡ cause) ⊎ (fault ≡ Fault.Memory)) }
+{
+    let mut store = open_image(alloc, image)?;
+    let schema = read_schema(alloc, heap, settings)?;
+    let count = tidy_on(&mut store, &schema)?;
+    let written = text_left(alloc, store)?;
+    let mut text = Vec::new(alloc);
+    push_tidied(&mut text, count)?;
+    Ok((written, text))
+}
+
+/// The stale entries of a store whose power stays on.
+fn stale_on<V: Variables, A: Allocator + Copy>(
+    alloc: A,
+    store: &V,
+    schema: &Schema<A>,
+) -> Result<Vec<Stale, A>, AllocError>
+    requires { StaysOn (V.device store.now) }
+    ensures { IfOk result (λ stale. stale.items
+        ≡ stale_in (state_of (V.device store.now)).map schema.now) }
+{
+    match schema.stale_values(alloc, store) {
+        Ok(stale) => Ok(stale),
+        Err(StaleFault::Memory) => Err(AllocError),
+        Err(StaleFault::Off) => unreachable!("power stays on"),
+    }
+}
+
+/// Tidies a store whose power stays on.
+fn tidy_on<V: Variables, A: Allocator>(store: &mut V, schema: &Schema<A>) -> Result<u64, Fault>
+    requires { StaysOn (V.device store.old) }
+    ensures tidied { IfOk result (λ count.
+        IsTidied schema.now (V.device store.old) count (V.device store.new)) }
+    ensures told { IfErr result (λ fault. fault ≡ Fault.Spent) }
+    ensures spent { let old = V.device store.old in IfErr result (λ _.
+        IsSpentAmong old.size (unnamed_in schema.now (state_of old).map) (state_of old)) }
+{
+    match schema.tidy(store) {
+        Ok(count) => Ok(count),
+        Err(TidyFault::Spent) => Err(Fault::Spent),
+        Err(TidyFault::Off) => unreachable!("power stays on"),
+        Err(TidyFault::Cut) => unreachable!("power is never cut"),
+    }
+}
+
+/// Writes the lines of stale entries. After an error there may be a part of them.
+fn push_stale<A: Allocator>(
+    out: &mut Vec<u8, A>,
+    schema: &Schema<A>,
+    stale: &[Stale],
+) -> Result<(), AllocError>
+    requires { All (λ (one : Stale). (1 ≤ one.entry) × (one.entry < 1 + length schema.now)) stale.now }
+    ensures { OnOk result (out.new.items ≡ out.old.items ++ stale_lines schema.now stale.now) }
+{
+    for one in stale {
+        push_line(out, schema, *one)?;
+    }
+    Ok(())
+}
+
+/// Writes the line of a stale entry. After an error there may be a part of it.
+fn push_line<A: Allocator>(
+    out: &mut Vec<u8, A>,
+    schema: &Schema<A>,
+    stale: Stale,
+) -> Result<(), AllocError>
+    requires some { 1 ≤ stale.entry }
+    requires within { stale.entry < 1 + length schema.now }
+    ensures { OnOk result (out.new.items ≡ out.old.items ++ stale_line schema.now stale) }
+{
+    let Some(name) = schema.name(stale.entry) else {
+        unreachable!("a stale entry is an entry");
+    };
+    out.extend_from_slice(name.as_bytes())?;
+    out.extend_from_slice(b" ")?;
+    push_number(out, stale.value as u64)?;
+    out.extend_from_slice(b"\n")?;
+    Ok(())
+}
+
+/// Writes how many addresses were forgotten. After an error there may be a part of the line.
+fn push_tidied<A: Allocator>(out: &mut Vec<u8, A>, count: u64) -> Result<(), AllocError>
+    ensures { OnOk result (out.new.items ≡ out.old.items ++ tidied_text count) }
+{
+    out.extend_from_slice(b"tidied ")?;
+    push_number(out, count)?;
+    out.extend_from_slice(b"\n")?;
+    Ok(())
+}

@@ -1,6 +1,0 @@
-use Rattle.std.proofs.Common.{rules}
-use Rattle.ee_commands.proofs.Listings.{line_made}
-use Rattle.ee_commands.proofs.listing.push_listed.Goals as goal
-
-pub returns : goal.returns
-returns g c = search (rules, line_made)

@@ -1,5 +1,0 @@
-mod Taken
-mod Steps
-mod Stored
-mod Causes
-mod Writing
