@@ -1,12 +1,11 @@
 -- A change that was kept is there as long as no further change of its address is asked for.
-use Rattle.std.proofs.Common.{◌≡◌, ◌==◌, ◌++◌, ℕ, Bool, true, false, Option, Some, List, [], ◌∷◌, refl, sym, ap, ◌∙◌, eq-eqb}
+use Rattle.std.proofs.Common.{◌≡◌, ◌++◌, ℕ, Bool, true, false, Option, Some, List, [], ◌∷◌, refl, ap, ◌∙◌}
 use Rattle.std.specs.List.{All}
 use Rattle.std.proofs.lemmas.List.Elements.{All-head, All-tail, filter_map-append}
 use Rattle.ee_pages.specs.Legal.{IsLegal}
-use Rattle.ee_pages.specs.Meaning as meaning
 use Rattle.ee_pages.specs.Meaning.{Change, Map, map_after, changed_by}
 use Rattle.ee_pages.specs.Pending.{address_of}
-use Rattle.ee_core.proofs.Public.{forget-at, forget-other, put-at, put-other, changed_by-append}
+use Rattle.ee_core.proofs.Public.{forget-other, put-other, changed_by-append, made, apart}
 use Rattle.ee_core.specs.Points.{Point}
 use Rattle.ee_core.specs.Changes.{HasChange}
 use Rattle.ee_core.specs.State.{state_of}
@@ -17,9 +16,6 @@ use Rattle.ee_bench.specs.declared.event.Answer.{Answer}
 use Rattle.ee_bench.specs.declared.event.Answer.TheVariants.{Done, NotForgotten, Refused}
 use Rattle.ee_bench.specs.declared.event.Event.{Event}
 use Rattle.ee_bench.specs.declared.event.Event.TheVariants.{Forget, Put}
-
-apart : (named address : ℕ) → (named == address) ≡ false → address ≡ named → ⊥
-apart named address other same = let wrong : true ≡ false = sym (eq-eqb named address (sym same)) ∙ other in cc wrong
 
 -- what an event keeps leaves an address of which it asks no change as it was
 elsewhere : (address : ℕ) (event : Event) (answer : Answer) (found : Option Bool) (map : Map) → event_asks_change_of address event ≡ false
@@ -37,10 +33,6 @@ stays address (turn ∷ turns) map others =
     ∙ ap (λ (after : Map). after address) (changed_by-append (kept_changes (turn ∷ [])) (kept_changes turns) map)
     ∙ stays address turns (changed_by (kept_changes (turn ∷ [])) map) (All-tail (λ (one : Turn). event_asks_change_of address one.event ≡ false) turn turns others)
     ∙ elsewhere address turn.event turn.answer turn.found map (All-head (λ (one : Turn). event_asks_change_of address one.event ≡ false) turn turns others)
-
-made : (change : Change) (map after : Map) → after (address_of change) ≡ map_after change map (address_of change) → HasChange change after
-made (meaning.Put address value) map after same = same ∙ put-at map address value address refl
-made (meaning.Forget address) map after same = same ∙ forget-at map address address refl
 
 kept_one : (turn : Turn) (change : Change) → change_kept turn.event turn.answer turn.found ≡ Some change → kept_changes (turn ∷ []) ≡ change ∷ []
 kept_one turn change is = rw is refl

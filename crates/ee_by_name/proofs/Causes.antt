@@ -2,8 +2,6 @@
 use Rattle.std.proofs.Common.{◌≡◌, ◌≢◌, ◌⊎◌, ◌∙◌, ℕ, List, length, inl, inr, sym, ap, subst}
 use Rattle.toml.specs.Data.{Members}
 use Rattle.ee_flash.specs.Device.{Device}
-use Rattle.ee_core.specs.Finished.{IsStore}
-use Rattle.ee_core.specs.State.{state_of}
 use Rattle.ee_settings.specs.File.{entries_of}
 use Rattle.ee_settings.specs.Setting.{Setting}
 use Rattle.ee_faults.specs.Fault.{fault_of_replay}
@@ -11,8 +9,8 @@ use Rattle.ee_faults.specs.declared.fault.Fault.{Fault}
 use Rattle.ee_faults.specs.declared.fault.Fault.TheVariants.{Memory, ValuesText}
 use Rattle.ee_faults.specs.declared.replay_fault.ReplayFault.{ReplayFault}
 use Rattle.ee_image_store.specs.Opening.{IsOpenFault, IsOpened, IsStoreLeft}
-use Rattle.ee_image_store.proofs.Public.{no_memory_to_open, not_opened, opening_good, opening_named}
-use Rattle.ee_by_name.proofs.Named.{one_rest, one_tree, rested_state, settings_good, spelled_once}
+use Rattle.ee_image_store.proofs.Public.{no_memory_to_open, not_opened, opening_good, opening_named, same_at_rest, same_state}
+use Rattle.ee_by_name.proofs.Named.{one_tree, settings_good, spelled_once}
 use Rattle.ee_by_name.specs.Settings.{HasNoTree, HasTree, IsSettingsFault, SpellsSettings}
 use Rattle.ee_by_name.proofs.Taken.{IsAlike, applied_good, applied_keeps, one_stop}
 use Rattle.ee_by_name.specs.Applying.{Applies, IsApplied, IsApplyFault, IsValueFault, StopsAtEntry, applied_text}
@@ -49,10 +47,10 @@ stopped_fault image text values store settings tree fault opened spelled has_tre
 -- an image is opened as stores of one size and state
 opened_alike : (image : List ℕ) (one other : Device) → IsOpened image one → IsOpened image other → IsAlike one other
 opened_alike image one other h k =
-    let rest = one_rest image h.device k.device h.old k.old in
+    let rest = same_at_rest image h.device k.device h.old.spelled k.old.spelled in
     record {
       size = h.same_size ∙ ap (λ (d : Device). d.size) rest ∙ sym k.same_size;
-      state = h.state_is ∙ sym (rested_state h.device) ∙ ap state_of rest ∙ rested_state k.device ∙ sym k.state_is;
+      state = h.state_is ∙ same_state h.device k.device rest ∙ sym k.state_is;
     }
 
 -- what stops them in the image stops them by these settings and this tree

@@ -1,7 +1,6 @@
 -- What is read and set by name, and that one cause at most applies for which it is not.
-use Rattle.std.proofs.Common.{◌≡◌, ◌≢◌, ◌⊎◌, ◌∙◌, ℕ, List, [], ◌∷◌, map, inl, inr, refl, sym, ap, subst, arith, codes, Option, Some, None, Ok, Err, String, Global, string_bytes, Less, nat_cmp}
+use Rattle.std.proofs.Common.{◌≡◌, ◌≢◌, ◌⊎◌, ◌∙◌, ℕ, List, [], ◌∷◌, map, inl, inr, refl, sym, ap, subst, arith, codes, Ok, Err, String, Global, string_bytes, nat_cmp}
 use Rattle.std.specs.Cmp.Lexicographic.{slice_cmp}
-use Rattle.std.specs.List.{AllByRecursion}
 use Rattle.std.specs.List.Sorted.{IsStrictlySortedBy}
 use Rattle.std.specs.Map.{keys_of}
 use Rattle.std.specs.String.{string_cmp}
@@ -12,16 +11,11 @@ use Rattle.ee_text.specs.Line.{line_of}
 use Rattle.ee_flash.specs.Device.{Device}
 use Rattle.ee_flash.specs.Size.{Size, slot_count}
 use Rattle.ee_pages.specs.Meaning.{Put}
-use Rattle.ee_pages.specs.declared.side.Side.{Side}
-use Rattle.ee_pages.specs.declared.side.Side.TheVariants.{First, Second}
-use Rattle.ee_pages.specs.Sets.{live_of}
 use Rattle.ee_core.specs.Changes.{IsAccepted}
-use Rattle.ee_core.specs.State.{State, Wears, pending_pages, state_in, state_of, state_with}
+use Rattle.ee_core.specs.State.{State, Wears, pending_pages, state_of}
 use Rattle.ee_core.specs.declared.variables.Written.{Written}
 use Rattle.ee_core.specs.declared.variables.Written.TheVariants as written
-use Rattle.ee_image.specs.Text.{at_rest}
-use Rattle.ee_image.proofs.Public.{one_device_lem}
-use Rattle.ee_settings.proofs.Public.{one_fault, names_apart, entries_once, never_refused, entries_seen, seen}
+use Rattle.ee_settings.proofs.Public.{one_fault, names_apart, entries_once, never_refused, entries_seen, seen, rising_bytes}
 use Rattle.ee_settings.specs.Calls.{IsNamed, IsUnknown, Sets}
 use Rattle.ee_settings.specs.File.{Entry, GivesSchema, HaveRisingKeys, entries_of}
 use Rattle.ee_settings.specs.Setting.{HaveRisingNames, IsInRange, Setting}
@@ -37,24 +31,13 @@ use Rattle.ee_by_name.specs.Settings.{fault_of_schema, HasTree, IsGetFault, IsSe
 use Rattle.ee_faults.specs.declared.fault.Fault.{Fault}
 use Rattle.ee_faults.specs.declared.fault.Fault.TheVariants.{UnknownName, Memory}
 use Rattle.ee_faults.specs.declared.replay_fault.ReplayFault.{ReplayFault}
-use Rattle.ee_faults.specs.declared.replay_fault.ReplayFault.TheVariants as replay
-use Rattle.ee_image_store.proofs.Public.{both, by_append, by_move, pages_since, one_open_fault, store_is_good, not_opened, opening_good, opening_named}
+use Rattle.ee_image_store.proofs.Public.{both, by_append, by_move, pages_since, same_at_rest, same_state, not_opened, opening_good, opening_named}
 use Rattle.ee_image_store.specs.Erases.{ErasesRise, erases_left_by}
-use Rattle.ee_image_store.specs.FileFaults.{IsOpeningFault}
 use Rattle.ee_image_store.specs.Machine.{MachineStep}
-use Rattle.ee_image_store.specs.Opening.{HasStore, IsOpenFault, IsOpened, IsStoreLeft, IsStoreText, StaysOn}
+use Rattle.ee_image_store.specs.Opening.{IsOpenFault, IsOpened, IsStoreLeft, StaysOn}
 use Rattle.ee_image_store.specs.Steps.{Steps}
 
 -- ---- the text of the settings
-
-below_bytes : (k : String Global) (ks : List (String Global)) → AllByRecursion (λ y. string_cmp k y ≡ Less) ks → AllByRecursion (λ y. slice_cmp nat_cmp (string_bytes k) y ≡ Less) (map string_bytes ks)
-below_bytes k [] h = tt
-below_bytes k (y ∷ ys) h = (h.0, below_bytes k ys h.1)
-
-rising_bytes : (ks : List (String Global)) → IsStrictlySortedBy string_cmp ks → IsStrictlySortedBy (slice_cmp nat_cmp) (map string_bytes ks)
-unfolding IsStrictlySortedBy
-rising_bytes [] h = tt
-rising_bytes (k ∷ ks) h = (below_bytes k ks h.0, rising_bytes ks h.1)
 
 entry_names : (es : List (String Global × Value)) → map (λ (e : Entry). e.0) (map seen es) ≡ map string_bytes (keys_of es)
 entry_names [] = refl
@@ -231,20 +214,6 @@ is_refused_in image text name value store settings fault opened spelled refused 
 
 -- ---- the causes for which nothing is set
 
-by_side : (device : Device) (side : Side) (generation : ℕ) → state_with (at_rest device) side generation ≡ state_with device side generation
-by_side device First generation = refl
-by_side device Second generation = refl
-
-by_live : (device : Device) (live : Option (Side × ℕ)) → state_in (at_rest device) live ≡ state_in device live
-by_live device None = refl
-by_live device (Some live) = by_side device live.0 live.1
-
-pub rested_state : (device : Device) → state_of (at_rest device) ≡ state_of device
-rested_state device = by_live device (live_of device)
-
-pub one_rest : (image : List ℕ) (one other : Device) → IsStoreText image one → IsStoreText image other → at_rest one ≡ at_rest other
-one_rest image one other h k = one_device_lem one other h.spelled.formed k.spelled.formed (sym h.spelled.text_is ∙ k.spelled.text_is)
-
 one_write : (size : Size) (state : State) (address : ℕ) (fault cause : Fault) → IsWriteRefusal size state address fault → IsWriteRefusal size state address cause → fault ≡ cause
 one_write size state address fault cause (inl h) (inl k) = h.1 ∙ sym k.1
 one_write size state address fault cause (inl h) (inr k) = absurd (k.0 h.0)
@@ -257,7 +226,7 @@ one_value setting size state value fault cause (inl h) (inr k) = absurd (h.0 k.0
 one_value setting size state value fault cause (inr h) (inl k) = absurd (k.0 h.0)
 one_value setting size state value fault cause (inr h) (inr k) = one_write size state setting.numbers.address fault cause h.1 k.1
 
-one_named : (settings : List Setting) (name : List ℕ) (one other : Setting) → HaveRisingNames settings → IsNamed settings name one → IsNamed settings name other → one ≡ other
+pub one_named : (settings : List Setting) (name : List ℕ) (one other : Setting) → HaveRisingNames settings → IsNamed settings name one → IsNamed settings name other → one ≡ other
 one_named settings name one other rising h k = names_apart settings rising one other h.0 k.0 (h.1 ∙ sym k.1)
 
 one_refusal : (settings : List Setting) (size : Size) (state : State) (name : List ℕ) (value : ℕ) (fault cause : Fault) → HaveRisingNames settings → cause ≢ Memory → IsSettingRefused settings size state name value fault
@@ -296,9 +265,9 @@ written_good settings old new name value cause rising some done (inr (inl h)) =
 refused_there : (image text name : List ℕ) (value : ℕ) (store : Device) (settings : List Setting) (cause : Fault) → IsOpened image store → SpellsSettings text settings → IsRefusedIn image text name value cause
     → IsSettingRefused settings store.size (state_of store) name value cause
 refused_there image text name value store settings cause opened spelled h =
-    let rest = one_rest image h.device opened.device h.old opened.old in
+    let rest = same_at_rest image h.device opened.device h.old.spelled opened.old.spelled in
     let size : h.device.size ≡ store.size = ap (λ (d : Device). d.size) rest ∙ sym opened.same_size in
-    let state : state_of h.device ≡ state_of store = sym (rested_state h.device) ∙ ap state_of rest ∙ rested_state opened.device ∙ sym opened.state_is in
+    let state : state_of h.device ≡ state_of store = same_state h.device opened.device rest ∙ sym opened.state_is in
     subst (λ (ss : List Setting). IsSettingRefused ss store.size (state_of store) name value cause) (spelled_once text h.settings settings h.spelled spelled)
     (subst (λ (s : Size). IsSettingRefused h.settings s (state_of store) name value cause) size
     (subst (λ (t : State). IsSettingRefused h.settings h.device.size t name value cause) state h.refused))

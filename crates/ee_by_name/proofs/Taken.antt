@@ -7,13 +7,12 @@ use Rattle.ee_flash.specs.Size.{Size, slot_count}
 use Rattle.ee_pages.specs.Meaning.{Put}
 use Rattle.ee_core.specs.Changes.{IsAccepted}
 use Rattle.ee_core.specs.State.{State, appended_state, moved_state, state_of}
-use Rattle.ee_settings.proofs.Public.{names_apart}
 use Rattle.ee_settings.specs.Calls.{IsNamed}
 use Rattle.ee_settings.specs.File.{Entry}
 use Rattle.ee_settings.specs.Setting.{HaveRisingNames, IsInRange, Setting}
 use Rattle.ee_faults.specs.declared.fault.Fault.{Fault}
 use Rattle.ee_image_store.specs.Opening.{StaysOn}
-use Rattle.ee_by_name.proofs.Named.{accepted_by, size_kept}
+use Rattle.ee_by_name.proofs.Named.{accepted_by, size_kept, one_named}
 use Rattle.ee_by_name.specs.Settings.{IsWriteServed}
 use Rattle.ee_by_name.specs.Applying.{Applies, IsEntryRefusal, IsNewlyWritten, IsNumberRefusal, IsStored, IsWriteRefusalAt, StopsAtEntry, TakesEntry}
 
@@ -91,15 +90,12 @@ one_number tree one other h k = cc
 one_value : (tree : Data) (one other : ℕ) → tree ≡ integer (pos one) → tree ≡ integer (pos other) → one ≡ other
 one_value tree one other h k = cc
 
-one_setting : (settings : List Setting) (name : List ℕ) (one other : Setting) → HaveRisingNames settings → IsNamed settings name one → IsNamed settings name other → one ≡ other
-one_setting settings name one other rising h k = names_apart settings rising one other h.0 k.0 (h.1 ∙ sym k.1)
-
 -- what is stored already is not written
 stored_or_new : (settings : List Setting) (one other new : Device) (entry : Entry) → HaveRisingNames settings → IsAlike one other → IsStored settings one entry → IsNewlyWritten settings other entry new → ⊥
 stored_or_new settings one other new entry rising same h k =
     k.another
     (ap (λ (s : State). s.map k.setting.numbers.address) (sym same.state)
-    ∙ ap (λ (s : Setting). (state_of one).map s.numbers.address) (one_setting settings entry.0 k.setting h.setting rising k.named h.named)
+    ∙ ap (λ (s : Setting). (state_of one).map s.numbers.address) (one_named settings entry.0 k.setting h.setting rising k.named h.named)
     ∙ h.stored
     ∙ ap (λ v. Some v) (one_value entry.1 h.value k.value h.number k.number))
 
@@ -109,7 +105,7 @@ takes_alike settings one other first second entry count more rising same (inl h)
 takes_alike settings one other first second entry count more rising same (inl h) (inr k) = absurd (stored_or_new settings one other second entry rising same h.0 k.0)
 takes_alike settings one other first second entry count more rising same (inr h) (inl k) = absurd (stored_or_new settings other one first entry rising (alike_back one other same) k.0 h.0)
 takes_alike settings one other first second entry count more rising same (inr h) (inr k) =
-    let setting = one_setting settings entry.0 k.0.written.setting h.0.written.setting rising k.0.written.named h.0.written.named in
+    let setting = one_named settings entry.0 k.0.written.setting h.0.written.setting rising k.0.written.named h.0.written.named in
     let value = one_value entry.1 k.0.value h.0.value k.0.number h.0.number in
     served_alike one other first second h.0.written.setting.numbers.address h.0.value same h.0.written.served
     (subst (λ (s : Setting). IsWriteServed other s.numbers.address h.0.value second) setting
@@ -131,7 +127,7 @@ by_write : (settings : List Setting) (size : Size) (state : State) (number : ℕ
 by_write settings size state number entry fault setting value rising named is within (inl h) = absurd (h.0 (pos value) is)
 by_write settings size state number entry fault setting value rising named is within (inr (inl h)) = absurd (h.2 setting named)
 by_write settings size state number entry fault setting value rising named is within (inr (inr h)) =
-    let refused : IsNumberRefusal setting size state number (pos value) fault = subst (λ (s : Setting). IsNumberRefusal s size state number (pos value) fault) (one_setting settings entry.0 h.2 setting rising h.3 named)
+    let refused : IsNumberRefusal setting size state number (pos value) fault = subst (λ (s : Setting). IsNumberRefusal s size state number (pos value) fault) (one_named settings entry.0 h.2 setting rising h.3 named)
     (subst (λ n. IsNumberRefusal h.2 size state number n fault) (one_number entry.1 h.0 (pos value) h.1 is) h.4) in
     by_number setting size state number fault value within refused
 
@@ -179,7 +175,7 @@ one_refusal settings size state number entry fault cause rising (inr (inr h)) (i
 one_refusal settings size state number entry fault cause rising (inr (inr h)) (inr (inl k)) = absurd (k.2 h.2 h.3)
 one_refusal settings size state number entry fault cause rising (inr (inr h)) (inr (inr k)) =
     one_number_refusal h.2 size state number h.0 fault cause h.4
-    (subst (λ (s : Setting). IsNumberRefusal s size state number h.0 cause) (one_setting settings entry.0 k.2 h.2 rising k.3 h.3)
+    (subst (λ (s : Setting). IsNumberRefusal s size state number h.0 cause) (one_named settings entry.0 k.2 h.2 rising k.3 h.3)
     (subst (λ n. IsNumberRefusal k.2 size state number n cause) (one_number entry.1 k.0 h.0 k.1 h.1) k.4))
 
 -- ---- where they stop

@@ -13,8 +13,8 @@ use Rattle.ee_faults.specs.Fault.{fault_of_replay}
 use Rattle.ee_faults.specs.declared.fault.Fault.{Fault}
 use Rattle.ee_faults.specs.declared.fault.Fault.TheVariants.{Memory, Spent}
 use Rattle.ee_faults.specs.declared.replay_fault.ReplayFault.{ReplayFault}
-use Rattle.ee_image_store.proofs.Public.{not_opened, opening_good, opening_named}
-use Rattle.ee_by_name.proofs.Named.{one_rest, rested_state, settings_good, spelled_once}
+use Rattle.ee_image_store.proofs.Public.{not_opened, opening_good, opening_named, same_at_rest, same_state}
+use Rattle.ee_by_name.proofs.Named.{settings_good, spelled_once}
 use Rattle.ee_image_store.specs.Opening.{IsOpenFault, IsOpened, IsStoreLeft, StaysOn}
 use Rattle.ee_by_name.specs.SecondSchema.{AreStaleLines, IsSpentFor, IsStaleTextFault, IsTidied, IsTidiedImage, IsTidyImageFault, stale_lines, tidied_text}
 use Rattle.ee_by_name.specs.Settings.{IsSettingsFault, SpellsSettings}
@@ -109,9 +109,9 @@ stale_good image text store settings cause opened spelled some (inr h) = setting
 spent_there : (image text : List ℕ) (store : Device) (settings : List Setting) (cause : Fault) → IsOpened image store → SpellsSettings text settings → IsSpentFor image text cause
     → IsSpentAmong store.size (unnamed_in settings (state_of store).map) (state_of store)
 spent_there image text store settings cause opened spelled h =
-    let rest = one_rest image h.device opened.device h.old opened.old in
+    let rest = same_at_rest image h.device opened.device h.old.spelled opened.old.spelled in
     let size : h.device.size ≡ store.size = ap (λ (d : Device). d.size) rest ∙ sym opened.same_size in
-    let state : state_of h.device ≡ state_of store = sym (rested_state h.device) ∙ ap state_of rest ∙ rested_state opened.device ∙ sym opened.state_is in
+    let state : state_of h.device ≡ state_of store = same_state h.device opened.device rest ∙ sym opened.state_is in
     subst (λ (ss : List Setting). IsSpentAmong store.size (unnamed_in ss (state_of store).map) (state_of store)) (spelled_once text h.settings settings h.spelled spelled)
     (subst (λ (s : Size). IsSpentAmong s (unnamed_in h.settings (state_of store).map) (state_of store)) size
     (subst (λ (t : State). IsSpentAmong h.device.size (unnamed_in h.settings t.map) t) state h.spent))

@@ -2,7 +2,7 @@
 use Rattle.std.proofs.Common.{◌≡◌, ◌≢◌, ◌∙◌, ℕ, ◌+◌, ◌<◌, ◌≤◌, true, false, cond, Ok, Err, None, List, [], ◌∷◌, length, refl, sym, subst, ap, arith}
 use Rattle.std.proofs.lemmas.List.Elements.{All-contains, All-tail}
 use Rattle.std.specs.List.{All}
-use Rattle.ee_flash.specs.Device.{Device, IsOff, IsOn}
+use Rattle.ee_flash.specs.Device.{Device, IsOn}
 use Rattle.ee_flash.specs.Size.{Size, slot_count}
 use Rattle.ee_codec.specs.Words.{IsAddress}
 use Rattle.ee_pages.specs.Meaning.{Put}
@@ -18,10 +18,11 @@ use Rattle.ee_check.specs.declared.change.Change.{Change}
 use Rattle.ee_check.specs.declared.change.Change.TheVariants as changes
 use Rattle.ee_check.specs.Live.{KeepsWithin, live_after_one}
 use Rattle.ee_check.specs.Schedule.{Append, Carry, Copy, EachMove, IsLate, IsProper, Move, Situation, after_move, changes_of, cost}
-use Rattle.ee_plan.proofs.Public.{live_after_forget, live_after_put, appends, forgetting_fits, moves_on, not_full, start_stays}
+use Rattle.ee_plan.proofs.Public.{live_after_forget, live_after_put, appends, forgetting_fits, moves_on, not_full, start_stays, keeps_tail}
 use Rattle.ee_plan.specs.Start.{AreLive, IsStartOf}
 use Rattle.ee_commands.specs.ToldSizes.{ForgetsLive, asked_by_calls, made_by_calls, wants_memory}
 use Rattle.ee_commands.proofs.MadeRuns.{AreProper, NotCut, counted, not_counted, uncut_behind}
+use Rattle.ee_core.proofs.Public.{not_both}
 
 -- ---- the late store's next move
 
@@ -55,10 +56,6 @@ next (Carry first ∷ moves) now change later late same =
     }
 
 -- ---- where a store stands beside the late store
-
-keeps_behind : (slots : ℕ) (live : List ℕ) (change : Change) (trace : List Change) → KeepsWithin slots live (change ∷ trace) → KeepsWithin slots (live_after_one live change) trace
-keeps_behind slots live (changes.Write address) trace keeps = keeps.1
-keeps_behind slots live (changes.Forget address) trace keeps = keeps
 
 held_behind : (live : List ℕ) (change : Change) (trace : List Change) → ForgetsLive live (change ∷ trace) → ForgetsLive (live_after_one live change) trace
 held_behind live (changes.Write address) trace held = held
@@ -140,7 +137,7 @@ module _ (old mid : Device) (call : Call) (calls : List Call) where
           proper = record { held = let a = here.proper.held in omega arith; fits = omega arith };
           late = late.0;
           changes_are = turn.changes_are;
-          keeps = keeps_behind now.slots now.live change (asked_by_calls calls) here.keeps;
+          keeps = keeps_tail now.slots now.live change (asked_by_calls calls) here.keeps;
           held = held_behind now.live change (asked_by_calls calls) here.held;
           left = omega (arith, here.left, generation, late.1);
         } in
@@ -161,7 +158,7 @@ module _ (old mid : Device) (call : Call) (calls : List Call) where
           proper = record { held = omega arith; fits = still_fits now change (asked_by_calls calls) here.proper here.keeps };
           late = late.0;
           changes_are = turn.changes_are;
-          keeps = keeps_behind now.slots now.live change (asked_by_calls calls) here.keeps;
+          keeps = keeps_tail now.slots now.live change (asked_by_calls calls) here.keeps;
           held = held_behind now.live change (asked_by_calls calls) here.held;
           left = omega (arith, here.left, generation, late.1);
         } in
@@ -170,9 +167,6 @@ module _ (old mid : Device) (call : Call) (calls : List Call) where
         record { all = made ∙ ap (λ l. change ∷ l) behind.all ∙ sym asked; count = omega (arith, one, behind.count, late.1) }
 
 -- ---- a run
-
-is_on : (device : Device) → IsOn device → IsOff device → ⊥
-is_on device on off = absurd cc
 
 abbrev NoneWants : List Call → Type 0
 NoneWants calls = All (λ call. wants_memory call ≡ false) calls
@@ -216,7 +210,7 @@ all_made (Wrote address value (Ok Moved) ∷ calls) old new run whole given are 
     let call = Wrote address value (Ok Moved) in
     moves_all old run.0 call calls (changes.Write address) (Put address value) refl refl (puts old address value are.0) refl run.1
     (all_made calls run.0 new run.2 (uncut_behind call calls whole) (given_behind call calls given) are.1)
-all_made (Wrote address value (Err write.Off) ∷ calls) old new run whole given are = λ now moves here. absurd (is_on old here.on run.1.0)
+all_made (Wrote address value (Err write.Off) ∷ calls) old new run whole given are = λ now moves here. absurd (not_both old here.on run.1.0)
 all_made (Wrote address value (Err write.Full) ∷ calls) old new run whole given are = λ now moves here.
     absurd (not_full (slot_count old.size) (state_of old) now address are.0 here.start here.keeps.0 run.1.1)
 all_made (Wrote address value (Err write.Spent) ∷ calls) old new run whole given are = λ now moves here.
@@ -235,7 +229,7 @@ all_made (Forgot address (Ok Moved) ∷ calls) old new run whole given are =
     (all_made calls run.0 new run.2 (uncut_behind call calls whole) (given_behind call calls given) are)
 all_made (Forgot address (Err forget.Absent) ∷ calls) old new run whole given are = λ now moves here.
     absurd (never_absent old now moves address (asked_by_calls calls) here run.1.1)
-all_made (Forgot address (Err forget.Off) ∷ calls) old new run whole given are = λ now moves here. absurd (is_on old here.on run.1.0)
+all_made (Forgot address (Err forget.Off) ∷ calls) old new run whole given are = λ now moves here. absurd (not_both old here.on run.1.0)
 all_made (Forgot address (Err forget.Spent) ∷ calls) old new run whole given are = λ now moves here.
     absurd (never_spent old now moves (changes.Forget address) (asked_by_calls calls) here run.1.2)
 all_made (Forgot address (Err forget.Cut) ∷ calls) old new run whole given are =

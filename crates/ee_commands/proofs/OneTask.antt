@@ -1,5 +1,5 @@
 -- An image gives one start and a script one trace, so a plan and a check have one cause at most for which they fail.
-use Rattle.std.proofs.Common.{◌≡◌, ◌≢◌, ◌⊎◌, inl, inr, ℕ, Bool, true, false, Option, Some, None, List, refl, sym, ap, ◌∙◌, subst}
+use Rattle.std.proofs.Common.{◌≡◌, ◌≢◌, ◌⊎◌, inl, inr, ℕ, Bool, true, false, None, List, refl, sym, ap, ◌∙◌, subst}
 use Rattle.std.proofs.lemmas.Cmp.{nat_cmp_total}
 use Rattle.std.proofs.lemmas.List.Elements.{All-contains}
 use Rattle.std.proofs.lemmas.Map.Lookups.{btree_set_from_contains, exact_unsigned}
@@ -10,12 +10,7 @@ use Rattle.std.specs.Ordering.{nat_cmp}
 use Rattle.ee_flash.specs.Device.{Device}
 use Rattle.ee_flash.specs.Size.{slot_count}
 use Rattle.ee_pages.specs.Meaning.{Map}
-use Rattle.ee_pages.specs.Sets.{live_of}
-use Rattle.ee_pages.specs.declared.side.Side.{Side}
-use Rattle.ee_pages.specs.declared.side.Side.TheVariants.{First, Second}
-use Rattle.ee_core.specs.State.{State, state_in, state_of}
-use Rattle.ee_image.specs.Text.{at_rest}
-use Rattle.ee_image.proofs.Public.{one_device_lem}
+use Rattle.ee_core.specs.State.{State, state_of}
 use Rattle.ee_script.specs.declared.session.ScriptFault.{ScriptFault}
 use Rattle.ee_script.specs.declared.session.ScriptFault.TheVariants as script
 use Rattle.ee_script.proofs.Public.{one_reading}
@@ -39,24 +34,13 @@ use Rattle.ee_faults.specs.declared.fault.Fault.{Fault}
 use Rattle.ee_faults.specs.declared.fault.Fault.TheVariants.{Memory, NotFitting}
 use Rattle.ee_faults.specs.declared.replay_fault.ReplayFault.{ReplayFault}
 use Rattle.ee_faults.specs.declared.replay_fault.ReplayFault.TheVariants as replay
-use Rattle.ee_image_store.specs.Opening.{IsOpenFault, IsOpened, IsStoreText, SpellsDevice}
+use Rattle.ee_image_store.specs.Opening.{IsOpenFault, IsOpened, IsStoreText}
 use Rattle.ee_commands.specs.Planning.{IsCertificateFault, IsCheckingFault, IsImageStart, IsPlanningFault, IsRefusal, IsTask, IsTaskFault, IsTrace, IsTraceCommand, IsTraceFault}
 use Rattle.ee_image_store.specs.Trace.{trace_of}
-use Rattle.ee_image_store.proofs.Public.{one_open_fault, store_is_good}
+use Rattle.ee_image_store.proofs.Public.{one_open_fault, store_is_good, memory_or_not, same_at_rest, same_state}
 use Rattle.ee_commands.proofs.Traces.{one_first_bad_line, traces_are_good}
 
 -- ---- one start
-
-state_at_rest : (device : Device) (live : Option (Side × ℕ)) → state_in (at_rest device) live ≡ state_in device live
-state_at_rest device None = refl
-state_at_rest device (Some (First, generation)) = refl
-state_at_rest device (Some (Second, generation)) = refl
-
-same_devices : (text : List ℕ) (device other : Device) → SpellsDevice text device → SpellsDevice text other → at_rest device ≡ at_rest other
-same_devices text device other spelled again = one_device_lem device other spelled.formed again.formed (sym spelled.text_is ∙ again.text_is)
-
-same_state : (device other : Device) → at_rest device ≡ at_rest other → state_of device ≡ state_of other
-same_state device other same = sym (state_at_rest device (live_of device)) ∙ ap state_of same ∙ state_at_rest other (live_of other)
 
 both_or_none : (a b : Bool) → (a ≡ true → b ≡ true) → (b ≡ true → a ≡ true) → a ≡ b
 both_or_none true b there back = sym (there refl)
@@ -87,7 +71,7 @@ same_start start other slots fill live =
 
 pub one_start : (image : List ℕ) (start other : Situation) → IsImageStart image start → IsImageStart image other → start ≡ other
 one_start image start other first second =
-    let same = same_devices image first.device second.device first.store.spelled second.store.spelled in
+    let same = same_at_rest image first.device second.device first.store.spelled second.store.spelled in
     let size = ap (λ (d : Device). slot_count d.size) same in
     let state = same_state first.device second.device same in
     let live : AreLive (state_of second.device).map start.live = subst (λ (s : State). AreLive s.map start.live) state first.start_is.are_live in
@@ -117,13 +101,6 @@ one_name named fault other cause second memory is too wanting (inr none) = inr (
 
 -- ---- one fault of a start and a trace
 
-memory_or : (fault : ReplayFault) → (fault ≡ replay.Memory) ⊎ (fault ≢ replay.Memory)
-memory_or (replay.Image fault) = inr (λ e. cc e)
-memory_or (replay.Open fault) = inr (λ e. cc e)
-memory_or (replay.Script n) = inr (λ e. cc e)
-memory_or replay.Memory = inl refl
-memory_or replay.Read = inr (λ e. cc e)
-
 pub one_trace_fault : (text : List ℕ) (cause fault : ScriptFault) → cause ≢ script.Memory → IsTraceFault text cause → IsTraceFault text fault → (fault ≡ cause) ⊎ (fault ≡ script.Memory)
 one_trace_fault text (script.BadLine m) (script.BadLine n) some h i = inl (ap script.BadLine (one_first_bad_line text n m i h))
 one_trace_fault text (script.BadLine m) script.Memory some h i = inr refl
@@ -131,7 +108,7 @@ one_trace_fault text script.Memory fault some h i = absurd (some refl)
 
 -- where a store is opened an image's fault is want of memory
 opened_memory : (image : List ℕ) (device : Device) (cause : ReplayFault) → IsStoreText image device → IsOpenFault image cause → cause ≡ replay.Memory
-opened_memory image device cause store bad = elim (memory_or cause) [
+opened_memory image device cause store bad = elim (memory_or_not cause) [
   | inl none ↦ none
   | inr some ↦ absurd (store_is_good image device cause store some bad)
 ]

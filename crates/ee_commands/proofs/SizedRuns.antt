@@ -1,8 +1,6 @@
 -- A store that was just formatted wears as the line of its size tells, and makes what it is asked for.
 use Rattle.std.proofs.Common.{◌≡◌, ◌∙◌, inl, inr, ℕ, ◌+◌, ◌<◌, ◌≤◌, Bool, false, None, leb, List, [], ◌∷◌, ◌++◌, length, refl, sym, subst, ap, arith}
 use Rattle.std.proofs.lemmas.Bool.{and_parts, cases_eq, leb-true, ltb-false}
-use Rattle.std.specs.List.Sorted.{IsStrictlySortedBy}
-use Rattle.std.specs.Ordering.{nat_cmp}
 use Rattle.std.specs.List.{All}
 use Rattle.ee_flash.specs.Device.{Device, IsOn}
 use Rattle.ee_flash.specs.Size.{size_of, slot_count}
@@ -15,7 +13,7 @@ use Rattle.ee_check.proofs.Public.{late_moves, late_stores_meet_it_lem}
 use Rattle.ee_check.specs.declared.change.Change.{Change}
 use Rattle.ee_check.specs.Live.{KeepsWithin}
 use Rattle.ee_check.specs.Schedule.{IsProper, Situation, cost}
-use Rattle.ee_plan.proofs.Public.{none_breaks, length_map}
+use Rattle.ee_plan.proofs.Public.{none_breaks, length_map, none_sorted}
 use Rattle.ee_plan.specs.Rounds.{IsDemand, fresh, repeated_trace}
 use Rattle.ee_plan.specs.Start.{AreLive, IsStartOf}
 use Rattle.ee_plan.specs.declared.demand.Demand.{Demand}
@@ -95,10 +93,6 @@ did_so start trace (NotFitting n) calls proper late same demanded =
     absurd (none_breaks start trace n (subst (λ l. KeepsWithin start.slots start.live l) same late.keeps) demanded)
 
 -- ---- together
-
-none_sorted : IsStrictlySortedBy nat_cmp []
-unfolding IsStrictlySortedBy
-none_sorted = tt
 
 -- where nothing was written no slot is used and no address is live
 none_live : AreLive (λ address. None) []

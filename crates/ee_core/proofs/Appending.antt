@@ -6,9 +6,9 @@ use Rattle.std.proofs.lemmas.List.{get_or-set_other, get_or-set_same}
 use Rattle.ee_flash.specs.Device.{Device, IsOn, all_ones, word_at}
 use Rattle.ee_flash.specs.Laws.{CanTake, IsStep}
 use Rattle.ee_flash.specs.Size.{slot_count}
-use Rattle.ee_flash.specs.Step.{Step, Program, IsCutIn, IsUntouched, MayFollow, MayLeave, device_after}
+use Rattle.ee_flash.specs.Step.{Step, Program, IsCutIn, IsUntouched, MayFollow, device_after}
 use Rattle.ee_flash.specs.declared.word.Word.{Word}
-use Rattle.ee_flash.specs.declared.word.Word.TheVariants.{Erased, Held, Torn}
+use Rattle.ee_flash.specs.declared.word.Word.TheVariants.{Erased, Held}
 use Rattle.ee_flash.proofs.Public.{step_leaves_pages}
 use Rattle.ee_pages.specs.Laws.{KeepsLiveSet}
 use Rattle.ee_pages.specs.Legal.{IsLive}
@@ -17,13 +17,12 @@ use Rattle.ee_pages.specs.Page.{is_written, place_of_mark}
 use Rattle.ee_pages.specs.Pushing.{TakesSlot, slot_step}
 use Rattle.ee_pages.specs.Sets.{fill_of, first_page, other, page_of_slot, place_of_slot, set_of, slots_of}
 use Rattle.ee_pages.specs.declared.side.Side.{Side}
-use Rattle.ee_pages.specs.declared.state.Mark.{Mark}
-use Rattle.ee_pages.specs.declared.state.Mark.TheVariants as marks
-use Rattle.ee_pages.proofs.Public.{erased_word, fill-front, slots_behind, step_keeps_other_pages, page_in_range, place_in_range, slot_at, push_takes, whole_push_takes}
+use Rattle.ee_pages.proofs.Public.{erased_word, fill-front, slots_behind, step_keeps_other_pages, page_in_range, place_in_range, slot_at, push_takes, whole_push_takes, programmed_word}
 use Rattle.ee_core.proofs.Cuts.{program_partly}
 use Rattle.ee_core.specs.Cuts.{PutsPartly}
 use Rattle.ee_core.specs.Parts.{IsSameSet, KeepsMarks}
 use Rattle.ee_core.proofs.SetPages.{page_in_device, page_of_set}
+use Rattle.ee_core.proofs.Marks.{place_below}
 
 pub on_err : {T E : Type 0} (P : Type 0) (result : Result T E) → P → OnErr result P
 on_err P (Ok value) holds = tt
@@ -35,11 +34,6 @@ other_word image page at k word h other =
     ap (λ (words : List Word). get_or words k Erased) (get_or-set_same image page (set (get_or image page []) at word) [] h)
     ∙ get_or-set_other (get_or image page []) at k word Erased other
 
-programmed_word : (old new : Device) (page at value k : ℕ) → page < length old.image → k ≢ at → MayLeave (Program page at value) old new → word_at new page k ≡ word_at old page k
-programmed_word old new page at value k h other (inl same) = ap (λ (image : List (List Word)). get_or (get_or image page []) k Erased) same
-programmed_word old new page at value k h other (inr (inl held)) = ap (λ (image : List (List Word)). get_or (get_or image page []) k Erased) held ∙ other_word old.image page at k (Held value) h other
-programmed_word old new page at value k h other (inr (inr torn)) = ap (λ (image : List (List Word)). get_or (get_or image page []) k Erased) torn ∙ other_word old.image page at k Torn h other
-
 program_keeps_words : (page at value : ℕ) (old new : Device) → IsStep (Program page at value) old new → (there k : ℕ) → k ≢ at → word_at new there k ≡ word_at old there k
 program_keeps_words page at value old new taken there k other = elim (cases_eq there page) [
   | inr apart ↦ ap (λ (words : List Word). get_or words k Erased) (step_keeps_other_pages (Program page at value) old new there taken apart)
@@ -49,16 +43,10 @@ program_keeps_words page at value old new taken there k other = elim (cases_eq t
       subst (λ n. word_at new n k ≡ word_at old n k) (sym same) here
 ]
 
-mark_place : (mark : Mark) → place_of_mark mark < 4
-mark_place (marks.Receive generation) = omega arith
-mark_place marks.Active = omega arith
-mark_place marks.Valid = omega arith
-mark_place marks.Erasing = omega arith
-
 -- so a program behind the header keeps all marks
 slot_keeps_marks : (page place value : ℕ) (old new : Device) → IsStep (Program page (4 + place) value) old new → KeepsMarks old new
 slot_keeps_marks page place value old new taken there mark was =
-    let low = mark_place mark in
+    let low = place_below mark in
     let other : place_of_mark mark ≢ 4 + place = λ e. omega (arith, low, e) in
     ap is_written (program_keeps_words page (4 + place) value old new taken there (place_of_mark mark) other) ∙ was
 

@@ -1,5 +1,5 @@
 -- Maps that are copied address by address, and how many addresses have a value in them.
-use Rattle.std.proofs.Common.{◌≡◌, inl, inr, ℕ, ◌+◌, ◌<◌, ◌≤◌, Bool, true, false, cond, Some, None, is_some, nat_lt, List, [], ◌∷◌, refl, sym, ap, ◌∙◌, arith, suc, zero}
+use Rattle.std.proofs.Common.{◌≡◌, inl, inr, ℕ, ◌<◌, ◌≤◌, Bool, true, false, cond, Some, None, nat_lt, List, [], ◌∷◌, refl, sym, ap, ◌∙◌, arith, suc, zero}
 use Rattle.std.specs.Prelude.{◌&&◌, ◌==◌, ◌/◌, ◌%◌, ◌^◌}
 use Rattle.std.proofs.Math.Path.{fun_ext}
 use Rattle.std.proofs.lemmas.Bool.{cases_lt, cases_eq, eq-eqb, ne_eqb, le-leb, lt-leb}
@@ -8,17 +8,14 @@ use Rattle.ee_codec.specs.declared.slot.Slot.TheVariants.{Element, Forgotten, Fo
 use Rattle.ee_flash.specs.declared.word.Word.{Word}
 use Rattle.ee_flash.specs.declared.word.Word.TheVariants.{Erased, Held, Torn}
 use Rattle.ee_pages.specs.Meaning.{Change, Forget, IsNextLive, Map, Put, map_after, latest_in, live_in, live_to, meaning, says, slot_says, value_said}
-use Rattle.ee_pages.proofs.Public.{live_to-zero}
+use Rattle.ee_pages.proofs.Public.{live_to-zero, live_to-suc}
 use Rattle.ee_pages.specs.Pending.{address_of}
+use Rattle.ee_core.specs.Changes.{HasChange}
 use Rattle.ee_core.specs.Parts.{map_to, replaced_map}
 
 -- maps that say the same have as many addresses with a value
 pub same_counts : (first second : Map) → ((address : ℕ) → first address ≡ second address) → live_in first ≡ live_in second
 same_counts first second same = ap live_in (fun_ext same)
-
-one_further : (map : Map) (n : ℕ) → live_to map (suc n) ≡ live_to map n + cond (is_some (map (suc n))) 1 0
-unfolding live_to
-one_further map n = refl
 
 -- two maps at an address
 pub replaced-at : (start map : Map) (named address : ℕ) → address ≡ named → replaced_map start named map address ≡ start address
@@ -27,10 +24,10 @@ replaced-at start map named address e = ap (λ (b : Bool). cond b (start address
 pub replaced-other : (start map : Map) (named address : ℕ) → (address ≡ named → ⊥) → replaced_map start named map address ≡ map address
 replaced-other start map named address other = ap (λ (b : Bool). cond b (start address) (map address)) (ne_eqb named address (λ e. other (sym e)))
 
-map_to-below : (map : Map) (last address : ℕ) → address ≤ last → map_to map last address ≡ map address
+pub map_to-below : (map : Map) (last address : ℕ) → address ≤ last → map_to map last address ≡ map address
 map_to-below map last address h = ap (λ (b : Bool). cond b (map address) None) (le-leb address last h)
 
-map_to-above : (map : Map) (last address : ℕ) → last < address → map_to map last address ≡ None
+pub map_to-above : (map : Map) (last address : ℕ) → last < address → map_to map last address ≡ None
 map_to-above map last address h = ap (λ (b : Bool). cond b (map address) None) (lt-leb address last h)
 
 pub put-at : (map : Map) (named value address : ℕ) → address ≡ named → map_after (Put named value) map address ≡ Some value
@@ -149,7 +146,7 @@ nothing = λ address. None
 
 gap_at_start : (n : ℕ) → live_to nothing n ≡ 0
 gap_at_start zero = live_to-zero nothing
-gap_at_start (suc n) = omega (arith, one_further nothing n, gap_at_start n)
+gap_at_start (suc n) = omega (arith, live_to-suc nothing n, gap_at_start n)
 
 pub live_in-nothing : (map : Map) → ((address : ℕ) → map address ≡ None) → 0 ≡ live_in map
 live_in-nothing map none = sym (gap_at_start 65534) ∙ same_counts nothing map (λ address. sym (none address))
@@ -174,3 +171,11 @@ then_all start map change same address = elim (cases_eq address (address_of chan
   | inl here ↦ replaced-at start map (address_of change) address here ∙ same address ∙ changed-at change nothing map address here
   | inr other ↦ replaced-other start map (address_of change) address other ∙ sym (changed-other change map address other)
 ]
+
+-- what the map has after a change it has been made
+pub made : (change : Change) (map after : Map) → after (address_of change) ≡ map_after change map (address_of change) → HasChange change after
+made (Put address value) map after same = same ∙ put-at map address value address refl
+made (Forget address) map after same = same ∙ forget-at map address address refl
+
+pub apart : (named address : ℕ) → (named == address) ≡ false → address ≡ named → ⊥
+apart named address other same = let wrong : true ≡ false = sym (eq-eqb named address (sym same)) ∙ other in cc wrong

@@ -11,10 +11,10 @@ use Rattle.ee_pages.specs.Page.{is_blank, is_marked, marking, number_of_mark, pl
 use Rattle.ee_pages.specs.Sets.{first_page, other}
 use Rattle.ee_pages.specs.declared.side.Side.{Side}
 use Rattle.ee_pages.specs.declared.state.Mark.{Mark}
-use Rattle.ee_pages.proofs.Public.{length-page_at}
+use Rattle.ee_pages.proofs.Public.{length-page_at, erased_word}
 use Rattle.ee_pages.specs.Laws.{IsPageOf}
-use Rattle.ee_core.proofs.Drawings.{marked-erased, place_below, put_apart, put_drawn, with_mark, with_word-elsewhere, with_word-there}
-use Rattle.ee_core.proofs.Marks.{erased_from}
+use Rattle.ee_core.proofs.Drawings.{marked-erased, put_apart, put_drawn, with_mark, with_word-elsewhere, with_word-there}
+use Rattle.ee_core.proofs.Marks.{place_below}
 use Rattle.ee_core.specs.Cuts.{ErasesPartly, IsDrawnPartly, IsPartlyDone, PutsPartly, SetsPartly}
 use Rattle.ee_core.specs.Parts.{IsSameBut, PutsWord}
 use Rattle.ee_core.specs.Picture.{IsDrawn, Picture, marked_word, picture_of, picture_with_word}
@@ -78,7 +78,7 @@ mark_partly page mark old new formed h present cut =
     elim (cases_Bool (is_marked old page mark)) [
       | inl written ↦ nothing_put page at (marked_word mark (word_at old page at)) old new (present written)
       | inr unset ↦
-          let puts = program_partly page at (number_of_mark mark) old new formed h (omega (arith, place_below mark, formed.within_limits.some_words)) (erased_from (word_at old page at) unset) cut in
+          let puts = program_partly page at (number_of_mark mark) old new formed h (omega (arith, place_below mark, formed.within_limits.some_words)) (erased_word (word_at old page at) unset) cut in
           subst (λ (word : Word). PutsPartly page at word old new) (sym (marked-erased mark (word_at old page at) unset)) puts
     ]
 

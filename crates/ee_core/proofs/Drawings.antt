@@ -13,11 +13,12 @@ use Rattle.ee_pages.specs.Page.{is_marked, is_written, marking, number_of_mark, 
 use Rattle.ee_pages.specs.Sets.{first_page, other}
 use Rattle.ee_pages.specs.declared.side.Side.{Side}
 use Rattle.ee_pages.specs.declared.state.Mark.{Mark}
-use Rattle.ee_pages.specs.declared.state.Mark.TheVariants.{Active, Erasing, Receive, Valid}
+use Rattle.ee_pages.specs.declared.state.Mark.TheVariants.{Active, Erasing, Valid}
 use Rattle.ee_pages.proofs.Public.{length-page_at}
 use Rattle.ee_core.specs.Parts.{IsSameSet, PutsWord, SetsMark}
 use Rattle.ee_core.specs.Picture.{IsDrawn, Picture, marked_word, marked_to, picture_of, retired_pages, picture_with_word}
 use Rattle.ee_core.proofs.SetPages.{apart, same_page}
+use Rattle.ee_core.proofs.Marks.{place_below}
 
 -- a set that stands as it was, through two calls
 pub drawn_both : (side : Side) (old mid new : Device) → mid.size ≡ old.size → new.size ≡ mid.size → IsDrawn side mid (picture_of side old) → IsDrawn side new (picture_of side mid) → IsDrawn side new (picture_of side old)
@@ -77,12 +78,6 @@ put_apart side old new page at word sizes of puts k place h within =
 -- the mark is set, where it was not
 abbrev pub with_mark : ℕ → Mark → Picture → Picture
 with_mark k mark picture = picture_with_word k (place_of_mark mark) (marked_word mark (picture k (place_of_mark mark))) picture
-
-pub place_below : (mark : Mark) → place_of_mark mark < 4
-place_below (Receive generation) = omega arith
-place_below Active = omega arith
-place_below Valid = omega arith
-place_below Erasing = omega arith
 
 pub mark_drawn : (side : Side) (old new : Device) (k : ℕ) (mark : Mark) (picture : Picture) → IsFormed old → new.size ≡ old.size → k < old.size.pages → IsDrawn side old picture → SetsMark (first_page old.size side + k) mark old new → IsDrawn side new (with_mark k mark picture)
 mark_drawn side old new k mark picture formed sizes h drawn sets =

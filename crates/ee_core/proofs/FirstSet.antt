@@ -18,8 +18,8 @@ use Rattle.ee_pages.specs.Sets.{committed_generation, fill_of, page_of_slot, pen
 use Rattle.ee_pages.specs.declared.side.Side.TheVariants.{First, Second}
 use Rattle.ee_pages.specs.declared.state.Mark.{Mark}
 use Rattle.ee_pages.specs.declared.state.Mark.TheVariants.{Active, Receive}
-use Rattle.ee_pages.proofs.Public.{blank_word, first_commit_commits, first_word, same_set, page_of_set, length-set_of, opens_set}
-use Rattle.ee_core.proofs.Marks.{IsProper, erased_from, mark_step, marked_by}
+use Rattle.ee_pages.proofs.Public.{blank_word, first_commit_commits, first_word, same_set, page_of_set, length-set_of, opens_set, erased_word}
+use Rattle.ee_core.proofs.Marks.{IsProper, mark_step, marked_by}
 use Rattle.ee_core.proofs.States.{same_states, state_is}
 use Rattle.ee_core.specs.Finished.{IsMarked, last_used}
 use Rattle.ee_core.specs.State.{formatted_state, state_of}
@@ -67,7 +67,7 @@ module _ (blank mid : Device) (formed : IsFormed blank) (all : All (λ words. is
   pub alone : committed_generation (set_of Second mid) ≡ None
   alone =
       let below : blank.size.pages < page_count blank.size = omega (arith, formed.within_limits.some_pages) in
-      let word : word_at blank blank.size.pages 1 ≡ Erased = erased_from (word_at blank blank.size.pages 1) (unmarked blank blank.size.pages Active formed all below) in
+      let word : word_at blank blank.size.pages 1 ≡ Erased = erased_word (word_at blank blank.size.pages 1) (unmarked blank blank.size.pages Active formed all below) in
       ap committed_generation same_second ∙ erased_commits (set_of Second blank) (first_word Second blank 1 formed ∙ word)
 
   module _ (new : Device) (mid_on : IsOn mid) (done : new ≡ device_after (marking 0 Active) mid) where

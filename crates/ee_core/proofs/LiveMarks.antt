@@ -1,11 +1,10 @@
 -- The marks that an opening sets in the live set and in the other one, page after page.
-use Rattle.std.proofs.Common.{◌≡◌, ◌≢◌, ◌⊎◌, inl, inr, ℕ, ◌+◌, ◌-◌, ◌*◌, ◌/◌, ◌<◌, ◌≤◌, true, false, not, refl, sym, subst, ap, ◌∙◌, arith}
+use Rattle.std.proofs.Common.{◌≡◌, ◌≢◌, ◌⊎◌, inl, inr, ℕ, ◌+◌, ◌-◌, ◌*◌, ◌/◌, ◌<◌, ◌≤◌, true, false, refl, sym, subst, ap, ◌∙◌, arith}
 use Rattle.std.proofs.lemmas.Bool.{cases_lt, true≢false}
-use Rattle.std.proofs.lemmas.List.Filters.{length-filter_both}
 use Rattle.std.proofs.Math.Nat.{div-mul-le_self, mul-le-mul_right}
-use Rattle.ee_flash.specs.Device.{Device, IsFormed, page_at}
+use Rattle.ee_flash.specs.Device.{Device, page_at}
 use Rattle.ee_flash.specs.Power.{GoesOn}
-use Rattle.ee_flash.specs.Size.{Size, slot_count}
+use Rattle.ee_flash.specs.Size.{Size}
 use Rattle.ee_flash.specs.declared.word.Word.TheVariants.{Erased}
 use Rattle.std.specs.Prelude.{slice_index_or}
 use Rattle.ee_pages.specs.Layout.{IsLayout}
@@ -17,11 +16,12 @@ use Rattle.ee_pages.specs.declared.find.Layout.{Layout}
 use Rattle.ee_pages.specs.declared.side.Side.{Side}
 use Rattle.ee_pages.specs.declared.state.Mark.{Mark}
 use Rattle.ee_pages.specs.declared.state.Mark.TheVariants.{Active, Valid, Erasing}
-use Rattle.ee_pages.proofs.Public.{length-slots, page_in_range, slot_below}
+use Rattle.ee_pages.proofs.Public.{page_in_range, slot_below}
 use Rattle.ee_core.proofs.AfterCalls.{goes_on_same}
 use Rattle.ee_core.proofs.Marks.{same_stays}
 use Rattle.ee_core.specs.Finished.{IsLiveMarked, IsOldMarked, last_used}
 use Rattle.ee_core.specs.Parts.{IsSameBut, KeepsMarks, Stays}
+use Rattle.ee_core.proofs.KeptMarks.{fill_fits}
 
 -- after what keeps the live set, the layout is still right
 pub layout_stays : (layout : Layout) (old new : Device) → IsLayout old layout → Stays old new layout.side layout.generation → IsLayout new layout
@@ -43,12 +43,6 @@ stays_both old mid new side generation first second = record {
   same_pending = second.same_pending ∙ first.same_pending;
   same_wear = second.same_wear ∙ first.same_wear;
 }
-
--- as many slots are written as there are, or less
-fill_fits : (side : Side) (device : Device) → IsFormed device → fill_of (slots_of (set_of side device)) ≤ slot_count device.size
-fill_fits side device formed =
-    let all = length-filter_both is_written (λ word. not (is_written word)) (λ word. refl) (slots_of (set_of side device)) in
-    omega (arith, all, length-slots side device formed)
 
 -- the page of the last used slot, counted from the set's first
 pub last_is : (layout : Layout) (device : Device) → IsLayout device layout → layout.current ≡ first_page device.size layout.side + last_used device layout.side

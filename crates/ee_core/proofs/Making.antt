@@ -17,7 +17,7 @@ use Rattle.ee_pages.specs.Meaning.{Change, Map, Put, Forget, map_after, live_in,
 use Rattle.ee_pages.specs.Page.{is_blank, is_written}
 use Rattle.ee_pages.specs.Pending.{address_of}
 use Rattle.ee_pages.specs.Pushing.{TakesSlot}
-use Rattle.ee_pages.specs.Sets.{fill_of, first_page, is_mark, other, page_of_slot, pending_of, set_of, slots_of, word_of}
+use Rattle.ee_pages.specs.Sets.{fill_of, first_page, is_mark, other, pending_of, set_of, slots_of, word_of}
 use Rattle.ee_pages.specs.declared.find.Layout.{Layout}
 use Rattle.ee_pages.specs.declared.side.Side.{Side}
 use Rattle.ee_pages.specs.declared.side.Side.TheVariants.{First}
@@ -32,6 +32,7 @@ use Rattle.ee_core.specs.Finished.{IsMarked, IsStore}
 use Rattle.ee_core.specs.Parts.{ForgetsHeld, HasMoved, IsSameSet, meant, number_written}
 use Rattle.ee_core.specs.State.{State, Wears, WearsFront, appended_state, capacity, not_blank_from, not_blank_in, pending_pages, pending_pages_in, torn_state, state_of, next_live}
 use Rattle.ee_core.proofs.States.{same_states, state_is, state_kept, state_moved}
+use Rattle.ee_core.proofs.MovingFacts.{layout_kept}
 
 module _ (old new : Device) (side : Side) (generation : ℕ) (live : IsLive old side generation) where
   pub fill_was : (state_of old).fill ≡ fill_of (slots_of (set_of side old))
@@ -283,14 +284,6 @@ pub few_within : (device : Device) (side : Side) → IsFormed device → fill_of
 few_within device side formed =
     let most = filter_few is_written (slots_of (set_of side device)) in
     omega (arith, most, length-slots side device formed)
-
--- a layout stays, where the live set does
-pub layout_kept : (old new : Device) (layout : Layout) → IsLayout old layout → KeepsLiveSet old new layout.side layout.generation → IsLayout new layout
-layout_kept old new layout found keeps = record {
-  live = keeps.live;
-  fill = found.fill ∙ sym keeps.same_fill;
-  current = found.current ∙ ap (λ size. first_page size layout.side + page_of_slot size (layout.fill - 1)) (sym keeps.same_size);
-}
 
 -- a clean step leaves a store
 pub clean_store : {T E : Type 0} (result : Result T E) (old new : Device) (layout : Layout) → IsOn old → IsStore old → IsLayout old layout → KeepsLiveSet old new layout.side layout.generation → (IsMarked old layout.side → OnOk result (IsMarked new layout.side)) → Ends result old new → IsStore new × (IsOn new → IsLayout new layout)

@@ -12,10 +12,10 @@ use Rattle.ee_pages.specs.Sets.{first_page, other, page_of_slot, place_of_slot}
 use Rattle.ee_pages.specs.declared.side.Side.{Side}
 use Rattle.ee_pages.specs.declared.state.Mark.TheVariants.{Active, Erasing, Valid}
 use Rattle.ee_core.proofs.Drawings.{active_last, drawn_as, drawn_same, mark_drawn, put_drawn, retired_all, retired_more, retired_none, retired_past, same_drawn, valid_drawn, valid_more, valid_none, valid_to, with_mark}
-use Rattle.ee_core.proofs.MovingFacts.{other_other}
 use Rattle.ee_core.proofs.SetPages.{same_other, same_page}
 use Rattle.ee_core.specs.Parts.{IsSameBut, IsSameSet, PutsWord, SetsMark}
 use Rattle.ee_core.specs.Picture.{IsDrawn, Picture, marked_to, picture_of, retired_pages, with_change}
+use Rattle.ee_core.proofs.States.{other_twice}
 
 module _ (side : Side) (old : Device) (first : ℕ) (first_is : first ≡ first_page old.size side) where
   place : (mid : Device) (page : ℕ) → mid.size ≡ old.size → first ≤ page → page ≡ first_page mid.size side + (page - first)
@@ -104,7 +104,7 @@ module _ (side : Side) (old : Device) (first : ℕ) (first_is : first ≡ first_
 -- and the live set is as before
 pub live_stays : (side : Side) (old mid new : Device) (page : ℕ) → IsFormed mid → IsFormed new → new.size ≡ mid.size → IsPageOf mid.size (other side) page → IsSameBut page mid new → IsSameSet side old mid → IsSameSet side old new
 live_stays side old mid new page formed new_formed sizes of others same =
-    subst (λ (set : Side). IsSameSet set mid new) (other_other side) (same_other (other side) mid new page formed new_formed sizes of others) ∙ same
+    subst (λ (set : Side). IsSameSet set mid new) (other_twice side) (same_other (other side) mid new page formed new_formed sizes of others) ∙ same
 
 -- both sets, after the marks of the one and then those of the other
 pub shows : (side : Side) (old mid new : Device) (last : ℕ) → mid.size ≡ old.size → new.size ≡ mid.size → IsDrawn side mid (marked_to last (picture_of side old)) → IsSameSet (other side) old mid → IsSameSet side mid new

@@ -21,7 +21,7 @@ use Rattle.ee_pages.specs.declared.side.Side.{Side}
 use Rattle.ee_pages.specs.declared.side.Side.TheVariants.{First, Second}
 use Rattle.ee_pages.specs.declared.state.Mark.{Mark}
 use Rattle.ee_pages.specs.declared.state.Mark.TheVariants.{Receive, Active, Valid, Erasing}
-use Rattle.ee_pages.proofs.Public.{other_set_keeps_live, program_leaves_written, step_keeps_other_pages, mark_keeps_live}
+use Rattle.ee_pages.proofs.Public.{other_set_keeps_live, program_leaves_written, step_keeps_other_pages, mark_keeps_live, erased_word}
 use Rattle.ee_core.proofs.PendingPages.{same_not_blank}
 use Rattle.ee_core.specs.Parts.{KeepsMarks, Stays}
 use Rattle.ee_core.specs.State.{not_blank_from}
@@ -71,22 +71,17 @@ number_below Active proper = omega arith
 number_below Valid proper = omega arith
 number_below Erasing proper = omega arith
 
-place_below : (mark : Mark) → place_of_mark mark < 4
+pub place_below : (mark : Mark) → place_of_mark mark < 4
 place_below (Receive generation) = omega arith
 place_below Active = omega arith
 place_below Valid = omega arith
 place_below Erasing = omega arith
 
-pub erased_from : (word : Word) → is_written word ≡ false → word ≡ Erased
-erased_from Erased e = refl
-erased_from (Held value) e = cc
-erased_from Torn e = cc
-
 -- the step of a mark that is not set
 pub mark_step : (page : ℕ) (mark : Mark) (old new : Device) → IsFormed old → page < page_count old.size → IsProper mark → is_marked old page mark ≡ false → MayFollow (marking page mark) old new → IsStep (marking page mark) old new
 mark_step page mark old new formed h proper unset follows = record {
   formed = formed;
-  may = (h, omega (arith, place_below mark, formed.within_limits.some_words), erased_from (word_at old page (place_of_mark mark)) unset, number_below mark proper);
+  may = (h, omega (arith, place_below mark, formed.within_limits.some_words), erased_word (word_at old page (place_of_mark mark)) unset, number_below mark proper);
   follows = follows;
 }
 

@@ -1,12 +1,10 @@
 -- What calls in the other set leave together.
-use Rattle.std.proofs.Common.{◌≡◌, ◌≤◌, ◌<◌, ◌-◌, ℕ, ◌+◌, true, List, [], get_or, refl, sym, subst, ap, ◌∙◌, arith}
+use Rattle.std.proofs.Common.{◌≡◌, ◌≤◌, ◌<◌, ◌-◌, ℕ, ◌+◌, true, List, [], refl, sym, subst, ap, ◌∙◌, arith}
 use Rattle.std.specs.List.{All}
-use Rattle.std.proofs.lemmas.List.{get_or-drop, get_or-take}
 use Rattle.std.proofs.lemmas.List.Elements.{All-from_get_or}
 use Rattle.std.proofs.Math.Path.{fun_ext}
 use Rattle.std.proofs.lemmas.Nat.{mul-le}
 use Rattle.ee_flash.specs.Device.{Device, IsFormed, page_at}
-use Rattle.ee_flash.specs.Power.{GoesOn}
 use Rattle.ee_flash.specs.Size.{Size, slot_count}
 use Rattle.ee_flash.specs.declared.word.Word.{Word}
 use Rattle.ee_pages.specs.Filling.{IsCommitted, IsFilling}
@@ -17,14 +15,12 @@ use Rattle.ee_pages.specs.Page.{is_blank}
 use Rattle.ee_pages.specs.Sets.{fill_of, first_page, other, page_of_slot, pending_of, set_of, slots_of}
 use Rattle.ee_pages.specs.declared.find.Layout.{Layout}
 use Rattle.ee_pages.specs.declared.side.Side.{Side}
-use Rattle.ee_pages.specs.declared.side.Side.TheVariants.{First, Second}
 use Rattle.ee_pages.proofs.Public.{length-set_of, full_set_has_no_blank_page}
 use Rattle.ee_core.specs.Parts.{HasMoved, Stays}
 use Rattle.ee_core.specs.State.{not_blank_in}
 use Rattle.ee_core.proofs.PendingPages.{as_many_not_blank}
-
-pub goes_on-same : (device : Device) → GoesOn device device
-goes_on-same device = record { same_size = refl; same_power = refl; same_cuts = refl; same_cuts_left = refl; same_while_off = λ off. refl }
+use Rattle.ee_core.proofs.SetPages.{page_of_set}
+use Rattle.ee_core.proofs.States.{other_twice}
 
 pub keeps_same : (device : Device) (layout : Layout) → IsLayout device layout → KeepsLiveSet device device layout.side layout.generation
 keeps_same device layout found = record { live = found.live; same_size = refl; same_slots = refl; same_fill = refl; same_map = λ address. refl }
@@ -50,16 +46,10 @@ few_slots device formed =
     let few : device.size.words - 4 ≤ 508 = omega (arith, formed.within_limits.few_words) in
     mul-le _ _ 64 508 formed.within_limits.few_pages few
 
-page_there : (side : Side) (device : Device) (page : ℕ) → page < device.size.pages → get_or (set_of side device) page [] ≡ page_at device (first_page device.size side + page)
-page_there First device page h =
-    let e : page ≡ 0 + page = omega arith in
-    get_or-take device.size.pages device.image page [] h ∙ ap (page_at device) e
-page_there Second device page h = get_or-drop device.size.pages device.image page []
-
 pub all_blank : (side : Side) (device : Device) → IsFormed device → ((page : ℕ) → first_page device.size side ≤ page → page < first_page device.size side + device.size.pages → is_blank (page_at device page) ≡ true) → All (λ page. is_blank page ≡ true) (set_of side device)
 all_blank side device formed each = All-from_get_or (λ page. is_blank page ≡ true) (set_of side device) [] (λ k h.
     let within : k < device.size.pages = omega (arith, length-set_of side device formed) in
-    ap is_blank (page_there side device k within) ∙ each (first_page device.size side + k) (omega arith) (omega arith))
+    ap is_blank (page_of_set side device k within) ∙ each (first_page device.size side + k) (omega arith) (omega arith))
 
 -- the set that was filled is live, and the other has no blank page
 pub has_moved : (old opened filled new : Device) (side : Side) (generation count : ℕ) (change : Change) → KeepsLiveSet old opened side generation → KeepsLiveSet opened filled side generation → fill_of (slots_of (set_of side old)) ≡ slot_count old.size → IsFilling filled (other side) (generation + 1) count → ((address : ℕ) → meaning (slots_of (set_of (other side) filled)) address ≡ map_after change (meaning (slots_of (set_of side opened))) address) → count ≡ live_in (map_after change (meaning (slots_of (set_of side opened)))) → set_of side new ≡ set_of side filled → IsCommitted filled new (other side) (generation + 1) → HasMoved old new side generation change
@@ -75,13 +65,9 @@ has_moved old opened filled new side generation count change first second full f
       pending_is = ap pending_of same ∙ full_set_has_no_blank_page filled side generation keeps.live filled_up ∙ ap (λ (size : Size). size.pages) keeps.same_size;
     }
 
-pub other_other : (side : Side) → other (other side) ≡ side
-other_other First = refl
-other_other Second = refl
-
 pub moved_stays : (old moved new : Device) (side : Side) (generation : ℕ) (change : Change) → HasMoved old moved side generation change → Stays moved new (other side) (generation + 1) → HasMoved old new side generation change
 moved_stays old moved new side generation change has stays =
-    let pending : pending_of (set_of side new) ≡ pending_of (set_of side moved) = as_many_not_blank side moved new (subst (λ (set : Side). not_blank_in set new ≡ not_blank_in set moved) (other_other side) stays.same_pending) in
+    let pending : pending_of (set_of side new) ≡ pending_of (set_of side moved) = as_many_not_blank side moved new (subst (λ (set : Side). not_blank_in set new ≡ not_blank_in set moved) (other_twice side) stays.same_pending) in
     record {
       live = stays.keeps.live;
       same_size = stays.keeps.same_size ∙ has.same_size;

@@ -17,14 +17,15 @@ use Rattle.ee_pages.specs.Filling.{IsCommitted, IsFilling}
 use Rattle.ee_pages.specs.Laws.{IsPageOf, KeepsLiveSet}
 use Rattle.ee_pages.specs.Legal.{IsLive}
 use Rattle.ee_pages.specs.Meaning.{Change, SpellsChange, map_after, meaning}
-use Rattle.ee_pages.specs.Page.{is_blank, is_marked, is_written, marking, number_of_mark, place_of_mark, word_in}
+use Rattle.ee_pages.specs.Page.{is_blank, is_marked, is_written, marking, number_of_mark, word_in}
 use Rattle.ee_pages.specs.Pushing.{slot_step}
 use Rattle.ee_pages.specs.Sets.{first_page, front, other, page_of_slot, place_of_slot, set_of, slots_of, word_of}
 use Rattle.ee_pages.specs.declared.side.Side.{Side}
 use Rattle.ee_pages.specs.declared.side.Side.TheVariants.{First, Second}
 use Rattle.ee_pages.specs.declared.state.Mark.{Mark}
-use Rattle.ee_pages.specs.declared.state.Mark.TheVariants.{Active, Erasing, Receive, Valid}
-use Rattle.ee_pages.proofs.Public.{blank_word, erased_word, fill-front, slots_behind, other_set_keeps_live, length-set_of, page_in_range, place_in_range, slot_at, commit_commits, whole_commit_commits, opens_page, opens_set, stages_change}
+use Rattle.ee_pages.specs.declared.state.Mark.TheVariants.{Active, Receive}
+use Rattle.ee_pages.proofs.Public.{blank_word, erased_word, fill-front, slots_behind, other_set_keeps_live, length-set_of, page_in_range, place_in_range, slot_at, commit_commits, whole_commit_commits, opens_page, opens_set, stages_change, first_word}
+use Rattle.ee_core.proofs.Marks.{place_below}
 
 -- a word of a set, by its page's number in the device
 word_there : (side : Side) (device : Device) (page at : ℕ) → page < device.size.pages → word_of (set_of side device) page at ≡ word_at device (first_page device.size side + page) at
@@ -39,12 +40,6 @@ in_device Second device page h = omega arith
 
 in_set : (side : Side) (device : Device) (page : ℕ) → page < device.size.pages → IsPageOf device.size side (first_page device.size side + page)
 in_set side device page h = record { from = omega arith; below = omega arith }
-
--- the first word of the first page, and the one behind it
-first_there : (side : Side) (device : Device) (at : ℕ) → IsFormed device → word_of (set_of side device) 0 at ≡ word_at device (first_page device.size side) at
-first_there side device at formed =
-    let e : first_page device.size side + 0 ≡ first_page device.size side = omega arith in
-    word_there side device 0 at (omega (arith, formed.within_limits.some_pages)) ∙ ap (λ n. word_at device n at) e
 
 first_in_device : (side : Side) (device : Device) → IsFormed device → first_page device.size side < page_count device.size
 first_in_device First device formed = omega (arith, formed.within_limits.some_pages)
@@ -72,12 +67,6 @@ module _ (old new : Device) (side : Side) (generation count number : ℕ) (live 
 
   pub slot_keeps : KeepsLiveSet old new side generation
   slot_keeps = (other_set_keeps_live _ old new side generation live slot_taken (in_set (other side) old _ (page_in_range old count free)) ((λ here e. omega arith), (λ here e. absurd (omega arith)))).0
-
-place_below : (mark : Mark) → place_of_mark mark < 4
-place_below (Receive generation) = omega arith
-place_below Active = omega arith
-place_below Valid = omega arith
-place_below Erasing = omega arith
 
 pub receive_below : (generation : ℕ) → IsGeneration generation → number_of_mark (Receive generation) < all_ones
 receive_below generation proper = omega (arith, proper.1)
@@ -114,7 +103,7 @@ module _ (old new : Device) (side : Side) (generation count : ℕ) (live : IsLiv
 
   receive_keeps : is_marked old here word ≡ false → MayFollow (marking here word) old new → KeepsLiveSet old new side generation
   receive_keeps erased follows =
-      let uncommitted : word_at old (first_page old.size (other side)) 1 ≡ Erased = sym (first_there (other side) old 1 live.formed) ∙ filling.uncommitted in
+      let uncommitted : word_at old (first_page old.size (other side)) 1 ≡ Erased = sym (first_word (other side) old 1 live.formed) ∙ filling.uncommitted in
       (other_set_keeps_live _ old new side generation live (receive_taken erased follows) (in_set (other side) old _ (page_in_range old count free)) ((λ at e. absurd (cc e)), (λ at e. uncommitted))).0
 
   pub receive_cut : {T E : Type 0} (result : Result T E) (x : T) (e : E) → result ≡ Err e → (page : ℕ) → page ≡ here → (is_marked old page word ≡ true → (result ≡ Ok x) × (new ≡ old)) → (IsCutIn (marking page word) old new ⊎ IsUntouched old new) → KeepsLiveSet old new side generation
@@ -173,7 +162,7 @@ module _ (old new : Device) (side : Side) (generation : ℕ) (live : IsLive old 
   first_erased : (at : ℕ) → word_at old first at ≡ Erased
   first_erased at =
       let some : 0 < length (set_of (other side) old) = omega (arith, length-set_of (other side) old live.formed, live.formed.within_limits.some_pages) in
-      sym (first_there (other side) old at live.formed) ∙ blank_word _ at (All-get_or (λ page. is_blank page ≡ true) (set_of (other side) old) 0 [] some blank)
+      sym (first_word (other side) old at live.formed) ∙ blank_word _ at (All-get_or (λ page. is_blank page ≡ true) (set_of (other side) old) 0 [] some blank)
 
   pub opening_unmarked : (page : ℕ) → page ≡ first → is_marked old page opening ≡ false
   opening_unmarked page is = ap (λ (n : ℕ). is_marked old n opening) is ∙ ap is_written (first_erased 0)
@@ -197,7 +186,7 @@ module _ (old new : Device) (side : Side) (generation count : ℕ) (live : IsLiv
   front_page = first_page old.size (other side)
 
   pub active_unmarked : (page : ℕ) → page ≡ front_page → is_marked old page Active ≡ false
-  active_unmarked page is = ap (λ (n : ℕ). is_marked old n Active) is ∙ ap is_written (sym (first_there (other side) old 1 live.formed) ∙ filling.uncommitted)
+  active_unmarked page is = ap (λ (n : ℕ). is_marked old n Active) is ∙ ap is_written (sym (first_word (other side) old 1 live.formed) ∙ filling.uncommitted)
 
   active_taken : MayFollow (marking front_page Active) old new → IsStep (marking front_page Active) old new
   active_taken follows = mark_taken old new front_page Active live.formed (first_in_device (other side) old live.formed) active_below (active_unmarked front_page refl) follows

@@ -32,7 +32,7 @@ apart : (size : Size) (side : Side) (page : ℕ) → IsPageOf size side page →
 apart size First page here there = absurd (omega (arith, here.below, there.from))
 apart size Second page here there = absurd (omega (arith, here.from, there.below))
 
-in_either : (size : Size) (side : Side) (page : ℕ) → page < page_count size → IsPageOf size side page ⊎ IsPageOf size (other side) page
+pub in_either : (size : Size) (side : Side) (page : ℕ) → page < page_count size → IsPageOf size side page ⊎ IsPageOf size (other side) page
 in_either size First page h = elim (cases_lt page size.pages) [
   | inl low ↦ inl (record { from = omega arith; below = omega arith })
   | inr high ↦ inr (record { from = omega arith; below = omega arith })
@@ -42,15 +42,15 @@ in_either size Second page h = elim (cases_lt page size.pages) [
   | inr high ↦ inl (record { from = omega arith; below = omega arith })
 ]
 
-side_in : Side → Option (Side × ℕ) → Side
+pub side_in : Side → Option (Side × ℕ) → Side
 side_in usual None = usual
 side_in usual (Some live) = live.0
 
-same_side : (found : Option (Side × ℕ)) (side known : Side) (generation number : ℕ) → found ≡ Some (side, generation) → found ≡ Some (known, number) → known ≡ side
+pub same_side : (found : Option (Side × ℕ)) (side known : Side) (generation number : ℕ) → found ≡ Some (side, generation) → found ≡ Some (known, number) → known ≡ side
 unfolding side_in
 same_side found side known generation number live again = ap (side_in side) (sym again ∙ live)
 
-few_wait : (blank : Bool) → cond blank 0 1 ≤ 1
+pub few_wait : (blank : Bool) → cond blank 0 1 ≤ 1
 few_wait true = omega arith
 few_wait false = omega arith
 

@@ -17,7 +17,7 @@ use Rattle.ee_pages.specs.declared.side.Side.TheVariants.{First, Second}
 use Rattle.ee_pages.specs.declared.state.Mark.{Mark}
 use Rattle.ee_pages.specs.declared.state.Mark.TheVariants as marks
 use Rattle.ee_pages.specs.declared.state.State.TheVariants.{Erased as Unused, Erasing}
-use Rattle.ee_pages.proofs.Public.{live_to-zero, change_counts, length-page_at, blank_word}
+use Rattle.ee_pages.proofs.Public.{live_to-zero, change_counts, length-page_at, blank_word, live_to-suc}
 use Rattle.ee_core.specs.Calls.{IsLowestPending}
 use Rattle.ee_core.specs.Changes.{ShowsAppended, ShowsMoved}
 use Rattle.ee_core.specs.Finished.{last_used}
@@ -158,10 +158,6 @@ element_counts : (address : ℕ) (value : Option ℕ) → length (element_at add
 element_counts address None = refl
 element_counts address (Some value) = refl
 
-live_further : (map : Map) (n : ℕ) → live_to map (suc n) ≡ live_to map n + cond (is_some (map (suc n))) 1 0
-unfolding live_to
-live_further map n = refl
-
 words_counted : (map : Map) (n : ℕ) → length (elements_to map n) ≡ live_to map n
 words_counted map zero = ap length (no_elements map) ∙ sym (live_to-zero map)
 words_counted map (suc n) =
@@ -169,7 +165,7 @@ words_counted map (suc n) =
     ∙ length-append (elements_to map n) (element_at (suc n) (map (suc n)))
     ∙ ap (λ k. k + length (element_at (suc n) (map (suc n)))) (words_counted map n)
     ∙ ap (λ k. live_to map n + k) (element_counts (suc n) (map (suc n)))
-    ∙ sym (live_further map n)
+    ∙ sym (live_to-suc map n)
 
 put_again : (map : Map) (named value address : ℕ) → map_after (Put named value) (map_after (Forget named) map) address ≡ map_after (Put named value) map address
 put_again map named value address = elim (cases_Bool (named == address)) [

@@ -1,13 +1,14 @@
 -- An image has one cause at most for which no store is opened.
-use Rattle.std.proofs.Common.{◌≡◌, ◌≢◌, ◌⊎◌, inl, inr, ℕ, ◌-◌, List, refl, sym, ap, ◌∙◌, subst}
+use Rattle.std.proofs.Common.{◌≡◌, ◌≢◌, ◌⊎◌, inl, inr, ℕ, ◌-◌, List, Option, Some, None, refl, sym, ap, ◌∙◌, subst}
 use Rattle.ee_flash.specs.Device.{Device}
 use Rattle.ee_pages.specs.Layout.{IsFirstForeign, IsScanFault}
-use Rattle.ee_pages.specs.Sets.{first_page, set_of}
+use Rattle.ee_pages.specs.Sets.{first_page, live_of, set_of}
 use Rattle.ee_pages.proofs.Public.{legal_is_good, one_scan_fault}
 use Rattle.ee_pages.specs.declared.find.ScanFault.{ScanFault}
 use Rattle.ee_pages.specs.declared.find.ScanFault.TheVariants.{Unformatted, NoLiveSet, TwoLive, Foreign}
 use Rattle.ee_pages.specs.declared.side.Side.{Side}
 use Rattle.ee_pages.specs.declared.side.Side.TheVariants.{First, Second}
+use Rattle.ee_core.specs.State.{state_in, state_of}
 use Rattle.ee_image.specs.Text.{at_rest}
 use Rattle.ee_image.specs.Fault.{IsImageTextFault}
 use Rattle.ee_image.specs.declared.fault.ImageFault.{ImageFault}
@@ -15,6 +16,18 @@ use Rattle.ee_image.proofs.Public.{one_device_lem, one_fault_lem, texts_are_good
 use Rattle.ee_faults.specs.declared.replay_fault.ReplayFault.{ReplayFault}
 use Rattle.ee_faults.specs.declared.replay_fault.ReplayFault.TheVariants.{Image, Open, Script, Memory, Read}
 use Rattle.ee_image_store.specs.Opening.{IsOpenFault, IsStoreText, SpellsDevice}
+
+pub same_at_rest : (text : List ℕ) (device other : Device) → SpellsDevice text device → SpellsDevice text other → at_rest device ≡ at_rest other
+same_at_rest text device other spelled again = one_device_lem device other spelled.formed again.formed (sym spelled.text_is ∙ again.text_is)
+
+-- power makes no state
+state_at_rest : (device : Device) (live : Option (Side × ℕ)) → state_in (at_rest device) live ≡ state_in device live
+state_at_rest device None = refl
+state_at_rest device (Some (First, generation)) = refl
+state_at_rest device (Some (Second, generation)) = refl
+
+pub same_state : (device other : Device) → at_rest device ≡ at_rest other → state_of device ≡ state_of other
+same_state device other same = sym (state_at_rest device (live_of device)) ∙ ap state_of same ∙ state_at_rest other (live_of other)
 
 same_set : (side : Side) (device : Device) → set_of side (at_rest device) ≡ set_of side device
 same_set First device = refl
@@ -41,7 +54,7 @@ unrested device (Foreign page at) h =
 -- two devices with one text have the same faults
 moved_fault : (text : List ℕ) (device other : Device) (fault : ScanFault) → SpellsDevice text device → SpellsDevice text other → IsScanFault device fault → IsScanFault other fault
 moved_fault text device other fault spelled again h =
-    let same : at_rest device ≡ at_rest other = one_device_lem device other spelled.formed again.formed (sym spelled.text_is ∙ again.text_is) in
+    let same = same_at_rest text device other spelled again in
     unrested other fault (subst (λ d. IsScanFault d fault) same (rested device fault h))
 
 pub is_no_text : (text : List ℕ) (device : Device) (fault : ImageFault) → SpellsDevice text device → IsImageTextFault text fault → ⊥

@@ -14,7 +14,7 @@ use Rattle.ee_image_store.proofs.OneCause.{one_open_fault, store_is_good}
 pub no_memory_to_open : (image : List ℕ) → IsOpeningFault image Memory
 no_memory_to_open image = record { cause = replay.Memory; applies = tt; fault_is = refl }
 
-memory_or_not : (fault : ReplayFault) → (fault ≡ replay.Memory) ⊎ (fault ≢ replay.Memory)
+pub memory_or_not : (fault : ReplayFault) → (fault ≡ replay.Memory) ⊎ (fault ≢ replay.Memory)
 memory_or_not (replay.Image fault) = inr (λ e. cc e)
 memory_or_not (replay.Open fault) = inr (λ e. cc e)
 memory_or_not (replay.Script n) = inr (λ e. cc e)

@@ -1,5 +1,5 @@
 -- What a transfer makes of an index: each address stands where its place in the order says.
-use Rattle.std.proofs.Common.{◌≡◌, ◌≢◌, ◌⊎◌, inl, inr, ℕ, ◌+◌, ◌<◌, ◌≤◌, true, false, Option, Some, None, is_some, List, [], ◌∷◌, ◌++◌, length, get_or, refl, sym, subst, ap, ◌∙◌, arith, suc, zero, append-nil, length-append}
+use Rattle.std.proofs.Common.{◌≡◌, ◌≢◌, ◌⊎◌, inl, inr, ℕ, ◌+◌, ◌<◌, true, false, Option, Some, None, is_some, List, [], ◌∷◌, ◌++◌, length, get_or, refl, sym, subst, ap, ◌∙◌, arith, suc, length-append}
 use Rattle.std.proofs.Math.Seq.{get_or-append_seam}
 use Rattle.std.proofs.lemmas.Bool.{cases_Bool, cases_eq, cases_lt, eq-eqb, eqb-true, lt-ltb}
 use Rattle.std.proofs.lemmas.Grind.{common_steps}
@@ -22,8 +22,8 @@ use Rattle.ee_pages.specs.Sets.{place_of_slot, set_of, slots_of}
 use Rattle.ee_pages.specs.declared.side.Side.{Side}
 use Rattle.ee_pages.proofs.Public.{slots_before_slot}
 use Rattle.ee_core.specs.Parts.{put_words}
-use Rattle.ee_core.specs.Picture.{IsDrawn, elements_of, elements_to, element_at, filled_set, moved_words}
-use Rattle.ee_core.proofs.Public.{forget-at, forget-other, next_element, no_words, none_between, one_further}
+use Rattle.ee_core.specs.Picture.{IsDrawn, elements_of, elements_to, filled_set, moved_words}
+use Rattle.ee_core.proofs.Public.{forget-at, forget-other, next_element, no_words, none_between, elements_front}
 use Rattle.ee_index.specs.Index.{HasPut, IsIndex, behind_first, is_first, numbered_slots, put_of, said_at, says_value, shown_index, slot_for, without_forgotten}
 use Rattle.ee_index.proofs.IndexReaders.{absent_to, none_unless, put_elsewhere, put_there}
 use Rattle.ee_index.proofs.IndexedAppends.{drawn_slot}
@@ -32,21 +32,10 @@ use Rattle.ee_index.proofs.Indexing.{stands}
 
 -- ---- where a copied word stands
 
-further_elements : (map : Map) (from to : ℕ) → from ≤ to → (rest : List Word) × (elements_to map to ≡ elements_to map from ++ rest)
-further_elements map from zero h = let e : zero ≡ from = omega arith in ([], ap (elements_to map) e ∙ sym (append-nil (elements_to map from)))
-further_elements map from (suc to) h = elim (cases_lt from (suc to)) [
-  | inr last ↦ let e : suc to ≡ from = omega arith in ([], ap (elements_to map) e ∙ sym (append-nil (elements_to map from)))
-  | inl more ↦
-      let before = further_elements map from to (omega arith) in (
-        before.0 ++ element_at (suc to) (map (suc to)),
-        one_further map to ∙ ap (λ (words : List Word). words ++ element_at (suc to) (map (suc to))) before.1 ∙ append_assoc (elements_to map from) before.0 (element_at (suc to) (map (suc to))),
-      )
-]
-
 module _ (map : Map) (above next value : ℕ) (is : IsNextLive map above (Some (next, value))) (proper : next < 65535) where
   seam : (rest : List Word) × (elements_of map ≡ elements_to map above ++ Held (element next value) ∷ rest)
   seam =
-      let rest = further_elements map next 65534 (omega arith) in (
+      let rest = elements_front map next 65534 (omega arith) in (
         rest.0,
         rest.1
             ∙ ap (λ (words : List Word). words ++ rest.0) (next_element map above next value is)
@@ -72,10 +61,6 @@ element_says address value proper =
     slot_of_element address value proper = grind (arith, common_steps)
 
 -- ---- entry by entry
-
-some_of : (held : Option ℕ) → is_some held ≡ true → (value : ℕ) × (held ≡ Some value)
-some_of None e = absurd (cc e)
-some_of (Some value) e = (value, refl)
 
 held_as_numbered : (first : Option ℕ) (number : ℕ) (entries : List (ℕ × ℕ)) (address : ℕ) → is_some (slot_for (numbered_slots first number entries) address) ≡ true → is_some (slot_for entries address) ≡ true
 held_as_numbered first number [] address held = held
@@ -152,7 +137,7 @@ module _ (first : Option ℕ) (others : Map) (slots front : List Word) (moved : 
         ]
 
     value_here : (value : ℕ) × (meaning slots entry.0 ≡ Some value)
-    value_here = some_of (meaning slots entry.0) (sym (so_far.same entry.0 above_entry) ∙ ap is_some (put_there entry rest entry.0 refl))
+    value_here = some_is (meaning slots entry.0) (sym (so_far.same entry.0 above_entry) ∙ ap is_some (put_there entry rest entry.0 refl))
 
     next_copied : is_first first entry.0 ≡ false → IsNextLive others above (Some (entry.0, value_here.0))
     next_copied other = (above_entry, moved.others_are entry.0 other ∙ value_here.1, others_between)

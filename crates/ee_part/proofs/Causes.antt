@@ -3,7 +3,6 @@ use Rattle.std.proofs.Common.{◌≡◌, ◌≢◌, ◌⊎◌, inl, inr, ◌∙�
 use Rattle.ee_flash.specs.Device.{Device, IsFormed}
 use Rattle.ee_flash.specs.Size.{Size}
 use Rattle.ee_image.specs.Text.{at_rest}
-use Rattle.ee_image.proofs.Public.{one_device_lem}
 use Rattle.ee_dump.specs.Dump.{IsDump, IsFirstTorn, IsImport, dump_length}
 use Rattle.ee_dump.specs.Fault.{IsDumpFault, IsWriteFault}
 use Rattle.ee_dump.specs.declared.fault.DumpFault.{DumpFault}
@@ -12,7 +11,7 @@ use Rattle.ee_dump.specs.declared.fault.WriteFault.{WriteFault}
 use Rattle.ee_dump.specs.declared.fault.WriteFault.TheVariants as write
 use Rattle.ee_dump.proofs.Public.{dumps_are_read_lem, no_torn, one_first}
 use Rattle.ee_image_store.specs.Opening.{SpellsDevice}
-use Rattle.ee_image_store.proofs.Public.{one_file_fault, only_memory, reading_good}
+use Rattle.ee_image_store.proofs.Public.{one_file_fault, only_memory, reading_good, same_at_rest}
 use Rattle.ee_faults.specs.declared.fault.Fault.{Fault}
 use Rattle.ee_faults.specs.declared.fault.Fault.TheVariants.{Memory}
 use Rattle.ee_faults.specs.declared.fault.File.TheVariants.{Image}
@@ -24,9 +23,6 @@ abbrev pub IsNamed : Fault → Fault → Type 0
 IsNamed fault cause = (fault ≡ cause) ⊎ (fault ≡ Memory)
 
 -- ---- two devices of one text
-
-pub same_at_rest : (text : List ℕ) (device other : Device) → SpellsDevice text device → SpellsDevice text other → at_rest device ≡ at_rest other
-same_at_rest text device other spelled again = one_device_lem device other spelled.formed again.formed (sym spelled.text_is ∙ again.text_is)
 
 moved_torn : (device other : Device) (page at : ℕ) → at_rest device ≡ at_rest other → IsFirstTorn device page at → IsFirstTorn other page at
 moved_torn device other page at same first =

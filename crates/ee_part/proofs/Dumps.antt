@@ -10,7 +10,8 @@ use Rattle.ee_faults.specs.declared.fault.Fault.{Fault}
 use Rattle.ee_faults.specs.declared.fault.Fault.TheVariants.{Memory}
 use Rattle.ee_part.specs.Faults.{IsImportFault}
 use Rattle.ee_part.specs.Moving.{IsExported, IsImported}
-use Rattle.ee_part.proofs.Causes.{import_lacks, moved_dump, same_at_rest}
+use Rattle.ee_part.proofs.Causes.{import_lacks, moved_dump}
+use Rattle.ee_image_store.proofs.Public.{same_at_rest}
 
 -- the dump that was exported is that of each device that the image spells
 pub dump_exported : (image bytes : List ℕ) (device : Device) → SpellsDevice image device → IsExported image bytes → IsDump device bytes

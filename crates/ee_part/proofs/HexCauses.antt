@@ -15,11 +15,11 @@ use Rattle.ee_image_store.specs.Opening.{SpellsDevice}
 use Rattle.ee_faults.specs.declared.fault.Fault.{Fault}
 use Rattle.ee_faults.specs.declared.fault.Fault.TheVariants.{Base, Memory}
 use Rattle.ee_faults.specs.declared.fault.File.TheVariants.{Image}
-use Rattle.ee_image_store.proofs.Public.{one_file_fault, only_memory, reading_good}
+use Rattle.ee_image_store.proofs.Public.{one_file_fault, only_memory, reading_good, same_at_rest}
 use Rattle.ee_part.specs.Faults.{IsDeviceFault, IsImportFault}
 use Rattle.ee_part.specs.Hex.{PartFits, IsHexExportFault, IsHexExported, IsHexImportFault, IsHexImported, IsPlacedFault, IsHexTextFault, fault_of_hex}
 use Rattle.ee_part.specs.Moving.{IsImported}
-use Rattle.ee_part.proofs.Causes.{IsNamed, device_good, import_lacks, one_device_fault, same_at_rest, same_size}
+use Rattle.ee_part.proofs.Causes.{IsNamed, device_good, import_lacks, one_device_fault, same_size}
 
 -- ---- imports
 

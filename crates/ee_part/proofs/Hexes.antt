@@ -11,9 +11,10 @@ use Rattle.ee_faults.specs.declared.fault.Fault.{Fault}
 use Rattle.ee_faults.specs.declared.fault.Fault.TheVariants.{Memory}
 use Rattle.ee_part.specs.Hex.{PartFits, IsHexExported, IsHexImportFault, IsHexImported}
 use Rattle.ee_part.specs.Moving.{IsImported}
-use Rattle.ee_part.proofs.Causes.{same_at_rest, same_size}
+use Rattle.ee_part.proofs.Causes.{same_size}
 use Rattle.ee_part.proofs.Dumps.{dump_exported, image_again}
 use Rattle.ee_part.proofs.HexCauses.{hex_lacks}
+use Rattle.ee_image_store.proofs.Public.{same_at_rest}
 
 -- the text of an export fits each device that the image spells
 fits_here : (image hex : List ℕ) (base : ℕ) (device : Device) → SpellsDevice image device → IsHexExported image base hex → PartFits base device.size

@@ -5,7 +5,6 @@ use Rattle.std.proofs.lemmas.Bool.{cases_lt, cases_eq}
 use Rattle.std.proofs.lemmas.Cmp.{nat_cmp_total}
 use Rattle.std.proofs.lemmas.List.Elements.{All-head, All-nil, All-push, All-tail, All-weaker, Contains-append_left, Contains-push, recursion_from_All}
 use Rattle.std.proofs.lemmas.Map.Lookups.{btree_set_from_contains, exact_unsigned}
-use Rattle.std.specs.Cmp.{nat_cmp_is}
 use Rattle.std.specs.declared.cmp.Ordering.TheVariants.{Less}
 use Rattle.std.specs.List.{All, AllByRecursion, Contains}
 use Rattle.std.specs.List.Sorted.{IsStrictlySortedBy}
@@ -23,6 +22,7 @@ use Rattle.ee_core.specs.State.{State, state_in, state_of}
 use Rattle.ee_core.proofs.Public.{meaning-zero, few_within, few_slots, state_is}
 use Rattle.ee_check.specs.Start.{IsStart}
 use Rattle.ee_plan.specs.Start.{AreLive, with_addresses}
+use Rattle.ee_plan.proofs.LiveLists.{smaller}
 
 -- these are the addresses up to this one that have a value, ascending
 pub record AreLiveTo (map : Map) (above : ℕ) (live : List ℕ) : Type 0 where
@@ -33,12 +33,9 @@ pub record AreLiveTo (map : Map) (above : ℕ) (live : List ℕ) : Type 0 where
   pub all : (address : ℕ) → address ≤ above → map address ≢ None → Contains live address
   pub count : length live ≡ live_to map above
 
-less_is : (x k : ℕ) → x < k → nat_cmp x k ≡ Less
-less_is x k h = sym (nat_cmp_is x k Less h)
-
 -- one address more, above all others, stays above them
 above_each : (x k : ℕ) (xs : List ℕ) → AllByRecursion (λ y. nat_cmp x y ≡ Less) xs → x < k → AllByRecursion (λ y. nat_cmp x y ≡ Less) (xs ++ k ∷ [])
-above_each x k [] below h = (less_is x k h, tt)
+above_each x k [] below h = (smaller x k h, tt)
 above_each x k (y ∷ xs) below h = (below.0, above_each x k xs below.1 h)
 
 sorted_push : (xs : List ℕ) (k : ℕ) → IsStrictlySortedBy nat_cmp xs → AllByRecursion (λ x. x < k) xs → IsStrictlySortedBy nat_cmp (xs ++ k ∷ [])
@@ -46,7 +43,7 @@ unfolding IsStrictlySortedBy
 sorted_push [] k sorted below = (tt, tt)
 sorted_push (x ∷ xs) k sorted below = (above_each x k xs sorted.0 below.0, sorted_push xs k sorted.1 below.1)
 
-none_sorted : IsStrictlySortedBy nat_cmp []
+pub none_sorted : IsStrictlySortedBy nat_cmp []
 unfolding IsStrictlySortedBy
 none_sorted = tt
 

@@ -1,7 +1,7 @@
 -- How often pages are erased in a run without clean steps, and by any schedule beside it.
-use Rattle.std.proofs.Common.{◌≡◌, ◌⊎◌, ◌∙◌, inl, inr, ℕ, ◌+◌, ◌/◌, ◌<◌, ◌≤◌, Bool, true, false, cond, Some, None, Option, List, [], ◌∷◌, get_or, refl, sym, subst, ap, arith}
+use Rattle.std.proofs.Common.{◌≡◌, ◌⊎◌, ◌∙◌, inl, inr, ℕ, ◌+◌, ◌/◌, ◌<◌, ◌≤◌, Bool, true, false, cond, Some, List, [], ◌∷◌, get_or, refl, sym, subst, ap, arith}
 use Rattle.std.specs.List.{All}
-use Rattle.std.proofs.lemmas.Bool.{cases_Bool, cases_lt}
+use Rattle.std.proofs.lemmas.Bool.{cases_Bool}
 use Rattle.std.proofs.lemmas.List.Elements.{All-tail}
 use Rattle.std.proofs.lemmas.List.Sums.{sum_by-cons}
 use Rattle.ee_flash.specs.Device.{Device, page_at, wear_at}
@@ -12,8 +12,7 @@ use Rattle.ee_pages.specs.Laws.{IsPageOf}
 use Rattle.ee_pages.specs.Page.{is_blank}
 use Rattle.ee_pages.specs.Sets.{first_page, live_of, other}
 use Rattle.ee_pages.specs.declared.side.Side.{Side}
-use Rattle.ee_pages.specs.declared.side.Side.TheVariants.{First, Second}
-use Rattle.ee_core.proofs.Public.{Ages, ages, by_effect, each_page_wears_every_second_transfer_lem, length-pending_pages, times_in_set, waits, other_twice, times, times_few}
+use Rattle.ee_core.proofs.Public.{Ages, ages, by_effect, each_page_wears_every_second_transfer_lem, length-pending_pages, times_in_set, waits, other_twice, times, times_few, in_either, same_side, few_wait}
 use Rattle.ee_core.specs.Runs.{Call, Follows, IsRun, is_cut, is_transfer, transfers}
 use Rattle.ee_core.specs.State.{pending_pages, pending_pages_in, state_of, next_live}
 use Rattle.ee_check.specs.declared.change.Change.{Change}
@@ -23,20 +22,6 @@ use Rattle.ee_plan.specs.Lasting.{FirstWaits, LastsAsLong, MakesFewest, is_clean
 use Rattle.ee_plan.specs.Wearing.{Transfer}
 
 -- ---- pages
-
-in_either : (size : Size) (side : Side) (page : ℕ) → page < page_count size → IsPageOf size side page ⊎ IsPageOf size (other side) page
-in_either size First page h = elim (cases_lt page size.pages) [
-  | inl low ↦ inl (record { from = omega arith; below = omega arith })
-  | inr high ↦ inr (record { from = omega arith; below = omega arith })
-]
-in_either size Second page h = elim (cases_lt page size.pages) [
-  | inl low ↦ inr (record { from = omega arith; below = omega arith })
-  | inr high ↦ inl (record { from = omega arith; below = omega arith })
-]
-
-few_wait : (blank : Bool) → cond blank 0 1 ≤ 1
-few_wait true = omega arith
-few_wait false = omega arith
 
 named_in : (device : Device) (side : Side) (generation page : ℕ) → live_of device ≡ Some (side, generation) → IsPageOf device.size (other side) page → times page (pending_pages device) ≡ waits device page
 named_in device side generation page live at = ap (λ found. times page (pending_pages_in device found)) live ∙ times_in_set (other side) device page at
@@ -150,14 +135,6 @@ fewest_moves_last_lem start trace calls old new made = λ schedule side generati
             some_page old new steps page worn 1 there (omega (arith, few, least.live))
       ]
     ]
-
-side_in : Side → Option (Side × ℕ) → Side
-side_in usual None = usual
-side_in usual (Some live) = live.0
-
-same_side : (found : Option (Side × ℕ)) (side known : Side) (generation number : ℕ) → found ≡ Some (side, generation) → found ≡ Some (known, number) → known ≡ side
-unfolding side_in
-same_side found side known generation number live again = ap (side_in side) (sym again ∙ live)
 
 pub fewest_moves_last_as_long_lem : (start : Situation) (trace : List Change) (calls : List Call) (old new : Device) → MakesFewest start trace calls old new
     → All (λ call. is_cleaning call ≡ false) calls → ((state_of old).pending ≡ 0) ⊎ FirstWaits old → LastsAsLong 0 start trace old new

@@ -11,6 +11,7 @@ use Rattle.ee_script.specs.declared.command.Command.TheVariants.{Write, Read, Fo
 use Rattle.ee_script.specs.declared.answer.Answer.TheVariants.{Appended, Moved, Full, Spent, Cleaned, Idle, Value, NoValue, Absent, Cut, Off}
 use Rattle.ee_replay.specs.Desk.{CallsAtDesk}
 use Rattle.ee_replay.specs.Serving.{Attends}
+use Rattle.ee_core.proofs.Public.{not_both}
 
 -- a store that stays on serves, and one that is off does not
 serves_on : (old : Device) (new : Point) → IsOn old → new ≡ open_point new.device → new.device.on ≡ old.on → new.serving ≡ true
@@ -21,9 +22,6 @@ serves_same old new on there same = serves_on old new on there (ap (λ (device :
 
 serves_off : (new : Point) → new ≡ open_point new.device → IsOff new.device → new.serving ≡ false
 serves_off new there off = ap (λ (point : Point). point.serving) there ∙ off
-
-not_both : (device : Device) → IsOn device → IsOff device → ⊥
-not_both device on off = absurd (cc (on, off))
 
 module _ (old : Device) (new : Point) where
   abbrev at : Bool → Point

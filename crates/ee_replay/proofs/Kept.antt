@@ -1,5 +1,5 @@
 -- What a run at a desk keeps of a script's changes, whatever is cut in it.
-use Rattle.std.proofs.Common.{◌≡◌, ◌∙◌, ◌==◌, ◌++◌, ◌⊎◌, ◌-◌, ℕ, Bool, Some, List, [], ◌∷◌, ap, arith, eq-eqb, false, inl, inr, length, refl, sym, true}
+use Rattle.std.proofs.Common.{◌≡◌, ◌∙◌, ◌==◌, ◌++◌, ◌⊎◌, ◌-◌, ℕ, Bool, Some, List, [], ◌∷◌, ap, arith, false, inl, inr, length, refl, true}
 use Rattle.std.proofs.lemmas.Bool.{cases_lt}
 use Rattle.std.specs.List.{All}
 use Rattle.std.proofs.lemmas.List.Elements.{All-head, All-tail}
@@ -7,7 +7,7 @@ use Rattle.ee_flash.specs.Size.{Size, slot_count}
 use Rattle.ee_pages.specs.Meaning.{Change, Map, Put, map_after}
 use Rattle.ee_pages.specs.Meaning as meaning
 use Rattle.ee_pages.specs.Pending.{address_of}
-use Rattle.ee_core.proofs.Public.{forget-at, forget-other, put-at, put-other}
+use Rattle.ee_core.proofs.Public.{forget-other, put-other, made, apart}
 use Rattle.ee_core.specs.Changes.{HasChange, IsCutAppend, IsCutMove}
 use Rattle.ee_core.specs.State.{State, with_pending}
 use Rattle.ee_script.specs.Run.{Run}
@@ -111,9 +111,6 @@ keeps_all size (command ∷ commands) (answer ∷ answers) old new run =
 
 -- ---- a change that was answered stays
 
-apart : (named address : ℕ) → (named == address) ≡ false → address ≡ named → ⊥
-apart named address other same = let wrong : true ≡ false = sym (eq-eqb named address (sym same)) ∙ other in cc wrong
-
 -- the map has it, where a change of another address is made or not
 of_other : (change : Change) (address : ℕ) (old : Map) → (address_of change == address) ≡ false → map_after change old address ≡ old address
 of_other (Put named value) address old other = put-other old named value address (apart named address other)
@@ -145,10 +142,6 @@ stays address (command ∷ commands) [] old new run others = absurd run
 stays address (command ∷ commands) (answer ∷ answers) old new run others =
     stays address commands answers run.0 new run.2 (All-tail (λ (one : Command). command_asks_change_of address one ≡ false) command commands others)
     ∙ elsewhere address command answer old run.0 run.1 (All-head (λ (one : Command). command_asks_change_of address one ≡ false) command commands others)
-
-made : (change : Change) (map after : Map) → after (address_of change) ≡ map_after change map (address_of change) → HasChange change after
-made (Put address value) map after same = same ∙ put-at map address value address refl
-made (meaning.Forget address) map after same = same ∙ forget-at map address address refl
 
 -- the map right behind the change
 is_made : (command : Command) (answer : Answer) (change : Change) (old new : Map) → Keeps old command answer new → change_answered command answer ≡ Some change → new ≡ map_after change old

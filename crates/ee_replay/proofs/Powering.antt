@@ -8,7 +8,7 @@ use Rattle.ee_pages.specs.Sets.{live_of}
 use Rattle.ee_pages.specs.declared.find.ScanFault.{ScanFault}
 use Rattle.ee_pages.specs.declared.side.Side.{Side}
 use Rattle.ee_pages.specs.declared.side.Side.TheVariants.{First, Second}
-use Rattle.ee_core.proofs.Public.{legal_on}
+use Rattle.ee_core.proofs.Public.{legal_on, state_in_on}
 use Rattle.ee_core.specs.Points.{Point, closed_point, with_power_on, open_point}
 use Rattle.ee_core.specs.Finished.{IsFinished, IsMarked, IsStore}
 use Rattle.ee_core.specs.State.{state_in, state_of, state_with}
@@ -33,16 +33,8 @@ state_in_armed device (Some live) = state_with_armed device live.0 live.1
 pub state_armed : (device : Device) → state_of (with_cut_to_come device) ≡ state_of device
 state_armed device = state_in_armed device (live_of device)
 
-state_with_powered : (device : Device) (side : Side) (generation : ℕ) → state_with (with_power_on device) side generation ≡ state_with device side generation
-state_with_powered device First generation = refl
-state_with_powered device Second generation = refl
-
-state_in_powered : (device : Device) (live : Option (Side × ℕ)) → state_in (with_power_on device) live ≡ state_in device live
-state_in_powered device None = refl
-state_in_powered device (Some live) = state_with_powered device live.0 live.1
-
 pub state_powered : (device : Device) → state_of (with_power_on device) ≡ state_of device
-state_powered device = state_in_powered device (live_of device)
+state_powered device = state_in_on device (live_of device)
 
 few_cuts : (left : ℕ) → Some 1 ≡ Some left → left ≤ all_ones
 few_cuts left e =

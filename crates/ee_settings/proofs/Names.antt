@@ -20,7 +20,7 @@ below_bytes : (k : String Global) (ks : List (String Global)) → AllByRecursion
 below_bytes k [] h = tt
 below_bytes k (y ∷ ys) h = (h.0, below_bytes k ys h.1)
 
-rising_bytes : (ks : List (String Global)) → IsStrictlySortedBy string_cmp ks → IsStrictlySortedBy (slice_cmp nat_cmp) (map string_bytes ks)
+pub rising_bytes : (ks : List (String Global)) → IsStrictlySortedBy string_cmp ks → IsStrictlySortedBy (slice_cmp nat_cmp) (map string_bytes ks)
 unfolding IsStrictlySortedBy
 rising_bytes [] h = tt
 rising_bytes (k ∷ ks) h = (below_bytes k ks h.0, rising_bytes ks h.1)

@@ -4,8 +4,8 @@ use Rattle.ee_flash.specs.Size.{slot_count}
 use Rattle.ee_flash.proofs.Public.{calls_compose}
 use Rattle.ee_pages.specs.Meaning.{IsNextLive, meaning}
 use Rattle.ee_core.proofs.Fillings.{all_filled, next_filled, next_partly, none_filled, room}
-use Rattle.ee_core.proofs.MovingFacts.{goes_on-same}
 use Rattle.ee_core.proofs.copying.copy_others.Goals as goal
+use Rattle.ee_core.proofs.AfterCalls.{goes_on_same}
 
 pub live-init : goal.live-init
 live-init g c =
@@ -15,7 +15,7 @@ live-init g c =
       filled = none_filled device c.args.layout.now c.args.place c.args.except c.requires.at c.requires.only;
       below = omega arith;
       over = c.requires.over;
-      goes = goes_on-same device;
+      goes = goes_on_same device;
     })
 
 pub copy_one-requires-clause-free : goal.copy_one-requires-clause-free

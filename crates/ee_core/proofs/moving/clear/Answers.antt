@@ -9,12 +9,13 @@ use Rattle.ee_pages.specs.Sets.{first_page, other as other_of, set_of}
 use Rattle.ee_pages.proofs.Public.{length-set_of}
 use Rattle.ee_core.specs.State.{Wears, WearsFront, not_blank_from}
 use Rattle.ee_core.proofs.ErasedPages.{all_wear, blank_wears, front_wears, none_wears, wears_next, written_wears}
-use Rattle.ee_core.proofs.MovingFacts.{all_blank, goes_on-same, keeps_both, keeps_same}
+use Rattle.ee_core.proofs.MovingFacts.{all_blank, keeps_both, keeps_same}
 use Rattle.ee_core.proofs.PendingCounts.{page_there}
 use Rattle.ee_core.proofs.Wears.{front_begun}
 use Rattle.ee_core.proofs.moving.clear.Goals.{then-not-is_blank+in_ok-erase_other, else-not-is_blank}
 use Rattle.ee_core.proofs.Cuts.{erases_partly}
 use Rattle.ee_core.proofs.moving.clear.Goals as goal
+use Rattle.ee_core.proofs.AfterCalls.{goes_on_same}
 
 pub pages-init : goal.pages-init
 pages-init g c =
@@ -25,7 +26,7 @@ pages-init g c =
       rest = λ page either. refl;
       wear = none_wears (set_of (other_of c.args.layout.now.side) device) _ _ device (omega arith);
       same = refl;
-      goes = goes_on-same device;
+      goes = goes_on_same device;
     }
 
 pub pages-preserved : goal.pages-preserved

@@ -7,7 +7,7 @@ use Rattle.ee_core.proofs.MarkedSets.{waits}
 use Rattle.ee_core.proofs.MovedSets.{all_retired, filled_up}
 use Rattle.ee_core.specs.Picture.{IsDrawn, blank, filled_set, moved_words, picture_of, retired_pages}
 use Rattle.ee_core.specs.Parts.{map_in, meant}
-use Rattle.ee_core.proofs.MovingFacts.{moved_stays, other_other}
+use Rattle.ee_core.proofs.MovingFacts.{moved_stays}
 use Rattle.ee_core.proofs.Wears.{front_all, wears_still}
 use Rattle.ee_core.specs.State.{not_blank_in}
 use Rattle.ee_core.proofs.Cuts.{drawn_before}
@@ -15,6 +15,7 @@ use Rattle.ee_core.proofs.CutMoves.{marked_partly, retires_partly}
 use Rattle.ee_core.specs.Cuts.{IsDrawnPartly}
 use Rattle.ee_core.specs.Finished.{last_used}
 use Rattle.ee_core.proofs.moving.transfer.Goals as goal
+use Rattle.ee_core.proofs.States.{other_twice}
 
 pub returns-clause-moves : goal.returns-clause-moves
 returns-clause-moves g c =
@@ -53,7 +54,7 @@ returns-clause-old_pages g c =
     let stays = rw c.other.ensures at c.in_ok-finish.ensures.stays in
     let shows = rw c.other.ensures at c.in_ok-finish.ensures.shows in
     let drawn : IsDrawn side new (retired_pages (waits side mid) (picture_of side mid)) =
-    subst (λ (set : Side). IsDrawn set new (retired_pages (waits set mid) (picture_of set mid))) (other_other side) shows.old_pages in
+    subst (λ (set : Side). IsDrawn set new (retired_pages (waits set mid) (picture_of set mid))) (other_twice side) shows.old_pages in
     all_retired side old mid new c.args.layout.now.generation c.requires.layout.live (sym c.requires.layout.fill ∙ c.requires.all_used) moved.live.formed moved.same_size stays.keeps.same_size
     c.in_ok-count.ensures.live_pages drawn
 
@@ -87,7 +88,7 @@ returns-in_err-finish-clause-moves g c =
     let fill : fill_of (slots_of (set_of (other_of side) mid)) ≡ length words = moves.moved.fill_is ∙ sym c.in_ok-count.ensures.each_once ∙ moves.as_many in
     let last : last_used mid (other_of side) ≡ page_of_slot mid.size (length words - 1) = ap (λ n. page_of_slot mid.size (n - 1)) fill in
     let drawn : IsDrawnPartly side new (picture_of side mid) (retired_pages (waits side mid) (picture_of side mid)) =
-    subst (λ (set : Side). IsDrawnPartly set new (picture_of set mid) (retired_pages (waits set mid) (picture_of set mid))) (other_other side) shows.old_pages in
+    subst (λ (set : Side). IsDrawnPartly set new (picture_of set mid) (retired_pages (waits set mid) (picture_of set mid))) (other_twice side) shows.old_pages in
     let failed = err_from_is_err_and c.from_residual-in_err-finish.result c.from_residual-in_err-finish.ensures.1 in
     rw failed.1 (record {
       begun = front_all pages old new (wears_still pages old mid new moves.wear stays.same_wear);

@@ -3,7 +3,6 @@ use Rattle.std.proofs.lemmas.Result.{err_from_is_err_and}
 use Rattle.ee_flash.specs.Memory.{device_of}
 use Rattle.ee_image_store.proofs.Public.{formed_of}
 use Rattle.ee_part.proofs.Causes.{import_memory, imported_good, one_import_fault}
-use Rattle.ee_part.proofs.dump.import_image.Given
 use Rattle.ee_part.proofs.dump.import_image.Goals as goal
 
 pub returns-in-Err-clause-names : goal.returns-in-Err-clause-names

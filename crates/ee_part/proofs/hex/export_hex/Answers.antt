@@ -1,4 +1,4 @@
-use Rattle.std.proofs.Common.{rules, ◌≡◌, inl, false, true, subst, sym, arith}
+use Rattle.std.proofs.Common.{rules, ◌≡◌, inl, true, subst, sym, arith}
 use Rattle.std.proofs.lemmas.Result.{err_from_is_err_and}
 use Rattle.ee_flash.specs.Memory.{device_of}
 use Rattle.ee_faults.specs.declared.fault.Fault.TheVariants.{Base}
