@@ -32,15 +32,22 @@ size W SCRIPT CYCLES RUNS";
 /// A word of a row.
 fn word<'a>(alloc: Global, id: &'a str) -> Arg<'a> {
     let word = Arg::new(alloc, id).action(ArgAction::Set);
-    let range = |least, greatest| value_parser!(u64).range(least..=greatest);
     match id {
         "--indexed" => word.long("indexed").action(ArgAction::SetTrue),
         "--rust" => word.long("rust").action(ArgAction::SetTrue),
         "[BEFORE]" | "[SETTINGS]" => word,
-        "P" => word.required(true).value_parser(range(1, 64)),
-        "W" => word.required(true).value_parser(range(5, 512)),
-        "VALUE" => word.required(true).value_parser(range(0, 4_294_967_295)),
-        "CYCLES" | "RUNS" => word.required(true).value_parser(range(1, 4_294_967_295)),
+        "P" => word
+            .required(true)
+            .value_parser(value_parser!(u64).range(1..=64)),
+        "W" => word
+            .required(true)
+            .value_parser(value_parser!(u64).range(5..=512)),
+        "VALUE" => word
+            .required(true)
+            .value_parser(value_parser!(u64).range(0..=4_294_967_295)),
+        "CYCLES" | "RUNS" => word
+            .required(true)
+            .value_parser(value_parser!(u64).range(1..=4_294_967_295)),
         _ => word.required(true),
     }
 }
