@@ -1,9 +1,9 @@
 -- What each turn of a drive does to the cuts, to the map and to the image, and so what all of them do.
-use Rattle.std.proofs.Common.{◌≡◌, ◌⊎◌, inl, inr, ℕ, ◌+◌, ◌≤◌, ◌++◌, Bool, true, false, cond, min, Option, Some, None, Ok, Err, List, [], ◌∷◌, refl, sym, ap, ◌∙◌, subst, arith}
+use Rattle.std.proofs.Common.{◌≡◌, ◌⊎◌, inl, inr, ℕ, ◌+◌, ◌≤◌, ◌++◌, Bool, true, false, cond, min, Option, Some, None, Ok, Err, List, [], ◌∷◌, refl, sym, ap, ◌∙◌, subst, arith, rules}
 use Rattle.std.proofs.Math.Path.{fun_ext}
 use Rattle.std.specs.List.{count_by}
 use Rattle.std.proofs.lemmas.Bool.{cases_eq}
-use Rattle.std.proofs.lemmas.List.Elements.{All-cons, All-nil, filter_map-append}
+use Rattle.std.proofs.lemmas.List.Elements.{All-cons, filter_map-append}
 use Rattle.std.proofs.lemmas.List.Sums.{sum_by-cons}
 use Rattle.ee_flash.specs.Device.{Device, IsOn, all_ones}
 use Rattle.ee_flash.specs.Step.{one_more}
@@ -33,16 +33,10 @@ use Rattle.ee_bench.specs.declared.event.Event.TheVariants.{Clean, Forget, Get, 
 -- ---- a change that met a cut
 
 put_again : (map : Map) (named value address : ℕ) → map named ≡ Some value → map address ≡ map_after (meaning.Put named value) map address
-put_again map named value address there = elim (cases_eq address named) [
-  | inl same ↦ ap map same ∙ there ∙ sym (put-at map named value address same)
-  | inr other ↦ sym (put-other map named value address other)
-]
+put_again map named value address there = search (rules, cases_eq, put-at, put-other)
 
 forget_again : (map : Map) (named address : ℕ) → map named ≡ None → map address ≡ map_after (meaning.Forget named) map address
-forget_again map named address gone = elim (cases_eq address named) [
-  | inl same ↦ ap map same ∙ gone ∙ sym (forget-at map named address same)
-  | inr other ↦ sym (forget-other map named address other)
-]
+forget_again map named address gone = search (rules, cases_eq, forget-at, forget-other)
 
 -- a map that is as before or changed, and has the change, is changed
 put_found : (old new : Map) (named value : ℕ) → (new ≡ old) ⊎ (new ≡ map_after (meaning.Put named value) old) → new named ≡ Some value → new ≡ map_after (meaning.Put named value) old
@@ -80,17 +74,7 @@ pub record Does (serving : Bool) (event : Event) (answer : Answer) (found : Opti
 whole : (call : Call) (event : Event) (answer : Answer) (found : Option Bool) (old new : Device) → is_cut call ≡ false → IsOn old × Follows call old new × IsStore new
     → found ≡ None → changes_of_call call ≡ kept_by event answer None → tells_of_a_cut answer ≡ false → is_scan_fault answer ≡ false → IsValueIn (state_of old).map event answer
     → Does true event answer found old new
-whole call event answer found old new is_whole called looked same not_cut good value =
-    let went = goes call old new is_whole called.1 in
-    let made : changes_of_call call ≡ kept_by event answer found = same ∙ ap (kept_by event answer) (sym looked) in
-    record {
-      cuts_are = went.power.same_cuts ∙ sym (ap (λ (cut : Bool). cond cut (one_more old.cuts) old.cuts) not_cut);
-      serves = λ serving. (went.power.same_power ∙ called.0, called.2);
-      legal = λ legal. called.2.legal;
-      no_scan_fault = λ legal. good;
-      value = value;
-      map_is = λ legal. went.map_is ∙ ap (λ (changes : List Change). changed_by changes (state_of old).map) made;
-    }
+whole call event answer found old new is_whole called looked same not_cut good value = search (rules, goes)
 
 put_kept : (address value : ℕ) (held : Bool) (old new : Device) → IsLegal old → IsCutChange old (meaning.Put address value) new
     → (held ≡ true → (state_of new).map address ≡ Some value) → ((state_of new).map address ≡ Some value → held ≡ true)
@@ -109,39 +93,15 @@ forget_kept address false old new legal cut gone found =
 put_done : (address value : ℕ) (held : Bool) (old new : Device) → IsOn old × IsCutChange old (meaning.Put address value) new × IsStore new
     → (held ≡ true → (state_of new).map address ≡ Some value) → ((state_of new).map address ≡ Some value → held ≡ true)
     → Does true (Put address value) (Refused write.Cut) (Some held) old new
-put_done address value held old new called there found = record {
-  cuts_are = called.1.cut.one_more_cut;
-  serves = λ serving. absurd (cc serving);
-  legal = λ legal. called.2.legal;
-  no_scan_fault = λ legal. refl;
-  value = tt;
-  map_is = λ legal. put_kept address value held old new legal called.1 there found;
-}
+put_done address value held old new called there found = search (rules, put_kept)
 
 forget_done : (address : ℕ) (held : Bool) (old new : Device) → IsOn old × IsCutChange old (meaning.Forget address) new × IsStore new
     → (held ≡ true → (state_of new).map address ≡ None) → ((state_of new).map address ≡ None → held ≡ true)
     → Does true (Forget address) (NotForgotten forget.Cut) (Some held) old new
-forget_done address held old new called gone found = record {
-  cuts_are = called.1.cut.one_more_cut;
-  serves = λ serving. absurd (cc serving);
-  legal = λ legal. called.2.legal;
-  no_scan_fault = λ legal. refl;
-  value = tt;
-  map_is = λ legal. forget_kept address held old new legal called.1 gone found;
-}
+forget_done address held old new called gone found = search (rules, forget_kept)
 
 clean_cut : (found : Option Bool) (old new : Device) → IsOn old × IsCutClean old new × IsStore new → found ≡ None → Does true Clean (Refused write.Cut) found old new
-clean_cut found old new called looked = record {
-  cuts_are = called.1.cut.one_more_cut;
-  serves = λ serving. absurd (cc serving);
-  legal = λ legal. called.2.legal;
-  no_scan_fault = λ legal. refl;
-  value = tt;
-  map_is = λ legal. elim called.1.state_is [
-    | inl same ↦ ap (λ (state : State). state.map) same
-    | inr one_less ↦ ap (λ (state : State). state.map) one_less
-  ];
-}
+clean_cut found old new called looked = search rules
 
 -- a call of an open store
 put_turn : (address value : ℕ) (answer : Answer) (found : Option Bool) (old new : Device) → IsCalled (call_of_event (Put address value) answer) old new
@@ -182,14 +142,7 @@ clean_turn answer found old new called looked = absurd called
 -- without an open store
 off_turn : (event : Event) (answer : Answer) (found : Option Bool) (old new : Device) → Idles answer old new → IsLookedFor event Off found new → IsValueIn (state_of old).map event Off
     → ([] ≡ kept_by event Off found) → Does false event answer found old new
-off_turn event Off found old new same looked value none = record {
-  cuts_are = ap (λ (device : Device). device.cuts) same;
-  serves = λ serving. absurd (cc serving);
-  legal = subst IsLegal (sym same);
-  no_scan_fault = λ legal. refl;
-  value = value;
-  map_is = λ legal. ap (λ (device : Device). (state_of device).map) same ∙ ap (λ (changes : List Change). changed_by changes (state_of old).map) none;
-}
+off_turn event Off found old new same looked value none = search rules
 off_turn event answer found old new idles looked value none = absurd idles
 
 -- ---- reopening
@@ -204,36 +157,15 @@ nothing_kept : (answer : Answer) (found : Option Bool) (old new : Device) → fo
 nothing_kept answer found old new looked same = same ∙ ap (λ (one : Option Bool). changed_by (kept_by Reopen answer one) (state_of old).map) (sym looked)
 
 reopened : (serving : Bool) (found : Option Bool) (old new : Device) → Opens (with_power_on old) new → found ≡ None → Does serving Reopen Opened found old new
-reopened serving found old new opens looked = record {
-  cuts_are = opens.goes_on.same_cuts;
-  serves = λ serves. (opens.goes_on.same_power, opens.store);
-  legal = λ legal. opens.store.legal;
-  no_scan_fault = λ legal. refl;
-  value = tt;
-  map_is = λ legal. nothing_kept Opened found old new looked (ap (λ (state : State). state.map) opens.state_is ∙ map_on old);
-}
+reopened serving found old new opens looked = search (rules, map_on, nothing_kept)
 
 reopening_cut : (serving : Bool) (found : Option Bool) (old new : Device) → IsCutOpening (with_power_on old) new → found ≡ None → Does serving Reopen (NotOpened opening.Cut) found old new
-reopening_cut serving found old new cut looked = record {
-  cuts_are = cut.cut.one_more_cut;
-  serves = λ serves. absurd (cc serves);
-  legal = λ legal. cut.legal;
-  no_scan_fault = λ legal. refl;
-  value = tt;
-  map_is = λ legal. nothing_kept (NotOpened opening.Cut) found old new looked (ap (λ (state : State). state.map) cut.state_is ∙ map_on old);
-}
+reopening_cut serving found old new cut looked = search (rules, map_on, nothing_kept)
 
 reopen_turn : (serving : Bool) (answer : Answer) (found : Option Bool) (old new : Device) → Reopens answer old new → found ≡ None → Does serving Reopen answer found old new
 reopen_turn serving Opened found old new opens looked = reopened serving found old new opens looked
 reopen_turn serving (NotOpened opening.Cut) found old new cut looked = reopening_cut serving found old new cut looked
-reopen_turn serving (NotOpened (opening.Scan fault)) found old new fails looked = record {
-  cuts_are = ap (λ (device : Device). device.cuts) fails.1;
-  serves = λ serves. absurd (cc serves);
-  legal = λ legal. absurd (legal_is_good (with_power_on old) fault (legal_on old legal) fails.0);
-  no_scan_fault = λ legal. absurd (legal_is_good (with_power_on old) fault (legal_on old legal) fails.0);
-  value = tt;
-  map_is = λ legal. absurd (legal_is_good (with_power_on old) fault (legal_on old legal) fails.0);
-}
+reopen_turn serving (NotOpened (opening.Scan fault)) found old new fails looked = search (rules, legal_is_good, legal_on)
 reopen_turn serving answer found old new reopens looked = absurd reopens
 
 does : (serving : Bool) (event : Event) (answer : Answer) (found : Option Bool) (old new : Device) → Happens serving event answer old new → IsLookedFor event answer found new
@@ -257,17 +189,12 @@ does_turn turn old new taken = does old.serving turn.event turn.answer turn.foun
 pub kept_changes-cons : (turn : Turn) (turns : List Turn) → kept_changes (turn ∷ turns) ≡ kept_changes (turn ∷ []) ++ kept_changes turns
 kept_changes-cons turn turns = filter_map-append (λ (one : Turn). change_kept one.event one.answer one.found) (turn ∷ []) turns
 
-kept : (turns : List Turn) (old new : Point) → AreTurns turns old new → IsLegal old.device → WasKept turns old.device new.device
-kept [] old new same legal = record {
-  no_scan_fault = All-nil (λ (turn : Turn). is_scan_fault turn.answer ≡ false);
-  values = tt;
-  legal = subst (λ (point : Point). IsLegal point.device) (sym same) legal;
-  map_is = ap (λ (point : Point). (state_of point.device).map) same;
-}
-kept (turn ∷ turns) old new run legal =
+pub no_answered_change_is_lost_lem : (turns : List Turn) (old new : Point) → AreTurns turns old new → IsLegal old.device → WasKept turns old.device new.device
+no_answered_change_is_lost_lem [] old new same legal = search rules
+no_answered_change_is_lost_lem (turn ∷ turns) old new run legal =
     let one = does_turn turn old run.0 run.1 in
     let map_is = one.map_is legal in
-    let rest = kept turns run.0 new run.2 (one.legal legal) in
+    let rest = no_answered_change_is_lost_lem turns run.0 new run.2 (one.legal legal) in
     record {
       no_scan_fault = All-cons (λ (turn : Turn). is_scan_fault turn.answer ≡ false) turn turns (one.no_scan_fault legal) rest.no_scan_fault;
       values = (one.value, subst (λ (map : Map). AreValuesFrom map turns) map_is rest.values);
@@ -275,9 +202,6 @@ kept (turn ∷ turns) old new run legal =
       map_is = rest.map_is ∙ ap (changed_by (kept_changes turns)) map_is ∙ sym (changed_by-append (kept_changes (turn ∷ [])) (kept_changes turns) (state_of old.device).map)
           ∙ ap (λ (changes : List Change). changed_by changes (state_of old.device).map) (sym (kept_changes-cons turn turns));
     }
-
-pub no_answered_change_is_lost_lem : (turns : List Turn) (old new : Point) → AreTurns turns old new → IsLegal old.device → WasKept turns old.device new.device
-no_answered_change_is_lost_lem turns old new run legal = kept turns old new run legal
 
 -- an open store stays so to the end, or a cut or an opening that fails ends it
 open_at_end : (turns : List Turn) (old new : Point) → AreTurns turns old new → (old.serving ≡ true → IsOn old.device × IsStore old.device)
@@ -305,10 +229,4 @@ all_cuts (turn ∷ turns) old new run fits =
     (sum_by-cons (λ (one : Turn). cond (tells_of_a_cut one.answer) 1 0) turn turns)
 
 pub was_done : (turns : List Turn) (old new : Device) (end : Point) → AreTurns turns (closed_point old) end → end.device ≡ new → old.cuts ≤ all_ones → WasDone turns old new
-was_done turns old new end run same fits = record {
-  end = end;
-  turns_are = run;
-  ends_at = same;
-  serves = λ serving. subst (λ (device : Device). IsOn device × IsStore device) same (open_at_end turns (closed_point old) end run (λ never. absurd (cc never)) serving);
-  cuts_are = ap (λ (device : Device). device.cuts) (sym same) ∙ all_cuts turns (closed_point old) end run fits;
-}
+was_done turns old new end run same fits = search (rules, all_cuts, open_at_end)

@@ -15,9 +15,6 @@ pub record HasMet (start : Device) (events : List Event) (log : List Answer) (ke
   pub told : AreTold turns events log kept
   pub turns_are : AreTurns turns (closed_point start) point
 
-pub nothing_met : (start : Device) → HasMet start [] [] [] (closed_point start)
-nothing_met start = record { turns = []; told = record { events_are = refl; log_is = refl; kept_is = refl }; turns_are = refl }
-
 one_more_turn : (turns : List Turn) (turn : Turn) (old between new : Point) → AreTurns turns old between → IsTurn turn between new → AreTurns (turns ++ turn ∷ []) old new
 one_more_turn [] turn old between new same last = (new, subst (λ (point : Point). IsTurn turn point new) same last, refl)
 one_more_turn (first ∷ turns) turn old between new run last = (run.0, run.1, one_more_turn turns turn run.0 between new run.2 last)

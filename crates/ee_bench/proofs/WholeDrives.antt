@@ -1,22 +1,17 @@
 -- What was met is what a drive says.
-use Rattle.std.proofs.Common.{◌≡◌, ℕ, ◌≤◌, Bool, List, length, take, sym, subst}
+use Rattle.std.proofs.Common.{◌≡◌, ℕ, ◌≤◌, Bool, List, length, take, subst, rules}
 use Rattle.std.proofs.lemmas.List.{take_all}
 use Rattle.ee_flash.specs.Device.{Device, IsFormed}
-use Rattle.ee_core.specs.Points.{Point, closed_point}
+use Rattle.ee_core.specs.Points.{Point}
 use Rattle.ee_bench.proofs.KeptChanges.{no_answered_change_is_lost_lem, was_done}
 use Rattle.ee_bench.proofs.TurnByTurn.{HasMet}
-use Rattle.ee_bench.specs.Outcome.{Drives, WasKept}
+use Rattle.ee_bench.specs.Outcome.{Drives}
 use Rattle.ee_bench.specs.declared.event.Answer.{Answer}
 use Rattle.ee_bench.specs.declared.event.Event.{Event}
 
 all_met : (old new : Device) (events : List Event) (log : List Answer) (kept : List Bool) (end : Point) → IsFormed old → HasMet old events log kept end → new ≡ end.device
     → Drives old events log kept new
-all_met old new events log kept end formed met same = record {
-  turns = met.turns;
-  told = met.told;
-  done = was_done met.turns old new end met.turns_are (sym same) formed.cuts_fit;
-  changes_kept = λ legal. subst (λ (device : Device). WasKept met.turns old device) (sym same) (no_answered_change_is_lost_lem met.turns (closed_point old) end met.turns_are legal);
-}
+all_met old new events log kept end formed met same = search (rules, no_answered_change_is_lost_lem, was_done)
 
 pub drives : (old new : Device) (events : List Event) (i : ℕ) (log : List Answer) (kept : List Bool) (end : Point) → IsFormed old → length events ≤ i
     → HasMet old (take i events) log kept end → new ≡ end.device → Drives old events log kept new

@@ -1,9 +1,9 @@
 -- The lines of what an image holds.
-use Rattle.std.proofs.Common.{◌≡◌, ◌∙◌, ℕ, Option, List, [], ◌∷◌, ◌++◌, sym, ap, append_assoc, append-nil, decimal}
-use Rattle.std.proofs.lemmas.Grind.{flat_map-append}
+use Rattle.std.proofs.Common.{◌≡◌, ℕ, Option, List, [], ◌∷◌, ◌++◌, sym, ap, append-nil, decimal, rules, arith}
+use Rattle.std.proofs.lemmas.Grind.{common_steps, flat_map-append}
 use Rattle.ee_text.specs.Field.{joined_fields, space}
 use Rattle.ee_text.specs.Line.{line_feed}
-use Rattle.ee_core.specs.State.{State, state_of}
+use Rattle.ee_core.specs.State.{state_of}
 use Rattle.ee_flash.specs.Device.{Device}
 use Rattle.ee_settings.specs.Listing.{listed_in}
 use Rattle.ee_settings.specs.Setting.{Setting}
@@ -18,27 +18,9 @@ joined_behind word (next ∷ more) = ap (λ (rest : List ℕ). word ++ (space �
 -- the line of an address, part by part
 pub line_made : (settings : List Setting) (listed : Listed) (out numbered held named done : List ℕ) → numbered ≡ out ++ decimal listed.address → held ≡ numbered ++ words_behind (held_words listed.held)
     → named ≡ held ++ words_behind (name_words settings listed.entry) → done ≡ named ++ line_feed ∷ [] → done ≡ out ++ listed_line settings listed
-line_made settings listed out numbered held named done first second third fourth =
-    let number = decimal listed.address in
-    let holds = held_words listed.held in
-    let names = name_words settings listed.entry in
-    let feed = line_feed ∷ [] in
-    let text : joined_fields (number ∷ (holds ++ names)) ≡ number ++ (words_behind holds ++ words_behind names) =
-    joined_behind number (holds ++ names) ∙ ap (λ (rest : List ℕ). number ++ rest) (flat_map-append (λ (word : List ℕ). space ∷ word) holds names) in
-    fourth ∙ rw (third, second, first, text)
-    (append_assoc ((out ++ number) ++ words_behind holds) (words_behind names) feed
-    ∙ append_assoc (out ++ number) (words_behind holds) (words_behind names ++ feed)
-    ∙ append_assoc out number (words_behind holds ++ (words_behind names ++ feed))
-    ∙ ap (λ (rest : List ℕ). out ++ (number ++ rest)) (sym (append_assoc (words_behind holds) (words_behind names) feed))
-    ∙ ap (λ (rest : List ℕ). out ++ rest) (sym (append_assoc number (words_behind holds ++ words_behind names) feed)))
+line_made settings listed out numbered held named done first second third fourth = grind (arith, common_steps, flat_map-append, joined_behind)
 
 -- the lines of what the opened store holds are those of the image
 pub is_list : (image lines : List ℕ) (store : Device) (settings : List Setting) (named : Option (List ℕ)) → IsOpened image store → AreNamed named settings
     → lines ≡ listed_lines settings (listed_in settings (state_of store).map) → IsList image named lines
-is_list image lines store settings named opened spelled says = record {
-  device = opened.device;
-  old = opened.old;
-  settings = settings;
-  named = spelled;
-  lines_are = says ∙ ap (λ (state : State). listed_lines settings (listed_in settings state.map)) opened.state_is;
-}
+is_list image lines store settings named opened spelled says = search rules

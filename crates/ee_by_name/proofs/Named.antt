@@ -1,5 +1,5 @@
 -- What is read and set by name, and that one cause at most applies for which it is not.
-use Rattle.std.proofs.Common.{◌≡◌, ◌≢◌, ◌⊎◌, ◌∙◌, ℕ, List, [], ◌∷◌, map, inl, inr, refl, sym, ap, subst, arith, codes, Ok, Err, String, Global, string_bytes, nat_cmp}
+use Rattle.std.proofs.Common.{◌≡◌, ◌≢◌, ◌⊎◌, ◌∙◌, ℕ, List, [], ◌∷◌, map, inl, inr, refl, sym, ap, subst, codes, Ok, Err, String, Global, string_bytes, nat_cmp, rules}
 use Rattle.std.specs.Cmp.Lexicographic.{slice_cmp}
 use Rattle.std.specs.List.Sorted.{IsStrictlySortedBy}
 use Rattle.std.specs.Map.{keys_of}
@@ -32,8 +32,6 @@ use Rattle.ee_faults.specs.declared.fault.Fault.{Fault}
 use Rattle.ee_faults.specs.declared.fault.Fault.TheVariants.{UnknownName, Memory}
 use Rattle.ee_faults.specs.declared.replay_fault.ReplayFault.{ReplayFault}
 use Rattle.ee_image_store.proofs.Public.{both, by_append, by_move, pages_since, same_at_rest, same_state, not_opened, opening_good, opening_named}
-use Rattle.ee_image_store.specs.Erases.{ErasesRise, erases_left_by}
-use Rattle.ee_image_store.specs.Machine.{MachineStep}
 use Rattle.ee_image_store.specs.Opening.{IsOpenFault, IsOpened, IsStoreLeft, StaysOn}
 use Rattle.ee_image_store.specs.Steps.{Steps}
 
@@ -61,21 +59,13 @@ pub schema_named : (text : List ℕ) (tree : Members) (why : SchemaFault) (fault
     → cause ≢ Memory → IsSettingsFault text cause → (fault ≡ cause) ⊎ (fault ≡ Memory)
 schema_named text tree why fault cause has rising gives told some (inl h) = absurd (h.1 tree has)
 schema_named text tree why fault cause has rising gives told some (inr (inr h)) = absurd (some h)
-schema_named text tree why fault cause has rising gives told some (inr (inl h)) = elim (schema_memory_or why) [
-  | inl none ↦ inr (told ∙ ap fault_of_schema none)
-  | inr other ↦
-      let there : GivesSchema tree (Err h.cause) = subst (λ (t : Members). GivesSchema t (Err h.cause)) (one_tree text h.tree tree h.has_tree has) h.applies in
-      let same : why ≡ h.cause = one_fault tree rising why h.cause other (λ e. some (h.fault_is ∙ ap fault_of_schema e)) gives there in
-      inl (told ∙ ap fault_of_schema same ∙ sym h.fault_is)
-]
+schema_named text tree why fault cause has rising gives told some (inr (inl h)) = search (rules, one_fault, one_tree, schema_memory_or)
 
 -- a text that spells settings has no fault
 pub schema_good : (text : List ℕ) (tree : Members) (settings : List Setting) (cause : Fault) → HasTree text tree → GivesSchema tree (Ok settings) → cause ≢ Memory → IsSettingsFault text cause → ⊥
 schema_good text tree settings cause has gives some (inl h) = h.1 tree has
 schema_good text tree settings cause has gives some (inr (inr h)) = some h
-schema_good text tree settings cause has gives some (inr (inl h)) =
-    never_refused tree settings h.cause (λ e. some (h.fault_is ∙ ap fault_of_schema e)) gives
-    (subst (λ (t : Members). GivesSchema t (Err h.cause)) (one_tree text h.tree tree h.has_tree has) h.applies)
+schema_good text tree settings cause has gives some (inr (inl h)) = search (rules, never_refused, one_tree)
 
 pub settings_good : (text : List ℕ) (settings : List Setting) (cause : Fault) → SpellsSettings text settings → cause ≢ Memory → IsSettingsFault text cause → ⊥
 settings_good text settings cause spelled some h = schema_good text spelled.tree settings cause spelled.has_tree spelled.schema some h
@@ -92,10 +82,7 @@ spelled_once text settings others spelled again = schema_once text spelled.tree 
 -- only want of memory refuses a text that spells settings
 pub schema_only : (text : List ℕ) (tree : Members) (why : SchemaFault) (fault : Fault) (others : List Setting) → HasTree text tree → GivesSchema tree (Err why) → fault ≡ fault_of_schema why → SpellsSettings text others
     → fault ≡ Memory
-schema_only text tree why fault others has gives told spelled = elim (schema_memory_or why) [
-  | inl none ↦ told ∙ ap fault_of_schema none
-  | inr other ↦ absurd (never_refused tree others why other (there_too text tree others has spelled) gives)
-]
+schema_only text tree why fault others has gives told spelled = search (rules, never_refused, schema_memory_or, there_too)
 
 -- ---- reading
 
@@ -128,22 +115,7 @@ got_good image text name store settings reading cause opened spelled read some (
 -- ---- setting
 
 pub is_written : (settings : List Setting) (old new : Device) (name : List ℕ) (value : ℕ) (answer : Written) → StaysOn old → Sets settings old name value (Ok answer) new → IsWritten settings old name value new
-is_written settings old new name value written.Appended on set = record {
-  setting = set.0;
-  named = set.1;
-  in_range = set.2;
-  served = inl (
-    record {
-      step = (set.3.proceeds.accepted, set.3.free, set.3.state_is);
-      same_size = set.3.goes_on.same_size;
-      erases = by_append old (Put set.0.numbers.address value) new set.3;
-    },
-    set.3.no_wear,
-  );
-  stays_on = record { on = set.3.goes_on.same_power ∙ on.on; never_cut = set.3.goes_on.same_cuts_left ∙ on.never_cut };
-  answer = written.Appended;
-  written = set.3;
-}
+is_written settings old new name value written.Appended on set = search (rules, by_append)
 is_written settings old new name value written.Moved on set = record {
   setting = set.0;
   named = set.1;
@@ -163,13 +135,7 @@ is_written settings old new name value written.Moved on set = record {
 
 -- what was served by an opened store was served by what its text spells
 from_text : (image : List ℕ) (store new : Device) (command : Command) (answer : Answer) (opened : IsOpened image store) → Steps store command answer new → Steps opened.device command answer new
-from_text image store new command answer opened serves = record {
-  step = subst (λ (size : Size). MachineStep size (state_of opened.device) command answer (state_of new)) opened.same_size
-      (subst (λ (state : State). MachineStep store.size state command answer (state_of new)) opened.state_is serves.step);
-  same_size = serves.same_size ∙ opened.same_size;
-  erases = both opened.device store new 0 (erases_left_by opened.device.size answer) (erases_left_by opened.device.size answer) opened.erases
-      (subst (λ (size : Size). ErasesRise (erases_left_by size answer) store new) opened.same_size serves.erases) (omega arith);
-}
+from_text image store new command answer opened serves = search (rules, both)
 
 served_from_text : (image : List ℕ) (store new : Device) (address value : ℕ) (opened : IsOpened image store) → IsWriteServed store address value new → IsWriteServed opened.device address value new
 served_from_text image store new address value opened (inl h) = inl (from_text image store new (Write address value) Appended opened h.0, h.1 ∙ opened.no_wear)

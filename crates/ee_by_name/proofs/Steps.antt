@@ -1,5 +1,5 @@
 -- What the code finds of an entry, and what that makes of it; and how the entries that were gone over grow.
-use Rattle.std.proofs.Common.{◌≡◌, ◌≢◌, ◌⊎◌, ◌∙◌, ◌+◌, ℕ, ℤ, List, [], ◌∷◌, ◌++◌, length, map, Option, Some, None, Ok, String, Global, Bor, inl, inr, refl, sym, ap, subst}
+use Rattle.std.proofs.Common.{◌≡◌, ◌≢◌, ◌⊎◌, ◌∙◌, ◌+◌, ℕ, ℤ, List, [], ◌∷◌, ◌++◌, length, map, Option, Some, None, Ok, String, Global, Bor, inl, inr, refl, sym, ap, subst, rules}
 use Rattle.std.proofs.lemmas.List.{length-map}
 use Rattle.std.specs.Map.Iter.{deref_pair}
 use Rattle.std.specs.Prelude.{pos}
@@ -46,18 +46,7 @@ value_is tree n value some is = integer_is tree n some ∙ ap integer is
 -- its value is stored already
 pub taken_stored : (settings : List Setting) (device : Device) (name : List ℕ) (tree : Data) (n : ℤ) (numbers : Numbers) (value : ℕ) → as_integer tree ≡ Some n → IsNumbersOf settings name numbers
     → (n ≡ pos value) × IsInRange numbers value → (state_of device).map numbers.address ≡ Some value → TakesEntry settings device (name, tree) 0 device
-taken_stored settings device name tree n numbers value some h within stored = inl (
-  record {
-    value = value;
-    number = value_is tree n value some within.0;
-    setting = h.1;
-    named = h.2;
-    in_range = subst (λ (ns : Numbers). IsInRange ns value) (sym h.3) within.1;
-    stored = ap (λ (ns : Numbers). (state_of device).map ns.address) h.3 ∙ stored;
-  },
-  refl,
-  refl,
-)
+taken_stored settings device name tree n numbers value some h within stored = search (rules, value_is)
 
 -- it was written
 pub taken_new : (settings : List Setting) (old new : Device) (name : List ℕ) (tree : Data) (n : ℤ) (numbers : Numbers) (value : ℕ) (answer : Written) → StaysOn old → as_integer tree ≡ Some n → IsNumbersOf settings name numbers
@@ -92,9 +81,7 @@ as_many yielded = length-map (map deref_pair yielded) seen ∙ length-map yielde
 
 pub entry_taken : (settings : List Setting) (before grown : List Entry) (name text : List ℕ) (tree : Data) (old mid new : Device) (count more : ℕ) → grown ≡ before ++ (text, tree) ∷ [] → name ≡ text
     → Applies settings before old count mid → TakesEntry settings mid (name, tree) more new → Applies settings grown old (count + more) new
-entry_taken settings before grown name text tree old mid new count more grows same h takes =
-    subst (λ (es : List Entry). Applies settings es old (count + more) new) (sym grows)
-    (applied_more settings before (text, tree) old mid new count more h (subst (λ (t : List ℕ). TakesEntry settings mid (t, tree) more new) same takes))
+entry_taken settings before grown name text tree old mid new count more grows same h takes = search (rules, applied_more)
 
 pub entry_refused : (settings : List Setting) (all before after : List Entry) (name text : List ℕ) (tree : Data) (old mid : Device) (count number : ℕ) (fault : Fault) → all ≡ before ++ (text, tree) ∷ after → name ≡ text
     → number ≡ length before + 1 → Applies settings before old count mid → IsEntryRefusal settings mid.size (state_of mid) number (name, tree) fault ⊎ (fault ≡ Memory)

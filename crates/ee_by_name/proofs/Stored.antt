@@ -1,13 +1,14 @@
 -- What entries that were taken leave of the map.
-use Rattle.std.proofs.Common.{◌≡◌, ◌≢◌, ◌∙◌, ◌<◌, ℕ, suc, List, [], ◌∷◌, length, get_or, map, Less, nat_cmp, inl, inr, refl, sym, ap, subst, arith}
+use Rattle.std.proofs.Common.{◌≡◌, ◌≢◌, ◌∙◌, ◌<◌, ℕ, suc, List, [], ◌∷◌, length, map, Less, nat_cmp, inl, inr, refl, sym, ap, subst, arith, rules}
 use Rattle.std.proofs.lemmas.List.Elements.{All-cons, All-contains, All-head, All-nil, All-tail}
 use Rattle.std.specs.Cmp.Lexicographic.{slice_cmp}
 use Rattle.std.specs.List.{All, AllByRecursion}
 use Rattle.std.specs.List.Sorted.{IsStrictlySortedBy}
 use Rattle.ee_flash.specs.Device.{Device}
 use Rattle.ee_pages.specs.Meaning.{Map}
+use Rattle.ee_pages.proofs.Public.{put_there}
 use Rattle.ee_core.specs.State.{state_of}
-use Rattle.ee_settings.proofs.Public.{never_equal, changed_elsewhere, changed_here, written_map}
+use Rattle.ee_settings.proofs.Public.{never_equal, changed_elsewhere, written_map}
 use Rattle.ee_settings.specs.File.{Entry, HaveRisingKeys}
 use Rattle.ee_settings.specs.Setting.{IsSchema, Setting}
 use Rattle.ee_by_name.specs.Applying.{Applies, IsMapApplied, IsStored, NamesAddress, TakesEntry}
@@ -16,17 +17,7 @@ use Rattle.ee_by_name.specs.Applying.{Applies, IsMapApplied, IsStored, NamesAddr
 
 stored_by : (settings : List Setting) (old new : Device) (entry : Entry) (count : ℕ) → TakesEntry settings old entry count new → IsStored settings new entry
 stored_by settings old new entry count (inl h) = subst (λ (d : Device). IsStored settings d entry) (sym h.2) h.0
-stored_by settings old new entry count (inr h) =
-    let write = h.0.written in
-    let address = write.setting.numbers.address in
-    record {
-      value = h.0.value;
-      number = h.0.number;
-      setting = write.setting;
-      named = write.named;
-      in_range = write.in_range;
-      stored = ap (λ (m : Map). m address) (written_map old new address h.0.value write.answer write.written) ∙ changed_here address h.0.value (state_of old).map;
-    }
+stored_by settings old new entry count (inr h) = search (rules, put_there, written_map)
 
 kept_by : (settings : List Setting) (old new : Device) (entry : Entry) (count address : ℕ) → ¬ NamesAddress settings (entry ∷ []) address → TakesEntry settings old entry count new → (state_of new).map address ≡ (state_of old).map address
 kept_by settings old new entry count address apart (inl h) = ap (λ (d : Device). (state_of d).map address) h.2
@@ -39,11 +30,7 @@ kept_by settings old new entry count address apart (inr h) =
 -- ---- all of them
 
 named_first : (settings : List Setting) (entries : List Entry) (entry : Entry) (address : ℕ) → NamesAddress settings (entry ∷ []) address → NamesAddress settings (entry ∷ entries) address
-named_first settings entries entry address h =
-    let first : h.1.0 ≡ 0 = (let below : h.1.0 < 1 = h.1.1 in omega arith) in
-    let here : 0 < length (entry ∷ entries) = omega arith in
-    let same : entry ≡ h.0 = subst (λ k. get_or (entry ∷ []) k h.0 ≡ h.0) first h.1.2 in
-    (h.0, (0, here, same), h.2, h.3, h.4)
+named_first settings entries entry address h = search rules
 
 named_later : (settings : List Setting) (entries : List Entry) (entry : Entry) (address : ℕ) → NamesAddress settings entries address → NamesAddress settings (entry ∷ entries) address
 named_later settings entries entry address h =
@@ -53,9 +40,7 @@ named_later settings entries entry address h =
 
 kept_elsewhere : (settings : List Setting) (entries : List Entry) (old new : Device) (count address : ℕ) → ¬ NamesAddress settings entries address → Applies settings entries old count new → (state_of new).map address ≡ (state_of old).map address
 kept_elsewhere settings [] old new count address apart h = ap (λ (d : Device). (state_of d).map address) h.1
-kept_elsewhere settings (entry ∷ entries) old new count address apart h =
-    kept_elsewhere settings entries h.1 new h.2 address (λ named. apart (named_later settings entries entry address named)) h.4
-    ∙ kept_by settings old h.1 entry h.0 address (λ named. apart (named_first settings entries entry address named)) h.3
+kept_elsewhere settings (entry ∷ entries) old new count address apart h = search (rules, kept_by, named_first, named_later, (kept_elsewhere settings entries h.1 new h.2 address (λ named. apart (named_later settings entries entry address named)) h.4))
 
 each_below : (key : List ℕ) (entries : List Entry) → AllByRecursion (λ (y : List ℕ). slice_cmp nat_cmp key y ≡ Less) (map (λ (e : Entry). e.0) entries) → All (λ (e : Entry). slice_cmp nat_cmp key e.0 ≡ Less) entries
 each_below key [] h = All-nil (λ (e : Entry). slice_cmp nat_cmp key e.0 ≡ Less)
@@ -94,10 +79,7 @@ each_stored settings (entry ∷ entries) old new count schema rising h =
 
 pub applying_stores_values_lem : (settings : List Setting) → IsSchema settings → (entries : List Entry) → HaveRisingKeys entries → (old new : Device) (count : ℕ) → Applies settings entries old count new
     → IsMapApplied settings entries old new
-applying_stores_values_lem settings schema entries rising old new count h = record {
-  stored = each_stored settings entries old new count schema rising h;
-  others = λ address apart. kept_elsewhere settings entries old new count address apart h;
-}
+applying_stores_values_lem settings schema entries rising old new count h = search (rules, each_stored, kept_elsewhere)
 
 applies_none : (settings : List Setting) (entries : List Entry) (device : Device) → All (IsStored settings device) entries → Applies settings entries device 0 device
 applies_none settings [] device h = (refl, refl)

@@ -1,12 +1,12 @@
 -- Entries that are taken one after another, and that one cause at most stops them.
-use Rattle.std.proofs.Common.{◌≡◌, ◌≢◌, ◌⊎◌, ◌∙◌, ◌+◌, ◌≤◌, ◌<◌, ℕ, ℤ, suc, List, [], ◌∷◌, ◌++◌, length, Some, inl, inr, refl, sym, ap, subst, arith}
+use Rattle.std.proofs.Common.{◌≡◌, ◌≢◌, ◌⊎◌, ◌∙◌, ◌+◌, ◌≤◌, ◌<◌, ℕ, ℤ, suc, List, [], ◌∷◌, ◌++◌, length, Some, inl, inr, refl, sym, ap, subst, arith, rules}
 use Rattle.std.specs.Prelude.{pos}
 use Rattle.toml.specs.Data.{Data, integer}
 use Rattle.ee_flash.specs.Device.{Device}
 use Rattle.ee_flash.specs.Size.{Size, slot_count}
 use Rattle.ee_pages.specs.Meaning.{Put}
 use Rattle.ee_core.specs.Changes.{IsAccepted}
-use Rattle.ee_core.specs.State.{State, appended_state, moved_state, state_of}
+use Rattle.ee_core.specs.State.{State, state_of}
 use Rattle.ee_settings.specs.Calls.{IsNamed}
 use Rattle.ee_settings.specs.File.{Entry}
 use Rattle.ee_settings.specs.Setting.{HaveRisingNames, IsInRange, Setting}
@@ -36,23 +36,13 @@ few_taken settings old new entry count (inr h) = let one = h.1 in omega arith
 -- no more writes than entries
 pub few_applied : (settings : List Setting) (entries : List Entry) (old new : Device) (count : ℕ) → Applies settings entries old count new → count ≤ length entries
 few_applied settings [] old new count h = let none = h.0 in omega arith
-few_applied settings (entry ∷ entries) old new count h =
-    let first = few_taken settings old h.1 entry h.0 h.3 in
-    let rest = few_applied settings entries h.1 new h.2 h.4 in
-    let sum = h.5 in
-    omega arith
+few_applied settings (entry ∷ entries) old new count h = search (rules, few_taken, (few_applied settings entries h.1 new h.2 h.4))
 
 -- one more entry is taken
 pub applied_more : (settings : List Setting) (entries : List Entry) (entry : Entry) (old mid new : Device) (count more : ℕ) → Applies settings entries old count mid → TakesEntry settings mid entry more new
     → Applies settings (entries ++ entry ∷ []) old (count + more) new
-applied_more settings [] entry old mid new count more h takes =
-    let none = h.0 in
-    let sum : count + more ≡ more + 0 = omega arith in
-    (more, new, 0, subst (λ (d : Device). TakesEntry settings d entry more new) h.1 takes, (refl, refl), sum)
-applied_more settings (e ∷ entries) entry old mid new count more h takes =
-    let so_far = h.5 in
-    let sum : count + more ≡ h.0 + (h.2 + more) = omega arith in
-    (h.0, h.1, h.2 + more, h.3, applied_more settings entries entry h.1 mid new h.2 more h.4 takes, sum)
+applied_more settings [] entry old mid new count more h takes = search rules
+applied_more settings (e ∷ entries) entry old mid new count more h takes = search (rules, (applied_more settings entries entry h.1 mid new h.2 more h.4 takes))
 
 -- ---- devices of one size and state
 
@@ -67,18 +57,8 @@ not_both : (fill more slots most : ℕ) → fill ≡ more → slots ≡ most →
 not_both fill more slots most e f less all = omega arith
 
 served_alike : (one other first second : Device) (address value : ℕ) → IsAlike one other → IsWriteServed one address value first → IsWriteServed other address value second → IsAlike first second
-served_alike one other first second address value same (inl h) (inl k) = record {
-  size = h.0.same_size ∙ same.size ∙ sym k.0.same_size;
-  state = h.0.step.2 ∙ ap (appended_state (Put address value)) same.state ∙ sym k.0.step.2;
-}
-served_alike one other first second address value same (inr h) (inr k) = record {
-  size = h.0.same_size ∙ same.size ∙ sym k.0.same_size;
-  state =
-      h.0.step.2
-      ∙ ap (λ (size : Size). moved_state size.pages (Put address value) (state_of one)) same.size
-      ∙ ap (moved_state other.size.pages (Put address value)) same.state
-      ∙ sym k.0.step.2;
-}
+served_alike one other first second address value same (inl h) (inl k) = search rules
+served_alike one other first second address value same (inr h) (inr k) = search rules
 served_alike one other first second address value same (inl h) (inr k) =
     absurd (not_both (state_of one).fill (state_of other).fill (slot_count one.size) (slot_count other.size) (ap (λ (s : State). s.fill) same.state) (ap slot_count same.size) h.0.step.1 k.0.step.1)
 served_alike one other first second address value same (inr h) (inl k) =
@@ -116,9 +96,7 @@ takes_alike settings one other first second entry count more rising same (inr h)
 by_number : (setting : Setting) (size : Size) (state : State) (number : ℕ) (fault : Fault) (value : ℕ) → IsInRange setting.numbers value → IsNumberRefusal setting size state number (pos value) fault
     → (state.map setting.numbers.address ≢ Some value) × IsWriteRefusalAt size state number setting.numbers.address fault
 by_number setting size state number fault value within (inl h) = absurd (h.0 value within refl)
-by_number setting size state number fault value within (inr h) =
-    let same : value ≡ h.0 = cc (h.1) in
-    rw same (h.3, h.4)
+by_number setting size state number fault value within (inr h) = search rules
 
 -- an entry with a number in the range of its setting is refused by the write alone
 by_write : (settings : List Setting) (size : Size) (state : State) (number : ℕ) (entry : Entry) (fault : Fault) (setting : Setting) (value : ℕ) → HaveRisingNames settings → IsNamed settings entry.0 setting

@@ -1,5 +1,5 @@
 -- What is told and tidied by a later schema, and that one cause at most applies for which it is not.
-use Rattle.std.proofs.Common.{◌≡◌, ◌≢◌, ◌⊎◌, ◌∙◌, ◌+◌, ℕ, Option, Some, None, List, inl, inr, sym, ap, subst, arith, Ok, Err}
+use Rattle.std.proofs.Common.{◌≡◌, ◌≢◌, ◌⊎◌, ◌∙◌, ◌+◌, ℕ, Option, Some, None, List, inl, inr, sym, ap, subst, arith, Ok, Err, rules}
 use Rattle.std.specs.Prelude.{option_map}
 use Rattle.ee_flash.specs.Device.{Device}
 use Rattle.ee_flash.specs.Size.{Size}
@@ -27,33 +27,17 @@ none_left (Some n) e = let wrong : 0 ≡ n + 1 = cc e in omega arith
 
 -- power that stays on is not cut in it
 pub never_cut : (settings : List Setting) (old new : Device) → StaysOn old → Tidies settings old (Err tidy.Cut) new → ⊥
-never_cut settings old new on stops =
-    let left : stops.last.cuts_left ≡ Some 0 = (each_goes_on stops.front old stops.last stops.forgotten).same_cuts_left ∙ on.never_cut in
-    none_left new.cuts_left (sym left ∙ stops.stopped.cut.one_less_left)
+never_cut settings old new on stops = search (rules, each_goes_on, none_left)
 
 pub is_tidied : (settings : List Setting) (old new : Device) (count : ℕ) → StaysOn old → Tidies settings old (Ok count) new → IsTidied settings old count new
-is_tidied settings old new count on done =
-    let power = each_goes_on (unnamed_in settings (state_of old).map) old new done.2 in
-    record {
-      tidied = done;
-      map_is = leaves_named settings old new count done;
-      state_is = leaves_state settings old new count done;
-      stays_on = record { on = power.same_power ∙ on.on; never_cut = power.same_cuts_left ∙ on.never_cut };
-      same_size = power.same_size;
-    }
+is_tidied settings old new count on done = search (rules, each_goes_on, leaves_named, leaves_state, never_cut)
 
 -- ---- what is told
 
 -- the lines of the opened store's stale entries are those of the image's
 pub are_stale_lines : (image text lines : List ℕ) (store : Device) (settings : List Setting) → IsOpened image store → SpellsSettings text settings
     → lines ≡ stale_lines settings (stale_in (state_of store).map settings) → AreStaleLines image text lines
-are_stale_lines image text lines store settings opened spelled says = record {
-  device = opened.device;
-  old = opened.old;
-  settings = settings;
-  spelled = spelled;
-  lines_are = says ∙ ap (λ (state : State). stale_lines settings (stale_in state.map settings)) opened.state_is;
-}
+are_stale_lines image text lines store settings opened spelled says = search rules
 
 -- ---- the image that is left
 
@@ -78,15 +62,7 @@ is_tidied_image image text new_image line store new settings count opened spelle
 
 pub is_spent_for : (image text : List ℕ) (store : Device) (settings : List Setting) (fault : Fault) → IsOpened image store → SpellsSettings text settings → fault ≡ Spent
     → IsSpentAmong store.size (unnamed_in settings (state_of store).map) (state_of store) → IsSpentFor image text fault
-is_spent_for image text store settings fault opened spelled told spent = record {
-  device = opened.device;
-  old = opened.old;
-  settings = settings;
-  spelled = spelled;
-  spent = subst (λ (size : Size). IsSpentAmong size (unnamed_in settings (state_of opened.device).map) (state_of opened.device)) opened.same_size
-      (subst (λ (state : State). IsSpentAmong store.size (unnamed_in settings state.map) state) opened.state_is spent);
-  fault_is = told;
-}
+is_spent_for image text store settings fault opened spelled told spent = search rules
 
 -- ---- the causes
 

@@ -1,5 +1,5 @@
 -- Texts written piece by piece.
-use Rattle.std.proofs.Common.{◌≡◌, ◌∙◌, ◌<◌, ◌+◌, ℕ, List, [], ◌∷◌, ◌++◌, ap, get_or, length, refl, sym, take}
+use Rattle.std.proofs.Common.{◌≡◌, ◌<◌, ◌+◌, ℕ, List, [], ◌++◌, get_or, length, refl, take, rules}
 use Rattle.std.proofs.lemmas.List.{flat_map_more, take_more}
 use Rattle.std.specs.List.{flat_map}
 use Rattle.ee_settings.specs.Setting.{Setting}
@@ -7,11 +7,7 @@ use Rattle.ee_settings.specs.Setting.{Setting}
 -- what is written of one more setting
 pub one_more : (of : Setting → List ℕ) (settings : List Setting) (i : ℕ) (setting : Setting) (old so_far now : List ℕ) → setting ≡ get_or settings i setting → i < length settings → so_far ≡ old ++ flat_map of (take i settings)
     → now ≡ so_far ++ of setting → now ≡ old ++ flat_map of (take (i + 1) settings)
-one_more of settings i setting old so_far now here within before written =
-    written
-    ∙ ap (λ (text : List ℕ). text ++ of setting) before
-    ∙ flat_map_more of old (take i settings) setting
-    ∙ ap (λ (ss : List Setting). old ++ flat_map of ss) (sym (take_more settings i setting within ∙ ap (λ (s : Setting). take i settings ++ s ∷ []) (sym here)))
+one_more of settings i setting old so_far now here within before written = search (rules, flat_map_more, take_more)
 
 -- five pieces from nothing on
 pub five_pieces : (a b c d e none first second third fourth fifth : List ℕ) → none ≡ [] → first ≡ none ++ a → second ≡ first ++ b → third ≡ second ++ c → fourth ≡ third ++ d → fifth ≡ fourth ++ e → fifth ≡ a ++ b ++ c ++ d ++ e

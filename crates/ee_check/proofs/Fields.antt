@@ -1,8 +1,7 @@
 -- What stands behind a name, and the field there.
-use Rattle.std.proofs.Common.{◌≡◌, ◌≢◌, ℕ, ◌<◌, ◌^◌, ◌++◌, List, ◌∷◌, refl, sym, ◌∙◌, ap, subst, arith, inl, true, not, eqb, Option, Some, None, IfSome, IfNone, MatchOption, Bor, Result, Ok, Err, IfErr, OnErr, MatchResult}
+use Rattle.std.proofs.Common.{◌≡◌, ◌≢◌, ℕ, ◌<◌, ◌^◌, ◌++◌, List, ◌∷◌, refl, sym, ◌∙◌, ap, subst, arith, inl, true, not, eqb, Option, Some, None, IfSome, IfNone, MatchOption, Bor}
 use Rattle.std.specs.Fmt.{decimal}
 use Rattle.std.specs.Option.{option_eq}
-use Rattle.std.specs.Result.{IsErrAnd}
 use Rattle.std.proofs.lemmas.Bool.{eq-eqb}
 use mathlib.Core.Bool.{true≢false}
 use Rattle.ee_text.specs.Field.{IsField}
@@ -29,18 +28,3 @@ pub other_count : (r : Option ℕ) (n : ℕ) → true ≡ not (option_eq eqb r (
 other_count r n told e =
     let a : true ≡ not (option_eq eqb (Some n) (Some n)) = subst (λ o. true ≡ not (option_eq eqb o (Some n))) e told in
     absurd (true≢false (a ∙ ap not (eq-eqb n n refl)))
-
--- an error that is passed on
-pub passed_on : {T E : Type 0} (r : Result T E) (fault : E) (P : E → Type 0) → IsErrAnd r (λ e. e ≡ fault) → P fault → IfErr r P
-passed_on (Ok x) fault P e h = absurd e
-passed_on (Err given) fault P e h = subst P (sym e) h
-
--- an answer that is passed on with it
-pub error_passed_on : {T E : Type 0} (r : Result T E) (fault : E) (O : T → Type 0) (P : E → Type 0) → IsErrAnd r (λ e. e ≡ fault) → P fault → MatchResult r O P
-error_passed_on (Ok x) fault O P e h = absurd e
-error_passed_on (Err given) fault O P e h = subst P (sym e) h
-
--- what holds anyway
-pub on_err_anyway : {T E : Type 0} (r : Result T E) (P : Type 0) → P → OnErr r P
-on_err_anyway (Ok x) P h = tt
-on_err_anyway (Err given) P h = h

@@ -3,7 +3,7 @@ use Rattle.std.proofs.Common.{◌≡◌, ◌≢◌, ◌⊎◌, ℕ, ◌+◌, ◌
 use Rattle.std.specs.Fmt.{decimal}
 use Rattle.std.proofs.lemmas.Fmt.{decimal_injective}
 use Rattle.std.proofs.lemmas.List.{append-nil, append_cancel_left}
-use Rattle.ee_text.specs.Line.{IsLine, line_of, IsLonger}
+use Rattle.ee_text.specs.Line.{IsLine, line_of}
 use Rattle.ee_text.proofs.Public.{first_place, Lacks-decimal}
 use Rattle.ee_text.proofs.Public as feeds
 use Rattle.ee_check.specs.declared.certificate.Stretch.{Stretch}
@@ -210,9 +210,3 @@ text_answered text Memory claim bad is = refl
 pub bad_line_answered : (text : List ℕ) (fault : TextFault) (n : ℕ) → IsCertificateTextFault text fault → IsFirstBadCertificateLine text n → (fault ≡ BadText n) ⊎ (fault ≡ Memory)
 bad_line_answered text (BadText m) n bad line = inl (ap BadText (one_first_bad_line_lem text m n bad line))
 bad_line_answered text Memory n bad line = inr refl
-
--- ---- what a writer writes
-
--- a text that grew twice
-pub longer_still : (old now new written : List ℕ) → now ≡ old ++ written → IsLonger now new → IsLonger old new
-longer_still old now new written so_far more = (written ++ more.0, more.1 ∙ ap (λ l. l ++ more.0) so_far ∙ append_assoc old written more.0)

@@ -1,6 +1,6 @@
 -- A store makes every change that it is asked for, as the late store does, while the changes fit and generations are left.
-use Rattle.std.proofs.Common.{◌≡◌, ◌≢◌, ◌∙◌, ℕ, ◌+◌, ◌<◌, ◌≤◌, true, false, cond, Ok, Err, None, List, [], ◌∷◌, length, refl, sym, subst, ap, arith}
-use Rattle.std.proofs.lemmas.List.Elements.{All-contains, All-tail}
+use Rattle.std.proofs.Common.{◌≡◌, ◌∙◌, ℕ, ◌+◌, ◌<◌, ◌≤◌, true, false, cond, Ok, Err, None, List, [], ◌∷◌, length, refl, sym, subst, ap, arith, rules}
+use Rattle.std.proofs.lemmas.List.Elements.{All-tail}
 use Rattle.std.specs.List.{All}
 use Rattle.ee_flash.specs.Device.{Device, IsOn}
 use Rattle.ee_flash.specs.Size.{Size, slot_count}
@@ -36,24 +36,8 @@ next : (moves : List Move) (now : Situation) (change : Change) (later : List Cha
     → IsNext now change later moves
 next [] now change later late same = absurd cc
 next (Copy ∷ moves) now change later late same = absurd late.0
-next (Append first ∷ moves) now change later late same =
-    let is : first ≡ change = cc in
-    let behind : changes_of moves ≡ later = cc in
-    record {
-      more = moves;
-      changes_are = behind;
-      appended = λ free. (subst (λ c. EachMove IsLate (after_move now (Append c)) moves) is late.1, refl);
-      carried = λ used. absurd (omega (arith, used, late.0));
-    }
-next (Carry first ∷ moves) now change later late same =
-    let is : first ≡ change = cc in
-    let behind : changes_of moves ≡ later = cc in
-    record {
-      more = moves;
-      changes_are = behind;
-      appended = λ free. absurd (omega (arith, free, late.0));
-      carried = λ used. (subst (λ c. EachMove IsLate (after_move now (Carry c)) moves) is late.1, refl);
-    }
+next (Append first ∷ moves) now change later late same = search rules
+next (Carry first ∷ moves) now change later late same = search rules
 
 -- ---- where a store stands beside the late store
 
@@ -97,27 +81,12 @@ module _ (old mid : Device) (call : Call) (calls : List Call) where
   asks_nothing : asked_by_calls (call ∷ calls) ≡ asked_by_calls calls → made_by_calls (call ∷ calls) ≡ made_by_calls calls → is_transfer call ≡ false
       → mid.on ≡ old.on → mid.size ≡ old.size → (state_of mid).map ≡ (state_of old).map → (state_of mid).fill ≡ (state_of old).fill
       → (state_of mid).generation ≡ (state_of old).generation → MakesAll mid calls → MakesAll old (call ∷ calls)
-  asks_nothing asked made still power sized map filled generation then = λ now moves here.
-      let stays = start_stays (slot_count old.size) (state_of old) (state_of mid) now here.start map filled in
-      let there : IsAt mid now moves (asked_by_calls calls) = record {
-        on = power ∙ here.on;
-        start = subst (λ (size : Size). IsStartOf (slot_count size) (state_of mid) now) (sym sized) stays;
-        proper = here.proper;
-        late = here.late;
-        changes_are = here.changes_are ∙ asked;
-        keeps = subst (λ l. KeepsWithin now.slots now.live l) asked here.keeps;
-        held = subst (λ l. ForgetsLive now.live l) asked here.held;
-        left = omega (arith, here.left, generation);
-      } in
-      let behind = then now moves there in
-      record { all = made ∙ behind.all ∙ sym asked; count = not_counted call calls still ∙ behind.count }
+  asks_nothing asked made still power sized map filled generation then = search (rules, not_counted, start_stays)
 
   -- a call that leaves the device as it was
   changes_nothing : asked_by_calls (call ∷ calls) ≡ asked_by_calls calls → made_by_calls (call ∷ calls) ≡ made_by_calls calls → is_transfer call ≡ false
       → mid ≡ old → MakesAll mid calls → MakesAll old (call ∷ calls)
-  changes_nothing asked made still same then =
-      asks_nothing asked made still (ap (λ (d : Device). d.on) same) (ap (λ (d : Device). d.size) same) (ap (λ (d : Device). (state_of d).map) same)
-      (ap (λ (d : Device). (state_of d).fill) same) (ap (λ (d : Device). (state_of d).generation) same) then
+  changes_nothing asked made still same then = search (rules, asks_nothing)
 
   module _ (change : Change) (meant : meaning.Change) (asked : asked_by_calls (call ∷ calls) ≡ change ∷ asked_by_calls calls)
       (made : made_by_calls (call ∷ calls) ≡ change ∷ made_by_calls calls)
@@ -196,9 +165,7 @@ forgets old address = λ now start. live_after_forget (state_of old).map now.liv
 
 never_absent : (old : Device) (now : Situation) (moves : List Move) (address : ℕ) (later : List Change) → IsAt old now moves (changes.Forget address ∷ later)
     → (state_of old).map address ≡ None → ⊥
-never_absent old now moves address later here absent =
-    let found = here.held.0 in
-    All-contains (λ one. (state_of old).map one ≢ None) now.live address here.start.are_live.have_values found absent
+never_absent old now moves address later here absent = search rules
 
 pub all_made : (calls : List Call) (old new : Device) → IsRun calls old new → NotCut calls → NoneWants calls → AreProper (asked_by_calls calls) → MakesAll old calls
 all_made [] old new run whole given are = λ now moves here. record { all = refl; count = sym (none_left moves now here.late here.changes_are) }

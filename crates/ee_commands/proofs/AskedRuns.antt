@@ -1,6 +1,6 @@
 -- Calls that ask for the changes of a trace move the map no more often than any schedule of that trace does, whatever they
 -- are answered.
-use Rattle.std.proofs.Common.{◌≡◌, ◌≢◌, ◌⊎◌, ◌∙◌, inl, inr, ℕ, zero, suc, ◌+◌, ◌≤◌, Bool, true, false, cond, eqb, is_some, Ok, Err, Option, Some, None, List, [], ◌∷◌, length, refl, sym, subst, ap, arith}
+use Rattle.std.proofs.Common.{◌≡◌, ◌≢◌, ◌⊎◌, ◌∙◌, inl, inr, ℕ, zero, suc, ◌+◌, ◌≤◌, Bool, true, false, cond, eqb, is_some, Ok, Err, Option, Some, None, List, [], ◌∷◌, length, refl, sym, subst, ap, arith, rules}
 use Rattle.std.proofs.lemmas.Bool.{cases_eq, ne_eqb}
 use Rattle.ee_flash.specs.Device.{Device, IsOff}
 use Rattle.ee_flash.specs.Size.{slot_count}
@@ -60,10 +60,7 @@ still_under map wide named value under = λ address some. put_wider (eqb named a
 
 -- a value less, of an address that has none in the other
 absent_under : (map wide : Map) (named : ℕ) → map named ≡ None → IsUnder map wide → IsUnder map (meaning.map_after (meaning.Forget named) wide)
-absent_under map wide named absent under = λ address some. elim (cases_eq named address) [
-  | inl here ↦ absurd (some (ap map (sym here) ∙ absent))
-  | inr apart ↦ rw (ne_eqb named address apart) (under address some)
-]
+absent_under map wide named absent under = search (rules, cases_eq, ne_eqb)
 
 -- ---- a store to which nothing more is done
 
@@ -81,20 +78,13 @@ never_moves old new change call (inr spent) = call.proceeds.accepted.not_spent s
 
 done_behind : (old new : Device) → ErasesOne old new → IsDone old → IsDone new
 done_behind old new call (inl off) = let on = call.was_on in absurd cc
-done_behind old new call (inr spent) =
-    let fill : (state_of new).fill ≡ (state_of old).fill = ap (λ (s : State). s.fill) call.state_is in
-    let generation : (state_of new).generation ≡ (state_of old).generation = ap (λ (s : State). s.generation) call.state_is in
-    let wide : slot_count new.size ≡ slot_count old.size = ap slot_count call.goes_on.same_size in
-    inr (record { all_used = fill ∙ spent.all_used ∙ sym wide; last_generation = generation ∙ spent.last_generation })
+done_behind old new call (inr spent) = search rules
 
 as_before : (old new : Device) → new ≡ old → IsDone old → IsDone new
 as_before old new same done = subst (λ (device : Device). IsDone device) (sym same) done
 
 stays_done : (call : Call) (old new : Device) → is_cut call ≡ false → Follows call old new → IsDone old → (is_transfer call ≡ false) × IsDone new
-stays_done call old new whole did done =
-    by_effect (λ transfer changes. (transfer ≡ false) × IsDone new) call old new whole did
-    (λ same. (refl, as_before old new same done)) (λ change did. absurd (never_appends old new change did done))
-    (λ change did. absurd (never_moves old new change did done)) (λ cleaned did. (refl, done_behind old new did done))
+stays_done call old new whole did done = search (rules, as_before, by_effect, done_behind, never_appends, never_moves)
 
 no_more_moves : (calls : List Call) (old new : Device) → IsRun calls old new → NotCut calls → IsDone old → transfers calls ≡ 0
 no_more_moves [] old new run whole done = refl
@@ -191,21 +181,11 @@ IsBounded device calls = (now : Situation) (moves : List Move) (moved spent : �
     → IsBelow device moved now spent → transfers calls + moved ≤ cost moves + spent
 
 room_refused : (moved spent more fill was next : ℕ) → moved ≤ spent → (moved ≡ spent → fill ≤ was) → (more ≡ 0 → next ≡ was + 1) → moved ≡ spent + more → fill + 1 ≤ next
-room_refused moved spent more fill was next few room one same =
-    let none : more ≡ 0 = omega (arith, few, same) in
-    let a = one none in
-    let b = room (omega (arith, same, none)) in
-    omega (arith, a, b)
+room_refused moved spent more fill was next few room one same = search rules
 
 few_moved : (moved spent more fill was next slots : ℕ) → moved ≤ spent → (moved ≡ spent → fill ≤ was) → (more ≡ 0 → next ≡ was + 1) → fill ≡ slots → next ≤ slots
     → moved + 1 ≤ spent + more
-few_moved moved spent more fill was next slots few room one used within = elim (cases_eq more 0) [
-  | inl none ↦ elim (cases_eq moved spent) [
-    | inl same ↦ let a = one none in let b = room same in absurd (omega (arith, a, b, used, within))
-    | inr less ↦ omega (arith, few, less)
-  ]
-  | inr some ↦ omega (arith, few, some)
-]
+few_moved moved spent more fill was next slots few room one used within = search (rules, cases_eq)
 
 -- this change, meant so, keeps the live addresses
 abbrev Keeps : Change → meaning.Change → Type 0

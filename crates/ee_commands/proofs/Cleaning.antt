@@ -1,10 +1,10 @@
 -- One clean step after another, and what they leave, as text.
-use Rattle.std.proofs.Common.{◌≡◌, ◌∙◌, ◌++◌, ◌+◌, ℕ, zero, suc, List, [], Ok, false, true, ap, arith, refl, replicate, subst}
-use Rattle.std.proofs.lemmas.List.Elements.{All-replicate}
+use Rattle.std.proofs.Common.{◌≡◌, ◌∙◌, ◌++◌, ◌+◌, ℕ, zero, suc, List, [], Ok, true, ap, arith, refl, replicate, subst}
+use Rattle.std.proofs.lemmas.Grind.{common_steps}
 use Rattle.ee_flash.specs.Device.{Device}
 use Rattle.ee_flash.specs.Size.{Size}
 use Rattle.ee_core.specs.Calls.{Cleans}
-use Rattle.ee_core.specs.Runs.{Call, Cleaned, IsRun, IsWholeRun, is_cut}
+use Rattle.ee_core.specs.Runs.{Call, Cleaned, IsRun, IsWholeRun}
 use Rattle.ee_core.specs.State.{State, Wears, pending_pages, state_of, with_pending}
 use Rattle.ee_commands.specs.Images.{IsCleaned, cleaned_text}
 use Rattle.ee_image_store.specs.Opening.{IsOpened, IsStoreLeft}
@@ -15,10 +15,7 @@ abbrev pub cleanings : ℕ → List Call
 cleanings n = replicate n (Cleaned (Ok true))
 
 no_cuts : (calls : List Call) (n : ℕ) (old new : Device) → calls ≡ cleanings n → IsRun calls old new → IsWholeRun calls old new
-no_cuts calls n old new are run = record {
-  run = run;
-  without_cuts = rw are (All-replicate (λ call. is_cut call ≡ false) n (Cleaned (Ok true)) refl);
-}
+no_cuts calls n old new are run = grind (arith, common_steps)
 
 pub cleans_none : (device : Device) → IsWholeRun (cleanings 0) device device
 cleans_none device = no_cuts (cleanings 0) 0 device device refl refl

@@ -1,5 +1,6 @@
 -- The text of a ledger grows by a page at a time; and there is one cause at most for which no wear is told.
-use Rattle.std.proofs.Common.{◌≡◌, ◌≢◌, ◌∙◌, ◌⊎◌, ◌+◌, ◌<◌, ℕ, zero, suc, Option, Some, None, List, [], ◌∷◌, ◌++◌, length, take, inl, inr, refl, sym, ap, subst, arith, add-one, append_assoc, Result, Ok, Err, IfErr, IfOk, MatchResult}
+use Rattle.std.proofs.Common.{◌≡◌, ◌≢◌, ◌∙◌, ◌⊎◌, ◌+◌, ◌<◌, ℕ, zero, suc, Option, Some, None, List, [], ◌∷◌, ◌++◌, length, take, inl, inr, refl, sym, ap, arith, add-one, append_assoc, Result, Ok, Err, IfErr, IfOk, MatchResult, rules}
+use Rattle.std.proofs.lemmas.Grind.{common_steps}
 use Rattle.std.specs.Prelude.{slice_index}
 use Rattle.std.proofs.lemmas.Bool.{cases_order}
 use Rattle.std.proofs.lemmas.List.{append-nil}
@@ -21,13 +22,8 @@ lines_push : (start : ℕ) (counts : List ℕ) (n number : ℕ) → number ≡ s
     → count_lines start (take (suc n) counts)
     ≡ count_lines start (take n counts) ++ line_of (count_text number (slice_index counts n))
 lines_push start [] n number e within = absurd (omega arith)
-lines_push start (count ∷ counts) zero number e within =
-    let same : start ≡ number = omega arith in
-    append-nil (line_of (count_text start count)) ∙ ap (λ k. line_of (count_text k count)) same
-lines_push start (count ∷ counts) (suc n) number e within =
-    let line : List ℕ = line_of (count_text start count) in
-    ap (λ l. line ++ l) (lines_push (start + 1) counts n number (omega arith) (omega arith))
-    ∙ sym (append_assoc line (count_lines (start + 1) (take n counts)) (line_of (count_text number (slice_index counts n))))
+lines_push start (count ∷ counts) zero number e within = search (rules, append-nil)
+lines_push start (count ∷ counts) (suc n) number e within = grind (arith, common_steps, (lines_push (start + 1) counts n number (omega arith) (omega arith)))
 
 -- one page more
 pub counts_grow : (counts : List ℕ) (n : ℕ) (count : ℕ) (old out new : List ℕ) → n < length counts
@@ -43,11 +39,7 @@ counts_grow counts n count old out new within so_far is written =
 -- ---- the faults of a difference
 
 one_page : (before now : List ℕ) (page other : ℕ) → IsFirstFallen before now page → IsFirstFallen before now other → other ≡ page
-one_page before now page other first second = elim (cases_order page other) [
-  | inl same ↦ sym same
-  | inr (inl less) ↦ absurd (omega (arith, second.none_below page less, first.less))
-  | inr (inr more) ↦ absurd (omega (arith, first.none_below other more, second.less))
-]
+one_page before now page other first second = search (rules, cases_order)
 
 one_since_fault : (before now : List ℕ) (cause fault : SinceFault) → cause ≢ since.Memory → IsSinceFault before now cause
     → IsSinceFault before now fault
@@ -76,11 +68,7 @@ same_wear text device other spelled again =
 moved_cause : (image before : List ℕ) (fault : Fault) (device old : Device) (wrong : IsDifferenceFault image before fault)
     → SpellsDevice image device → SpellsDevice before old
     → IsSinceFault old.wear device.wear wrong.cause
-moved_cause image before fault device old wrong spelled spelled_before =
-    subst (λ (wear : List ℕ). IsSinceFault wear device.wear wrong.cause)
-    (same_wear before old wrong.old spelled_before wrong.spelled_before)
-    (subst (λ (wear : List ℕ). IsSinceFault wrong.old.wear wear wrong.cause)
-    (same_wear image device wrong.device spelled wrong.spelled) wrong.applies)
+moved_cause image before fault device old wrong spelled spelled_before = search (rules, same_wear)
 
 some_cause : (image before : List ℕ) (fault : Fault) (wrong : IsDifferenceFault image before fault) → fault ≢ Memory
     → wrong.cause ≢ since.Memory

@@ -1,5 +1,6 @@
 -- Calls of a store move the map as the store does that transfers exactly when each slot is used.
-use Rattle.std.proofs.Common.{◌≡◌, ◌∙◌, ℕ, zero, suc, ◌+◌, ◌<◌, ◌≤◌, true, false, cond, Ok, Err, List, [], ◌∷◌, ◌++◌, length, map, refl, sym, subst, ap, arith}
+use Rattle.std.proofs.Common.{◌≡◌, ◌∙◌, ℕ, zero, suc, ◌+◌, ◌<◌, ◌≤◌, true, false, cond, Ok, Err, List, [], ◌∷◌, ◌++◌, length, map, refl, sym, subst, ap, arith, rules}
+use Rattle.std.proofs.lemmas.Grind.{common_steps}
 use Rattle.std.proofs.lemmas.List.Elements.{All-tail}
 use Rattle.std.proofs.lemmas.List.Sums.{sum_by-cons}
 use Rattle.std.specs.List.{All, AllByRecursion}
@@ -66,22 +67,12 @@ pub counted : (call : Call) (calls : List Call) → transfers (call ∷ calls) �
 counted call calls = sum_by-cons (λ (one : Call). cond (is_transfer one) 1 0) call calls
 
 pub not_counted : (call : Call) (calls : List Call) → is_transfer call ≡ false → transfers (call ∷ calls) ≡ transfers calls
-not_counted call calls still =
-    let none : cond {A = ℕ} (is_transfer call) 1 0 ≡ 0 = ap (λ b. cond {A = ℕ} b 1 0) still in
-    omega (arith, counted call calls, none)
+not_counted call calls still = search (rules, counted)
 
 -- a call that changes nothing goes before
 none_first : (start : Situation) (call : Call) (calls : List Call) → made_by_calls (call ∷ calls) ≡ made_by_calls calls → is_transfer call ≡ false
     → IsLateOf start calls → IsLateOf start (call ∷ calls)
-none_first start call calls same still late =
-    let count : transfers (call ∷ calls) ≡ transfers calls = not_counted call calls still in
-    record {
-      moves = late.moves;
-      changes_are = late.changes_are ∙ sym same;
-      late = late.late;
-      keeps = subst (λ l. KeepsWithin start.slots start.live l) (sym same) late.keeps;
-      carried = λ n. late.carried n ∙ sym count;
-    }
+none_first start call calls same still late = search (rules, not_counted)
 
 -- an append goes before
 append_first : (start : Situation) (call : Call) (calls : List Call) (change : Change) → made_by_calls (call ∷ calls) ≡ change ∷ made_by_calls calls
@@ -123,24 +114,14 @@ Follows device start calls = Starts device start → IsProper start → IsLateOf
 stays_then : (old mid : Device) (start : Situation) (call : Call) (calls : List Call) → made_by_calls (call ∷ calls) ≡ made_by_calls calls
     → is_transfer call ≡ false → mid.size ≡ old.size → (state_of mid).map ≡ (state_of old).map → (state_of mid).fill ≡ (state_of old).fill
     → Starts old start → IsProper start → Follows mid start calls → IsLateOf start (call ∷ calls)
-stays_then old mid start call calls none still sized same_map same_fill is proper follows =
-    let here = start_stays (slot_count old.size) (state_of old) (state_of mid) start is same_map same_fill in
-    none_first start call calls none still (follows (subst (λ (size : Size). IsStartOf (slot_count size) (state_of mid) start) (sym sized) here) proper)
+stays_then old mid start call calls none still sized same_map same_fill is proper follows = grind (arith, common_steps, none_first, start_stays)
 
 -- an append, and what follows
 append_then : (old mid : Device) (start : Situation) (call : Call) (calls : List Call) (change : Change) (meant : meaning.Change)
     → made_by_calls (call ∷ calls) ≡ change ∷ made_by_calls calls → is_transfer call ≡ false → Appends old meant mid
     → (is : Starts old start) → AreLive (meaning.map_after meant (state_of old).map) (live_after_one start.live change) → IsProper start
     → Follows mid (after_move start (Append change)) calls → IsLateOf start (call ∷ calls)
-append_then old mid start call calls change meant one still done is live proper follows =
-    let free : start.fill < start.slots = let a = is.fill_is in let b = is.slots_are in let c = done.free in omega arith in
-    let more = changed-le start.live change in
-    let held = proper.held in
-    let kept : IsProper (after_move start (Append change)) = record { held = omega arith; fits = omega arith } in
-    let here = appends old.size (state_of old) (state_of mid) start change meant done.state_is live is in
-    let there : Starts mid (after_move start (Append change)) =
-    subst (λ (size : Size). IsStartOf (slot_count size) (state_of mid) (after_move start (Append change))) (sym done.goes_on.same_size) here in
-    append_first start call calls change one still free (omega arith) (follows there kept)
+append_then old mid start call calls change meant one still done is live proper follows = search (rules, append_first, appends, changed-le)
 
 -- a move, and what follows
 carry_then : (old mid : Device) (start : Situation) (call : Call) (calls : List Call) (change : Change) (meant : meaning.Change)

@@ -1,5 +1,5 @@
 -- An image gives one start and a script one trace, so a plan and a check have one cause at most for which they fail.
-use Rattle.std.proofs.Common.{◌≡◌, ◌≢◌, ◌⊎◌, inl, inr, ℕ, Bool, true, false, None, List, refl, sym, ap, ◌∙◌, subst}
+use Rattle.std.proofs.Common.{◌≡◌, ◌≢◌, ◌⊎◌, inl, inr, ℕ, Bool, true, false, None, List, refl, sym, ap, ◌∙◌, subst, rules}
 use Rattle.std.proofs.lemmas.Cmp.{nat_cmp_total}
 use Rattle.std.proofs.lemmas.List.Elements.{All-contains}
 use Rattle.std.proofs.lemmas.Map.Lookups.{btree_set_from_contains, exact_unsigned}
@@ -35,8 +35,7 @@ use Rattle.ee_faults.specs.declared.fault.Fault.TheVariants.{Memory, NotFitting}
 use Rattle.ee_faults.specs.declared.replay_fault.ReplayFault.{ReplayFault}
 use Rattle.ee_faults.specs.declared.replay_fault.ReplayFault.TheVariants as replay
 use Rattle.ee_image_store.specs.Opening.{IsOpenFault, IsOpened, IsStoreText}
-use Rattle.ee_commands.specs.Planning.{IsCertificateFault, IsCheckingFault, IsImageStart, IsPlanningFault, IsRefusal, IsTask, IsTaskFault, IsTrace, IsTraceCommand, IsTraceFault}
-use Rattle.ee_image_store.specs.Trace.{trace_of}
+use Rattle.ee_commands.specs.Planning.{IsCertificateFault, IsCheckingFault, IsImageStart, IsPlanningFault, IsRefusal, IsTask, IsTaskFault, IsTrace, IsTraceFault}
 use Rattle.ee_image_store.proofs.Public.{one_open_fault, store_is_good, memory_or_not, same_at_rest, same_state}
 use Rattle.ee_commands.proofs.Traces.{one_first_bad_line, traces_are_good}
 
@@ -64,10 +63,7 @@ one_live map live other first second =
     exact_unsigned
 
 same_start : (start other : Situation) → start.slots ≡ other.slots → start.fill ≡ other.fill → start.live ≡ other.live → start ≡ other
-same_start start other slots fill live =
-    ap (λ n. record { slots = n; fill = start.fill; live = start.live }) slots
-    ∙ ap (λ n. record { slots = other.slots; fill = n; live = start.live }) fill
-    ∙ ap (λ l. record { slots = other.slots; fill = other.fill; live = l }) live
+same_start start other slots fill live = search rules
 
 pub one_start : (image : List ℕ) (start other : Situation) → IsImageStart image start → IsImageStart image other → start ≡ other
 one_start image start other first second =
@@ -83,9 +79,7 @@ one_start image start other first second =
 -- ---- one trace
 
 pub one_trace : (text : List ℕ) (trace other : List Change) → IsTrace text trace → IsTrace text other → trace ≡ other
-one_trace text trace other first second =
-    first.trace_is ∙ ap trace_of (one_reading IsTraceCommand (λ command is. is.0) text first.commands second.commands first.proper first.text_is second.proper second.text_is)
-    ∙ sym second.trace_is
+one_trace text trace other first second = search (rules, one_reading)
 
 -- ---- names
 
@@ -108,10 +102,7 @@ one_trace_fault text script.Memory fault some h i = absurd (some refl)
 
 -- where a store is opened an image's fault is want of memory
 opened_memory : (image : List ℕ) (device : Device) (cause : ReplayFault) → IsStoreText image device → IsOpenFault image cause → cause ≡ replay.Memory
-opened_memory image device cause store bad = elim (memory_or_not cause) [
-  | inl none ↦ none
-  | inr some ↦ absurd (store_is_good image device cause store some bad)
-]
+opened_memory image device cause store bad = search (rules, memory_or_not, store_is_good)
 
 -- where there is a trace its fault is want of memory
 pub trace_memory : (text : List ℕ) (trace : List Change) (cause : ScriptFault) → IsTrace text trace → IsTraceFault text cause → cause ≡ script.Memory
@@ -126,9 +117,7 @@ one_task_fault image text cause fault some (inl h) (inr i) =
     absurd (store_is_good image i.0.0 h.cause i.0.1 (other_cause fault_of_replay cause h.cause replay.Memory some h.fault_is refl) h.applies)
 one_task_fault image text cause fault some (inr h) (inl i) =
     inr (i.fault_is ∙ ap fault_of_replay (opened_memory image h.0.0 i.cause h.0.1 i.applies))
-one_task_fault image text cause fault some (inr h) (inr i) =
-    one_name fault_of_script cause fault h.1.cause i.1.cause script.Memory h.1.fault_is i.1.fault_is refl
-    (one_trace_fault text h.1.cause i.1.cause (other_cause fault_of_script cause h.1.cause script.Memory some h.1.fault_is refl) h.1.applies i.1.applies)
+one_task_fault image text cause fault some (inr h) (inr i) = search (rules, one_name, one_trace_fault, other_cause)
 
 -- where a start and a trace are had it is want of memory
 pub only_memory : (image text : List ℕ) (start : Situation) (trace : List Change) (fault : Fault) → IsTask image text start trace → IsTaskFault image text fault → fault ≡ Memory
@@ -193,9 +182,7 @@ text_memory certificate claim spelled.Memory is bad = refl
 
 pub text_of_check : (start : Situation) (trace : List Change) (certificate : List ℕ) (cause : Fault) (fault : TextFault) → cause ≢ Memory
     → IsCertificateFault start trace certificate cause → IsCertificateTextFault certificate fault → (fault_of_certificate fault ≡ cause) ⊎ (fault_of_certificate fault ≡ Memory)
-text_of_check start trace certificate cause fault some (inl h) i =
-    one_name fault_of_certificate cause (fault_of_certificate fault) h.cause fault spelled.Memory h.fault_is refl refl
-    (one_text_fault certificate h.cause fault (other_cause fault_of_certificate cause h.cause spelled.Memory some h.fault_is refl) h.applies i)
+text_of_check start trace certificate cause fault some (inl h) i = search (rules, one_name, one_text_fault, other_cause)
 text_of_check start trace certificate cause fault some (inr h) i = inr (ap fault_of_certificate (text_memory certificate h.0 fault h.1 i))
 
 -- a fault but for want of memory has its cause in the claim
@@ -220,18 +207,7 @@ cause_of_check start trace certificate claim cause some (inr h) is =
 
 pub is_task : (image text : List ℕ) (store : Device) (start : Situation) (trace : List Change) → IsOpened image store → IsStartOf (slot_count store.size) (state_of store) start
     → IsTrace text trace → IsTask image text start trace
-is_task image text store start trace opened start_is trace_is = record {
-  start_is = record {
-    device = opened.device;
-    store = opened.old;
-    start_is = record {
-      slots_are = start_is.slots_are ∙ ap slot_count opened.same_size;
-      fill_is = start_is.fill_is ∙ ap (λ (s : State). s.fill) opened.state_is;
-      are_live = subst (λ (s : State). AreLive s.map start.live) opened.state_is start_is.are_live;
-    };
-  };
-  trace_is = trace_is;
-}
+is_task image text store start trace opened start_is trace_is = search rules
 
 -- the trace, by another name; that they are one is found anew at each call, so that another trace leaves a goal open
 pub trace_renamed : (image text : List ℕ) (start : Situation) (trace other : List Change) → IsTask image text start trace → trace ≡ other → IsTask image text start other

@@ -1,5 +1,6 @@
 -- The lines of pages' states grow by a page at a time.
-use Rattle.std.proofs.Common.{◌≡◌, ◌∙◌, ◌+◌, ◌<◌, ℕ, zero, suc, List, [], ◌∷◌, ◌++◌, length, get_or, take, sym, ap, arith, add-one, append_assoc}
+use Rattle.std.proofs.Common.{◌≡◌, ◌∙◌, ◌+◌, ◌<◌, ℕ, zero, suc, List, [], ◌∷◌, ◌++◌, length, get_or, take, sym, ap, arith, add-one, append_assoc, rules}
+use Rattle.std.proofs.lemmas.Grind.{common_steps}
 use Rattle.std.proofs.lemmas.List.{append-nil}
 use Rattle.ee_text.specs.Line.{line_of}
 use Rattle.ee_flash.specs.Device.{Device, IsFormed, page_at}
@@ -12,13 +13,8 @@ use Rattle.ee_commands.specs.Images.{state_lines, state_text}
 lines_push : (start : ℕ) (pages : List (List Word)) (n number : ℕ) → number ≡ start + n → n < length pages
     → state_lines start (take (suc n) pages) ≡ state_lines start (take n pages) ++ line_of (state_text number (state_of_words (get_or pages n [])))
 lines_push start [] n number e within = absurd (omega arith)
-lines_push start (words ∷ pages) zero number e within =
-    let same : start ≡ number = omega arith in
-    append-nil (line_of (state_text start (state_of_words words))) ∙ ap (λ k. line_of (state_text k (state_of_words words))) same
-lines_push start (words ∷ pages) (suc n) number e within =
-    let line : List ℕ = line_of (state_text start (state_of_words words)) in
-    ap (λ l. line ++ l) (lines_push (start + 1) pages n number (omega arith) (omega arith))
-    ∙ sym (append_assoc line (state_lines (start + 1) (take n pages)) (line_of (state_text number (state_of_words (get_or pages n [])))))
+lines_push start (words ∷ pages) zero number e within = search (rules, append-nil)
+lines_push start (words ∷ pages) (suc n) number e within = grind (arith, common_steps, (lines_push (start + 1) pages n number (omega arith) (omega arith)))
 
 -- one page more
 pub states_grow : (device : Device) (n : ℕ) (old out new : List ℕ) (state : page.State) → IsFormed device → n < page_count device.size

@@ -1,9 +1,9 @@
 -- What the least and the limit of a size say, and that neither is above the number that follows it.
-use Rattle.std.proofs.Common.{◌≡◌, ◌∙◌, inl, inr, ℕ, zero, suc, ◌+◌, ◌*◌, ◌-◌, ◌/◌, ◌<◌, ◌≤◌, List, [], ◌∷◌, length, subst, ap, arith}
+use Rattle.std.proofs.Common.{◌≡◌, ℕ, zero, suc, ◌+◌, ◌*◌, ◌-◌, ◌/◌, ◌<◌, ◌≤◌, List, [], ◌∷◌, length, subst, ap, arith, rules}
 use Rattle.std.proofs.Math.Nat.{div-lt_iff_lt-mul, div-zero, mul-le-mul_left}
 use Rattle.std.proofs.lemmas.Bool.{cases_eq}
 use Rattle.ee_flash.proofs.Public.{some_page_wears_lem}
-use Rattle.ee_flash.specs.Endurance.{erases_of, least_wear, word_count}
+use Rattle.ee_flash.specs.Endurance.{erases_of, least_wear}
 use Rattle.ee_flash.specs.Size.{Size, page_count, size_of, slot_count}
 use Rattle.ee_check.proofs.Public.{changed-le}
 use Rattle.ee_check.specs.declared.change.Change.{Change}
@@ -50,23 +50,11 @@ below changes transfers slots words few room =
 -- both sets have two words more than twice their slots
 wide : (pages words : ℕ) → ¬ (pages * words ≡ 0) → (pages * (words - 4) + 1) * 2 ≤ 2 * pages * words
 wide pages zero some = absurd (some (omega arith))
-wide pages (suc others) some =
-    let less : pages * (suc others - 4) ≤ pages * others = mul-le-mul_left pages (omega arith) in
-    let positive : 1 ≤ pages = elim (cases_eq pages 0) [
-      | inl none ↦ absurd (some (rw none (omega arith)))
-      | inr other ↦ omega (arith, other)
-    ] in
-    omega (arith, less, positive)
+wide pages (suc others) some = search (rules, cases_eq, mul-le-mul_left)
 
 limit_below : (pages words changes transfers : ℕ) → changes ≤ pages * (words - 4) + (pages * (words - 4) + 1) * transfers
     → limit_for pages words changes ≤ least_for transfers
-limit_below pages words changes transfers few = elim (cases_eq (pages * words) 0) [
-  | inl none ↦
-      let no_words : word_count (size_of pages words) ≡ 0 = omega (arith, none) in
-      let nothing : limit_for pages words changes ≡ 0 = ap (λ n. (changes - 1) / n) no_words ∙ div-zero (changes - 1) in
-      omega (arith, nothing)
-  | inr some ↦ below changes transfers (pages * (words - 4)) (2 * pages * words) few (wide pages words some)
-]
+limit_below pages words changes transfers few = search (rules, below, cases_eq, div-zero, wide)
 
 -- ---- each size
 

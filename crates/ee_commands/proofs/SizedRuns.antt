@@ -1,5 +1,5 @@
 -- A store that was just formatted wears as the line of its size tells, and makes what it is asked for.
-use Rattle.std.proofs.Common.{◌≡◌, ◌∙◌, inl, inr, ℕ, ◌+◌, ◌<◌, ◌≤◌, Bool, false, None, leb, List, [], ◌∷◌, ◌++◌, length, refl, sym, subst, ap, arith}
+use Rattle.std.proofs.Common.{◌≡◌, ◌∙◌, inl, inr, ℕ, ◌+◌, ◌<◌, ◌≤◌, Bool, false, None, leb, List, [], ◌∷◌, ◌++◌, length, refl, sym, subst, ap, arith, rules}
 use Rattle.std.proofs.lemmas.Bool.{and_parts, cases_eq, leb-true, ltb-false}
 use Rattle.std.specs.List.{All}
 use Rattle.ee_flash.specs.Device.{Device, IsOn}
@@ -68,18 +68,12 @@ among words pages first trace (demand ∷ demands) low high are = elim (cases_eq
 -- and what is demanded of a size, by its place among all
 demand_at : (words first : ℕ) (trace : List Change) (smaller larger : List Demand) (demand : Demand) → AreDemands words trace first (smaller ++ demand ∷ larger)
     → IsDemand (fresh (slot_count (size_of (first + length smaller) words))) trace demand
-demand_at words first trace [] larger demand are =
-    let here : first + 0 ≡ first = omega arith in
-    subst (λ n. IsDemand (fresh (slot_count (size_of n words))) trace demand) (sym here) are.0
-demand_at words first trace (one ∷ smaller) larger demand are =
-    let here : first + length (one ∷ smaller) ≡ first + 1 + length smaller = omega arith in
-    subst (λ n. IsDemand (fresh (slot_count (size_of n words))) trace demand) (sym here) (demand_at words (first + 1) trace smaller larger demand are.1)
+demand_at words first trace [] larger demand are = search rules
+demand_at words first trace (one ∷ smaller) larger demand are = search (rules, (demand_at words (first + 1) trace smaller larger demand are.1))
 
 demanded_there : (words pages : ℕ) (trace : List Change) (most : ℕ) (demands : List Demand) → IsDemandOf pages demands (Transfers most) → AreDemands words trace 1 demands
     → IsDemand (fresh (slot_count (size_of pages words))) trace (Transfers most)
-demanded_there words pages trace most demands line are =
-    let there = demand_at words 1 trace line.smaller line.larger (Transfers most) (subst (AreDemands words trace 1) line.parts are) in
-    subst (λ n. IsDemand (fresh (slot_count (size_of n words))) trace (Transfers most)) (sym line.place) there
+demanded_there words pages trace most demands line are = search (rules, demand_at)
 
 -- what the changes demand is what the calls did
 did_so : (start : Situation) (trace : List Change) (demand : Demand) (calls : List Call) → IsProper start → IsLateOf start calls → made_by_calls calls ≡ trace
@@ -96,12 +90,7 @@ did_so start trace (NotFitting n) calls proper late same demanded =
 
 -- where nothing was written no slot is used and no address is live
 none_live : AreLive (λ address. None) []
-none_live = record {
-  ascending = none_sorted;
-  proper = λ n usual h. absurd (omega (arith, h));
-  have_values = λ n usual h. absurd (omega (arith, h));
-  all = λ address some. absurd (some refl);
-}
+none_live = search (rules, none_sorted)
 
 empty_start : (slots : ℕ) (state : State) → state ≡ formatted_state → IsStartOf slots state (fresh slots)
 empty_start slots state same =
@@ -112,15 +101,7 @@ empty_proper slots = record { held = omega arith; fits = omega arith }
 
 -- a store beside a schedule, before the first change
 both_begin : (device : Device) → state_of device ≡ formatted_state → IsBelow device 0 (fresh (slot_count device.size)) 0
-both_begin device same = record {
-  wide = λ address. None;
-  live = none_live;
-  under = λ address some. absurd (some (ap (λ (s : State). s.map address) same));
-  proper = empty_proper (slot_count device.size);
-  slots = refl;
-  few = omega arith;
-  room = λ e. let fill : (state_of device).fill ≡ 0 = ap (λ (s : State). s.fill) same in omega (arith, fill);
-}
+both_begin device same = search (rules, empty_proper, none_live)
 
 -- where the calls moved the map no more often than a line tells
 wears : (cycles most : ℕ) (calls : List Call) (blank old new : Device) → IsFormatted blank old → IsWholeRun calls old new → transfers calls ≤ most
@@ -136,9 +117,7 @@ wears cycles most calls blank old new formats whole few =
 
 -- the addresses of the script that is made so many times
 all_proper : (words cycles runs : ℕ) (text told : List ℕ) (some_enough : Bool) (sized : IsSized words text cycles runs told some_enough) → AreProper (repeated_trace runs sized.trace)
-all_proper words cycles runs text told some_enough sized =
-    let once = trace_proper sized.trace_is.commands sized.trace_is.proper in
-    repeated_proper runs sized.trace (subst AreProper (sym sized.trace_is.trace_is) once)
+all_proper words cycles runs text told some_enough sized = search (rules, repeated_proper, trace_proper)
 
 pub each_size_wears_as_told_lem : (text told : List ℕ) (cycles runs most : ℕ) (some_enough : Bool) (calls : List Call) (blank old new : Device)
     → (sized : IsSized old.size.words text cycles runs told some_enough) → IsDemandOf old.size.pages sized.demands (Transfers most)
@@ -177,9 +156,7 @@ each_size_moves_as_told_lem text told cycles runs some_enough calls blank old ne
 
 -- generations are left for so many transfers of a store that was just formatted
 generations_left : (most : ℕ) (device : Device) → state_of device ≡ formatted_state → is_spent_by most ≡ false → (state_of device).generation + most ≤ greatest_generation
-generations_left most device same left =
-    let first : (state_of device).generation ≡ 1 = ap (λ (s : State). s.generation) same in
-    omega (arith, first, ltb-false most_transfers most left)
+generations_left most device same left = search (rules, ltb-false)
 
 pub each_size_is_made_as_told_lem : (text told : List ℕ) (cycles runs most : ℕ) (some_enough : Bool) (calls : List Call) (blank old new : Device)
     → (sized : IsSized old.size.words text cycles runs told some_enough) → IsDemandOf old.size.pages sized.demands (Transfers most)

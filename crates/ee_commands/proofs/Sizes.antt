@@ -1,5 +1,6 @@
 -- What is told of the sizes of a part, one size further, and why none is told.
-use Rattle.std.proofs.Common.{◌≡◌, ◌≢◌, ◌⊎◌, ℕ, ◌+◌, ◌<◌, List, [], ◌∷◌, ◌++◌, length, take, get_or, refl, sym, ap, subst, ◌∙◌, arith, append_assoc}
+use Rattle.std.proofs.Common.{◌≡◌, ◌≢◌, ◌⊎◌, ℕ, ◌+◌, ◌<◌, List, [], ◌∷◌, ◌++◌, length, take, get_or, ap, ◌∙◌, arith, rules}
+use Rattle.std.proofs.lemmas.Grind.{common_steps}
 use Rattle.std.proofs.lemmas.List.{take_more, length-take-le, append-nil}
 use Rattle.ee_flash.specs.Size.{size_of, slot_count}
 use Rattle.ee_text.specs.Line.{line_of}
@@ -19,28 +20,20 @@ use Rattle.ee_commands.proofs.OneTask.{one_name, one_trace_fault, other_cause, t
 
 pub demands_grow : (words : ℕ) (trace : List Change) (pages next : ℕ) (demands : List Demand) (demand : Demand) → AreDemands words trace pages demands
     → next ≡ pages + length demands → IsDemand (fresh (slot_count (size_of next words))) trace demand → AreDemands words trace pages (demands ++ demand ∷ [])
-demands_grow words trace pages next [] demand are is one =
-    let e : next ≡ pages = omega arith in
-    (subst (λ n. IsDemand (fresh (slot_count (size_of n words))) trace demand) e one, tt)
+demands_grow words trace pages next [] demand are is one = search rules
 demands_grow words trace pages next (first ∷ demands) demand are is one =
     (are.0, demands_grow words trace (pages + 1) next demands demand are.1 (omega arith) one)
 
 lines_append : (words cycles changes pages next : ℕ) (demands : List Demand) (demand : Demand) → next ≡ pages + length demands
     → size_lines words cycles changes pages (demands ++ demand ∷ []) ≡ size_lines words cycles changes pages demands ++ line_of (sizing_text words cycles changes next demand)
-lines_append words cycles changes pages next [] demand is =
-    let e : next ≡ pages = omega arith in
-    rw e (simp append-nil)
-lines_append words cycles changes pages next (first ∷ demands) demand is =
-    ap (λ l. line_of (sizing_text words cycles changes pages first) ++ l) (lines_append words cycles changes (pages + 1) next demands demand (omega arith))
-    ∙ sym (append_assoc (line_of (sizing_text words cycles changes pages first)) (size_lines words cycles changes (pages + 1) demands) (line_of (sizing_text words cycles changes next demand)))
+lines_append words cycles changes pages next [] demand is = search (rules, append-nil)
+lines_append words cycles changes pages next (first ∷ demands) demand is = grind (arith, common_steps, (lines_append words cycles changes (pages + 1) next demands demand (omega arith)))
 
 -- ---- why none is told
 
 pub cause_of_trace : (text : List ℕ) (cause : Fault) (fault : ScriptFault) → cause ≢ Memory → IsSizingFault text cause → IsTraceFault text fault
     → (fault_of_script fault ≡ cause) ⊎ (fault_of_script fault ≡ Memory)
-cause_of_trace text cause fault some h is =
-    one_name fault_of_script cause (fault_of_script fault) h.cause fault script.Memory h.fault_is refl refl
-    (one_trace_fault text h.cause fault (other_cause fault_of_script cause h.cause script.Memory some h.fault_is refl) h.applies is)
+cause_of_trace text cause fault some h is = search (rules, one_name, one_trace_fault, other_cause)
 
 -- a script that gives a trace has no cause but want of memory
 pub only_want_of_memory : (text : List ℕ) (trace : List Change) (cause : Fault) → IsTrace text trace → cause ≢ Memory → IsSizingFault text cause → ⊥
@@ -50,8 +43,4 @@ only_want_of_memory text trace cause is some h = some (h.fault_is ∙ ap fault_o
 pub sizes_grow : (words cycles changes pages n : ℕ) (demands : List Demand) (d : Demand) (old new : List ℕ) → n < length demands → pages ≡ n
     → old ≡ size_lines words cycles changes 1 (take n demands)
     → new ≡ old ++ line_of (sizing_text words cycles changes (pages + 1) (get_or demands n d)) → new ≡ size_lines words cycles changes 1 (take (n + 1) demands)
-sizes_grow words cycles changes pages n demands d old new within counted so_far written =
-    let demand = get_or demands n d in
-    let size = length-take-le n demands (omega arith) in
-    written ∙ ap (λ l. l ++ line_of (sizing_text words cycles changes (pages + 1) demand)) so_far
-    ∙ sym (ap (size_lines words cycles changes 1) (take_more demands n d within) ∙ lines_append words cycles changes 1 (pages + 1) (take n demands) demand (omega arith))
+sizes_grow words cycles changes pages n demands d old new within counted so_far written = search (rules, length-take-le, lines_append, take_more)

@@ -1,6 +1,6 @@
 -- The trace of a script, line by line.
 use Rattle.std.specs.List.{AllByRecursion}
-use Rattle.std.proofs.Common.{◌≡◌, ◌≢◌, ℕ, ◌+◌, ◌<◌, ◌≤◌, List, [], ◌∷◌, ◌++◌, length, length-append, append_assoc, refl, sym, ap, ◌∙◌, arith, true, false, ◌==◌}
+use Rattle.std.proofs.Common.{◌≡◌, ◌≢◌, ℕ, ◌+◌, ◌<◌, ◌≤◌, List, [], ◌∷◌, ◌++◌, length, length-append, refl, sym, ap, arith, true, false, ◌==◌, rules}
 use Rattle.std.proofs.lemmas.Grind.{common_steps}
 use Rattle.std.proofs.lemmas.List.{append-nil}
 use Rattle.ee_check.specs.declared.change.Change.{Change}
@@ -36,10 +36,7 @@ trace_of-append (PowerOn ∷ commands) more = trace_of-append commands more
 
 script_append : (commands : List Command) (command : Command) (rest : List ℕ) → script commands ++ (line_of (command_text command) ++ rest) ≡ script (commands ++ command ∷ []) ++ rest
 script_append [] command rest = ap (λ l. l ++ rest) (sym (append-nil (line_of (command_text command))))
-script_append (first ∷ commands) command rest =
-    append_assoc (line_of (command_text first)) (script commands) (line_of (command_text command) ++ rest)
-    ∙ ap (λ l. line_of (command_text first) ++ l) (script_append commands command rest)
-    ∙ sym (append_assoc (line_of (command_text first)) (script (commands ++ command ∷ [])) rest)
+script_append (first ∷ commands) command rest = grind (arith, common_steps, (script_append commands command rest))
 
 proper_append : (commands : List Command) (command : Command) → AllByRecursion IsTraceCommand commands → IsTraceCommand command → AllByRecursion IsTraceCommand (commands ++ command ∷ [])
 proper_append [] command proper one = (one, tt)
@@ -48,13 +45,7 @@ proper_append (first ∷ commands) command proper one = (proper.0, proper_append
 -- one line more is read
 pub one_line_more : (text rest more : List ℕ) (old new : List Change) (lines number : ℕ) (command : Command) → HasRead text rest old lines → number ≡ lines + 1
     → IsTraceCommand command × (rest ≡ line_of (command_text command) ++ more) → new ≡ old ++ trace_of (command ∷ []) → HasRead text more new number
-one_line_more text rest more old new lines number command read counted found pushed = record {
-  commands = read.commands ++ command ∷ [];
-  proper = proper_append read.commands command read.proper found.0;
-  text_is = read.text_is ∙ ap (λ l. script read.commands ++ l) found.1 ∙ script_append read.commands command more;
-  trace_is = pushed ∙ ap (λ l. l ++ trace_of (command ∷ [])) read.trace_is ∙ sym (trace_of-append read.commands (command ∷ []));
-  lines_are = let a = read.lines_are in omega (arith, length-append read.commands (command ∷ []));
-}
+one_line_more text rest more old new lines number command read counted found pushed = search (rules, length-append, proper_append, script_append, trace_of-append)
 
 -- a line has its line feed at least
 pub line_is_longer : (rest more : List ℕ) (command : Command) → rest ≡ line_of (command_text command) ++ more → length more + 1 ≤ length rest
@@ -62,23 +53,10 @@ line_is_longer rest more command e =
     omega (arith, ap length e, length-append (line_of (command_text command)) more, length-append (command_text command) (10 ∷ []))
 
 pub bad_line : (text rest : List ℕ) (trace : List Change) (lines number : ℕ) → HasRead text rest trace lines → number ≡ lines + 1 → rest ≢ [] → NoLineOf IsTraceCommand rest → IsFirstBadLineOf IsTraceCommand text number
-bad_line text rest trace lines number read counted goes_on bad = record {
-  good = read.commands;
-  rest = rest;
-  proper = read.proper;
-  text_is = read.text_is;
-  goes_on = goes_on;
-  bad = bad;
-  number = let a = read.lines_are in omega arith;
-}
+bad_line text rest trace lines number read counted goes_on bad = search (rules, goes_on)
 
 pub all_read : (text rest : List ℕ) (trace : List Change) (lines : ℕ) → HasRead text rest trace lines → rest ≡ [] → IsTrace text trace
-all_read text rest trace lines read empty = record {
-  commands = read.commands;
-  proper = read.proper;
-  text_is = read.text_is ∙ ap (λ l. script read.commands ++ l) empty ∙ append-nil (script read.commands);
-  trace_is = read.trace_is;
-}
+all_read text rest trace lines read empty = search (rules, append-nil)
 
 -- ---- one first bad line
 

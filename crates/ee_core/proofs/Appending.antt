@@ -1,8 +1,7 @@
 -- What programming a change into the first free slot of the live set leaves.
-use Rattle.std.proofs.Common.{◌≡◌, ◌≢◌, ◌⊎◌, inl, inr, ℕ, ◌+◌, ◌-◌, ◌<◌, ◌/◌, ◌%◌, false, Result, Ok, Err, List, [], length, get_or, set, refl, sym, subst, ap, ◌∙◌, arith}
+use Rattle.std.proofs.Common.{◌≡◌, ◌≢◌, ◌⊎◌, inl, inr, ℕ, ◌+◌, ◌-◌, ◌<◌, ◌/◌, ◌%◌, false, Result, Ok, Err, List, [], length, get_or, refl, sym, subst, ap, ◌∙◌, arith}
 use Rattle.std.specs.Result.{OnErr}
 use Rattle.std.proofs.lemmas.Bool.{cases_eq}
-use Rattle.std.proofs.lemmas.List.{get_or-set_other, get_or-set_same}
 use Rattle.ee_flash.specs.Device.{Device, IsOn, all_ones, word_at}
 use Rattle.ee_flash.specs.Laws.{CanTake, IsStep}
 use Rattle.ee_flash.specs.Size.{slot_count}
@@ -27,12 +26,6 @@ use Rattle.ee_core.proofs.Marks.{place_below}
 pub on_err : {T E : Type 0} (P : Type 0) (result : Result T E) → P → OnErr result P
 on_err P (Ok value) holds = tt
 on_err P (Err error) holds = holds
-
--- a program leaves every word but its own
-other_word : (image : List (List Word)) (page at k : ℕ) (word : Word) → page < length image → k ≢ at → get_or (get_or (set image page (set (get_or image page []) at word)) page []) k Erased ≡ get_or (get_or image page []) k Erased
-other_word image page at k word h other =
-    ap (λ (words : List Word). get_or words k Erased) (get_or-set_same image page (set (get_or image page []) at word) [] h)
-    ∙ get_or-set_other (get_or image page []) at k word Erased other
 
 program_keeps_words : (page at value : ℕ) (old new : Device) → IsStep (Program page at value) old new → (there k : ℕ) → k ≢ at → word_at new there k ≡ word_at old there k
 program_keeps_words page at value old new taken there k other = elim (cases_eq there page) [

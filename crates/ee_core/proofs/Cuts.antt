@@ -7,11 +7,12 @@ use Rattle.ee_flash.specs.Size.{page_count}
 use Rattle.ee_flash.specs.Step.{Step, Program, Erase, IsCutIn, IsPartlyErased, IsUntouched}
 use Rattle.ee_flash.specs.declared.word.Word.{Word}
 use Rattle.ee_flash.specs.declared.word.Word.TheVariants.{Erased, Held, Torn}
+use Rattle.ee_flash.proofs.Public.{length-page_at}
 use Rattle.ee_pages.specs.Page.{is_blank, is_marked, marking, number_of_mark, place_of_mark}
 use Rattle.ee_pages.specs.Sets.{first_page, other}
 use Rattle.ee_pages.specs.declared.side.Side.{Side}
 use Rattle.ee_pages.specs.declared.state.Mark.{Mark}
-use Rattle.ee_pages.proofs.Public.{length-page_at, erased_word}
+use Rattle.ee_pages.proofs.Public.{erased_word}
 use Rattle.ee_pages.specs.Laws.{IsPageOf}
 use Rattle.ee_core.proofs.Drawings.{marked-erased, put_apart, put_drawn, with_mark, with_word-elsewhere, with_word-there}
 use Rattle.ee_core.proofs.Marks.{place_below}

@@ -8,13 +8,13 @@ use Rattle.ee_flash.specs.Size.{Size, page_count}
 use Rattle.ee_flash.specs.Step.{device_after, with_word_programmed}
 use Rattle.ee_flash.specs.declared.word.Word.{Word}
 use Rattle.ee_flash.specs.declared.word.Word.TheVariants.{Erased, Held, Torn}
+use Rattle.ee_flash.proofs.Public.{length-page_at}
 use Rattle.ee_pages.specs.Laws.{IsPageOf}
 use Rattle.ee_pages.specs.Page.{is_marked, is_written, marking, number_of_mark, place_of_mark}
 use Rattle.ee_pages.specs.Sets.{first_page, other}
 use Rattle.ee_pages.specs.declared.side.Side.{Side}
 use Rattle.ee_pages.specs.declared.state.Mark.{Mark}
 use Rattle.ee_pages.specs.declared.state.Mark.TheVariants.{Active, Erasing, Valid}
-use Rattle.ee_pages.proofs.Public.{length-page_at}
 use Rattle.ee_core.specs.Parts.{IsSameSet, PutsWord, SetsMark}
 use Rattle.ee_core.specs.Picture.{IsDrawn, Picture, marked_word, marked_to, picture_of, retired_pages, picture_with_word}
 use Rattle.ee_core.proofs.SetPages.{apart, same_page}

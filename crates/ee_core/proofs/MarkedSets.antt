@@ -11,11 +11,11 @@ use Rattle.ee_pages.specs.Page.{is_blank, is_marked}
 use Rattle.ee_pages.specs.Sets.{first_page, other, page_of_slot, place_of_slot}
 use Rattle.ee_pages.specs.declared.side.Side.{Side}
 use Rattle.ee_pages.specs.declared.state.Mark.TheVariants.{Active, Erasing, Valid}
+use Rattle.ee_pages.proofs.Public.{other_twice}
 use Rattle.ee_core.proofs.Drawings.{active_last, drawn_as, drawn_same, mark_drawn, put_drawn, retired_all, retired_more, retired_none, retired_past, same_drawn, valid_drawn, valid_more, valid_none, valid_to, with_mark}
 use Rattle.ee_core.proofs.SetPages.{same_other, same_page}
 use Rattle.ee_core.specs.Parts.{IsSameBut, IsSameSet, PutsWord, SetsMark}
 use Rattle.ee_core.specs.Picture.{IsDrawn, Picture, marked_to, picture_of, retired_pages, with_change}
-use Rattle.ee_core.proofs.States.{other_twice}
 
 module _ (side : Side) (old : Device) (first : ℕ) (first_is : first ≡ first_page old.size side) where
   place : (mid : Device) (page : ℕ) → mid.size ≡ old.size → first ≤ page → page ≡ first_page mid.size side + (page - first)

@@ -18,10 +18,9 @@ use Rattle.ee_pages.specs.Page.{is_blank, is_marked, is_written, marking, number
 use Rattle.ee_pages.specs.Pushing.{IsMarkBehind}
 use Rattle.ee_pages.specs.Sets.{first_page, other, set_of}
 use Rattle.ee_pages.specs.declared.side.Side.{Side}
-use Rattle.ee_pages.specs.declared.side.Side.TheVariants.{First, Second}
 use Rattle.ee_pages.specs.declared.state.Mark.{Mark}
 use Rattle.ee_pages.specs.declared.state.Mark.TheVariants.{Receive, Active, Valid, Erasing}
-use Rattle.ee_pages.proofs.Public.{other_set_keeps_live, program_leaves_written, step_keeps_other_pages, mark_keeps_live, erased_word}
+use Rattle.ee_pages.proofs.Public.{other_set_keeps_live, program_leaves_written, step_keeps_other_pages, mark_keeps_live, erased_word, first_below}
 use Rattle.ee_core.proofs.PendingPages.{same_not_blank}
 use Rattle.ee_core.specs.Parts.{KeepsMarks, Stays}
 use Rattle.ee_core.specs.State.{not_blank_from}
@@ -139,10 +138,6 @@ old_mark_stays page old new side generation live of written (inr taken) =
       same_pending = same_not_blank (other side) old new page live.formed kept.0.live.formed kept.0.same_size of (λ p apart. step_keeps_other_pages (marking page Erasing) old new p taken apart) (still ∙ sym written);
       same_wear = program_keeps_wear page 3 (number_of_mark Erasing) old new taken.follows;
     }
-
-first_below : (device : Device) (side : Side) → first_page device.size side ≤ device.size.pages
-first_below device First = omega arith
-first_below device Second = omega arith
 
 -- a page of a set is one of the device
 pub page_in_device : (device : Device) (side : Side) (page : ℕ) → first_page device.size side ≤ page → page - first_page device.size side < device.size.pages → page < page_count device.size

@@ -13,6 +13,7 @@ use Rattle.ee_flash.specs.Device.{Device, IsFormed, page_at}
 use Rattle.ee_flash.specs.Size.{Size, slot_count}
 use Rattle.ee_flash.specs.declared.word.Word.{Word}
 use Rattle.ee_flash.specs.declared.word.Word.TheVariants.{Erased}
+use Rattle.ee_flash.proofs.Public.{length-page_at}
 use Rattle.ee_pages.specs.Laws.{IsPageOf}
 use Rattle.ee_pages.specs.Legal.{IsLive, slots_before}
 use Rattle.ee_pages.specs.Page.{is_blank, is_written, word_in}
@@ -20,7 +21,7 @@ use Rattle.ee_pages.specs.Sets.{fill_of, first_page, front, page_of_slot, set_of
 use Rattle.ee_pages.specs.declared.side.Side.{Side}
 use Rattle.ee_pages.specs.declared.side.Side.TheVariants.{First, Second}
 use Rattle.ee_pages.specs.declared.state.Mark.TheVariants.{Active, Receive}
-use Rattle.ee_pages.proofs.Public.{fill-front, get_or-slots_of, length-page_at, length-set_of, pages-set_of, blank_word}
+use Rattle.ee_pages.proofs.Public.{fill-front, get_or-slots_of, length-set_of, pages-set_of, blank_word}
 use Rattle.ee_core.proofs.Drawings.{drawn_as, drawn_both, mark_drawn, marked-written, put_apart, with_mark, with_word-elsewhere, with_word-there}
 use Rattle.ee_core.proofs.SetPages.{page_in_device, page_of_set}
 use Rattle.ee_core.specs.Finished.{last_used}

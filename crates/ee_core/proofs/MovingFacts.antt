@@ -15,12 +15,11 @@ use Rattle.ee_pages.specs.Page.{is_blank}
 use Rattle.ee_pages.specs.Sets.{fill_of, first_page, other, page_of_slot, pending_of, set_of, slots_of}
 use Rattle.ee_pages.specs.declared.find.Layout.{Layout}
 use Rattle.ee_pages.specs.declared.side.Side.{Side}
-use Rattle.ee_pages.proofs.Public.{length-set_of, full_set_has_no_blank_page}
+use Rattle.ee_pages.proofs.Public.{length-set_of, full_set_has_no_blank_page, other_twice}
 use Rattle.ee_core.specs.Parts.{HasMoved, Stays}
 use Rattle.ee_core.specs.State.{not_blank_in}
 use Rattle.ee_core.proofs.PendingPages.{as_many_not_blank}
 use Rattle.ee_core.proofs.SetPages.{page_of_set}
-use Rattle.ee_core.proofs.States.{other_twice}
 
 pub keeps_same : (device : Device) (layout : Layout) → IsLayout device layout → KeepsLiveSet device device layout.side layout.generation
 keeps_same device layout found = record { live = found.live; same_size = refl; same_slots = refl; same_fill = refl; same_map = λ address. refl }

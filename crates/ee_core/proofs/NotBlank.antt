@@ -1,9 +1,7 @@
 -- The pages of a list that are not blank, by their numbers.
 use Rattle.std.proofs.Common.{◌≡◌, ℕ, ◌+◌, ◌<◌, ◌≤◌, ◌++◌, ◌≢◌, Bool, true, false, cond, not, List, [], ◌∷◌, length, take, drop, get_or, set, refl, sym, ap, ◌∙◌, arith, zero, suc}
-use Rattle.std.specs.List.{All}
 use Rattle.std.proofs.lemmas.Bool.{eq-eqb, ne_eqb}
 use Rattle.std.proofs.lemmas.List.{length-take-le, take-append-drop, take_more}
-use Rattle.std.proofs.lemmas.List.Elements.{All-cons, All-nil}
 use Rattle.ee_flash.specs.declared.word.Word.{Word}
 use Rattle.ee_pages.specs.Page.{is_blank}
 use Rattle.ee_pages.specs.Sets.{pending_of}
@@ -54,14 +52,6 @@ length-not_blank [] number = refl
 length-not_blank (page ∷ pages) number = counted (is_blank page) number _ page _ (length-not_blank pages (number + 1))
 
 -- ---- which they are
-
-within : (blank : Bool) (number bound : ℕ) (numbers : List ℕ) → number < bound → All (λ page. page < bound) numbers → All (λ page. page < bound) (cond blank numbers (number ∷ numbers))
-within true number bound numbers h all = all
-within false number bound numbers h all = All-cons (λ page. page < bound) number numbers h all
-
-pub not_blank_within : (pages : List (List Word)) (number bound : ℕ) → number + length pages ≤ bound → All (λ page. page < bound) (not_blank_from number pages)
-not_blank_within [] number bound h = All-nil (λ page. page < bound)
-not_blank_within (page ∷ pages) number bound h = within (is_blank page) number bound _ (omega arith) (not_blank_within pages (number + 1) bound (omega arith))
 
 named_before : (blank : Bool) (number page : ℕ) (numbers : List ℕ) → page ≢ number → times page (cond blank numbers (number ∷ numbers)) ≡ times page numbers
 named_before true number page numbers apart = refl

@@ -1,9 +1,8 @@
 -- Steps in the set that a transfer fills.
-use Rattle.std.proofs.Common.{◌≡◌, ◌⊎◌, inl, inr, ℕ, ◌+◌, ◌-◌, ◌<◌, Bool, true, false, None, List, [], length, refl, sym, subst, ap, ◌∙◌, arith}
+use Rattle.std.proofs.Common.{◌≡◌, ◌⊎◌, inl, inr, ℕ, ◌+◌, ◌-◌, ◌<◌, Bool, true, false, None, [], length, refl, sym, subst, ap, ◌∙◌, arith}
 use Rattle.std.specs.List.{All}
 use Rattle.std.specs.Prelude.{Result, Ok, Err, slice_set}
 use Rattle.std.proofs.lemmas.Bool.{cases_Bool}
-use Rattle.std.proofs.lemmas.List.{get_or-drop, get_or-take}
 use Rattle.std.proofs.lemmas.List.Elements.{All-get_or}
 use Rattle.std.proofs.Math.Nat.{div-mul-le_self}
 use Rattle.ee_codec.specs.Words.{IsGeneration}
@@ -11,28 +10,20 @@ use Rattle.ee_flash.specs.Device.{Device, IsFormed, IsOn, all_ones, word_at}
 use Rattle.ee_flash.specs.Laws.{IsStep}
 use Rattle.ee_flash.specs.Size.{page_count, slot_count}
 use Rattle.ee_flash.specs.Step.{Program, IsCutIn, IsUntouched, MayFollow, device_after}
-use Rattle.ee_flash.specs.declared.word.Word.{Word}
 use Rattle.ee_flash.specs.declared.word.Word.TheVariants.{Erased, Held}
 use Rattle.ee_pages.specs.Filling.{IsCommitted, IsFilling}
 use Rattle.ee_pages.specs.Laws.{IsPageOf, KeepsLiveSet}
 use Rattle.ee_pages.specs.Legal.{IsLive}
 use Rattle.ee_pages.specs.Meaning.{Change, SpellsChange, map_after, meaning}
-use Rattle.ee_pages.specs.Page.{is_blank, is_marked, is_written, marking, number_of_mark, word_in}
+use Rattle.ee_pages.specs.Page.{is_blank, is_marked, is_written, marking, number_of_mark}
 use Rattle.ee_pages.specs.Pushing.{slot_step}
-use Rattle.ee_pages.specs.Sets.{first_page, front, other, page_of_slot, place_of_slot, set_of, slots_of, word_of}
+use Rattle.ee_pages.specs.Sets.{first_page, front, other, page_of_slot, place_of_slot, set_of, slots_of}
 use Rattle.ee_pages.specs.declared.side.Side.{Side}
 use Rattle.ee_pages.specs.declared.side.Side.TheVariants.{First, Second}
 use Rattle.ee_pages.specs.declared.state.Mark.{Mark}
 use Rattle.ee_pages.specs.declared.state.Mark.TheVariants.{Active, Receive}
-use Rattle.ee_pages.proofs.Public.{blank_word, erased_word, fill-front, slots_behind, other_set_keeps_live, length-set_of, page_in_range, place_in_range, slot_at, commit_commits, whole_commit_commits, opens_page, opens_set, stages_change, first_word}
+use Rattle.ee_pages.proofs.Public.{blank_word, erased_word, fill-front, slots_behind, other_set_keeps_live, length-set_of, page_in_range, place_in_range, slot_at, commit_commits, whole_commit_commits, opens_page, opens_set, stages_change, first_word, word-in_set, first_in_set}
 use Rattle.ee_core.proofs.Marks.{place_below}
-
--- a word of a set, by its page's number in the device
-word_there : (side : Side) (device : Device) (page at : ℕ) → page < device.size.pages → word_of (set_of side device) page at ≡ word_at device (first_page device.size side + page) at
-word_there First device page at h =
-    let e : page ≡ 0 + page = omega arith in
-    ap (λ (words : List Word). word_in words at) (get_or-take device.size.pages device.image page [] h) ∙ ap (λ n. word_at device n at) e
-word_there Second device page at h = ap (λ (words : List Word). word_in words at) (get_or-drop device.size.pages device.image page [])
 
 in_device : (side : Side) (device : Device) (page : ℕ) → page < device.size.pages → first_page device.size side + page < page_count device.size
 in_device First device page h = omega arith
@@ -45,15 +36,12 @@ first_in_device : (side : Side) (device : Device) → IsFormed device → first_
 first_in_device First device formed = omega (arith, formed.within_limits.some_pages)
 first_in_device Second device formed = omega (arith, formed.within_limits.some_pages)
 
-pub first_in_set : (side : Side) (device : Device) → IsFormed device → IsPageOf device.size side (first_page device.size side)
-first_in_set side device formed = record { from = omega arith; below = omega (arith, formed.within_limits.some_pages) }
-
 -- the first free slot is erased
 pub free_slot : (device : Device) (side : Side) (generation count : ℕ) → IsFilling device side generation count → count < slot_count device.size → word_at device (first_page device.size side + page_of_slot device.size count) (place_of_slot device.size count) ≡ Erased
 free_slot device side generation count filling free =
     let reached : front (slots_of (set_of side device)) ≡ count = fill-front side device generation filling.formed filling.allowed ∙ filling.fill in
     let erased = slots_behind side device generation filling.formed filling.allowed count (omega arith) in
-    sym (word_there side device (page_of_slot device.size count) (place_of_slot device.size count) (page_in_range device count free))
+    sym (word-in_set side device (page_of_slot device.size count) (place_of_slot device.size count) (page_in_range device count free))
     ∙ sym (slot_at side device count filling.formed free)
     ∙ erased_word _ erased
 

@@ -14,9 +14,9 @@ use Rattle.ee_pages.specs.Page.{is_blank}
 use Rattle.ee_pages.specs.Sets.{live_of, other}
 use Rattle.ee_pages.specs.declared.side.Side.{Side}
 use Rattle.ee_pages.specs.declared.side.Side.TheVariants.{First, Second}
+use Rattle.ee_pages.proofs.Public.{other_twice}
 use Rattle.ee_core.proofs.Effects.{by_effect}
 use Rattle.ee_core.proofs.PendingPages.{length-pending_pages, times_in_other, times_in_set, waits}
-use Rattle.ee_core.proofs.States.{other_twice}
 use Rattle.ee_core.proofs.Wears.{times, times_few, worn_at_most}
 use Rattle.ee_core.specs.Calls.{ErasesOne}
 use Rattle.ee_core.specs.Changes.{Appends, Moves}

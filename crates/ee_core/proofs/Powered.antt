@@ -1,35 +1,44 @@
--- What an image says, it says with the power on.
-use Rattle.std.proofs.Common.{◌≡◌, ℕ, Option, Some, None, refl}
-use Rattle.ee_flash.specs.Device.{Device, IsFormed}
+-- What an image says, it says with any power.
+use Rattle.std.proofs.Common.{◌≡◌, ◌≤◌, ℕ, Bool, true, Option, Some, None, refl}
+use Rattle.ee_flash.specs.Device.{Device, IsFormed, all_ones}
 use Rattle.ee_pages.specs.Legal.{IsLegal, IsLive}
 use Rattle.ee_pages.specs.declared.side.Side.{Side}
 use Rattle.ee_pages.specs.declared.side.Side.TheVariants.{First, Second}
 use Rattle.ee_core.specs.Points.{with_power_on}
-use Rattle.ee_core.specs.State.{state_in, state_with}
+use Rattle.ee_core.specs.State.{state_in}
 
-formed_on : (device : Device) → IsFormed device → IsFormed (with_power_on device)
-formed_on device formed = record {
-  within_limits = formed.within_limits;
-  image_length = formed.image_length;
-  page_lengths = formed.page_lengths;
-  below_all_ones = formed.below_all_ones;
-  wear_length = formed.wear_length;
-  wear_fits = formed.wear_fits;
-  cuts_fit = formed.cuts_fit;
-  cuts_left_fit = formed.cuts_left_fit;
-}
+-- the device on or off, with so many cuts behind it and so many to come
+abbrev pub with_power : ℕ → Option ℕ → Bool → Device → Device
+with_power cuts left on device = record device { cuts = cuts; cuts_left = left; on = on }
 
-live_on : (device : Device) (side : Side) (generation : ℕ) → IsLive device side generation → IsLive (with_power_on device) side generation
-live_on device First generation live = record { formed = formed_on device live.formed; live = live.live; allowed = live.allowed }
-live_on device Second generation live = record { formed = formed_on device live.formed; live = live.live; allowed = live.allowed }
+module _ (cuts : ℕ) (left : Option ℕ) (on : Bool) (device : Device) where
+  pub state_in_powered : (live : Option (Side × ℕ)) → state_in (with_power cuts left on device) live ≡ state_in device live
+  state_in_powered None = refl
+  state_in_powered (Some (First, generation)) = refl
+  state_in_powered (Some (Second, generation)) = refl
+
+  module _ (cuts_fit : cuts ≤ all_ones) (left_fit : (count : ℕ) → left ≡ Some count → count ≤ all_ones) where
+    formed_powered : IsFormed device → IsFormed (with_power cuts left on device)
+    formed_powered formed = record {
+      within_limits = formed.within_limits;
+      image_length = formed.image_length;
+      page_lengths = formed.page_lengths;
+      below_all_ones = formed.below_all_ones;
+      wear_length = formed.wear_length;
+      wear_fits = formed.wear_fits;
+      cuts_fit = cuts_fit;
+      cuts_left_fit = left_fit;
+    }
+
+    live_powered : (side : Side) (generation : ℕ) → IsLive device side generation → IsLive (with_power cuts left on device) side generation
+    live_powered First generation live = record { formed = formed_powered live.formed; live = live.live; allowed = live.allowed }
+    live_powered Second generation live = record { formed = formed_powered live.formed; live = live.live; allowed = live.allowed }
+
+    pub legal_powered : IsLegal device → IsLegal (with_power cuts left on device)
+    legal_powered legal = (legal.0, legal.1, live_powered legal.0 legal.1 legal.2)
 
 pub legal_on : (device : Device) → IsLegal device → IsLegal (with_power_on device)
-legal_on device legal = (legal.0, legal.1, live_on device legal.0 legal.1 legal.2)
-
-state_with_on : (device : Device) (side : Side) (generation : ℕ) → state_with (with_power_on device) side generation ≡ state_with device side generation
-state_with_on device First generation = refl
-state_with_on device Second generation = refl
+legal_on device legal = let formed = legal.2.formed in legal_powered device.cuts device.cuts_left true device formed.cuts_fit formed.cuts_left_fit legal
 
 pub state_in_on : (device : Device) (live : Option (Side × ℕ)) → state_in (with_power_on device) live ≡ state_in device live
-state_in_on device None = refl
-state_in_on device (Some live) = state_with_on device live.0 live.1
+state_in_on device = state_in_powered device.cuts device.cuts_left true device

@@ -8,6 +8,7 @@ use Rattle.ee_flash.specs.Device.{Device, page_at, word_at}
 use Rattle.ee_flash.specs.Size.{Size, page_count}
 use Rattle.ee_flash.specs.declared.word.Word.{Word}
 use Rattle.ee_flash.specs.declared.word.Word.TheVariants.{Erased, Held, Torn}
+use Rattle.ee_flash.proofs.Public.{length-page_at}
 use Rattle.ee_pages.specs.Legal.{IsLegal, IsLive}
 use Rattle.ee_pages.specs.Meaning.{Forget, Map, Put, map_after, live_in, live_to}
 use Rattle.ee_pages.specs.Page.{is_blank, is_written, state_of_words}
@@ -17,7 +18,7 @@ use Rattle.ee_pages.specs.declared.side.Side.TheVariants.{First, Second}
 use Rattle.ee_pages.specs.declared.state.Mark.{Mark}
 use Rattle.ee_pages.specs.declared.state.Mark.TheVariants as marks
 use Rattle.ee_pages.specs.declared.state.State.TheVariants.{Erased as Unused, Erasing}
-use Rattle.ee_pages.proofs.Public.{live_to-zero, change_counts, length-page_at, blank_word, live_to-suc}
+use Rattle.ee_pages.proofs.Public.{live_to-zero, change_counts, blank_word, live_to-suc}
 use Rattle.ee_core.specs.Calls.{IsLowestPending}
 use Rattle.ee_core.specs.Changes.{ShowsAppended, ShowsMoved}
 use Rattle.ee_core.specs.Finished.{last_used}

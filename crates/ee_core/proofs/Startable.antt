@@ -1,5 +1,5 @@
 -- What steps leave of a device that can be started: from a first start on, until its set is committed.
-use Rattle.std.proofs.Common.{◌≡◌, ◌≢◌, ◌⊎◌, inl, inr, ℕ, ◌+◌, ◌<◌, ◌≤◌, true, Some, None, Option, List, [], length, take, drop, get_or, set, refl, sym, subst, ap, ◌∙◌, arith, suc, zero}
+use Rattle.std.proofs.Common.{◌≡◌, ◌≢◌, ◌⊎◌, inl, inr, ℕ, ◌+◌, ◌<◌, ◌≤◌, true, Some, None, Option, List, [], length, get_or, set, refl, sym, subst, ap, ◌∙◌, arith, suc, zero}
 use Rattle.std.specs.List.{All}
 use Rattle.std.proofs.lemmas.Bool.{cases_eq}
 use Rattle.std.proofs.lemmas.Option.{same_Some}
@@ -13,26 +13,24 @@ use Rattle.ee_flash.specs.Size.{page_count}
 use Rattle.ee_flash.specs.Step.{Step, Program, Erase, MayFollow, device_after, with_word}
 use Rattle.ee_flash.specs.declared.word.Word.{Word}
 use Rattle.ee_flash.specs.declared.word.Word.TheVariants.{Erased, Held, Torn}
-use Rattle.ee_flash.proofs.Public.{step_changes_one_page, step_keeps_formed, step_leaves_pages}
+use Rattle.ee_flash.proofs.Public.{length-page_at, step_changes_one_page, step_keeps_formed, step_leaves_pages}
 use Rattle.ee_pages.specs.Filling.{IsCommitted}
 use Rattle.ee_pages.specs.Layout.{IsScanFault, IsUnformatted}
 use Rattle.ee_pages.specs.Legal.{IsLegal}
 use Rattle.ee_pages.specs.Laws.{CannotCommit, IsPageOf}
 use Rattle.ee_pages.specs.Meaning.{meaning}
 use Rattle.ee_pages.specs.Page.{is_blank, marking, word_in}
-use Rattle.ee_pages.specs.Sets.{committed_generation, fill_of, first_page, greater, live_of, other, set_of}
-use Rattle.ee_pages.specs.declared.find.ScanFault.{ScanFault}
-use Rattle.ee_pages.specs.declared.find.ScanFault.TheVariants.{Unformatted, NoLiveSet, TwoLive, Foreign}
+use Rattle.ee_pages.specs.Sets.{committed_generation, fill_of, first_page, live_of, other, set_of}
+use Rattle.ee_pages.specs.declared.find.ScanFault.TheVariants.{TwoLive, Foreign}
 use Rattle.ee_pages.specs.declared.side.Side.{Side}
 use Rattle.ee_pages.specs.declared.side.Side.TheVariants.{First, Second}
 use Rattle.ee_pages.specs.declared.state.Mark.TheVariants.{Active, Receive}
-use Rattle.ee_pages.proofs.Public.{blank_set, commit_after, commits, commits_by, elsewhere, programmed_word, same_set, first_commits, other_set_stays, length-page_at, legal_is_good}
+use Rattle.ee_pages.proofs.Public.{blank_set, commit_after, commits, commits_by, elsewhere, programmed_word, same_set, first_commits, other_set_stays, legal_is_good, as_it_was, none_live}
 use Rattle.ee_core.proofs.FirstSet.{alone, erased_commits, no_pending, opened, same_second}
 use Rattle.ee_core.proofs.Powered.{legal_on, state_in_on}
 use Rattle.ee_core.proofs.States.{same_states, state_is}
 use Rattle.ee_core.specs.Points.{with_power_on}
-use Rattle.ee_core.specs.Openings.{IsFormatted, OpenFails}
-use Rattle.ee_core.specs.Starts.{AreCutStarts, HoldsNone, IsCutStart, IsNew, IsStartable, IsStarting, StartFails, Starts, StartsEmpty}
+use Rattle.ee_core.specs.Starts.{AreCutStarts, IsNew, IsStartable, IsStarting, StartFails, Starts, StartsEmpty}
 use Rattle.ee_core.specs.State.{formatted_state, state_of}
 use Rattle.ee_core.specs.declared.opening.OpenFault.{OpenFault}
 use Rattle.ee_core.specs.declared.opening.OpenFault.TheVariants.{Scan, Cut}
@@ -103,14 +101,10 @@ blank_startable device all = record {
   none_held = λ page at number behind held. is_held (word_at device page at) number (inl (blank_set device.image page at all)) held;
 }
 
-same_pages : (side : Side) (old new : Device) → new.size ≡ old.size → new.image ≡ old.image → set_of side new ≡ set_of side old
-same_pages First old new same_size same = ap (λ size. take size.pages new.image) same_size ∙ ap (take old.size.pages) same
-same_pages Second old new same_size same = ap (λ size. drop size.pages new.image) same_size ∙ ap (drop old.size.pages) same
-
 -- all that is asked is asked of the image
 pub same_image : (old new : Device) → new.size ≡ old.size → new.image ≡ old.image → IsStartable old → IsStartable new
 same_image old new same_size same startable = record {
-  uncommitted = λ side. ap committed_generation (same_pages side old new same_size same) ∙ startable.uncommitted side;
+  uncommitted = λ side. ap committed_generation (as_it_was side old new same_size same) ∙ startable.uncommitted side;
   none_held = λ page at number behind held. startable.none_held page at number behind (ap (λ (image : List (List Word)). get_or (get_or image page []) at Erased) (sym same) ∙ held);
 }
 
@@ -177,22 +171,9 @@ active_starting blank mid new formed all on whole taken startable = elim (step_l
 
 -- ---- what a scan says
 
-pub unformatted_starts : (device : Device) → IsScanFault device Unformatted → IsStartable device
-unformatted_starts device fault = blank_startable device fault
-
-none_in : (side : Side) (device : Device) → IsScanFault device NoLiveSet → committed_generation (set_of side device) ≡ None
-none_in First device fault = fault.1
-none_in Second device fault = fault.2
-
-pub none_live_starts : (device : Device) → IsScanFault device NoLiveSet → HoldsNone device → IsStartable device
-none_live_starts device fault none = record { uncommitted = λ side. none_in side device fault; none_held = none }
-
-none_commits : (first second : Option ℕ) → first ≡ None → second ≡ None → greater first second ≡ None
-none_commits first second e f = rw (e, f) refl
-
 pub startable_not_live : (device : Device) (side : Side) (generation : ℕ) → IsStartable device → live_of device ≡ Some (side, generation) → ⊥
 startable_not_live device side generation startable live =
-    let none = none_commits _ _ (startable.uncommitted First) (startable.uncommitted Second) in
+    let none = none_live _ _ (startable.uncommitted First) (startable.uncommitted Second) in
     let e : None ≡ Some (side, generation) = sym none ∙ live in cc e
 
 pub two_live_stays : (device : Device) → IsScanFault device TwoLive → ¬ IsStartable device
@@ -206,30 +187,9 @@ legal_stays device legal startable = startable_not_live device legal.0 legal.1 s
 
 -- ---- what a start leaves, where the scan changed nothing
 
-pub refused : (old same : Device) (fault : ScanFault) → IsScanFault old fault → same ≡ old → ¬ IsStartable same → StartFails old (Scan fault) same
-refused old same fault is e not = ((λ startable. not (subst IsStartable (sym e) startable)), is, e)
-
-pub formatted_anew : (old same new : Device) → same ≡ old → IsStartable same → IsFormatted same new → Starts old new
-formatted_anew old same new e startable formats = inl (subst IsStartable e startable, subst (λ device. IsFormatted device new) e formats)
-
-pub cut_anew : (old same new : Device) → same ≡ old → IsCutStart same new → StartFails old Cut new
-cut_anew old same new e cut = inl (subst (λ device. IsCutStart device new) e cut)
-
--- the same, from what an opening says
-pub scan_said : (old new : Device) (fault : OpenFault) (scan : ScanFault) → fault ≡ Scan scan → OpenFails old fault new → IsScanFault old scan × (new ≡ old)
-scan_said old new fault scan e fails = subst (λ (said : OpenFault). OpenFails old said new) e fails
-
-pub cut_said : (old new : Device) (fault : OpenFault) → fault ≡ Cut → OpenFails old fault new → StartFails old fault new
-cut_said old new fault e fails = subst (λ (said : OpenFault). StartFails old said new) (sym e) (inr (subst (λ (said : OpenFault). OpenFails old said new) e fails))
-
 -- a word past the end of its page is erased
 pub past_end : (device : Device) (page at number : ℕ) → IsFormed device → page < page_count device.size → device.size.words ≤ at → word_at device page at ≢ Held number
 past_end device page at number formed within past = is_held (word_at device page at) number (inl (get_or_past (page_at device page) at Erased (omega (arith, length-page_at device page formed within, past))))
-
-pub past_pages : (device : Device) (page at number : ℕ) → IsFormed device → page_count device.size ≤ page → word_at device page at ≢ Held number
-past_pages device page at number formed past =
-    let none : page_at device page ≡ [] = get_or_past device.image page [] (omega (arith, formed.image_length, past)) in
-    is_held (word_at device page at) number (inl (ap (λ words. word_in words at) none))
 
 -- ---- any number of starts
 

@@ -5,10 +5,9 @@ use Rattle.ee_flash.specs.Device.{Device}
 use Rattle.ee_pages.specs.Laws.{KeepsLiveSet}
 use Rattle.ee_pages.specs.Legal.{IsLive}
 use Rattle.ee_pages.specs.Meaning.{Change, Map}
-use Rattle.ee_pages.specs.Pushing.{TakesSlot}
 use Rattle.ee_pages.specs.Sets.{other, pending_of, set_of}
 use Rattle.ee_pages.specs.declared.side.Side.{Side}
-use Rattle.ee_pages.specs.declared.side.Side.TheVariants.{First, Second}
+use Rattle.ee_pages.proofs.Public.{other_twice}
 use Rattle.ee_core.proofs.PendingPages.{as_many_not_blank}
 use Rattle.ee_core.specs.Parts.{HasMoved, Stays}
 use Rattle.ee_core.specs.State.{State, moved_state, state_in, state_of, state_with, with_pending}
@@ -25,11 +24,6 @@ same_states map new_map fill new_fill generation new_generation pending new_pend
     let map_is : new_map ≡ map = fun_ext maps in
     rw (map_is, fills, generations, pendings) refl
 
--- the other set of the other is the set
-pub other_twice : (side : Side) → other (other side) ≡ side
-other_twice First = refl
-other_twice Second = refl
-
 module _ (old new : Device) (side : Side) (generation : ℕ) (live : IsLive old side generation) where
   -- the live set is as before, and so many pages of the other wait
   pub state_kept : KeepsLiveSet old new side generation → (pending : ℕ) → pending_of (set_of (other side) new) ≡ pending → state_of new ≡ with_pending pending (state_of old)
@@ -44,13 +38,6 @@ module _ (old new : Device) (side : Side) (generation : ℕ) (live : IsLive old 
       state_is new side generation stays.keeps.live
       ∙ same_states _ _ _ _ generation generation _ _ stays.keeps.same_map stays.keeps.same_fill refl (as_many_not_blank (other side) old new stays.same_pending)
       ∙ sym (state_is old side generation live)
-
-  -- one slot more is written
-  pub state_taken : (map : Map) → TakesSlot old new side generation map → set_of (other side) new ≡ set_of (other side) old → state_of new ≡ record (state_of old) { map = map; fill = (state_of old).fill + 1 }
-  state_taken map takes same =
-      state_is new side generation takes.live
-      ∙ same_states _ _ _ _ generation generation _ _ takes.map_is takes.one_more refl (ap pending_of same)
-      ∙ ap (λ (state : State). record state { map = map; fill = state.fill + 1 }) (sym (state_is old side generation live))
 
   -- the map was moved
   pub state_moved : (change : Change) → HasMoved old new side generation change → state_of new ≡ moved_state old.size.pages change (state_of old)

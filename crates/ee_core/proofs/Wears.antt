@@ -153,14 +153,6 @@ front_longer pages more all old new some e = record {
   wears = some.wears;
 }
 
-pub front_still : (pages : List ℕ) (old mid new : Device) → WearsFront pages old mid → new.wear ≡ mid.wear → WearsFront pages old new
-front_still pages old mid new some same = record {
-  front = some.front;
-  rest = some.rest;
-  pages_are = some.pages_are;
-  wears = wears_still some.front old mid new some.wears same;
-}
-
 -- ---- so many erases
 
 pub wears_rise : (pages : List ℕ) (erases : ℕ) (old new : Device) → Wears pages old new → length pages ≡ erases → WearRises erases old new

@@ -10,6 +10,7 @@ use Rattle.std.proofs.lemmas.Nat.{from_le_bytes-to_le_bytes_8, le_bytes_8}
 use Rattle.ee_flash.specs.Device.{IsBelowAllOnes, all_ones}
 use Rattle.ee_flash.specs.declared.word.Word.{Word}
 use Rattle.ee_flash.specs.declared.word.Word.TheVariants.{Erased, Held, Torn}
+use Rattle.ee_flash.proofs.Public.{below-held}
 use Rattle.ee_dump.specs.Dump.{word_bytes}
 use Rattle.ee_dump.specs.Reading.{AreWhole}
 
@@ -23,9 +24,6 @@ erased_below value e = cc
 
 pub held_whole : (value : ℕ) → Held value ≢ Torn
 held_whole value e = cc
-
-pub held_below : (value : ℕ) → value < all_ones → IsBelowAllOnes (Held value)
-held_below value less other e = let same : value ≡ other = cc in omega arith
 
 pub length-word_bytes : (word : Word) → word ≢ Torn → length (word_bytes word) ≡ 8
 length-word_bytes Erased whole = refl
@@ -65,7 +63,7 @@ word_of bytes long small =
         Held value,
         record {
           whole = held_whole value;
-          below_all_ones = held_below value (let fits : value < 2 ^ 64 = value_fits bytes small in omega arith);
+          below_all_ones = below-held value (let fits : value < 2 ^ 64 = value_fits bytes small in omega arith);
           bytes_are = held_bytes bytes value long small refl;
         },
       )

@@ -18,7 +18,7 @@ use Rattle.ee_flash.proofs.Outcomes.{step_keeps_formed}
 -- ---- one step
 
 -- a step that is taken whole leaves the device formed and on
-still_formed : (step : Step) (device : Device) → IsFormed device → IsOn device → CanTake step device → IsFormed (device_after step device)
+pub still_formed : (step : Step) (device : Device) → IsFormed device → IsOn device → CanTake step device → IsFormed (device_after step device)
 still_formed step device formed on can =
     step_keeps_formed step device (device_after step device) (record { formed = formed; may = can; follows = inl (record { was_on = on; done = refl }) })
 

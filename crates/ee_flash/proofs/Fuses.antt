@@ -17,11 +17,11 @@ begun_step step memory tear fuse on is_tear is_fuse =
     ∙ ap (λ (t : Option Tear). made t (next_fuse memory.fuse)) is_tear
     ∙ ap (made tear) is_fuse
 
-completed_on : (step : Step) (device : Device) → (device_after step device).on ≡ device.on
+pub completed_on : (step : Step) (device : Device) → (device_after step device).on ≡ device.on
 completed_on (Program page at value) device = refl
 completed_on (Erase page) device = refl
 
-all_completed_on : (steps : List Step) (device : Device) → (all_completed steps device).on ≡ device.on
+pub all_completed_on : (steps : List Step) (device : Device) → (all_completed steps device).on ≡ device.on
 all_completed_on [] device = refl
 all_completed_on (step ∷ steps) device = all_completed_on steps (device_after step device) ∙ completed_on step device
 

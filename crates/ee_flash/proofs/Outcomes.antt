@@ -6,6 +6,7 @@ use Rattle.std.proofs.lemmas.Option.{same_Some}
 use Rattle.std.proofs.lemmas.List.{get_or-replicate, get_or-set_same, length-set, length-replicate, set-get_or, get_or_past}
 use Rattle.std.proofs.lemmas.List.Elements.{All-from_get_or, All-get_or, All-set}
 use Rattle.ee_flash.specs.Device.{Device, IsBelowAllOnes, IsFormed, IsOn, all_ones, page_at, wear_at}
+use Rattle.ee_flash.specs.Size.{page_count}
 use Rattle.ee_flash.specs.Step.{Step, Program, Erase, IsPartlyErased, MayFollow, MayLeave, device_after, one_more, with_page_erased}
 use Rattle.ee_flash.specs.Power.{GoesOn, IsCut}
 use Rattle.ee_flash.specs.Laws.{CanTake, page_of, IsStep, DiffersInPage}
@@ -55,7 +56,7 @@ one_page (Program page at value) old new formed may (inr (inl held)) = own_eleme
 one_page (Program page at value) old new formed may (inr (inr torn)) = own_element old.image new.image page _ [] (omega (arith, formed.image_length, may.0)) torn
 one_page (Erase page) old new formed may left = left.1
 
-wear_is : (step : Step) (old new : Device) → MayFollow step old new → (new.wear ≡ old.wear) ⊎ (new.wear ≡ (device_after step old).wear)
+pub wear_is : (step : Step) (old new : Device) → MayFollow step old new → (new.wear ≡ old.wear) ⊎ (new.wear ≡ (device_after step old).wear)
 wear_is step old new (inl done) = inr (ap (λ (device : Device). device.wear) done.done)
 wear_is step old new (inr (inl cut)) = inr cut.wear
 wear_is step old new (inr (inr untouched)) = inl (ap (λ (device : Device). device.wear) untouched.same)
@@ -65,7 +66,7 @@ one_wear step old new formed may (inl same) = same_element old.wear new.wear (pa
 one_wear (Program page at value) old new formed may (inr same) = same_element old.wear new.wear page 0 same
 one_wear (Erase page) old new formed may (inr more) = own_element old.wear new.wear page _ 0 (omega (arith, formed.wear_length)) more
 
-completed_size : (step : Step) (old : Device) → (device_after step old).size ≡ old.size
+pub completed_size : (step : Step) (old : Device) → (device_after step old).size ≡ old.size
 completed_size (Program page at value) old = refl
 completed_size (Erase page) old = refl
 
@@ -97,8 +98,12 @@ page_length (Program page at value) old new formed may (inr (inr torn)) =
 page_length (Erase page) old new formed may left =
     left.0.as_long ∙ formed.page_lengths page [] (omega (arith, formed.image_length))
 
-below-held : (value : ℕ) → value < all_ones → IsBelowAllOnes (Held value)
+pub below-held : (value : ℕ) → value < all_ones → IsBelowAllOnes (Held value)
 below-held value below held is = let same : value ≡ held = cc in omega arith
+
+-- a page of a device has as many words as its size says
+pub length-page_at : (device : Device) (page : ℕ) → IsFormed device → page < page_count device.size → length (page_at device page) ≡ device.size.words
+length-page_at device page formed h = All-get_or (λ page. length page ≡ device.size.words) device.image page [] (omega (arith, formed.image_length)) formed.page_lengths
 
 below-torn : IsBelowAllOnes Torn
 below-torn held is = cc

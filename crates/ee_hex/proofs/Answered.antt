@@ -1,5 +1,5 @@
 -- What the reader of a text answers.
-use Rattle.std.proofs.Common.{◌≡◌, ◌⊎◌, ℕ, List, sym, ap, ◌∙◌, subst, inl, Option, None, Result, Ok, Err}
+use Rattle.std.proofs.Common.{◌≡◌, ◌⊎◌, ℕ, List, sym, ap, subst, inl, Option, None, Result, Ok, Err}
 use Rattle.std.specs.Prelude.{replicate}
 use Rattle.ee_hex.specs.Text.{IsHexOf}
 use Rattle.ee_hex.specs.Fault.{IsBadHexLine}
@@ -9,10 +9,7 @@ use Rattle.ee_hex.proofs.Judging.{Told, is_told, judgement, one_bad_line_lem, on
 
 began : (text : List ℕ) (base size from upper : ℕ) (cells : List (Option ℕ)) (r : Result (List (Option ℕ)) ℕ) → from ≡ base → upper ≡ 0 → cells ≡ replicate size None
     → judged from 1 upper cells (lines_in text) ≡ r → judgement text base size ≡ r
-began text base size from upper cells r from_is upper_is cells_are e =
-    ap (λ b. judged b 1 0 (replicate size None) (lines_in text)) (sym from_is)
-    ∙ ap (λ u. judged from 1 u (replicate size None) (lines_in text)) (sym upper_is)
-    ∙ ap (λ c. judged from 1 upper c (lines_in text)) (sym cells_are) ∙ e
+began text base size from upper cells r from_is upper_is cells_are e = cc
 
 -- the bytes of the part, where the reader came to the end
 pub was_read : (text bytes : List ℕ) (base size from upper : ℕ) (cells new : List (Option ℕ)) → from ≡ base → upper ≡ 0 → cells ≡ replicate size None

@@ -1,8 +1,8 @@
 -- Each text says bytes or has a first bad line, and the reader tells which.
-use Rattle.std.proofs.Common.{◌≡◌, ◌≢◌, ◌⊎◌, ℕ, zero, suc, ◌+◌, ◌≤◌, List, [], ◌∷◌, ◌++◌, length, refl, sym, ap, ◌∙◌, subst, arith, append_assoc, inl, inr, Option, Some, None, Result, Ok, Err}
+use Rattle.std.proofs.Common.{◌≡◌, ◌≢◌, ◌⊎◌, ℕ, zero, suc, ◌+◌, ◌≤◌, List, [], ◌∷◌, ◌++◌, length, refl, sym, ap, ◌∙◌, subst, arith, append_assoc, inl, inr, Option, Some, None, Result, Ok, Err, rules}
+use Rattle.std.proofs.lemmas.Grind.{common_steps}
 use Rattle.std.specs.Prelude.{replicate}
 use Rattle.std.specs.List.{AllByRecursion}
-use Rattle.std.specs.Option.{unwrap_or}
 use Rattle.std.proofs.lemmas.Bool.{ne_eqb, eq-eqb, cases_eq}
 use Rattle.std.proofs.lemmas.List.{append-nil, length-replicate, length-map}
 use Rattle.std.proofs.lemmas.Option.{none-some}
@@ -33,9 +33,7 @@ judged-rest base n upper cells text lacks = ap (judged base n upper cells) (line
 pub judged-found : (base n upper : ℕ) (cells : List (Option ℕ)) (text line more : List ℕ) (found : Option Record) → lines_in text ≡ line ∷ lines_in more → record_in line ≡ found
     → judged base n upper cells (lines_in text)
     ≡ after_record n cells (lines_in more) (λ above new. judged base (n + 1) above new (lines_in more)) (step_of_record base upper cells found)
-judged-found base n upper cells text line more found lines is =
-    ap (judged base n upper cells) lines ∙ judged-line base n upper cells line more
-    ∙ ap (λ (o : Option Record). after_record n cells (lines_in more) (λ above new. judged base (n + 1) above new (lines_in more)) (step_of_record base upper cells o)) is
+judged-found base n upper cells text line more found lines is = search (rules, judged-line)
 
 pub judged-record : (base n upper : ℕ) (cells : List (Option ℕ)) (r : Record) (text more : List ℕ) → IsLineOf r text more
     → judged base n upper cells (lines_in text)
@@ -43,16 +41,13 @@ pub judged-record : (base n upper : ℕ) (cells : List (Option ℕ)) (r : Record
 judged-record base n upper cells r text more l =
     judged-found base n upper cells text l.line more (Some r) (lines_in-line text l.line more l.in_line l.text_is) (spelled_record l.line r l.spelled)
 
-step-ends : (base upper : ℕ) (cells : List (Option ℕ)) (r : Record) → r.kind ≡ 1 → step_of_record base upper cells (Some r) ≡ Ends
-step-ends base upper cells r ends = rw (eq-eqb r.kind 1 ends) refl
+-- what a record does, by its type
+pub row_ends : (base upper : ℕ) (cells : List (Option ℕ)) (r : Record) → r.kind ≡ 1 → step_of_record base upper cells (Some r) ≡ Ends
+row_ends base upper cells r ends = rw (eq-eqb r.kind 1 ends) refl
 
 step-other : (base upper : ℕ) (cells : List (Option ℕ)) (r : Record) (put : Option (List (Option ℕ))) → r.kind ≢ 1 → put_all base (placed_bytes upper r) cells ≡ put
     → step_of_record base upper cells (Some r) ≡ step_kept (upper_after upper r) put
 step-other base upper cells r put other is = rw (ne_eqb r.kind 1 other) (ap (step_kept (upper_after upper r)) is)
-
--- what a record does, by its type
-pub row_ends : (base upper : ℕ) (cells : List (Option ℕ)) (r : Record) → r.kind ≡ 1 → step_of_record base upper cells (Some r) ≡ Ends
-row_ends = step-ends
 
 pub row_taken : (base upper place : ℕ) (cells new : List (Option ℕ)) (r : Record) → r.kind ≡ 0 → place ≡ upper + r.address → put_all base (numbered_bytes place r.bytes) cells ≡ Some new
     → step_of_record base upper cells (Some r) ≡ Goes upper new
@@ -73,7 +68,7 @@ pub judged-ends : (base n upper : ℕ) (cells : List (Option ℕ)) (r : Record) 
     → judged base n upper cells (lines_in text) ≡ cells_at_end (n + 1) cells (lines_in more)
 judged-ends base n upper cells r text more l ends =
     judged-record base n upper cells r text more l
-    ∙ ap (after_record n cells (lines_in more) (λ above new. judged base (n + 1) above new (lines_in more))) (step-ends base upper cells r ends)
+    ∙ ap (after_record n cells (lines_in more) (λ above new. judged base (n + 1) above new (lines_in more))) (row_ends base upper cells r ends)
 
 -- another, whose bytes are taken or not
 pub judged-other : (base n upper : ℕ) (cells : List (Option ℕ)) (r : Record) (text more : List ℕ) (put : Option (List (Option ℕ))) → IsLineOf r text more → r.kind ≢ 1
@@ -92,9 +87,7 @@ upper_behind upper (r ∷ records) = upper_behind (upper_after upper r) records
 
 placed_last : (records : List Record) (upper : ℕ) (r : Record) → all_placed upper (records ++ r ∷ []) ≡ all_placed upper records ++ placed_bytes (upper_behind upper records) r
 placed_last [] upper r = append-nil (placed_bytes upper r)
-placed_last (x ∷ records) upper r =
-    ap (λ l. placed_bytes upper x ++ l) (placed_last records (upper_after upper x) r)
-    ∙ sym (append_assoc (placed_bytes upper x) (all_placed (upper_after upper x) records) (placed_bytes (upper_behind (upper_after upper x) records) r))
+placed_last (x ∷ records) upper r = grind (arith, common_steps, (placed_last records (upper_after upper x) r))
 
 -- an end record says nothing
 end_says_nothing : (upper : ℕ) (r : Record) → r.kind ≡ 1 → placed_bytes upper r ≡ []
@@ -108,14 +101,7 @@ pub record Reached (base n upper : ℕ) (seen : List (ℕ × ℕ)) (cells : List
   pub judged_is : judged base n upper cells (lines_in text) ≡ judged base (n + length records) (upper_behind upper records) new (lines_in rest)
 
 reach_none : (base n upper : ℕ) (seen : List (ℕ × ℕ)) (cells : List (Option ℕ)) (text rest : List ℕ) → text ≡ rest → Keeps base seen cells → Reached base n upper seen cells [] text rest
-reach_none base n upper seen cells text rest text_is keeps =
-    let number : n ≡ n + 0 = omega arith in
-    record {
-      new = cells;
-      keeps = subst (λ l. Keeps base l cells) (sym (append-nil seen)) keeps;
-      as_long = refl;
-      judged_is = ap (λ t. judged base n upper cells (lines_in t)) text_is ∙ ap (λ m. judged base m upper cells (lines_in rest)) number;
-    }
+reach_none base n upper seen cells text rest text_is keeps = search (rules, append-nil)
 
 reach_more : (base n upper : ℕ) (seen : List (ℕ × ℕ)) (cells mid : List (Option ℕ)) (r : Record) (records : List Record) (text more rest : List ℕ) → IsLineOf r text more → r.kind ≢ 1
     → put_all base (placed_bytes upper r) cells ≡ Some mid → length mid ≡ length cells → Reached base (n + 1) (upper_after upper r) (seen ++ placed_bytes upper r) mid records more rest
@@ -185,10 +171,7 @@ refused_record base upper seen cells text rest r keeps l other none = record {
 }
 
 no_line_here : (base upper : ℕ) (seen : List (ℕ × ℕ)) (cells : List (Option ℕ)) (text : List ℕ) → IsLine text → BadHere base upper seen cells text
-no_line_here base upper seen cells text lacks = record {
-  none = λ r more l agree. feeds.no_line text l.line more lacks l.text_is;
-  judged_is = λ n. judged-rest base n upper cells text lacks;
-}
+no_line_here base upper seen cells text lacks = grind (arith, common_steps, judged-rest)
 
 record_here : (base upper : ℕ) (seen : List (ℕ × ℕ)) (cells : List (Option ℕ)) (text rest : List ℕ) (r : Record) → Keeps base seen cells → IsLineOf r text rest
     → BadHere base upper seen cells text ⊎ (EndsHere text ⊎ GoesHere base upper seen cells text)
@@ -272,11 +255,7 @@ ran_on base upper seen cells text goes ran =
     }
 
 run : (most base upper : ℕ) (seen : List (ℕ × ℕ)) (cells : List (Option ℕ)) (text : List ℕ) → length text ≤ most → Keeps base seen cells → Ran base upper seen cells text
-run zero base upper seen cells text short keeps = elim (next_here base upper seen cells text keeps) [
-  | inl bad ↦ ran_here base upper seen cells text keeps (inl bad)
-  | inr (inl ends) ↦ ran_here base upper seen cells text keeps (inr ends)
-  | inr (inr goes) ↦ absurd (omega (arith, shorter text goes.line.line goes.more goes.line.text_is))
-]
+run zero base upper seen cells text short keeps = grind (arith, common_steps, next_here, ran_here, shorter)
 run (suc most) base upper seen cells text short keeps = elim (next_here base upper seen cells text keeps) [
   | inl bad ↦ ran_here base upper seen cells text keeps (inl bad)
   | inr (inl ends) ↦ ran_here base upper seen cells text keeps (inr ends)
@@ -299,14 +278,7 @@ size_is size = length-replicate {A = Option ℕ} size None
 
 ended_so : (text : List ℕ) (base size : ℕ) (records : List Record) (closing more : List ℕ) (new : List (Option ℕ)) → IsGoodFront base size records text closing → IsEndLine closing more
     → Keeps base (all_placed 0 records) new → length new ≡ size → Told text base size (cells_at_end (1 + length records + 1) new (lines_in more))
-ended_so text base size records closing [] new front closes keeps long = record {
-  records = records;
-  closing = closing;
-  front = front;
-  closes = closes;
-  as_long = length-map new (λ (cell : Option ℕ). unwrap_or cell 255) ∙ long;
-  bytes_are = λ i less. bytes_kept base i (all_placed 0 records) new keeps (omega arith);
-}
+ended_so text base size records closing [] new front closes keeps long = search (rules, bytes_kept, length-map)
 ended_so text base size records closing (b ∷ more) new front closes keeps long =
     let some : b ∷ more ≢ [] = λ e. cc e in
     subst (Told text base size) (sym (closed-more (1 + length records + 1) new (b ∷ more) some))
@@ -354,9 +326,7 @@ is_told text base size =
 
 -- a good front is read
 reached : (text rest : List ℕ) (base size : ℕ) (records : List Record) → IsGoodFront base size records text rest → Reached base 1 0 [] (replicate size None) records text rest
-reached text rest base size records front =
-    reach records base 1 0 [] (replicate size None) text rest front.lines front.no_end (nothing_kept base size)
-    (subst (λ n. AgreeWithin base n (all_placed 0 records)) (sym (size_is size)) front.agree)
+reached text rest base size records front = search (rules, nothing_kept, reach, size_is)
 
 -- what the text says, and what the reader came to
 pub record IsRead (text : List ℕ) (base size : ℕ) (bytes : List ℕ) : Type 0 where

@@ -1,5 +1,5 @@
 -- What the reader of a line finds.
-use Rattle.std.proofs.Common.{◌≡◌, ◌≢◌, ℕ, suc, ◌+◌, ◌-◌, ◌/◌, ◌<◌, List, [], ◌∷◌, ◌++◌, length, length-append, get_or, refl, sym, ap, ◌∙◌, subst, arith, Option, Some, None, Result, Ok, Err}
+use Rattle.std.proofs.Common.{◌≡◌, ◌≢◌, ℕ, suc, ◌+◌, ◌-◌, ◌/◌, ◌<◌, List, [], ◌∷◌, ◌++◌, length, length-append, get_or, refl, sym, ap, ◌∙◌, subst, arith, Option, Some, None, Result, Ok, Err, rules}
 use Rattle.std.specs.Option.{option_and_then}
 use Rattle.std.proofs.lemmas.Bool.{ne_eqb}
 use Rattle.std.proofs.lemmas.List.{get_or_at, nil_from_length}
@@ -36,11 +36,7 @@ pub bare_cut : (line front : List ℕ) (last : ℕ) → line ≡ front ++ last �
 bare_cut line front last line_is same = sym (ap bare (line_is ∙ ap (λ b. front ++ b ∷ []) same) ∙ bare_front front)
 
 pub bare_kept : (line front : List ℕ) (last : ℕ) → line ≡ front ++ last ∷ [] → last ≢ 13 → line ≡ bare line
-bare_kept line front last line_is other =
-    let at : length line - 1 ≡ length front = omega (arith, ap length line_is, length-append front (last ∷ [])) in
-    let here : get_or line (length line - 1) 0 ≡ last =
-    ap (λ l. get_or l (length line - 1) 0) line_is ∙ ap (λ k. get_or (front ++ last ∷ []) k 0) at ∙ get_or_at front last [] 0 (length front) refl in
-    sym (bare_other line (λ some e. other (sym here ∙ e)))
+bare_kept line front last line_is other = search (rules, bare_other, get_or_at, length-append)
 
 pub bare_empty : (line : List ℕ) → line ≡ [] → line ≡ bare line
 unfolding bare
@@ -53,11 +49,7 @@ no_colon line digits first line_is other = ap bytes_in line_is ∙ (rw (ne_eqb f
 
 -- so many digits are more bytes than a record has
 pub long_digits : (line digits bytes : List ℕ) (first : ℕ) → line ≡ first ∷ digits → 260 < length digits / 2 → bytes_in line ≡ Some bytes → 260 < length bytes
-long_digits line digits bytes first line_is long found =
-    let spelled = digits_of line bytes found in
-    let same : length digits ≡ length spelled.digits = let h = ap length (sym line_is ∙ spelled.line_is) in omega arith in
-    let twice = (decode_of-ok spelled.digits bytes spelled.digits_are).2 in
-    omega arith
+long_digits line digits bytes first line_is long found = search (rules, decode_of-ok, digits_of)
 
 pub no_colon_long : (line digits : List ℕ) (first : ℕ) → line ≡ first ∷ digits → first ≢ 58 → (bytes : List ℕ) → bytes_in line ≡ Some bytes → 260 < length bytes
 no_colon_long line digits first line_is other bytes some = absurd (none-some bytes (sym (no_colon line digits first line_is other) ∙ some))
@@ -66,9 +58,7 @@ no_colon_long line digits first line_is other bytes some = absurd (none-some byt
 
 long_or_none : (text : List ℕ) (found : Option (List ℕ)) → ((bytes : List ℕ) → bytes_in text ≡ Some bytes → 260 < length bytes) → bytes_in text ≡ found → option_and_then record_of (bytes_in text) ≡ None
 long_or_none text None long is = ap (option_and_then record_of) is
-long_or_none text (Some bytes) long is =
-    let spelled = digits_of text bytes is in
-    ap (option_and_then record_of) is ∙ too_long bytes (decode_of-ok spelled.digits bytes spelled.digits_are).3 (long bytes is)
+long_or_none text (Some bytes) long is = search (rules, decode_of-ok, digits_of, too_long)
 
 pub record_in-none : (line text : List ℕ) → text ≡ bare line → ((bytes : List ℕ) → bytes_in text ≡ Some bytes → 260 < length bytes) → record_in line ≡ None
 unfolding record_in

@@ -1,8 +1,9 @@
 -- The places of a part, as far as they were read: each has the byte that was said of it.
-use Rattle.std.proofs.Common.{◌≡◌, ◌⊎◌, ℕ, ◌+◌, ◌-◌, ◌<◌, ◌≤◌, Bool, true, false, cond, List, [], ◌∷◌, ◌++◌, length, drop, get_or, set, refl, sym, ap, ◌∙◌, subst, arith, append_assoc, inl, inr, Option, Some, None, get_or-set_same, get_or-set_other}
+use Rattle.std.proofs.Common.{◌≡◌, ◌⊎◌, ℕ, ◌+◌, ◌-◌, ◌<◌, ◌≤◌, Bool, true, false, cond, List, [], ◌∷◌, ◌++◌, length, drop, get_or, set, refl, sym, ap, ◌∙◌, subst, arith, append_assoc, inl, inr, Option, Some, None, get_or-set_same, get_or-set_other, rules}
+use Rattle.std.proofs.lemmas.Grind.{common_steps}
 use Rattle.std.specs.Prelude.{◌==◌, replicate}
 use Rattle.std.specs.Bool.{OnFalse, OnTrue}
-use Rattle.std.specs.Option.{option_and_then, unwrap_or}
+use Rattle.std.specs.Option.{unwrap_or}
 use Rattle.std.proofs.lemmas.Bool.{eq-eqb, eqb-true, cases_eq, cases_lt, le-leb, lt-leb, lt-ltb, le-ltb}
 use Rattle.std.proofs.lemmas.List.{append-nil, drop_all, drop_more, length-set, length-replicate, length-map, get_or-replicate, get_or-map, ext_get_or}
 use Rattle.std.proofs.lemmas.Option.{cond_some, none-some, same_Some, option_and_then_some}
@@ -30,12 +31,7 @@ pub record Keeps (base : ℕ) (pairs : List (ℕ × ℕ)) (cells : List (Option 
 
 -- before the first byte
 pub nothing_kept : (base size : ℕ) → Keeps base [] (replicate size None)
-nothing_kept base size = record {
-  told = λ i byte less e.
-      let within : i < size = omega (arith, length-replicate {A = Option ℕ} size None) in
-      absurd (none-some byte (sym (get_or-replicate {A = Option ℕ} size i None None within) ∙ e));
-  kept = λ i byte less says. absurd says;
-}
+nothing_kept base size = search (rules, get_or-replicate, length-replicate, none-some)
 
 -- more of a place
 pub record Kept (base : ℕ) (pairs : List (ℕ × ℕ)) (cells new : List (Option ℕ)) : Type 0 where
@@ -48,9 +44,7 @@ some_none x e = cc e
 put_outside : (base place byte : ℕ) (cells : List (Option ℕ)) → (place < base) ⊎ (base + length cells ≤ place) → put base place byte cells ≡ Some cells
 unfolding put
 put_outside base place byte cells (inl low) = rw (lt-leb base place low) refl
-put_outside base place byte cells (inr high) =
-    let above : base ≤ place = omega arith in
-    rw (le-leb base place above, le-ltb place (base + length cells) high) refl
+put_outside base place byte cells (inr high) = search (rules, le-leb, le-ltb)
 
 put_inside : (base place byte : ℕ) (cells : List (Option ℕ)) → base ≤ place → place < base + length cells → put base place byte cells ≡ put_at (place - base) byte cells (get_or cells (place - base) None)
 unfolding put
@@ -64,19 +58,11 @@ put_above base place byte at cells above at_is past = put_outside base place byt
 
 pub put_new : (base place byte at : ℕ) (cells : List (Option ℕ)) → base ≤ place → at ≡ place - base → at < length cells → None ≡ get_or cells at None
     → put base place byte cells ≡ Some (set cells at (Some byte))
-put_new base place byte at cells above at_is within none =
-    let high : place < base + length cells = omega arith in
-    put_inside base place byte cells above high
-    ∙ ap (λ k. put_at k byte cells (get_or cells k None)) (sym at_is)
-    ∙ ap (put_at at byte cells) (sym none)
+put_new base place byte at cells above at_is within none = search (rules, put_inside)
 
 put_given : (base place byte at given : ℕ) (cells : List (Option ℕ)) → base ≤ place → at ≡ place - base → at < length cells → Some given ≡ get_or cells at None
     → put base place byte cells ≡ cond (given == byte) (Some cells) None
-put_given base place byte at given cells above at_is within has =
-    let high : place < base + length cells = omega arith in
-    put_inside base place byte cells above high
-    ∙ ap (λ k. put_at k byte cells (get_or cells k None)) (sym at_is)
-    ∙ ap (put_at at byte cells) (sym has)
+put_given base place byte at given cells above at_is within has = search (rules, put_inside)
 
 on_true : (b : Bool) (o : Option (List (Option ℕ))) (cells : List (Option ℕ)) → o ≡ cond b (Some cells) None → OnTrue b (o ≡ Some cells)
 on_true true o cells e = e
@@ -96,84 +82,27 @@ put_not_taken base place byte at given cells above at_is within has = on_false (
 
 -- in the part or not
 where_is : (base place count : ℕ) → ((place < base) ⊎ (base + count ≤ place)) ⊎ ((base ≤ place) × (place < base + count))
-where_is base place count = elim (cases_lt place base) [
-  | inl low ↦ inl (inl low)
-  | inr above ↦ elim (cases_lt place (base + count)) [ inl high ↦ inr (above, high) | inr past ↦ inl (inr past) ]
-]
+where_is base place count = search (rules, cases_lt)
 
 -- a pair that stands at no place of the part
 kept_outside : (base place byte : ℕ) (pairs : List (ℕ × ℕ)) (cells : List (Option ℕ)) → Keeps base pairs cells → (place < base) ⊎ (base + length cells ≤ place)
     → Keeps base (pairs ++ (place, byte) ∷ []) cells
-kept_outside base place byte pairs cells keeps outside = record {
-  told = λ i b less e. Says-left pairs ((place, byte) ∷ []) (base + i) b (keeps.told i b less e);
-  kept = λ i b less says. elim (Says-parts pairs ((place, byte) ∷ []) (base + i) b says) [
-    | inl old ↦ keeps.kept i b less old
-    | inr (inl new) ↦ absurd (elim outside [ inl low ↦ let h = new.0 in omega arith | inr high ↦ let h = new.0 in omega arith ])
-    | inr (inr none) ↦ absurd none
-  ];
-}
+kept_outside base place byte pairs cells keeps outside = search (rules, Says-left, Says-parts)
 
 -- a byte that comes to a place that has none
 kept_new : (base at byte : ℕ) (pairs : List (ℕ × ℕ)) (cells : List (Option ℕ)) → Keeps base pairs cells → at < length cells → get_or cells at None ≡ None
     → Keeps base (pairs ++ (base + at, byte) ∷ []) (set cells at (Some byte))
-kept_new base at byte pairs cells keeps within empty = record {
-  told = λ i b less e. elim (cases_eq i at) [
-    | inl same ↦
-        let here : get_or (set cells at (Some byte)) i None ≡ Some byte = ap (λ k. get_or (set cells at (Some byte)) k None) same ∙ get_or-set_same cells at (Some byte) None within in
-        let value : byte ≡ b = same_Some byte b (sym here ∙ e) in
-        Says-right pairs ((base + at, byte) ∷ []) (base + i) b (inl (ap (λ k. base + k) (sym same), value))
-    | inr other ↦
-        let inside : i < length cells = omega (arith, length-set cells at (Some byte)) in
-        Says-left pairs ((base + at, byte) ∷ []) (base + i) b (keeps.told i b inside (sym (get_or-set_other cells at i (Some byte) None other) ∙ e))
-  ];
-  kept = λ i b less says.
-      let inside : i < length cells = omega (arith, length-set cells at (Some byte)) in
-      elim (cases_eq i at) [
-        | inl same ↦
-            let here : get_or (set cells at (Some byte)) i None ≡ Some byte = ap (λ k. get_or (set cells at (Some byte)) k None) same ∙ get_or-set_same cells at (Some byte) None within in
-            elim (Says-parts pairs ((base + at, byte) ∷ []) (base + i) b says) [
-              | inl old ↦ absurd (none-some b (sym empty ∙ ap (λ k. get_or cells k None) (sym same) ∙ keeps.kept i b inside old))
-              | inr (inl new) ↦ here ∙ ap Some new.1
-              | inr (inr none) ↦ absurd none
-            ]
-        | inr other ↦ elim (Says-parts pairs ((base + at, byte) ∷ []) (base + i) b says) [
-          | inl old ↦ get_or-set_other cells at i (Some byte) None other ∙ keeps.kept i b inside old
-          | inr (inl new) ↦ let h = new.0 in absurd (other (omega arith))
-          | inr (inr none) ↦ absurd none
-        ]
-      ];
-}
+kept_new base at byte pairs cells keeps within empty = search (rules, Says-left, Says-parts, Says-right, cases_eq, get_or-set_other, get_or-set_same, length-set, none-some, same_Some)
 
 -- and one that comes to a place that has it
 kept_same : (base at byte : ℕ) (pairs : List (ℕ × ℕ)) (cells : List (Option ℕ)) → Keeps base pairs cells → at < length cells → get_or cells at None ≡ Some byte
     → Keeps base (pairs ++ (base + at, byte) ∷ []) cells
-kept_same base at byte pairs cells keeps within given = record {
-  told = λ i b less e. Says-left pairs ((base + at, byte) ∷ []) (base + i) b (keeps.told i b less e);
-  kept = λ i b less says. elim (Says-parts pairs ((base + at, byte) ∷ []) (base + i) b says) [
-    | inl old ↦ keeps.kept i b less old
-    | inr (inl new) ↦
-        let h = new.0 in
-        let same : i ≡ at = omega arith in
-        ap (λ k. get_or cells k None) same ∙ given ∙ ap Some new.1
-    | inr (inr none) ↦ absurd none
-  ];
-}
+kept_same base at byte pairs cells keeps within given = search (rules, Says-left, Says-parts)
 
 kept_inside : (base at byte : ℕ) (pairs : List (ℕ × ℕ)) (cells new : List (Option ℕ)) (given : Option ℕ) → Keeps base pairs cells → at < length cells → get_or cells at None ≡ given
     → put_at at byte cells given ≡ Some new → Kept base (pairs ++ (base + at, byte) ∷ []) cells new
-kept_inside base at byte pairs cells new None keeps within empty e =
-    let is : set cells at (Some byte) ≡ new = same_Some (set cells at (Some byte)) new e in
-    record {
-      keeps = subst (Keeps base (pairs ++ (base + at, byte) ∷ [])) is (kept_new base at byte pairs cells keeps within empty);
-      as_long = ap length (sym is) ∙ length-set cells at (Some byte);
-    }
-kept_inside base at byte pairs cells new (Some given) keeps within has e =
-    let parts = cond_some (given == byte) cells new e in
-    let same : given ≡ byte = eqb-true given byte parts.0 in
-    record {
-      keeps = subst (Keeps base (pairs ++ (base + at, byte) ∷ [])) parts.1 (kept_same base at byte pairs cells keeps within (has ∙ ap Some same));
-      as_long = ap length (sym parts.1);
-    }
+kept_inside base at byte pairs cells new None keeps within empty e = grind (arith, common_steps, kept_new, length-set, same_Some)
+kept_inside base at byte pairs cells new (Some given) keeps within has e = grind (arith, common_steps, cond_some, eqb-true, kept_same)
 
 put_kept : (base place byte : ℕ) (pairs : List (ℕ × ℕ)) (cells new : List (Option ℕ)) → Keeps base pairs cells → put base place byte cells ≡ Some new
     → Kept base (pairs ++ (place, byte) ∷ []) cells new
@@ -213,9 +142,7 @@ put_refused base place byte pairs more cells keeps e agree = elim (where_is base
 
 -- bytes one after another
 pub all_kept : (base : ℕ) (more pairs : List (ℕ × ℕ)) (cells new : List (Option ℕ)) → Keeps base pairs cells → put_all base more cells ≡ Some new → Kept base (pairs ++ more) cells new
-all_kept base [] pairs cells new keeps e =
-    let is : cells ≡ new = same_Some cells new e in
-    record { keeps = subst (λ l. Keeps base l new) (sym (append-nil pairs)) (subst (Keeps base pairs) is keeps); as_long = ap length (sym is) }
+all_kept base [] pairs cells new keeps e = search (rules, append-nil, same_Some)
 all_kept base (pair ∷ more) pairs cells new keeps e =
     option_and_then_some (put_all base more) (put base pair.0 pair.1 cells) new e (λ mid first rest.
     let one = put_kept base pair.0 pair.1 pairs cells mid keeps first in
@@ -281,19 +208,11 @@ bytes_told base bytes pairs cells keeps as_long are =
 -- what all bytes come to, from what the bytes that are left do: one more was put
 pub byte_put : (base same place i byte : ℕ) (bytes : List ℕ) (cells mid : List (Option ℕ)) (total : Option (List (Option ℕ))) → put_all base (numbered_bytes (place + i) (drop i bytes)) cells ≡ total → i < length bytes
     → byte ≡ get_or bytes i 0 → put same (place + i) byte cells ≡ Some mid → same ≡ base → put_all base (numbered_bytes (place + (i + 1)) (drop (i + 1) bytes)) mid ≡ total
-byte_put base same place i byte bytes cells mid total left less byte_is one same_is =
-    let next : place + i + 1 ≡ place + (i + 1) = omega arith in
-    let put_is : put base (place + i) (get_or bytes i 0) cells ≡ Some mid = ap (λ b. put base (place + i) b cells) (sym byte_is) ∙ ap (λ b. put b (place + i) byte cells) (sym same_is) ∙ one in
-    ap (λ p. put_all base (numbered_bytes p (drop (i + 1) bytes)) mid) (sym next)
-    ∙ ap (option_and_then (put_all base (numbered_bytes (place + i + 1) (drop (i + 1) bytes)))) (sym put_is)
-    ∙ ap (λ l. put_all base (numbered_bytes (place + i) l) cells) (sym (drop_more bytes i 0 less)) ∙ left
+byte_put base same place i byte bytes cells mid total left less byte_is one same_is = search (rules, byte_is, drop_more)
 
 pub byte_refused : (base same place i byte : ℕ) (bytes : List ℕ) (cells : List (Option ℕ)) (total : Option (List (Option ℕ))) → put_all base (numbered_bytes (place + i) (drop i bytes)) cells ≡ total → i < length bytes
     → byte ≡ get_or bytes i 0 → put same (place + i) byte cells ≡ None → same ≡ base → total ≡ None
-byte_refused base same place i byte bytes cells total left less byte_is one same_is =
-    let put_is : put base (place + i) (get_or bytes i 0) cells ≡ None = ap (λ b. put base (place + i) b cells) (sym byte_is) ∙ ap (λ b. put b (place + i) byte cells) (sym same_is) ∙ one in
-    sym left ∙ ap (λ l. put_all base (numbered_bytes (place + i) l) cells) (drop_more bytes i 0 less)
-    ∙ ap (option_and_then (put_all base (numbered_bytes (place + i + 1) (drop (i + 1) bytes)))) put_is
+byte_refused base same place i byte bytes cells total left less byte_is one same_is = search (rules, byte_is, drop_more)
 
 pub bytes_put : (base place i : ℕ) (bytes : List ℕ) (cells : List (Option ℕ)) (total : Option (List (Option ℕ))) → put_all base (numbered_bytes (place + i) (drop i bytes)) cells ≡ total → length bytes ≤ i → total ≡ Some cells
 bytes_put base place i bytes cells total left all = sym left ∙ ap (λ l. put_all base (numbered_bytes (place + i) l) cells) (drop_all i bytes all)

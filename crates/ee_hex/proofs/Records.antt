@@ -1,5 +1,6 @@
 -- A line spells one record, the one that is read from it.
-use Rattle.std.proofs.Common.{◌≡◌, ◌≢◌, ℕ, suc, ◌+◌, ◌*◌, ◌/◌, ◌%◌, ◌<◌, true, List, [], ◌∷◌, ◌++◌, length, get_or, take, refl, sym, ap, ◌∙◌, subst, arith, length-append, inl, inr, Some, None, Result, Ok, Err}
+use Rattle.std.proofs.Common.{◌≡◌, ◌≢◌, ℕ, suc, ◌+◌, ◌*◌, ◌%◌, ◌<◌, true, List, [], ◌∷◌, ◌++◌, length, get_or, take, refl, sym, ap, ◌∙◌, subst, arith, length-append, inl, inr, Some, None, Result, Ok, Err, rules}
+use Rattle.std.proofs.lemmas.Grind.{common_steps}
 use Rattle.std.specs.Prelude.{◌==◌, ◌&&◌}
 use Rattle.std.specs.List.{sum}
 use Rattle.std.proofs.lemmas.Bool.{ne_eqb, eq-eqb, eqb-true, cases_eq, cases_lt, and_parts}
@@ -25,14 +26,7 @@ pub record AreDigitsOf (line bytes : List ℕ) : Type 0 where
 
 pub digits_of : (line bytes : List ℕ) → bytes_in line ≡ Some bytes → AreDigitsOf line bytes
 digits_of [] bytes e = absurd (none-some bytes e)
-digits_of (c ∷ digits) bytes e = elim (cases_eq c 58) [
-  | inl same ↦
-      let h : bytes_decoded (decode_of digits) ≡ Some bytes = rw (eq-eqb c 58 same) at e in
-      record { digits = digits; line_is = ap (λ b. b ∷ digits) same; digits_are = decoded (decode_of digits) bytes h }
-  | inr other ↦
-      let h : None ≡ Some bytes = rw (ne_eqb c 58 other) at e in
-      absurd (none-some bytes h)
-]
+digits_of (c ∷ digits) bytes e = search (rules, cases_eq, decoded, eq-eqb, ne_eqb, none-some)
 
 pub bytes_in-digits : (line digits bytes : List ℕ) → line ≡ 58 ∷ digits → decode_of digits ≡ Ok bytes → bytes_in line ≡ Some bytes
 bytes_in-digits line digits bytes line_is digits_are = ap bytes_in line_is ∙ ap bytes_decoded digits_are
@@ -60,10 +54,7 @@ record_from count high low kind behind = record { address = high * 256 + low; ki
 
 front_is : (count high low kind last : ℕ) (data_bytes behind : List ℕ) → high < 256 → low < 256 → length data_bytes ≡ count → behind ≡ data_bytes ++ last ∷ []
     → count ∷ high ∷ low ∷ kind ∷ behind ≡ front_bytes (record { address = high * 256 + low; kind = kind; bytes = data_bytes }) ++ last ∷ []
-front_is count high low kind last data_bytes behind h l count_is behind_is =
-    let a : (high * 256 + low) / 256 ≡ high = omega arith in
-    let b : (high * 256 + low) % 256 ≡ low = omega arith in
-    rw (a, b, count_is, behind_is) refl
+front_is count high low kind last data_bytes behind h l count_is behind_is = search rules
 
 record_made : (count high low kind : ℕ) (behind : List ℕ) → IsBytes (count ∷ high ∷ low ∷ kind ∷ behind) → length behind ≡ count + 1 → sum (count ∷ high ∷ low ∷ kind ∷ behind) % 256 ≡ 0
     → fits_kind kind (high * 256 + low) count ≡ true → AreBytesOf (count ∷ high ∷ low ∷ kind ∷ behind) (record_from count high low kind behind)
@@ -115,16 +106,7 @@ record_found count high low kind behind long zero_sum fits =
 -- and a record's bytes are read as it
 pub record_again : (r : Record) → IsRecord r → record_of (record_bytes r) ≡ Some r
 unfolding record_bytes
-record_again r proper =
-    let check = check_byte (sum (front_bytes r)) in
-    let behind = r.bytes ++ check ∷ [] in
-    let long : length behind ≡ length r.bytes + 1 = length-append r.bytes (check ∷ []) in
-    let zero_sum : sum (front_bytes r ++ check ∷ []) % 256 ≡ 0 = ap (λ s. s % 256) (sum-last (front_bytes r) check) ∙ check_sums (sum (front_bytes r)) in
-    let address : r.address / 256 * 256 + r.address % 256 ≡ r.address = omega arith in
-    let taken : take (length r.bytes) behind ≡ r.bytes = take_at r.bytes (check ∷ []) (length r.bytes) refl in
-    record_found (length r.bytes) (r.address / 256) (r.address % 256) r.kind behind long zero_sum (subst (λ a. fits_kind r.kind a (length r.bytes) ≡ true) (sym address) proper.fits)
-    ∙ ap (λ (a : ℕ). Some (record { address = a; kind = r.kind; bytes = take (length r.bytes) behind })) address
-    ∙ ap (λ (l : List ℕ). Some (record { address = r.address; kind = r.kind; bytes = l })) taken
+record_again r proper = grind (arith, common_steps, check_sums, length-append, record_found, sum-last, take_at)
 
 -- no record has more bytes than the reader holds
 pub too_long : (bytes : List ℕ) → IsBytes bytes → 260 < length bytes → record_of bytes ≡ None
@@ -150,9 +132,7 @@ record_spelled line r e = option_and_then_some record_of (bytes_in (bare line)) 
 -- and the one that is spelled there is read
 pub spelled_record : (line : List ℕ) (r : Record) → SpellsRecord (bare line) r → record_in line ≡ Some r
 unfolding record_in
-spelled_record line r spelled =
-    let found : bytes_in (bare line) ≡ Some (record_bytes r) = bytes_in-digits (bare line) spelled.digits (record_bytes r) spelled.line_is spelled.digits_are in
-    rw found (record_again r spelled.proper)
+spelled_record line r spelled = search (rules, bytes_in-digits, record_again)
 
 -- a text has one first line and one record there
 pub record IsSame (r other : Record) (rest more : List ℕ) : Type 0 where

@@ -1,5 +1,6 @@
 -- A text that is written reads back.
-use Rattle.std.proofs.Common.{◌≡◌, ◌≢◌, ℕ, zero, suc, ◌+◌, ◌-◌, ◌*◌, ◌/◌, ◌%◌, ◌<◌, ◌≤◌, List, [], ◌∷◌, ◌++◌, length, get_or, take, drop, refl, sym, ap, ◌∙◌, subst, arith, append_assoc, inl, inr, Option, Some, None}
+use Rattle.std.proofs.Common.{◌≡◌, ◌≢◌, ℕ, zero, suc, ◌+◌, ◌-◌, ◌*◌, ◌/◌, ◌%◌, ◌<◌, ◌≤◌, List, [], ◌∷◌, ◌++◌, length, get_or, take, drop, refl, sym, ap, ◌∙◌, subst, arith, append_assoc, inl, inr, Option, Some, None, rules}
+use Rattle.std.proofs.lemmas.Grind.{common_steps}
 use Rattle.std.specs.Prelude.{IfSome}
 use Rattle.std.specs.List.{AllByRecursion, flat_map, sum}
 use Rattle.std.proofs.lemmas.Bool.{ne_eqb, eq-eqb, cases_eq, cases_lt, le-leb}
@@ -9,7 +10,7 @@ use Rattle.std.proofs.lemmas.List.Sums.{sum_by-append}
 use Rattle.hex.specs.Hex.{IsBytes, encode_upper, encode_with, upper_digits}
 use Rattle.hex.proofs.HexLemmas.{decode_of-encode_upper}
 use Rattle.ee_text.specs.Field.{Lacks}
-use Rattle.ee_text.proofs.Public.{Lacks-parts, Lacks-cons}
+use Rattle.ee_text.proofs.Public.{Lacks-parts, Lacks-cons, lacks_at}
 use Rattle.ee_hex.specs.Record.{Record, AreLinesOf, IsLineOf, IsRecord, SpellsRecord, bare, check_byte, front_bytes, record_bytes}
 use Rattle.ee_hex.specs.Text.{AgreeWithin, IsHexOf, Says, all_placed, numbered_bytes, upper_after}
 use Rattle.ee_hex.specs.Written.{data_record, end_record, hex_text, record_line, row_length, rows, upper_record, upper_told}
@@ -47,18 +48,10 @@ record_is_bytes r fits =
     (bytes_cons (r.address % 256) (r.kind ∷ r.bytes) low (bytes_cons r.kind r.bytes fits.kind_fits fits.proper.bytes))))
     (check_small (sum (front_bytes r)))
 
--- a byte that a list lacks is at none of its places
-lacks_at : (c : ℕ) (xs : List ℕ) (k : ℕ) → Lacks c xs → 0 ≢ c → get_or xs k 0 ≢ c
-lacks_at c [] k lacks other = other
-lacks_at c (x ∷ xs) zero lacks other = (Lacks-parts c x xs lacks).0
-lacks_at c (x ∷ xs) (suc k) lacks other = lacks_at c xs k (Lacks-parts c x xs lacks).1 other
-
 lacks_in_digits : (c : ℕ) (t xs : List ℕ) → Lacks c t → 0 ≢ c → Lacks c (encode_with t xs)
 unfolding encode_with
 lacks_in_digits c t [] lacks other = refl
-lacks_in_digits c t (b ∷ rest) lacks other =
-    Lacks-cons c (get_or t (b / 16) 0) (get_or t (b % 16) 0 ∷ encode_with t rest) (lacks_at c t (b / 16) lacks other)
-    (Lacks-cons c (get_or t (b % 16) 0) (encode_with t rest) (lacks_at c t (b % 16) lacks other) (lacks_in_digits c t rest lacks other))
+lacks_in_digits c t (b ∷ rest) lacks other = search (rules, lacks_at, (lacks_in_digits c t rest lacks other))
 
 line_lacks : (c : ℕ) (xs : List ℕ) → Lacks c upper_digits → 0 ≢ c → 58 ≢ c → Lacks c (58 ∷ encode_upper xs)
 line_lacks c xs lacks other colon = Lacks-cons c 58 (encode_upper xs) colon (lacks_in_digits c upper_digits xs lacks other)
@@ -84,10 +77,7 @@ line_again r more fits =
 
 lines_again : (records : List Record) (more : List ℕ) → AllByRecursion IsWritten records → AreLinesOf records (flat_map record_line records ++ more) more
 lines_again [] more fit = refl
-lines_again (r ∷ records) more fit =
-    let behind = flat_map record_line records ++ more in
-    let assoc = append_assoc (record_line r) (flat_map record_line records) more in
-    (behind, subst (λ t. IsLineOf r t behind) (sym assoc) (line_again r behind fit.0), lines_again records more fit.1)
+lines_again (r ∷ records) more fit = grind (arith, common_steps, line_again, (lines_again records more fit.1))
 
 -- ---- all records
 
@@ -104,10 +94,7 @@ row_below : (place count : ℕ) → place % 65536 + row_length place count ≤ 6
 row_below place count = omega arith
 
 is_bytes_take : (n : ℕ) (xs : List ℕ) → IsBytes xs → IsBytes (take n xs)
-is_bytes_take n xs all = λ i. elim (cases_lt i n) [
-  | inl less ↦ subst (λ b. b < 256) (sym (get_or-take n xs i 0 less)) (all i)
-  | inr more ↦ omega (arith, get_or_past (take n xs) i 0 (omega (arith, length-take n xs)))
-]
+is_bytes_take n xs all = search (rules, cases_lt, get_or-take, get_or_past, length-take)
 
 is_bytes_drop : (n : ℕ) (xs : List ℕ) → IsBytes xs → IsBytes (drop n xs)
 is_bytes_drop n xs all = λ i. subst (λ b. b < 256) (sym (get_or-drop n xs i 0)) (all (n + i))
@@ -118,21 +105,7 @@ pub record IsInside (r : Record) : Type 0 where
   pub no_end : r.kind ≢ 1
 
 upper_inside : (half : ℕ) → half < 65536 → IsInside (upper_record half)
-upper_inside half fits =
-    let high : half / 256 < 256 = omega arith in
-    let low : half % 256 < 256 = omega arith in
-    record {
-      written = record {
-        proper = record {
-          address_fits = omega arith;
-          few = omega arith;
-          bytes = bytes_cons (half / 256) ((half % 256) ∷ []) high (bytes_cons (half % 256) [] low (λ i. omega arith));
-          fits = refl;
-        };
-        kind_fits = omega arith;
-      };
-      no_end = λ e. omega arith;
-    }
+upper_inside half fits = search (rules, bytes_cons)
 
 data_inside : (place : ℕ) (bytes : List ℕ) → IsBytes bytes → length bytes ≤ 16 → place % 65536 + length bytes ≤ 65536 → IsInside (data_record place bytes)
 data_inside place bytes all short below =
@@ -151,10 +124,7 @@ data_inside place bytes all short below =
 
 told_inside : (told : Option ℕ) (half : ℕ) (records : List Record) → half < 65536 → AllByRecursion IsInside records → AllByRecursion IsInside (upper_told told half ++ records)
 told_inside None half records fits all = (upper_inside half fits, all)
-told_inside (Some last) half records fits all = elim (cases_eq last half) [
-  | inl same ↦ rw (eq-eqb last half same) all
-  | inr other ↦ rw (ne_eqb last half other) (upper_inside half fits, all)
-]
+told_inside (Some last) half records fits all = search (rules, cases_eq, eq-eqb, ne_eqb, upper_inside)
 
 rows_inside : (most : ℕ) (told : Option ℕ) (place : ℕ) (bytes : List ℕ) → IsBytes bytes → place + length bytes ≤ 4294967296 → AllByRecursion IsInside (rows most told place bytes)
 rows_inside zero told place bytes all fits = tt
@@ -192,10 +162,7 @@ upper_behind_upper upper half = let same : half / 256 * 256 + half % 256 ≡ hal
 told_placed : (told : Option ℕ) (half upper : ℕ) (records : List Record) → IfSome told (λ last. upper ≡ last * 65536)
     → all_placed upper (upper_told told half ++ records) ≡ all_placed (half * 65536) records
 told_placed None half upper records is = ap (λ u. all_placed u records) (upper_behind_upper upper half)
-told_placed (Some last) half upper records is = elim (cases_eq last half) [
-  | inl same ↦ rw (eq-eqb last half same) (ap (λ u. all_placed u records) (is ∙ ap (λ h. h * 65536) same))
-  | inr other ↦ rw (ne_eqb last half other) (ap (λ u. all_placed u records) (upper_behind_upper upper half))
-]
+told_placed (Some last) half upper records is = search (rules, cases_eq, eq-eqb, ne_eqb, upper_behind_upper)
 
 rows_placed : (most : ℕ) (told : Option ℕ) (place upper : ℕ) (bytes : List ℕ) → length bytes ≤ most → IfSome told (λ last. upper ≡ last * 65536)
     → all_placed upper (rows most told place bytes) ≡ numbered_bytes place bytes
@@ -225,22 +192,13 @@ pub record IsSaid (place : ℕ) (bytes : List ℕ) (at byte : ℕ) : Type 0 wher
 
 numbered_says : (place : ℕ) (bytes : List ℕ) (at byte : ℕ) → Says (numbered_bytes place bytes) at byte → IsSaid place bytes at byte
 numbered_says place [] at byte says = absurd says
-numbered_says place (x ∷ xs) at byte (inl here) =
-    let place_is = here.0 in
-    let first : at - place ≡ 0 = omega arith in
-    record { from = omega arith; is = ap (λ k. get_or (x ∷ xs) k 0) first ∙ here.1 }
-numbered_says place (x ∷ xs) at byte (inr there) =
-    let more = numbered_says (place + 1) xs at byte there in
-    let above = more.from in
-    let next : at - place ≡ suc (at - (place + 1)) = omega arith in
-    record { from = omega arith; is = ap (λ k. get_or (x ∷ xs) k 0) next ∙ more.is }
+numbered_says place (x ∷ xs) at byte (inl here) = search rules
+numbered_says place (x ∷ xs) at byte (inr there) = search (rules, (numbered_says (place + 1) xs at byte there))
 
 numbered_at : (place : ℕ) (bytes : List ℕ) (i : ℕ) → i < length bytes → Says (numbered_bytes place bytes) (place + i) (get_or bytes i 0)
 numbered_at place [] i less = absurd (omega arith)
 numbered_at place (x ∷ xs) zero less = inl (plus_zero place, refl)
-numbered_at place (x ∷ xs) (suc i) less =
-    let next : place + 1 + i ≡ place + suc i = omega arith in
-    inr (subst (λ p. Says (numbered_bytes (place + 1) xs) p (get_or xs i 0)) next (numbered_at (place + 1) xs i (omega arith)))
+numbered_at place (x ∷ xs) (suc i) less = search (rules, (numbered_at (place + 1) xs i (omega arith)))
 
 numbered_agrees : (base size place : ℕ) (bytes : List ℕ) → AgreeWithin base size (numbered_bytes place bytes)
 numbered_agrees base size place bytes = λ at byte other low high first second.
@@ -249,10 +207,7 @@ numbered_agrees base size place bytes = λ at byte other low high first second.
 -- ---- the text
 
 end_is_written : IsWritten end_record
-end_is_written = record {
-  proper = record { address_fits = omega arith; few = omega arith; bytes = λ i. omega arith; fits = refl };
-  kind_fits = omega arith;
-}
+end_is_written = search rules
 
 pub texts_read_back_lem : (base : ℕ) (bytes : List ℕ) → IsBytes bytes → base + length bytes ≤ 4294967296 → IsHexOf (hex_text base bytes) base (length bytes) bytes
 unfolding hex_text
@@ -298,9 +253,7 @@ abbrev pub text_left : Option ℕ → ℕ → List ℕ → List ℕ
 text_left told place bytes = flat_map record_line (rows (length bytes) told place bytes ++ end_record ∷ [])
 
 flat_more : (xs : List Record) (y : Record) (ys zs : List Record) → flat_map record_line ((xs ++ y ∷ ys) ++ zs) ≡ (flat_map record_line xs ++ record_line y) ++ flat_map record_line (ys ++ zs)
-flat_more xs y ys zs =
-    ap (flat_map record_line) (append_assoc xs (y ∷ ys) zs) ∙ flat_map-append record_line xs (y ∷ (ys ++ zs))
-    ∙ sym (append_assoc (flat_map record_line xs) (record_line y) (flat_map record_line (ys ++ zs)))
+flat_more xs y ys zs = grind (arith, common_steps, flat_map-append)
 
 -- one row more
 pub one_row_more : (out told_out new total bytes row behind : List ℕ) (told : Option ℕ) (place half address count : ℕ) → 0 < length bytes → out ++ text_left told place bytes ≡ total
@@ -308,43 +261,13 @@ pub one_row_more : (out told_out new total bytes row behind : List ℕ) (told : 
     → told_out ≡ out ++ flat_map record_line (upper_told told half) → new ≡ told_out ++ record_line (record { address = address; kind = 0; bytes = row })
     → new ++ text_left (Some half) (place + length row) behind ≡ total
 one_row_more out told_out new total [] row behind told place half address count some so_far half_is address_is count_is row_is behind_is told_is new_is = absurd (omega arith)
-one_row_more out told_out new total (byte ∷ bytes) row behind told place half address count some so_far half_is address_is count_is row_is behind_is told_is new_is =
-    let n = row_length place (length (byte ∷ bytes)) in
-    let front = take n (byte ∷ bytes) in
-    let rest = drop n (byte ∷ bytes) in
-    let first_half = place / 65536 in
-    let uppers = upper_told told first_half in
-    let within : n ≤ length (byte ∷ bytes) = row_fits place (length (byte ∷ bytes)) in
-    let taken : length front ≡ n = length-take-le n (byte ∷ bytes) within in
-    let dropped : length rest ≤ length bytes = omega (arith, length-drop n (byte ∷ bytes), row_some place (length bytes)) in
-    let here : List ℕ = flat_map record_line uppers ++ record_line (data_record place front) in
-    let left : text_left told place (byte ∷ bytes) ≡ here ++ text_left (Some first_half) (place + n) rest =
-    flat_more uppers (data_record place front) (rows (length bytes) (Some first_half) (place + n) rest) (end_record ∷ [])
-    ∙ ap (λ (l : List Record). here ++ flat_map record_line (l ++ end_record ∷ []))
-    (rows_enough (length bytes) (length rest) (Some first_half) (place + n) rest dropped (omega arith)) in
-    let row_eq : row ≡ front = row_is ∙ ap (λ k. take k (byte ∷ bytes)) count_is in
-    let behind_eq : behind ≡ rest = behind_is ∙ ap (λ k. drop k (byte ∷ bytes)) count_is in
-    let place_eq : place + length row ≡ place + n = omega (arith, ap length row_eq, taken) in
-    let written : new ≡ out ++ here =
-    new_is ∙ ap (λ (l : List ℕ). l ++ record_line (record { address = address; kind = 0; bytes = row })) (told_is ∙ ap (λ h. out ++ flat_map record_line (upper_told told h)) half_is)
-    ∙ ap (λ (a : ℕ). (out ++ flat_map record_line uppers) ++ record_line (record { address = a; kind = 0; bytes = row })) address_is
-    ∙ ap (λ (r : List ℕ). (out ++ flat_map record_line uppers) ++ record_line (data_record place r)) row_eq
-    ∙ append_assoc out (flat_map record_line uppers) (record_line (data_record place front)) in
-    ap (λ (l : List ℕ). l ++ text_left (Some half) (place + length row) behind) written
-    ∙ ap (λ (b : List ℕ). (out ++ here) ++ text_left (Some half) (place + length row) b) behind_eq
-    ∙ ap (λ (p : ℕ). (out ++ here) ++ text_left (Some half) p rest) place_eq
-    ∙ ap (λ (h : ℕ). (out ++ here) ++ text_left (Some h) (place + n) rest) half_is
-    ∙ append_assoc out here (text_left (Some first_half) (place + n) rest)
-    ∙ ap (λ (l : List ℕ). out ++ l) (sym left) ∙ so_far
+one_row_more out told_out new total (byte ∷ bytes) row behind told place half address count some so_far half_is address_is count_is row_is behind_is told_is new_is = grind (arith, common_steps, flat_more, length-drop, length-take-le, row_fits, row_some, rows_enough)
 
 -- the text is written
 pub all_written_so : (out new bytes : List ℕ) (told : Option ℕ) (place base : ℕ) (whole : List ℕ) → out ++ text_left told place bytes ≡ text_left None base whole → length bytes ≡ 0
     → new ≡ out ++ record_line end_record → new ≡ hex_text base whole
 unfolding hex_text
-all_written_so out new bytes told place base whole so_far none new_is =
-    let empty : bytes ≡ [] = nil_from_length bytes none in
-    new_is ∙ ap (λ (l : List ℕ). out ++ l) (sym (append-nil (record_line end_record)))
-    ∙ ap (λ (b : List ℕ). out ++ text_left told place b) (sym empty) ∙ so_far
+all_written_so out new bytes told place base whole so_far none new_is = search (rules, append-nil, nil_from_length)
 
 -- ---- how a record's line grows
 
@@ -357,16 +280,7 @@ encode_with-append t (x ∷ xs) ys = ap (λ l. get_or t (x / 16) 0 ∷ get_or t 
 pub digits_more : (xs : List ℕ) (i : ℕ) (old now mid new : List ℕ) (high low : ℕ) → i < length xs → now ≡ old ++ encode_upper (take i xs) → mid ≡ now ++ high ∷ [] → new ≡ mid ++ low ∷ []
     → high ≡ get_or upper_digits (get_or xs i 0 / 16) 0 → low ≡ get_or upper_digits (get_or xs i 0 % 16) 0 → new ≡ old ++ encode_upper (take (i + 1) xs)
 unfolding encode_with
-digits_more xs i old now mid new high low less so_far first second high_is low_is =
-    let byte = get_or xs i 0 in
-    let all : encode_upper (take (i + 1) xs) ≡ encode_upper (take i xs) ++ get_or upper_digits (byte / 16) 0 ∷ get_or upper_digits (byte % 16) 0 ∷ [] =
-    ap encode_upper (take_more xs i 0 less) ∙ encode_with-append upper_digits (take i xs) (byte ∷ []) in
-    second ∙ ap (λ l. l ++ low ∷ []) (first ∙ ap (λ l. l ++ high ∷ []) so_far)
-    ∙ append_assoc (old ++ encode_upper (take i xs)) (high ∷ []) (low ∷ [])
-    ∙ append_assoc old (encode_upper (take i xs)) (high ∷ low ∷ [])
-    ∙ ap (λ h. old ++ (encode_upper (take i xs) ++ h ∷ low ∷ [])) high_is
-    ∙ ap (λ h. old ++ (encode_upper (take i xs) ++ get_or upper_digits (byte / 16) 0 ∷ h ∷ [])) low_is
-    ∙ ap (λ l. old ++ l) (sym all)
+digits_more xs i old now mid new high low less so_far first second high_is low_is = grind (arith, common_steps, encode_with-append, take_more)
 
 pub nothing_written : (old : List ℕ) → old ≡ old ++ encode_upper []
 unfolding encode_with

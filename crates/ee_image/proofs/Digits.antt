@@ -10,17 +10,11 @@ use Rattle.hex.specs.declared.error.FromHexError.{FromHexError}
 use Rattle.hex.specs.Hex.{IsBytes, decode_of, decode_sized, encode_with, lower_digits}
 use Rattle.hex.proofs.HexLemmas.{decode_of-encode_lower, decode_of-same, decode_sized-encode_lower, length-encode_with}
 use Rattle.ee_text.specs.Field.{Lacks}
-use Rattle.ee_text.proofs.Public.{Lacks-parts, Lacks-cons}
+use Rattle.ee_text.proofs.Public.{Lacks-cons, lacks_at}
 use Rattle.ee_flash.specs.Device.{IsBelowAllOnes}
 use Rattle.ee_flash.specs.declared.word.Word.{Word}
 use Rattle.ee_flash.specs.declared.word.Word.TheVariants.{Erased, Held, Torn}
 use Rattle.ee_image.specs.Text.{digits, word_text}
-
--- a byte that a list lacks is at none of its places
-lacks_at : (c : ℕ) (xs : List ℕ) (k : ℕ) → Lacks c xs → 0 ≢ c → get_or xs k 0 ≢ c
-lacks_at c [] k lacks other = other
-lacks_at c (x ∷ xs) zero lacks other = (Lacks-parts c x xs lacks).0
-lacks_at c (x ∷ xs) (suc k) lacks other = lacks_at c xs k (Lacks-parts c x xs lacks).1 other
 
 Lacks-encode_with : (c : ℕ) (t xs : List ℕ) → Lacks c t → 0 ≢ c → Lacks c (encode_with t xs)
 unfolding encode_with

@@ -1,8 +1,7 @@
 -- A text that is written grows by words and by pages.
-use Rattle.std.proofs.Common.{◌≡◌, ℕ, zero, suc, ◌+◌, ◌<◌, List, [], ◌∷◌, ◌++◌, length, get_or, map, take, sym, ap, ◌∙◌, arith, add-one, append_assoc, Result, Ok, Err, OnErr}
+use Rattle.std.proofs.Common.{◌≡◌, ℕ, zero, suc, ◌+◌, ◌<◌, List, [], ◌∷◌, ◌++◌, length, get_or, map, take, sym, ap, ◌∙◌, arith, add-one, append_assoc}
 use Rattle.std.specs.Fmt.{decimal}
 use Rattle.std.proofs.lemmas.List.{append-nil, map-append, take_more}
-use Rattle.std.proofs.lemmas.List.Elements.{All-get_or}
 use Rattle.ee_text.specs.Field.{joined_fields}
 use Rattle.ee_text.specs.Line.{line_of, IsLonger}
 use Rattle.ee_text.proofs.Public.{joined-append}
@@ -10,28 +9,17 @@ use Rattle.ee_flash.specs.Size.{page_count}
 use Rattle.ee_flash.specs.Device.{Device, IsFormed, page_at, wear_at, word_at}
 use Rattle.ee_flash.specs.declared.word.Word.{Word}
 use Rattle.ee_flash.specs.declared.word.Word.TheVariants.{Erased}
+use Rattle.ee_flash.proofs.Public.{length-page_at}
 use Rattle.ee_image.specs.Text.{word_text, page_text, page_lines, size_text}
-
--- what holds anyway
-pub on_err_anyway : {T E : Type 0} (r : Result T E) (P : Type 0) → P → OnErr r P
-on_err_anyway (Ok x) P h = tt
-on_err_anyway (Err given) P h = h
 
 -- a text that grew, and perhaps grew on
 pub longer : (old now new written : List ℕ) → now ≡ old ++ written → new ≡ now → IsLonger old new
 longer old now new written so_far same = (written, same ∙ so_far)
 
-pub longer_still : (old now new written : List ℕ) → now ≡ old ++ written → IsLonger now new → IsLonger old new
-longer_still old now new written so_far more = (written ++ more.0, more.1 ∙ ap (λ l. l ++ more.0) so_far ∙ append_assoc old written more.0)
-
 -- one word more
 page_text-push : (wear : ℕ) (words : List Word) (word : Word) → page_text wear (words ++ word ∷ []) ≡ page_text wear words ++ 32 ∷ word_text word
 page_text-push wear words word =
     ap (λ l. joined_fields (decimal wear ∷ l)) (map-append word_text words (word ∷ [])) ∙ joined-append (decimal wear) (map word_text words) (word_text word) []
-
-pub length-page_at : (device : Device) (page : ℕ) → IsFormed device → page < page_count device.size → length (page_at device page) ≡ device.size.words
-length-page_at device page formed in_range =
-    All-get_or (λ (p : List Word). length p ≡ device.size.words) device.image page [] (omega (arith, formed.image_length)) formed.page_lengths
 
 pub page_grows : (device : Device) (page at : ℕ) (old out spaced new : List ℕ) (word : Word) → IsFormed device → page < page_count device.size → at < device.size.words
     → out ≡ old ++ page_text (wear_at device page) (take at (page_at device page)) → spaced ≡ out ++ 32 ∷ [] → word ≡ word_at device page at → new ≡ spaced ++ word_text word

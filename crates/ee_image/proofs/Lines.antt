@@ -3,7 +3,7 @@ use Rattle.std.proofs.Common.{◌≡◌, ◌≢◌, ℕ, ◌<◌, ◌^◌, List,
 use Rattle.std.specs.Fmt.{decimal}
 use Rattle.std.specs.List.{AllByRecursion}
 use Rattle.std.proofs.lemmas.Fmt.{decimal_injective}
-use Rattle.ee_text.specs.Field.{IsField, Lacks}
+use Rattle.ee_text.specs.Field.{IsField}
 use Rattle.ee_text.specs.Line.{IsLine, line_of}
 use Rattle.ee_text.proofs.Public.{Lacks-joined, joined_injective, IsField-decimal, IsLine-decimal}
 use Rattle.ee_text.proofs.Public as feeds
@@ -62,13 +62,7 @@ pub other_size : (text line rest : List ℕ) → text ≡ line_of line ++ rest �
 other_size text line rest parts is_line other size more begins =
     other size begins.numbered (feeds.first_line line (size_text size) rest more is_line (size_is_line size begins.numbered) (sym parts ∙ begins.text_is)).0
 
-pub no_first_line : (text : List ℕ) → Lacks 10 text → NoSize text
-no_first_line text lacks size rest begins = feeds.no_line text (size_text size) rest lacks begins.text_is
-
 -- a line that is no page's
 pub other_page : (words : ℕ) (text line rest : List ℕ) → text ≡ line_of line ++ rest → IsLine line → IsOtherLine words line → NoPage words text
 other_page words text line rest parts is_line other wear page more proper e =
     other wear page proper (feeds.first_line line (page_text wear page) rest more is_line (page_is_line words wear page proper) (sym parts ∙ e)).0
-
-pub no_page_line : (words : ℕ) (text : List ℕ) → Lacks 10 text → NoPage words text
-no_page_line words text lacks wear page rest proper e = feeds.no_line text (page_text wear page) rest lacks e

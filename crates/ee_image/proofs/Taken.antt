@@ -1,6 +1,5 @@
 -- Words and pages, read one after another.
-use Rattle.std.proofs.Common.{◌≡◌, ℕ, ◌+◌, ◌<◌, List, [], ◌∷◌, ◌++◌, length, map, refl, sym, ap, ◌∙◌, arith, append_assoc, length-append, subst, Result, Ok, Err, IfErr, MatchResult}
-use Rattle.std.specs.Result.{IsErrAnd}
+use Rattle.std.proofs.Common.{◌≡◌, ℕ, ◌+◌, ◌<◌, List, [], ◌∷◌, ◌++◌, length, map, refl, sym, ap, ◌∙◌, arith, append_assoc, length-append, subst}
 use Rattle.std.specs.Fmt.{decimal}
 use Rattle.std.specs.List.{All, AllByRecursion, flat_map}
 use Rattle.ee_text.specs.Field.{IsField, joined_fields}
@@ -11,7 +10,7 @@ use Rattle.std.proofs.lemmas.Grind.{flat_map-append}
 use Rattle.ee_flash.specs.Device.{IsBelowAllOnes}
 use Rattle.ee_flash.specs.declared.word.Word.{Word}
 use Rattle.ee_image.specs.Text.{word_text, page_text, page_lines, IsPage, ArePages}
-use Rattle.ee_image.specs.Reading.{ArePagesRead, AreWordsRead, IsLineFault, IsOtherLine, IsPageFault, IsPageRead, IsNextPage, IsWordsFault, NoWords}
+use Rattle.ee_image.specs.Reading.{ArePagesRead, AreWordsRead, IsLineFault, IsOtherLine, IsPageFault, IsNextPage, IsWordsFault, NoWords}
 use Rattle.ee_image.specs.declared.reading.PageFault.{PageFault}
 use Rattle.ee_image.specs.declared.reading.PageFault.TheVariants.{Bad, NoMemory}
 use Rattle.ee_image.proofs.Lines.{other_page, page_fields}
@@ -69,16 +68,6 @@ nothing_behind (word ∷ words) (other ∷ others) after same e =
     let tails : map word_text words ++ after ≡ map word_text others = cc in
     nothing_behind words others after (omega arith) tails
 
--- an error that is passed on
-pub passed_on : {T E : Type 0} (r : Result T E) (fault : E) (P : E → Type 0) → IsErrAnd r (λ e. e ≡ fault) → P fault → IfErr r P
-passed_on (Ok x) fault P e h = absurd e
-passed_on (Err given) fault P e h = subst P (sym e) h
-
--- an answer that is passed on with it
-pub error_passed_on : {T E : Type 0} (r : Result T E) (fault : E) (O : T → Type 0) (P : E → Type 0) → IsErrAnd r (λ e. e ≡ fault) → P fault → MatchResult r O P
-error_passed_on (Ok x) fault O P e h = absurd e
-error_passed_on (Err given) fault O P e h = subst P (sym e) h
-
 -- ---- the line of a page
 
 -- what is to be shown of a line that is no page's
@@ -109,18 +98,11 @@ too_many_words words line row rest after old new only behind read more =
 
 -- ---- the line at the front of a text
 
-pub page_at_front : (words wear : ℕ) (text line rest : List ℕ) (old new : List Word) → text ≡ line_of line ++ rest → IsPageRead words wear line old new → IsNextPage words wear text rest old new
-page_at_front words wear text line rest old new parts read =
-    record { page = read.page; proper = read.proper; text_is = parts ∙ ap (λ l. line_of l ++ rest) read.line_is; cells = read.cells }
-
 pub page_wrong : (words : ℕ) (text line rest : List ℕ) (fault : PageFault) → text ≡ line_of line ++ rest → IsLine line → IsLineFault words line fault → IsPageFault words text fault
 page_wrong words text line rest Bad parts is_line other = other_page words text line rest parts is_line other
 page_wrong words text line rest NoMemory parts is_line other = tt
 
 -- ---- the pages
-
-pub no_pages_yet : (words : ℕ) (text : List ℕ) → ArePagesRead words 0 text text [] []
-no_pages_yet words text = record { pages = []; count_is = refl; proper = tt; text_is = refl; cells_are = refl }
 
 pub one_page_more : (words n wear : ℕ) (text rest more : List ℕ) (cells new : List Word) (wears counts : List ℕ) → ArePagesRead words n text rest cells wears
     → IsNextPage words wear rest more cells new → counts ≡ wears ++ wear ∷ [] → ArePagesRead words (n + 1) text more new counts

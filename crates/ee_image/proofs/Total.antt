@@ -12,6 +12,7 @@ use Rattle.ee_flash.specs.Cells.{device_from}
 use Rattle.ee_flash.specs.Size.{Size, IsWithinLimits, page_count, size_of}
 use Rattle.ee_flash.specs.declared.word.Word.{Word}
 use Rattle.ee_flash.specs.declared.word.Word.TheVariants.{Erased, Held, Torn}
+use Rattle.ee_flash.proofs.Public.{below-held}
 use Rattle.ee_image.specs.Text.{ArePages, IsPage, image_text, page_lines, page_text, size_text, word_text}
 use Rattle.ee_image.specs.Fault.{BeginsWithSize, IsBadPage, IsImageTextFault, NoPage, NoSize, longest}
 use Rattle.ee_image.specs.Reading.{ArePagesRead}
@@ -71,9 +72,6 @@ first_word more text rest (word ∷ words) long below text_is =
       (spaced words ++ (line_feed ∷ rest), text_is ∙ ap (λ l. space ∷ l) (append_assoc (word_text word) (spaced words) (line_feed ∷ rest)), stand),
     )
 
-below_held : (value : ℕ) → value < all_ones → IsBelowAllOnes (Held value)
-below_held value less = λ other e. let same : value ≡ other = cc in omega arith
-
 no_word : (more : ℕ) (text : List ℕ) → ¬ IsFirst more text Erased → ¬ IsFirst more text Torn
     → ((value : ℕ) → value < all_ones → ¬ IsFirst more text (Held value)) → (word : Word) → IsBelowAllOnes word → IsFirst more text word → ⊥
 no_word more text not_erased not_torn none Erased below first = not_erased first
@@ -98,7 +96,7 @@ told_words (suc more) text =
       | inr not_erased ↦ elim (told Torn) [
         | inl first ↦ inl (word_more more text Torn (λ value e. cc) first)
         | inr not_torn ↦ elim (some_below (λ value. IsFirst more text (Held value)) (λ value. told (Held value)) all_ones) [
-          | inl found ↦ inl (word_more more text (Held found.0) (below_held found.0 found.1) found.2)
+          | inl found ↦ inl (word_more more text (Held found.0) (below-held found.0 found.1) found.2)
           | inr none ↦ inr (λ stand.
               let first = first_word more text stand.rest stand.words stand.as_long stand.below_all_ones stand.text_is in
               no_word more text not_erased not_torn none first.0 first.1 first.2)

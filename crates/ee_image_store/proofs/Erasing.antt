@@ -1,6 +1,5 @@
 -- What each call adds to the pages that were erased or wait to be.
-use Rattle.std.proofs.Common.{◌≡◌, ◌∙◌, ◌+◌, ◌-◌, ◌<◌, ℕ, List, [], ◌∷◌, length, ap, refl, subst, arith}
-use Rattle.std.specs.List.{All}
+use Rattle.std.proofs.Common.{◌≡◌, ◌∙◌, ◌+◌, ◌-◌, ℕ, List, [], ◌∷◌, length, ap, refl, arith, rules}
 use Rattle.ee_flash.specs.Device.{Device}
 use Rattle.ee_pages.specs.Meaning.{Change}
 use Rattle.ee_core.specs.Calls.{ErasesOne}
@@ -10,17 +9,13 @@ use Rattle.ee_core.proofs.Public.{length-pending_pages, no_wear, wear_adds, wear
 use Rattle.ee_image_store.specs.Erases.{ErasesRise}
 
 pub by_wear : (old new : Device) → state_of new ≡ state_of old → WearRises 0 old new → ErasesRise 0 old new
-by_wear old new same wear =
-    let pending : (state_of new).pending ≡ (state_of old).pending = ap (λ (s : State). s.pending) same in
-    record { erased = 0; wear = wear; rise = omega (arith, pending) }
+by_wear old new same wear = search rules
 
 pub as_before : (old new : Device) → new ≡ old → ErasesRise 0 old new
 as_before old new same = by_wear old new (ap state_of same) (no_wear old new (ap (λ (d : Device). d.wear) same))
 
 pub by_append : (old : Device) (change : Change) (new : Device) → Appends old change new → ErasesRise 0 old new
-by_append old change new appends =
-    let pending : (state_of new).pending ≡ (state_of old).pending = ap (λ (s : State). s.pending) appends.state_is in
-    record { erased = 0; wear = no_wear old new appends.no_wear; rise = omega (arith, pending) }
+by_append old change new appends = search (rules, no_wear)
 
 pub by_move : (old : Device) (change : Change) (new : Device) → Moves old change new → ErasesRise old.size.pages old new
 by_move old change new moves =
@@ -54,18 +49,8 @@ unworn old new rises = rises.wears.wear_is ∙ worn_by-none rises.pages old.wear
 
 -- the wear that came since a device is what came since one with the same wear
 pub wear_since : (old other new : Device) (erases : ℕ) → old.wear ≡ other.wear → WearRises erases old new → WearRises erases other new
-wear_since old other new erases same rises = record {
-  pages = rises.pages;
-  count = rises.count;
-  wears = record {
-    there = subst (λ (wear : List ℕ). All (λ page. page < length wear) rises.pages) same rises.wears.there;
-    wear_is = rises.wears.wear_is ∙ ap (worn_by rises.pages) same;
-  };
-}
+wear_since old other new erases same rises = search rules
 
 -- the same of the pages by name
 pub pages_since : (old other new : Device) (pages : List ℕ) → other.wear ≡ old.wear → Wears pages other new → Wears pages old new
-pages_since old other new pages same wears = record {
-  there = subst (λ (wear : List ℕ). All (λ page. page < length wear) pages) same wears.there;
-  wear_is = wears.wear_is ∙ ap (worn_by pages) same;
-}
+pages_since old other new pages same wears = search rules

@@ -1,5 +1,5 @@
 -- Why no device is found in a file: there is one cause at most but for want of memory, and none where the text is a device's.
-use Rattle.std.proofs.Common.{◌≡◌, ◌≢◌, ◌∙◌, ◌⊎◌, ℕ, List, length, inl, inr, refl, sym, ap, arith}
+use Rattle.std.proofs.Common.{◌≡◌, ◌≢◌, ◌∙◌, ◌⊎◌, ℕ, List, inl, inr, sym, ap, rules}
 use Rattle.ee_flash.specs.Device.{Device}
 use Rattle.ee_image.specs.Fault.{IsImageFault}
 use Rattle.ee_image.specs.declared.fault.ImageFault.{ImageFault}
@@ -16,11 +16,7 @@ use Rattle.ee_image_store.proofs.OneCause.{is_no_text}
 
 -- memory may run out where a device was read
 pub no_memory_for : (file : File) (text : List ℕ) (device : Device) → SpellsDevice text device → IsFileFault file text Memory
-no_memory_for file text device spelled = record {
-  cause = image.Memory;
-  applies = inr (omega (arith, ap length spelled.text_is, short device spelled.formed), refl);
-  fault_is = refl;
-}
+no_memory_for file text device spelled = search (rules, short)
 
 pub memory_alone : (file : File) (text : List ℕ) (device : Device) (fault : Fault) (cause : ImageFault) → SpellsDevice text device
     → IsImageFault text cause → fault ≡ fault_of_image file cause

@@ -1,14 +1,15 @@
 -- An image has one cause at most for which no store is opened.
-use Rattle.std.proofs.Common.{◌≡◌, ◌≢◌, ◌⊎◌, inl, inr, ℕ, ◌-◌, List, Option, Some, None, refl, sym, ap, ◌∙◌, subst}
+use Rattle.std.proofs.Common.{◌≡◌, ◌≢◌, ◌⊎◌, inl, inr, ℕ, List, Some, true, refl, sym, ap, ◌∙◌, subst, rules}
 use Rattle.ee_flash.specs.Device.{Device}
-use Rattle.ee_pages.specs.Layout.{IsFirstForeign, IsScanFault}
-use Rattle.ee_pages.specs.Sets.{first_page, live_of, set_of}
+use Rattle.ee_pages.specs.Layout.{IsScanFault}
+use Rattle.ee_pages.specs.Sets.{live_of, set_of}
 use Rattle.ee_pages.proofs.Public.{legal_is_good, one_scan_fault}
 use Rattle.ee_pages.specs.declared.find.ScanFault.{ScanFault}
 use Rattle.ee_pages.specs.declared.find.ScanFault.TheVariants.{Unformatted, NoLiveSet, TwoLive, Foreign}
 use Rattle.ee_pages.specs.declared.side.Side.{Side}
 use Rattle.ee_pages.specs.declared.side.Side.TheVariants.{First, Second}
-use Rattle.ee_core.specs.State.{state_in, state_of}
+use Rattle.ee_core.specs.State.{state_of}
+use Rattle.ee_core.proofs.Public.{state_in_powered}
 use Rattle.ee_image.specs.Text.{at_rest}
 use Rattle.ee_image.specs.Fault.{IsImageTextFault}
 use Rattle.ee_image.specs.declared.fault.ImageFault.{ImageFault}
@@ -21,13 +22,9 @@ pub same_at_rest : (text : List ℕ) (device other : Device) → SpellsDevice te
 same_at_rest text device other spelled again = one_device_lem device other spelled.formed again.formed (sym spelled.text_is ∙ again.text_is)
 
 -- power makes no state
-state_at_rest : (device : Device) (live : Option (Side × ℕ)) → state_in (at_rest device) live ≡ state_in device live
-state_at_rest device None = refl
-state_at_rest device (Some (First, generation)) = refl
-state_at_rest device (Some (Second, generation)) = refl
-
 pub same_state : (device other : Device) → at_rest device ≡ at_rest other → state_of device ≡ state_of other
-same_state device other same = sym (state_at_rest device (live_of device)) ∙ ap state_of same ∙ state_at_rest other (live_of other)
+same_state device other same =
+    sym (state_in_powered 0 (Some 0) true device (live_of device)) ∙ ap state_of same ∙ state_in_powered 0 (Some 0) true other (live_of other)
 
 same_set : (side : Side) (device : Device) → set_of side (at_rest device) ≡ set_of side device
 same_set First device = refl
@@ -37,19 +34,13 @@ rested : (device : Device) (fault : ScanFault) → IsScanFault device fault → 
 rested device Unformatted h = h
 rested device NoLiveSet h = h
 rested device TwoLive h = h
-rested device (Foreign page at) h =
-    let found = h.1 in
-    let place = page - first_page device.size found.0 in
-    (h.0, (found.0, found.1, found.2, found.3, subst (λ pages. IsFirstForeign device.size found.1 pages place at) (sym (same_set found.0 device)) found.4))
+rested device (Foreign page at) h = search (rules, same_set)
 
 unrested : (device : Device) (fault : ScanFault) → IsScanFault (at_rest device) fault → IsScanFault device fault
 unrested device Unformatted h = h
 unrested device NoLiveSet h = h
 unrested device TwoLive h = h
-unrested device (Foreign page at) h =
-    let found = h.1 in
-    let place = page - first_page device.size found.0 in
-    (h.0, (found.0, found.1, found.2, found.3, subst (λ pages. IsFirstForeign device.size found.1 pages place at) (same_set found.0 device) found.4))
+unrested device (Foreign page at) h = search (rules, same_set)
 
 -- two devices with one text have the same faults
 moved_fault : (text : List ℕ) (device other : Device) (fault : ScanFault) → SpellsDevice text device → SpellsDevice text other → IsScanFault device fault → IsScanFault other fault

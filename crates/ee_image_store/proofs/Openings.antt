@@ -1,5 +1,5 @@
 -- A command finds no store in an image for one cause at most, but for want of memory, and for none where a store is opened.
-use Rattle.std.proofs.Common.{◌≡◌, ◌≢◌, ◌⊎◌, ◌∙◌, ℕ, List, inl, inr, refl, sym, ap}
+use Rattle.std.proofs.Common.{◌≡◌, ◌≢◌, ◌⊎◌, ◌∙◌, ℕ, List, inl, inr, refl, sym, ap, rules}
 use Rattle.ee_flash.specs.Device.{Device}
 use Rattle.ee_faults.specs.Fault.{fault_of_replay}
 use Rattle.ee_faults.specs.declared.fault.Fault.{Fault}
@@ -29,10 +29,7 @@ opening_named image why fault cause unopened told some h = elim (one_open_fault 
 ]
 
 pub not_opened : (image : List ℕ) (why : ReplayFault) (fault : Fault) → IsOpenFault image why → fault ≡ fault_of_replay why → HasStore image → fault ≡ Memory
-not_opened image why fault unopened told store = elim (memory_or_not why) [
-  | inl none ↦ told ∙ ap fault_of_replay none
-  | inr other ↦ absurd (store_is_good image store.0 why store.1 other unopened)
-]
+not_opened image why fault unopened told store = search (rules, memory_or_not, store_is_good)
 
 pub opening_good : (image : List ℕ) (device : Device) (cause : Fault) → IsStoreText image device → cause ≢ Memory
     → IsOpeningFault image cause → ⊥

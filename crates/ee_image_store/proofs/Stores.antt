@@ -1,5 +1,5 @@
 -- What a store is opened from, and what a new one stands on.
-use Rattle.std.proofs.Common.{◌≡◌, ◌∙◌, ℕ, zero, suc, Bool, false, List, length, replicate, sym, ap, subst, refl}
+use Rattle.std.proofs.Common.{◌≡◌, ◌∙◌, ℕ, zero, suc, Bool, false, List, length, replicate, sym, ap, subst, refl, rules}
 use Rattle.std.specs.List.{filter, list_any}
 use Rattle.ee_flash.specs.Device.{Device, IsFormed, blank_device}
 use Rattle.ee_flash.specs.Formed.{IsFormed-pages_of}
@@ -27,19 +27,7 @@ stays : (old new : Device) → StaysOn old → new.on ≡ old.on → new.cuts_le
 stays old new kept on left = record { on = on ∙ kept.on; never_cut = left ∙ kept.never_cut }
 
 pub is_opened : (text : List ℕ) (old new : Device) → old ≡ at_rest old → text ≡ image_text old → Opens old new → IsOpened text new
-is_opened text old new rest spelled opens =
-    let kept : StaysOn old = record { on = ap (λ (d : Device). d.on) rest; never_cut = ap (λ (d : Device). d.cuts_left) rest } in
-    record {
-      device = old;
-      old = record { spelled = record { formed = opens.legal.2.formed; text_is = spelled }; legal = opens.legal };
-      opens = opens;
-      stays_on = stays old new kept opens.goes_on.same_power opens.goes_on.same_cuts_left;
-      same_size = opens.goes_on.same_size;
-      state_is = opens.state_is;
-      same_pending = opens.same_pending;
-      no_wear = opens.no_wear;
-      erases = by_wear old new opens.state_is (no_wear old new opens.no_wear);
-    }
+is_opened text old new rest spelled opens = search (rules, by_wear, no_wear, stays)
 
 -- ---- a new device
 

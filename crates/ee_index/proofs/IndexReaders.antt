@@ -1,5 +1,5 @@
 -- How the entries of an index are gone over in order.
-use Rattle.std.proofs.Common.{◌≡◌, ◌≢◌, ◌⊎◌, inl, inr, ℕ, ◌<◌, Bool, ◌&&◌, cond, IfSome, true, false, Option, Some, None, is_some, List, [], ◌∷◌, get_or, refl, sym, subst, ap, ◌∙◌, arith}
+use Rattle.std.proofs.Common.{◌≡◌, ◌≢◌, ◌⊎◌, inl, inr, ℕ, ◌<◌, Bool, ◌&&◌, cond, IfSome, true, false, Option, Some, None, is_some, List, [], ◌∷◌, get_or, refl, sym, subst, ap, ◌∙◌, arith, rules}
 use Rattle.std.proofs.lemmas.Bool.{cases_eq, eqb-true, ne_eqb}
 use Rattle.std.proofs.lemmas.Grind.{common_steps}
 use Rattle.std.proofs.lemmas.List.Kept.{IsStrictlySortedBy-filter}
@@ -50,10 +50,7 @@ none_unless (Some slot) none = absurd (none refl)
 
 shown_none : (hidden : Option ℕ) (index : Map) (address : ℕ) → index address ≡ None → shown_index hidden index address ≡ None
 shown_none None index address e = e
-shown_none (Some named) index address e = elim (cases_eq named address) [
-  | inl same ↦ grind (arith, common_steps, same)
-  | inr apart ↦ grind (arith, common_steps, apart, e)
-]
+shown_none (Some named) index address e = search (rules, cases_eq, common_steps)
 
 shown_here : (hidden : Option ℕ) (index : Map) (address : ℕ) → is_first hidden address ≡ false → shown_index hidden index address ≡ index address
 shown_here None index address e = refl
@@ -65,10 +62,7 @@ shown_hidden (Some named) index address e = rw e refl
 
 shown_same : (hidden : Option ℕ) (index other : Map) (address : ℕ) → index address ≡ other address → shown_index hidden index address ≡ shown_index hidden other address
 shown_same None index other address e = e
-shown_same (Some named) index other address e = elim (cases_eq named address) [
-  | inl same ↦ grind (arith, common_steps, same)
-  | inr apart ↦ grind (arith, common_steps, apart, e)
-]
+shown_same (Some named) index other address e = search (rules, cases_eq, common_steps)
 
 -- ---- one entry further
 
@@ -84,40 +78,17 @@ module _ (slots : List Word) (hidden after : Option ℕ) (first : ℕ × ℕ) (r
 
   -- it is hidden
   pub left_behind_hidden : is_first hidden first.0 ≡ true → IsLeft slots hidden after rest
-  left_behind_hidden is = record {
-    ordered = rest_ordered;
-    behind = λ address held. omega (arith, above_first, rest_behind address held);
-    indexes = λ address high. elim (cases_eq first.0 address) [
-      | inl same ↦
-          let here = rw same at is in
-          ap (λ slot. said_at slots slot address) (shown_hidden hidden (slot_for rest) address here ∙ sym (shown_hidden hidden (slot_for (first ∷ rest)) address here))
-          ∙ left.indexes address high
-      | inr apart ↦
-          ap (λ slot. said_at slots slot address) (shown_same hidden (slot_for rest) (slot_for (first ∷ rest)) address (sym (put_elsewhere first rest address apart)))
-          ∙ left.indexes address high
-    ];
-  }
+  left_behind_hidden is = search (rules, above_first, cases_eq, put_elsewhere, rest_behind, rest_ordered, shown_hidden, shown_same)
 
   -- or it is the next
   pub left_behind_next : IsLeft slots hidden (Some first.0) rest
-  left_behind_next = record {
-    ordered = rest_ordered;
-    behind = rest_behind;
-    indexes = λ address high.
-        ap (λ slot. said_at slots slot address) (shown_same hidden (slot_for rest) (slot_for (first ∷ rest)) address (sym (put_elsewhere first rest address (λ same. omega (arith, same, high)))))
-        ∙ left.indexes address (omega (arith, above_first, high));
-  }
+  left_behind_next = search (rules, above_first, put_elsewhere, rest_behind, rest_ordered, shown_same)
 
   pub next_stands : is_first hidden first.0 ≡ false → Stands slots first.0 first.1
-  next_stands is =
-      stands_if slots first.0 first.1 (meaning slots first.0) refl
-      (ap (λ slot. said_at slots slot first.0) (sym (shown_here hidden (slot_for (first ∷ rest)) first.0 is ∙ put_there first rest first.0 refl)) ∙ left.indexes first.0 above_first)
+  next_stands is = search (rules, above_first, put_there, shown_here, stands_if)
 
   pub none_before : (address : ℕ) → above_of after < address → address < first.0 → meaning slots address ≡ None
-  none_before address high low =
-      let absent : slot_for rest address ≡ None = none_unless (slot_for rest address) (λ held. omega (arith, low, rest_behind address held)) in
-      let unseen = shown_none hidden (slot_for (first ∷ rest)) address (put_elsewhere first rest address (λ same. omega (arith, same, low)) ∙ absent) in
-      nothing_if slots address (meaning slots address) (ap (λ slot. said_at slots slot address) (sym unseen) ∙ left.indexes address high)
+  none_before address high low = search (rules, none_unless, nothing_if, put_elsewhere, rest_behind, shown_none)
 
 -- ---- the next entry that is not hidden
 
@@ -127,12 +98,7 @@ is_first_if hidden address e = rw e (grind (arith, common_steps))
 -- the first is hidden
 pub behind_hidden : (hidden : Option ℕ) (entries left rest : List (ℕ × ℕ)) (first : ℕ × ℕ) (next : Option (ℕ × ℕ)) → is_first hidden first.0 ≡ true → entries ≡ first ∷ rest → (next ≡ None → rest ≡ []) → IfSome next (λ found. rest ≡ found ∷ left)
     → IsNextShown hidden entries next left
-behind_hidden hidden entries left rest first None hides is none some = λ address. elim (cases_eq first.0 address) [
-  | inl same ↦ shown_hidden hidden (slot_for entries) address (rw same at hides)
-  | inr apart ↦
-      shown_none hidden (slot_for entries) address
-      (ap (λ (entries : List (ℕ × ℕ)). slot_for entries address) is ∙ put_elsewhere first rest address apart ∙ ap (λ (entries : List (ℕ × ℕ)). slot_for entries address) (none refl))
-]
+behind_hidden hidden entries left rest first None hides is none some = search (rules, cases_eq, put_elsewhere, shown_hidden, shown_none)
 behind_hidden hidden entries left rest first (Some found) hides is none some = inr (first, hides, is ∙ ap (λ (rest : List (ℕ × ℕ)). first ∷ rest) some)
 
 hides_no_more : (hidden : Option ℕ) (passed found : ℕ × ℕ) (left : List (ℕ × ℕ)) → IsStrictlySortedBy nat_cmp (keys_of (passed ∷ found ∷ left)) → is_first hidden passed.0 ≡ true → is_first hidden found.0 ≡ false
@@ -151,9 +117,6 @@ before_next slots hidden after entries left found so_far (inr (passed, hides, is
     (left_behind_hidden slots hidden after passed (found ∷ left) all hides, hides_no_more hidden passed found left all.ordered hides)
 
 module _ (slots : List Word) (hidden after : Option ℕ) (entries left : List (ℕ × ℕ)) (so_far : IsLeft slots hidden after entries) where
-  pub none_shown : IsNextShown hidden entries None left → IsNextLive (meaning slots) (above_of after) None
-  none_shown none address high = nothing_if slots address (meaning slots address) (ap (λ slot. said_at slots slot address) (sym (none address)) ∙ so_far.indexes address high)
-
   pub shown_stands : (found : ℕ × ℕ) → IsNextShown hidden entries (Some found) left → Stands slots found.0 found.1
   shown_stands found next = let before = before_next slots hidden after entries left found so_far next in next_stands slots hidden after found left before.0 before.1
 

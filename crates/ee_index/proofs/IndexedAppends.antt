@@ -1,5 +1,5 @@
 -- What an append makes of an index: its slot is the first free one, and each other slot is as before.
-use Rattle.std.proofs.Common.{◌≡◌, ◌≢◌, ◌⊎◌, inl, inr, ℕ, ◌-◌, ◌<◌, ◌%◌, Option, Some, None, List, get_or, refl, sym, ap, ◌∙◌, arith}
+use Rattle.std.proofs.Common.{◌≡◌, ◌≢◌, ◌⊎◌, inl, inr, ℕ, ◌-◌, ◌<◌, Option, Some, None, List, get_or, refl, sym, ap, ◌∙◌, arith, rules}
 use Rattle.std.proofs.lemmas.Bool.{cases_eq, cases_lt, ne_eqb}
 use Rattle.std.proofs.lemmas.Grind.{common_steps}
 use Rattle.std.proofs.lemmas.List.{get_or_past}
@@ -7,12 +7,9 @@ use Rattle.ee_flash.specs.Device.{Device, IsFormed}
 use Rattle.ee_flash.specs.Size.{Size, slot_count}
 use Rattle.ee_flash.specs.declared.word.Word.{Word}
 use Rattle.ee_flash.specs.declared.word.Word.TheVariants.{Erased, Held}
-use Rattle.ee_codec.specs.Reading.{slot_of}
-use Rattle.ee_codec.specs.declared.slot.Slot.{Slot}
-use Rattle.ee_codec.specs.declared.slot.Slot.TheVariants.{Element}
 use Rattle.ee_codec.proofs.Public.{slot_of-element}
 use Rattle.ee_pages.specs.Legal.{IsLive}
-use Rattle.ee_pages.specs.Meaning.{Change, Forget, Map, Put, SpellsChange, map_after, meaning, says, slot_says}
+use Rattle.ee_pages.specs.Meaning.{Change, Forget, Map, Put, SpellsChange, map_after, meaning, says}
 use Rattle.ee_pages.specs.Sets.{fill_of, page_of_slot, place_of_slot, set_of, slots_of}
 use Rattle.ee_pages.specs.declared.side.Side.{Side}
 use Rattle.ee_pages.proofs.Public.{length-slots, page_in_range, place_in_range, slot_at, split_by}
@@ -26,22 +23,14 @@ use Rattle.ee_index.proofs.Indexing.{stands}
 
 -- a slot, as its set is drawn
 pub drawn_slot : (side : Side) (device : Device) (picture : Picture) (slot : ℕ) → IsFormed device → slot < slot_count device.size → IsDrawn side device picture → get_or (slots_of (set_of side device)) slot Erased ≡ picture (page_of_slot device.size slot) (place_of_slot device.size slot)
-drawn_slot side device picture slot formed h drawn =
-    slot_at side device slot formed h
-    ∙ ap (λ (words : List Word). get_or words (place_of_slot device.size slot) Erased) (page_of_set side device (page_of_slot device.size slot) (page_in_range device slot h))
-    ∙ drawn (page_of_slot device.size slot) (place_of_slot device.size slot) (page_in_range device slot h) (place_in_range device slot formed)
+drawn_slot side device picture slot formed h drawn = search (rules, page_in_range, page_of_set, place_in_range, slot_at)
 
 -- no mark stands in the place of a slot
 unmarked : (last : ℕ) (picture : Picture) (page at : ℕ) → 3 < at → marked_to last picture page at ≡ picture page at
 unmarked last picture page at h = rw (ne_eqb at 2 (λ e. omega (arith, e)), ne_eqb at 1 (λ e. omega (arith, e))) refl
 
 slots_apart : (size : Size) (slot fill : ℕ) → slot ≢ fill → (page_of_slot size slot ≢ page_of_slot size fill) ⊎ (place_of_slot size slot ≢ place_of_slot size fill)
-slots_apart size slot fill apart = elim (cases_eq (page_of_slot size slot) (page_of_slot size fill)) [
-  | inr other ↦ inl other
-  | inl same ↦ inr (λ place.
-      let rest : slot % (size.words - 4) ≡ fill % (size.words - 4) = omega arith in
-      apart (split_by slot (size.words - 4) ∙ (cc) ∙ sym (split_by fill (size.words - 4))))
-]
+slots_apart size slot fill apart = search (rules, cases_eq, split_by)
 
 module _ (side : Side) (old new : Device) (generation fill number : ℕ) (live : IsLive old side generation) (formed : IsFormed new) (sizes : new.size ≡ old.size)
     (fill_is : fill ≡ fill_of (slots_of (set_of side old))) (free : fill < slot_count old.size) (drawn : IsDrawn side new (with_change old.size fill number (picture_of side old))) where
@@ -77,9 +66,7 @@ SaysChange word (Forget address) = Unit {0}
 
 -- the word that spells it does
 pub says_spelled : (change : declared.Change) (word : Word) → word ≡ Held (number_written change) → SpellsChange (number_written change) (meant change) → SaysChange word (meant change)
-says_spelled (kinds.Put address value) word e spells =
-    let slot : slot_of word ≡ Element address value = ap slot_of e ∙ slot_of-element address value spells.0 spells.1 in
-    ap (λ (slot : Slot). slot_says slot address) slot ∙ grind (arith, common_steps)
+says_spelled (kinds.Put address value) word e spells = search (rules, common_steps, slot_of-element)
 says_spelled (kinds.Forget address value) word e spells = tt
 
 -- what an index has behind a change in the slot of this number
@@ -92,11 +79,7 @@ module _ (slots after : List Word) (fill : ℕ) (index : Map) (was_free : get_or
   -- a slot that the index had says what it said
   says_still : (address : ℕ) (slot : Option ℕ) → index address ≡ slot → said_at after slot address ≡ said_at slots slot address
   says_still address None e = refl
-  says_still address (Some slot) e =
-      let here = stands slots index indexes address slot e in
-      let silent : says (get_or slots fill Erased) address ≡ None = ap (λ (word : Word). says word address) was_free in
-      let apart : slot ≢ fill = λ same. let said = ap (λ n. says (get_or slots n Erased) address) same in absurd (cc (here.says_so, said, silent)) in
-      ap (λ (word : Word). Some (says word address)) (others slot apart)
+  says_still address (Some slot) e = search (rules, stands)
 
   module _ (change : Change) (there : SaysChange (get_or after fill Erased) change) (map : (address : ℕ) → meaning after address ≡ map_after change (meaning slots) address) where
     elsewhere : (address : ℕ) → left_by change fill index address ≡ index address → map_after change (meaning slots) address ≡ meaning slots address → said_at after (left_by change fill index address) address ≡ says_value (meaning after address)

@@ -1,9 +1,10 @@
 -- A batch of live addresses, found one after another.
-use Rattle.std.proofs.Common.{◌≡◌, ℕ, ◌<◌, ◌≤◌, true, Option, Some, None, is_some, List, [], ◌∷◌, ◌++◌, length, refl, sym, subst, arith, suc, zero}
+use Rattle.std.proofs.Common.{◌≡◌, ℕ, ◌<◌, ◌≤◌, true, Option, Some, is_some, List, [], ◌∷◌, ◌++◌, length, refl, sym, subst, arith, rules}
 use Rattle.std.proofs.lemmas.List.Elements.{All-append}
 use Rattle.std.specs.List.{All}
 use Rattle.ee_codec.specs.Words.{IsAddress}
-use Rattle.ee_pages.specs.Meaning.{AreLiveThrough, AreNextLive, IsNextLive, IsNoneLive, Map, above_of, last_of}
+use Rattle.ee_pages.specs.Meaning.{AreNextLive, IsNextLive, Map, above_of, last_of}
+use Rattle.ee_pages.proofs.Public.{one_proper}
 
 -- one more at the end
 pub AreNextLive-one_more : (map : Map) (above : ℕ) (found : List (ℕ × ℕ)) (more : ℕ × ℕ) → AreNextLive map above found → IsNextLive map (last_of above found) (Some more) → AreNextLive map above (found ++ (more ∷ []))
@@ -26,33 +27,7 @@ pub reaches_none : (map : Map) (after : Option ℕ) → ReachesTo map after afte
 reaches_none map after = record { next = tt; last = refl; some = λ h. absurd (omega (arith, h)); rises = λ h. absurd (omega (arith, h)); from = omega arith }
 
 reaches_further : (map : Map) (after behind : Option ℕ) (found : List (ℕ × ℕ)) (address value : ℕ) → ReachesTo map after behind found → IsNextLive map (above_of behind) (Some (address, value)) → ReachesTo map after (Some address) (found ++ ((address, value) ∷ []))
-reaches_further map after behind found address value so_far more = record {
-  next = AreNextLive-one_more map (above_of after) found (address, value) so_far.next (subst (λ n. IsNextLive map n (Some (address, value))) (sym so_far.last) more);
-  last = last_of-one_more (above_of after) found (address, value);
-  some = λ h. refl;
-  rises = λ h. omega (arith, so_far.from, more.0);
-  from = omega (arith, so_far.from, more.0);
-}
-
--- none is left
-pub ends_there : (map : Map) (after behind : Option ℕ) (found : List (ℕ × ℕ)) → ReachesTo map after behind found → IsNextLive map (above_of behind) None → AreLiveThrough map (above_of after) found None
-ends_there map after behind found so_far none = record { next = so_far.next; rest = subst (λ n. IsNoneLive map n None) (sym so_far.last) none; further = tt }
-
--- the batch is full
-full_through : (map : Map) (above : ℕ) (found : List (ℕ × ℕ)) (behind : Option ℕ) → AreNextLive map above found → last_of above found ≡ above_of behind → is_some behind ≡ true → above < above_of behind → AreLiveThrough map above found behind
-full_through map above found None next last some rises = absurd (cc some)
-full_through map above found (Some through) next last some rises = record {
-  next = next;
-  rest = (omega (arith, last), λ address high low. absurd (omega (arith, last, high, low)));
-  further = rises;
-}
-
-pub goes_through : (map : Map) (after behind : Option ℕ) (found : List (ℕ × ℕ)) → ReachesTo map after behind found → 0 < length found → AreLiveThrough map (above_of after) found behind
-goes_through map after behind found so_far h = full_through map (above_of after) found behind so_far.next so_far.last (so_far.some h) (so_far.rises h)
-
-one_proper : (found : ℕ × ℕ) → IsAddress found.0 → All (λ (one : ℕ × ℕ). IsAddress one.0) (found ∷ [])
-one_proper found proper zero none h = proper
-one_proper found proper (suc k) none h = absurd (omega (arith, h))
+reaches_further map after behind found address value so_far more = search (rules, AreNextLive-one_more, last_of-one_more)
 
 -- one more is put behind them
 pub pushed : (map : Map) (after behind : Option ℕ) (found all : List (ℕ × ℕ)) (address value : ℕ) → all ≡ found ++ ((address, value) ∷ []) → ReachesTo map after behind found → IsNextLive map (above_of behind) (Some (address, value)) → ReachesTo map after (Some address) all

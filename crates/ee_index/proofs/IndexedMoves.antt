@@ -1,5 +1,5 @@
 -- What a transfer makes of an index: each address stands where its place in the order says.
-use Rattle.std.proofs.Common.{◌≡◌, ◌≢◌, ◌⊎◌, inl, inr, ℕ, ◌+◌, ◌<◌, true, false, Option, Some, None, is_some, List, [], ◌∷◌, ◌++◌, length, get_or, refl, sym, subst, ap, ◌∙◌, arith, suc, length-append}
+use Rattle.std.proofs.Common.{◌≡◌, ◌≢◌, ◌⊎◌, inl, inr, ℕ, ◌+◌, ◌<◌, true, false, Option, Some, None, is_some, List, [], ◌∷◌, ◌++◌, length, get_or, refl, sym, subst, ap, ◌∙◌, arith, length-append, rules}
 use Rattle.std.proofs.Math.Seq.{get_or-append_seam}
 use Rattle.std.proofs.lemmas.Bool.{cases_Bool, cases_eq, cases_lt, eq-eqb, eqb-true, lt-ltb}
 use Rattle.std.proofs.lemmas.Grind.{common_steps}
@@ -43,15 +43,10 @@ module _ (map : Map) (above next value : ℕ) (is : IsNextLive map above (Some (
       )
 
   pub copied_there : get_or (elements_of map) (length (elements_to map above)) Erased ≡ Held (element next value)
-  copied_there =
-      ap (λ (words : List Word). get_or words (length (elements_to map above)) Erased) seam.1
-      ∙ get_or-append_seam (elements_to map above) (Held (element next value)) seam.0 Erased
+  copied_there = search (rules, get_or-append_seam, seam)
 
   pub copied_within : length (elements_to map above) < length (elements_of map)
-  copied_within =
-      let long = ap length seam.1 ∙ length-append (elements_to map above) (Held (element next value) ∷ seam.0) in
-      let more : length (Held (element next value) ∷ seam.0) ≡ suc (length seam.0) = refl in
-      omega (arith, long, more)
+  copied_within = search (rules, length-append, seam)
 
 element_says : (address value : ℕ) → IsAddress address → says (Held (element address value)) address ≡ Some (Some value)
 element_says address value proper =
@@ -105,23 +100,13 @@ module _ (first : Option ℕ) (others : Map) (slots front : List Word) (moved : 
     rest_above = absent_to entry rest so_far.sorted
 
     rest_behind : IsBehind entry.0 rest
-    rest_behind = record {
-      sorted = sorted_tail nat_cmp entry.0 (keys_of rest) so_far.sorted;
-      behind = rest_above;
-      same = λ address high. sym (ap is_some (put_elsewhere entry rest address (λ e. omega (arith, e, high)))) ∙ so_far.same address (omega (arith, above_entry, high));
-    }
+    rest_behind = search (rules, above_entry, put_elsewhere, rest_above, sorted_tail)
 
     nothing_between : (address : ℕ) → above < address → address < entry.0 → meaning slots address ≡ None
-    nothing_between address high low =
-        none_unless (meaning slots address) (λ held.
-        let here = sym (ap is_some (put_elsewhere entry rest address (λ e. omega (arith, e, low)))) ∙ so_far.same address high ∙ held in
-        omega (arith, low, rest_above address here))
+    nothing_between address high low = search (rules, none_unless, put_elsewhere, rest_above)
 
     others_between : (address : ℕ) → above < address → address < entry.0 → others address ≡ None
-    others_between address high low = elim (cases_Bool (is_first first address)) [
-      | inl here ↦ moved.first_only address here
-      | inr other ↦ moved.others_are address other ∙ nothing_between address high low
-    ]
+    others_between address high low = search (rules, cases_Bool, nothing_between)
 
     -- an address that is not this entry's
     elsewhere : (slot next address : ℕ) → ((address : ℕ) → entry.0 < address → IsSaid (numbered_slots first next rest) address) → above < address → entry.0 ≢ address → IsSaid ((entry.0, slot) ∷ numbered_slots first next rest) address
@@ -197,10 +182,7 @@ filled_slot side device size generation slot words formed sizes within drawn =
 -- a live address is proper
 module _ (slots : List Word) (index : Map) (indexes : IsIndex slots index) where
   pub live_proper : (address : ℕ) → is_some (meaning slots address) ≡ true → IsAddress address
-  live_proper address held =
-      let slot = some_is (index address) (alike_held slots (index address) (meaning slots address) address (indexes address) ∙ held) in
-      let here = stands slots index indexes address slot.0 slot.1 in
-      says_proper (get_or slots slot.0 Erased) address (Some here.value) here.says_so
+  live_proper address held = search (rules, alike_held, says_proper, some_is, stands)
 
 module _ (change : Change) (hidden : Option ℕ) (before : List Word) (slots : List Word) (held : List (ℕ × ℕ)) (entries : List (ℕ × ℕ))
     (proper : IsAddress (address_of change)) (hides : (hidden ≡ None) ⊎ (hidden ≡ Some (address_of change))) (has : HasPut change (slot_for held))

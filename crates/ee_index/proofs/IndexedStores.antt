@@ -1,5 +1,5 @@
 -- What a store with an index reads of it.
-use Rattle.std.proofs.Common.{◌==◌, ◌≡◌, inl, inr, ℕ, ◌<◌, Bool, not, true, false, Option, Some, None, is_some, List, [], ◌∷◌, length, get_or, refl, sym, subst, ap, ◌∙◌, arith, suc, zero}
+use Rattle.std.proofs.Common.{◌==◌, ◌≡◌, ℕ, ◌<◌, Bool, not, true, false, Option, Some, None, is_some, List, [], ◌∷◌, length, get_or, refl, sym, subst, ap, ◌∙◌, arith, suc, zero, rules}
 use Rattle.std.proofs.lemmas.Bool.{cases_eq, eq-eqb, eqb-true}
 use Rattle.std.proofs.lemmas.Bool.Decides.{nat_tests}
 use Rattle.std.proofs.lemmas.Grind.{common_steps}
@@ -31,28 +31,20 @@ use Rattle.ee_index.proofs.Indexing.{stands}
 
 alike : (first second : Map) → ((address : ℕ) → is_some (first address) ≡ is_some (second address)) → (n : ℕ) → live_to first n ≡ live_to second n
 alike first second same zero = live_to-zero first ∙ sym (live_to-zero second)
-alike first second same (suc n) =
-    let rest = alike first second same n in
-    live_to-suc first n ∙ rw (rest, same (suc n)) (sym (live_to-suc second n))
+alike first second same (suc n) = search (rules, live_to-suc, (alike first second same n))
 
 pub absent_above : (named : ℕ) (entries : List (ℕ × ℕ)) → AllByRecursion (λ key. nat_cmp named key ≡ Less) (keys_of entries) → slot_for entries named ≡ None
 absent_above named [] above = refl
 absent_above named (first ∷ rest) above = rw above.0 (absent_above named rest above.1)
 
 pub as_put : (first : ℕ × ℕ) (rest : List (ℕ × ℕ)) (address : ℕ) → slot_for (first ∷ rest) address ≡ map_after (Put first.0 first.1) (slot_for rest) address
-as_put first rest address = elim (cases_eq first.0 address) [
-  | inl same ↦ grind (arith, nat_tests, common_steps, same)
-  | inr apart ↦ grind (arith, nat_tests, common_steps, apart)
-]
+as_put first rest address = search (rules, cases_eq, common_steps, nat_tests)
 
 put_has : (named slot : ℕ) (index : Map) → is_some (map_after (Put named slot) index named) ≡ true
 put_has named slot index = grind (arith, common_steps)
 
 put_keeps : (named slot address : ℕ) (index : Map) → is_some (index address) ≡ true → is_some (map_after (Put named slot) index address) ≡ true
-put_keeps named slot address index held = elim (cases_eq named address) [
-  | inl same ↦ grind (arith, common_steps, same)
-  | inr apart ↦ grind (arith, common_steps, apart, held)
-]
+put_keeps named slot address index held = search (rules, cases_eq, common_steps)
 
 count_of : (entries : List (ℕ × ℕ)) → IsStrictlySortedBy nat_cmp (keys_of entries) → ((address : ℕ) → is_some (slot_for entries address) ≡ true → IsAddress address) → length entries ≡ live_in (slot_for entries)
 count_of [] sorted proper = live_in-nothing (slot_for []) (λ address. refl)
@@ -88,23 +80,16 @@ module _ (device : Device) (layout : Layout) (entries : List (ℕ × ℕ)) (kept
   map_is address = map_was device device layout.side layout.generation kept.found.live address
 
   same_live : (address : ℕ) → is_some (slot_for entries address) ≡ is_some ((state_of device).map address)
-  same_live address =
-      alike_held (slots_of (set_of layout.side device)) (slot_for entries address) (meaning (slots_of (set_of layout.side device)) address) address (kept.indexes address)
-      ∙ ap is_some (sym (map_is address))
+  same_live address = search (rules, alike_held, map_is)
 
   keys_proper : (address : ℕ) → is_some (slot_for entries address) ≡ true → IsAddress address
-  keys_proper address held =
-      let slot = some_is (slot_for entries address) held in
-      let here = stands (slots_of (set_of layout.side device)) (slot_for entries) kept.indexes address slot.0 slot.1 in
-      says_proper (get_or (slots_of (set_of layout.side device)) slot.0 Erased) address (Some here.value) here.says_so
+  keys_proper address held = search (rules, says_proper, some_is, stands)
 
   pub entries_live : IsStrictlySortedBy nat_cmp (keys_of entries) → length entries ≡ live_in (state_of device).map
   entries_live sorted = count_of entries sorted keys_proper ∙ alike (slot_for entries) (state_of device).map same_live 65534
 
   pub slot_in_range : (address number : ℕ) → slot_for entries address ≡ Some number → number < slot_count device.size
-  slot_in_range address number e =
-      let here = stands (slots_of (set_of layout.side device)) (slot_for entries) kept.indexes address number e in
-      omega (arith, here.listed, length-slots layout.side device kept.found.live.formed)
+  slot_in_range address number e = grind (arith, common_steps, length-slots, stands)
 
   pub value_held : (address number value : ℕ) → slot_for entries address ≡ Some number
       → ((named said : ℕ) → says (get_or (slots_of (set_of layout.side device)) number Erased) named ≡ Some (Some said) → value ≡ said) → Some value ≡ (state_of device).map address

@@ -1,5 +1,5 @@
 -- How an index of the live addresses is read, made and kept.
-use Rattle.std.proofs.Common.{◌≡◌, inl, inr, ℕ, ◌+◌, ◌<◌, ◌≤◌, true, Option, Some, None, is_some, List, [], ◌∷◌, length, take, drop, get_or, refl, sym, ap, ◌∙◌, arith, suc}
+use Rattle.std.proofs.Common.{◌≡◌, ℕ, ◌+◌, ◌<◌, ◌≤◌, true, Option, Some, None, is_some, List, [], ◌∷◌, length, take, drop, get_or, refl, sym, ap, ◌∙◌, arith, suc, rules}
 use Rattle.std.proofs.Math.Seq.{take-suc}
 use Rattle.std.proofs.lemmas.Bool.{cases_eq, cases_lt}
 use Rattle.std.proofs.lemmas.Grind.{common_steps}
@@ -49,12 +49,7 @@ module _ (m : BTreeMap ℕ ℕ) (lo : Bound ℕ) (after : Option ℕ) (lo_is : l
   nearest key q (Some slot) least low = absurd (omega (arith, least refl))
 
   pub first_found : (key slot : ℕ) (rest found : List (ℕ × ℕ)) → found ≡ (key, slot) ∷ rest → 0 < key → IsRangeOf nat_cmp lo Unbounded m found → IsNextLive (slot_for m.entries) (above_of after) (Some (key, slot))
-  first_found key slot rest found is some range =
-      let here = rw (is, lo_is) at range in (
-        within after key some here.1.0.0,
-        here.1.1,
-        λ q high low. nearest key q (slot_for m.entries q) (λ held. le_from_not_gt key q (here.2 q (lets after q high, tt) held)) low,
-      )
+  first_found key slot rest found is some range = search (rules, le_from_not_gt, lets, nearest, within)
 
 -- ---- slot by slot
 
@@ -74,14 +69,8 @@ module _ (slots : List Word) (count address : ℕ) (index : Map) (before : Optio
   -- one more slot is entered
   one_entered : (slot : Slot) → says (get_or slots count Erased) address ≡ slot_says slot address
       → said_at slots (index_with_slot slot count index address) address ≡ says_value (value_said (later before (slot_says slot address)))
-  one_entered (Element named value) e = elim (cases_eq named address) [
-    | inl same ↦ grind (arith, common_steps, e, kept, same)
-    | inr apart ↦ grind (arith, common_steps, e, kept, apart)
-  ]
-  one_entered (Forgotten named value) e = elim (cases_eq named address) [
-    | inl same ↦ grind (arith, common_steps, e, kept, same)
-    | inr apart ↦ grind (arith, common_steps, e, kept, apart)
-  ]
+  one_entered (Element named value) e = search (rules, cases_eq, common_steps)
+  one_entered (Forgotten named value) e = search (rules, cases_eq, common_steps)
   one_entered Free e = kept
   one_entered Spoiled e = kept
   one_entered Foreign e = kept
@@ -114,10 +103,7 @@ module _ (device : Device) (layout : Layout) (found : IsLayout device layout) wh
 -- an index of the used slots is one of all
 pub indexes_all : (device : Device) (layout : Layout) (index : Map) (count : ℕ) → IsLayout device layout → count ≡ layout.fill
     → IndexesTo (slots_of (set_of layout.side device)) count index → IsIndex (slots_of (set_of layout.side device)) index
-indexes_all device layout index count found e kept address =
-    kept address
-    ∙ ap (λ n. says_value (meaning (take n (slots_of (set_of layout.side device))) address)) e
-    ∙ ap says_value (all_used_said device layout found address)
+indexes_all device layout index count found e kept address = search (rules, all_used_said)
 
 pub indexes_none : (slots : List Word) (entries : List (ℕ × ℕ)) → entries ≡ [] → IndexesTo slots 0 (slot_for entries)
 indexes_none slots entries e address = rw e refl
@@ -132,19 +118,11 @@ pub record Stands (slots : List Word) (address number : ℕ) : Type 0 where
   pub listed : number < length slots
 
 listed_if_said : (slots : List Word) (address number value : ℕ) → says (get_or slots number Erased) address ≡ Some (Some value) → number < length slots
-listed_if_said slots address number value e = elim (cases_lt number (length slots)) [
-  | inl within ↦ within
-  | inr past ↦
-      let erased : get_or slots number Erased ≡ Erased = get_or_past slots number Erased past in
-      let silent : says (get_or slots number Erased) address ≡ None = ap (λ (word : Word). says word address) erased in
-      absurd (cc (e, silent))
-]
+listed_if_said slots address number value e = search (rules, cases_lt, get_or_past, within)
 
 pub stands_if : (slots : List Word) (address number : ℕ) (held : Option ℕ) → meaning slots address ≡ held → said_at slots (Some number) address ≡ says_value held → Stands slots address number
 stands_if slots address number None is e = absurd (cc e)
-stands_if slots address number (Some value) is e =
-    let said : says (get_or slots number Erased) address ≡ Some (Some value) = cc e in
-    record { value = value; held = is; says_so = said; listed = listed_if_said slots address number value said }
+stands_if slots address number (Some value) is e = search (rules, listed_if_said)
 
 pub nothing_if : (slots : List Word) (address : ℕ) (held : Option ℕ) → said_at slots None address ≡ says_value held → held ≡ None
 nothing_if slots address None e = refl
@@ -157,13 +135,5 @@ module _ (slots : List Word) (index : Map) (indexes : IsIndex slots index) where
   pub has_none : (address : ℕ) → index address ≡ None → meaning slots address ≡ None
   has_none address e = nothing_if slots address (meaning slots address) (ap (λ slot. said_at slots slot address) (sym e) ∙ indexes address)
 
-  pub next_none : (above : ℕ) → IsNextLive index above None → IsNextLive (meaning slots) above None
-  next_none above next address high = has_none address (next address high)
-
   pub next_some : (above address number value : ℕ) → IsNextLive index above (Some (address, number)) → ((named said : ℕ) → says (get_or slots number Erased) named ≡ Some (Some said) → value ≡ said) → IsNextLive (meaning slots) above (Some (address, value))
-  next_some above address number value next is =
-      let here = stands address number next.1 in (
-        next.0,
-        here.held ∙ ap (λ (n : ℕ). Some n) (sym (is address here.value here.says_so)),
-        λ between high low. has_none between (next.2 between high low),
-      )
+  next_some above address number value next is = search (rules, has_none, stands)

@@ -1,19 +1,16 @@
 -- From what a request was answered on a draft to what its call tells.
-use Rattle.std.proofs.Common.{◌≡◌, ◌≤◌, inl, inr, ℕ, List, length, take, false, true, refl, subst, sym, ap, ◌∙◌, arith}
-use Rattle.std.specs.List.{All}
+use Rattle.std.proofs.Common.{◌≡◌, inl, inr, ℕ, List, false, true, refl, subst, sym, ap, ◌∙◌, rules}
 use Rattle.std.proofs.lemmas.List.{take_all}
 use Rattle.ee_flash.specs.Device.{Device}
-use Rattle.ee_flash.specs.Endurance.{CanTakeAll}
 use Rattle.ee_flash.specs.Laws.{all_completed}
 use Rattle.ee_flash.specs.Size.{Size}
-use Rattle.ee_flash.specs.Step.{one_more}
 use Rattle.ee_pages.specs.declared.find.ScanFault.{ScanFault}
 use Rattle.ee_core.specs.Openings.{Opens}
 use Rattle.ee_page.specs.Answers.{is_played, result_of}
-use Rattle.ee_page.specs.Calls.{Answers, AnswersOpen, Drafts, FillsList, IsEnded, WearsOnceMore, cuts_after}
+use Rattle.ee_page.specs.Calls.{Answers, AnswersOpen, Drafts, FillsList, IsEnded, cuts_after}
 use Rattle.ee_page.specs.Draft.{IsFresh}
 use Rattle.ee_page.specs.Exports.{EndsCall, IsPlayed, IsProperRequest, MakesCall, WritesNothing}
-use Rattle.ee_page.specs.Listing.{IsZeroIfErase, steps_of}
+use Rattle.ee_page.specs.Listing.{steps_of}
 use Rattle.ee_page.specs.Mirror.{MirrorFits, Mirror, device_in}
 use Rattle.ee_page.specs.declared.answer.Answer.{Answer}
 use Rattle.ee_page.specs.declared.answer.Answer.TheVariants.{NoStore, ListTooShort, WrongShape, ImproperAddress}
@@ -45,29 +42,11 @@ none_done request fault old new (inr never) = absurd never.2
 
 -- a device that was asked on a draft
 pub drafted : (request : Request ℕ) (start asked left : Device) (answer told : Answer) (listed : List ListedStep) (count : ℕ) → IsFresh start → IsEnded start left listed count → asked ≡ start → told ≡ answer → Answers request asked answer left → left.cuts ≡ cuts_after answer asked.cuts → Drafts request start told listed count
-drafted request start asked left answer told listed count fresh ended is_start is_told answers cuts = rw is_told (record {
-  fresh = fresh;
-  left = left;
-  answers = subst (λ (d : Device). Answers request d answer left) is_start answers;
-  cuts = cuts ∙ ap (λ (d : Device). cuts_after answer d.cuts) is_start;
-  ended = ended;
-})
+drafted request start asked left answer told listed count fresh ended is_start is_told answers cuts = search rules
 
 -- a list that was too short
 fills : (request : Request ℕ) (start : Device) (listed : List ListedStep) (count : ℕ) → Drafts request start ListTooShort listed count → FillsList start listed (Answers request start ListTooShort)
-fills request start listed count drafts =
-    let ended = drafts.ended in
-    let once : drafts.left.cuts ≡ 1 = drafts.cuts ∙ ap one_more drafts.fresh.never_cut in
-    let full : count ≡ length listed = ended.full (λ never. let both : 0 ≡ 1 = sym never ∙ once in omega arith) in
-    let as_long : length listed ≤ length listed = omega arith in
-    record {
-      taken = subst (λ (n : ℕ). CanTakeAll (steps_of n listed) start) full ended.taken;
-      zeros = subst (All IsZeroIfErase) (take_all (length listed) listed as_long) (subst (λ (n : ℕ). All IsZeroIfErase (take n listed)) full ended.zeros);
-      cut = drafts.left;
-      image = subst (λ (n : ℕ). drafts.left.image ≡ (all_completed (steps_of n listed) start).image) full ended.image;
-      wear = subst (λ (n : ℕ). WearsOnceMore (all_completed (steps_of n listed) start) drafts.left.wear) full (ended.further once);
-      leads = drafts.answers;
-    }
+fills request start listed count drafts = search (rules, take_all)
 
 -- the arguments of a call are refused
 pub shape_refused : (size : Size) (request : Request ℕ) (result : CallResult) (old : Mirror) (listed : List ListedStep) → ¬ MirrorFits size old → result ≡ result_of WrongShape 0 → MakesCall size request result old old listed

@@ -1,5 +1,6 @@
 -- What listing one more step does to a draft.
-use Rattle.std.proofs.Common.{subst, Option, zero, suc, ◌==◌, min, drop, ◌*◌, Bool, true, false, ◌≡◌, inl, inr, ℕ, ◌+◌, ◌<◌, ◌≤◌, List, [], ◌∷◌, ◌++◌, length, get_or, set, map, take, replicate, refl, sym, ap, ◌∙◌, arith}
+use Rattle.std.proofs.Common.{subst, Option, zero, suc, min, drop, ◌*◌, Bool, true, ◌≡◌, inl, inr, ℕ, ◌+◌, ◌<◌, ◌≤◌, List, [], ◌∷◌, ◌++◌, length, get_or, set, map, take, replicate, refl, sym, ap, ◌∙◌, arith, rules}
+use Rattle.std.proofs.lemmas.Grind.{common_steps}
 use mathlib.Core.List.{List-discrete}
 use mathlib.Core.HLevel.{⊥_prop}
 use mathlib.Core.Logic.{∥∥₁_elim}
@@ -11,64 +12,31 @@ use Rattle.std.specs.List.{All, refill, zip}
 use Rattle.std.proofs.lemmas.Slice.Zip.{get_or-zip, length-zip}
 use Rattle.std.proofs.lemmas.Nat.{mul-add-lt}
 use Rattle.std.proofs.lemmas.Bool.Decides.{nat_tests}
-use Rattle.std.proofs.lemmas.List.Elements.{All-append, All-cons, All-get_or, All-nil}
-use Rattle.ee_flash.specs.Device.{Device, IsBelowAllOnes, IsFormed, all_ones, page_at, word_at}
+use Rattle.std.proofs.lemmas.List.Elements.{All-append, All-cons, All-nil}
+use Rattle.ee_flash.specs.Device.{Device, IsBelowAllOnes, IsFormed, all_ones, word_at}
 use Rattle.ee_flash.specs.Laws.{CanTake, all_completed}
 use Rattle.ee_flash.specs.Size.{Size, page_count}
 use Rattle.ee_flash.specs.Step.{Step, Program, Erase, device_after, with_page_erased, one_more, with_word_programmed, with_page_worn}
 use Rattle.ee_flash.specs.Pages.{pages_of}
-use Rattle.ee_flash.proofs.Public.{get_or-pages_of}
+use Rattle.ee_flash.proofs.Public.{all_completed_on, get_or-pages_of}
 use Rattle.ee_flash.specs.Endurance.{CanTakeAll}
 use Rattle.ee_page.specs.Calls.{WearsOnceMore}
 use Rattle.ee_page.specs.Draft.{IsFresh, drafted_device}
-use Rattle.ee_page.specs.DraftLaws.{all_formed, one_more_step, one_more_taken, same_cuts, same_cuts_left, same_on, same_size}
+use Rattle.ee_page.specs.DraftLaws.{all_formed, one_more_step, one_more_taken, same_cuts, same_cuts_left, same_size}
 use Rattle.ee_page.specs.Mirror.{cells_of, word_of_number}
 use Rattle.ee_flash.specs.declared.word.Word.{Word}
-use Rattle.ee_flash.specs.declared.word.Word.TheVariants.{Erased, Held}
+use Rattle.ee_flash.specs.declared.word.Word.TheVariants.{Erased}
 use Rattle.ee_page.specs.Listing.{IsZeroIfErase, left_by, step_listed_so, steps_of}
 use Rattle.ee_page.specs.declared.listing.ListedStep.{ListedStep}
 
 -- a word of a formed device is erased, torn or held below all ones
 pub word_below : (device : Device) (page at : ℕ) → IsFormed device → page < page_count device.size → at < device.size.words → IsBelowAllOnes (word_at device page at)
-word_below device page at formed page_in place_in =
-    let in_image : page < length device.image = omega (arith, formed.image_length) in
-    All-get_or IsBelowAllOnes (page_at device page) at Erased (omega (arith, formed.page_lengths page [] in_image)) (formed.below_all_ones page [] in_image)
+word_below device page at formed page_in place_in = search rules
 
 -- what a whole step leaves of a word
 pub word_after : (step : Step) (device : Device) (page at : ℕ) → IsFormed device → CanTake step device → page < page_count device.size → at < device.size.words → word_at (device_after step device) page at ≡ left_by step page at (word_at device page at)
-word_after (Program changed place value) device page at formed may page_in place_in =
-    let in_image : changed < length device.image = omega (arith, formed.image_length, may.0) in
-    let words = page_at device changed in
-    let as_long = formed.page_lengths changed [] in_image in
-    elim (cases_eq changed page) [
-      | inl same ↦
-          let page_test : (changed == page) ≡ true = grind (arith, nat_tests) in
-          let changed_page : page_at (device_after (Program changed place value) device) page ≡ set words place (Held value) = rw (sym same) (get_or-set_same device.image changed (set words place (Held value)) [] in_image) in
-          let own : words ≡ page_at device page = ap (page_at device) same in
-          elim (cases_eq place at) [
-            | inl there ↦
-                let place_test : (place == at) ≡ true = grind (arith, nat_tests) in
-                rw (page_test, place_test, changed_page, sym there) (get_or-set_same words place (Held value) Erased (omega (arith, as_long, may.1)))
-            | inr elsewhere ↦
-                let place_test : (place == at) ≡ false = grind (arith, nat_tests) in
-                rw (page_test, place_test, changed_page) (get_or-set_other words place at (Held value) Erased (λ e. elsewhere (sym e)) ∙ ap (λ (page_words : List Word). get_or page_words at Erased) own)
-          ]
-      | inr other ↦
-          let page_test : (changed == page) ≡ false = grind (arith, nat_tests) in
-          rw page_test (ap (λ (page_words : List Word). get_or page_words at Erased) (get_or-set_other device.image changed page (set words place (Held value)) [] (λ e. other (sym e))))
-    ]
-word_after (Erase changed) device page at formed may page_in place_in =
-    let in_image : changed < length device.image = omega (arith, formed.image_length, may) in
-    let blank = replicate device.size.words Erased in
-    elim (cases_eq changed page) [
-      | inl same ↦
-          let page_test : (changed == page) ≡ true = grind (arith, nat_tests) in
-          let changed_page : page_at (device_after (Erase changed) device) page ≡ blank = rw (sym same) (get_or-set_same device.image changed blank [] in_image) in
-          rw (page_test, changed_page) (get_or-replicate device.size.words at Erased Erased place_in)
-      | inr other ↦
-          let page_test : (changed == page) ≡ false = grind (arith, nat_tests) in
-          rw page_test (ap (λ (page_words : List Word). get_or page_words at Erased) (get_or-set_other device.image changed page blank [] (λ e. other (sym e))))
-    ]
+word_after (Program changed place value) device page at formed may page_in place_in = search (rules, cases_eq, get_or-set_other, get_or-set_same, nat_tests)
+word_after (Erase changed) device page at formed may page_in place_in = search (rules, cases_eq, get_or-replicate, get_or-set_other, get_or-set_same, nat_tests)
 
 -- a list of steps of which a front is taken
 pub front_taken : (steps more : List Step) (device : Device) → CanTakeAll (steps ++ more) device → CanTakeAll steps device
@@ -91,9 +59,7 @@ more_listed listed count step room =
 -- the steps up to the one of this number, and that one
 pub next_listed : (listed : List ListedStep) (count : ℕ) (none : ListedStep) → count < length listed → steps_of (count + 1) listed ≡ steps_of count listed ++ step_listed_so (get_or listed count none) ∷ []
 unfolding steps_of
-next_listed listed count none room =
-    let next : count + 1 ≡ suc count = omega arith in
-    ap (λ (n : ℕ). map step_listed_so (take n listed)) next ∙ ap (map step_listed_so) (take-suc listed count none room) ∙ map-append step_listed_so (take count listed) (get_or listed count none ∷ [])
+next_listed listed count none room = grind (arith, common_steps, map-append, take-suc)
 
 pub next_taken : (steps : List Step) (step : Step) (device : Device) → CanTakeAll (steps ++ step ∷ []) device → CanTake step (all_completed steps device)
 next_taken [] step device taken = taken.0
@@ -112,11 +78,7 @@ module _ (start : Device) (listed : List ListedStep) (count : ℕ) (room : count
   program_listed page at value = steps_of (count + 1) (set listed count (record { page = page; place = at; value = value }))
 
   program_is : (page at value : ℕ) → at < start.size.words → program_listed page at value ≡ steps ++ Program page at value ∷ []
-  program_is page at value within =
-      let few = fresh.formed.within_limits.few_words in
-      let other : (at == all_ones) ≡ false = grind (arith, nat_tests) in
-      let step : step_listed_so (record { page = page; place = at; value = value }) ≡ Program page at value = rw other refl in
-      more_listed listed count (record { page = page; place = at; value = value }) room ∙ ap (λ (step : Step). steps ++ step ∷ []) step
+  program_is page at value within = search (rules, more_listed, nat_tests)
 
   pub program_done : (page at value : ℕ) → at < start.size.words → (wear : List ℕ) (cuts : ℕ) (on : Bool) → drafted_device start (program_listed page at value) wear cuts on ≡ with_word_programmed page at value (drafted_device start steps wear cuts on)
   program_done page at value within wear cuts on =
@@ -165,10 +127,7 @@ module _ (start : Device) (listed : List ListedStep) (count : ℕ) (room : count
 
 -- the items of a wear after one was counted
 pub worn_items : (items seen read : List ℕ) (page with_page_worn : ℕ) → seen ≡ items → read ≡ items → with_page_worn ≡ min (get_or read page 0 + 1) all_ones → refill (length items) items (set seen page with_page_worn) ≡ set items page (one_more (get_or items page 0))
-worn_items items seen read page with_page_worn is_seen is_read is_worn =
-    let same : set seen page with_page_worn ≡ set items page (one_more (get_or items page 0)) = rw (is_worn, is_seen, is_read) refl in
-    let new = set items page (one_more (get_or items page 0)) in
-    ap (refill (length items) items) same ∙ take_at new (drop (length new) items) (length items) (length-set items page _)
+worn_items items seen read page with_page_worn is_seen is_read is_worn = search (rules, length-set, take_at)
 
 -- the word that a number with its flag means
 pub decoded_at : (words flags : List ℕ) (place : ℕ) → place < length words → place < length flags → get_or (cells_of words flags) place Erased ≡ word_of_number (get_or words place 0) (get_or flags place 0)
@@ -247,10 +206,7 @@ cut_erase_wears start taken page wear new page_in same is_new =
 
 -- where the list has room, no step was cut
 pub none_cut : (cuts count : ℕ) (listed : List ListedStep) → count < length listed → ((cuts ≡ 0 → ⊥) → count ≡ length listed) → cuts ≡ 0
-none_cut cuts count listed room full = elim (cases_eq cuts 0) [
-  | inl none ↦ none
-  | inr some ↦ absurd (let all : count ≡ length listed = full some in omega arith)
-]
+none_cut cuts count listed room full = search (rules, cases_eq)
 
 -- a draft that was never cut is the device after its steps
 pub drafted_whole : (start : Device) (steps : List Step) (wear : List ℕ) (cuts : ℕ) (on : Bool) → IsFresh start → (cuts ≡ 0 → (wear ≡ (all_completed steps start).wear) × (on ≡ true)) → cuts ≡ 0 → drafted_device start steps wear cuts on ≡ all_completed steps start
@@ -261,4 +217,4 @@ drafted_whole start steps wear cuts on fresh whole none =
     ∙ ap (λ (counts : List ℕ). record (drafted_device start steps wear cuts on) { size = last.size; wear = counts }) same.0
     ∙ ap (λ (n : ℕ). record (drafted_device start steps last.wear cuts on) { size = last.size; cuts = n }) (none ∙ sym (same_cuts steps start ∙ fresh.never_cut))
     ∙ ap (λ (left : Option ℕ). record (drafted_device start steps last.wear last.cuts on) { size = last.size; cuts_left = left }) (sym (same_cuts_left steps start ∙ fresh.any_cuts))
-    ∙ ap (λ (power : Bool). record (drafted_device start steps last.wear last.cuts power) { size = last.size; cuts_left = last.cuts_left }) (same.1 ∙ sym (same_on steps start ∙ fresh.on))
+    ∙ ap (λ (power : Bool). record (drafted_device start steps last.wear last.cuts power) { size = last.size; cuts_left = last.cuts_left }) (same.1 ∙ sym (all_completed_on steps start ∙ fresh.on))

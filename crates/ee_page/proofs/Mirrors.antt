@@ -1,39 +1,21 @@
 -- Why the device that a mirror means is formed, and fresh.
-use Rattle.std.proofs.Common.{◌≡◌, inl, inr, ℕ, ◌*◌, ◌<◌, ◌==◌, true, false, List, length, get_or, refl, sym, ◌∙◌, arith}
+use Rattle.std.proofs.Common.{◌≡◌, ℕ, ◌*◌, ◌<◌, List, length, get_or, refl, sym, ◌∙◌, arith, rules}
 use Rattle.std.specs.List.{All}
 use Rattle.std.proofs.lemmas.Bool.{cases_eq}
 use Rattle.std.proofs.lemmas.Bool.Decides.{nat_tests}
 use Rattle.std.proofs.lemmas.List.{get_or_default}
 use Rattle.std.proofs.lemmas.Option.{none-some}
-use Rattle.ee_flash.specs.Device.{IsBelowAllOnes, all_ones}
+use Rattle.ee_flash.specs.Device.{IsBelowAllOnes}
 use Rattle.ee_flash.specs.Formed.{below_all_ones, length-pages_of, page_lengths}
 use Rattle.ee_flash.specs.Size.{Size, page_count}
-use Rattle.ee_flash.specs.declared.word.Word.TheVariants.{Erased, Held, Torn}
+use Rattle.ee_flash.specs.declared.word.Word.TheVariants.{Erased}
 use Rattle.ee_page.specs.Draft.{IsFresh}
 use Rattle.ee_page.specs.Mirror.{IsMirror, cells_of, word_of_number, mirrored_device}
 use Rattle.ee_page.proofs.DraftSteps.{decoded_at}
 use Rattle.ee_page.proofs.PlayedSteps.{length-cells_of}
 
 decoded_below : (number flag : ℕ) → number < 18446744073709551616 → IsBelowAllOnes (word_of_number number flag)
-decoded_below number flag fits value is = elim (cases_eq flag 0) [
-  | inl whole ↦
-      let flag_test : (flag == 0) ≡ true = grind (arith, nat_tests) in
-      elim (cases_eq number all_ones) [
-        | inl ones ↦
-            let test : (number == all_ones) ≡ true = grind (arith, nat_tests) in
-            let erased : word_of_number number flag ≡ Erased = rw (flag_test, test) refl in
-            cc
-        | inr other ↦
-            let test : (number == all_ones) ≡ false = grind (arith, nat_tests) in
-            let held : word_of_number number flag ≡ Held number = rw (flag_test, test) refl in
-            let same : number ≡ value = cc in
-            omega arith
-      ]
-  | inr torn ↦
-      let flag_test : (flag == 0) ≡ false = grind (arith, nat_tests) in
-      let torn_there : word_of_number number flag ≡ Torn = rw flag_test refl in
-      cc
-]
+decoded_below number flag fits value is = search (rules, cases_eq, nat_tests)
 
 pub cells_below : (words flags : List ℕ) → length flags ≡ length words → ((i : ℕ) → get_or words i 0 < 18446744073709551616) → All IsBelowAllOnes (cells_of words flags)
 cells_below words flags as_many fits k none h =

@@ -1,7 +1,7 @@
 -- What a step that is taken on a mirror does to the device that it means.
-use Rattle.std.proofs.Common.{◌≡◌, inl, inr, ℕ, ◌+◌, ◌*◌, ◌<◌, ◌≤◌, ◌==◌, false, List, [], ◌∷◌, ◌++◌, length, get_or, set, replicate, refl, subst, sym, ap, ◌∙◌, arith, drop, map, rules, take}
+use Rattle.std.proofs.Common.{◌≡◌, inl, inr, ℕ, ◌+◌, ◌*◌, ◌<◌, ◌≤◌, List, [], length, get_or, set, replicate, refl, sym, ap, ◌∙◌, arith, drop, rules, take}
+use Rattle.std.proofs.lemmas.Grind.{common_steps}
 use borrow.Rule.Slice.PartMut.{put_mid}
-use Rattle.std.specs.List.{zip}
 use Rattle.std.proofs.lemmas.Bool.{cases_eq, cases_lt}
 use Rattle.std.proofs.lemmas.Bool.Decides.{nat_tests}
 use Rattle.std.proofs.lemmas.List.{ext_get_or, get_or-set_other, get_or-set_same, length-map, length-replicate, length-set, places}
@@ -12,8 +12,7 @@ use Rattle.ee_flash.specs.Laws.{CanTake, all_completed}
 use Rattle.ee_flash.specs.Pages.{pages_of}
 use Rattle.ee_flash.specs.Size.{Size, page_count}
 use Rattle.ee_flash.specs.Step.{Step, Program, device_after}
-use Rattle.ee_flash.specs.declared.word.Word.{Word}
-use Rattle.ee_flash.specs.declared.word.Word.TheVariants.{Erased, Held}
+use Rattle.ee_flash.specs.declared.word.Word.TheVariants.{Erased}
 use Rattle.ee_flash.proofs.Public.{pages_of-rewritten, pages_of-set}
 use Rattle.ee_flash.specs.Endurance.{CanTakeAll}
 use Rattle.ee_page.specs.DraftLaws.{one_more_step}
@@ -24,9 +23,7 @@ use Rattle.ee_page.proofs.DraftSteps.{decoded_at, next_listed, next_taken, part_
 
 pub length-cells_of : (words flags : List ℕ) → length flags ≡ length words → length (cells_of words flags) ≡ length words
 unfolding cells_of
-length-cells_of words flags as_many =
-    let cells : length (map (λ (cell : ℕ × ℕ). word_of_number cell.0 cell.1) (zip words flags)) ≡ length (zip words flags) = length-map _ _ in
-    cells ∙ omega (arith, length-zip words flags)
+length-cells_of words flags as_many = search (rules, length-map, length-zip)
 
 -- a word programmed
 cells_of-set : (words flags : List ℕ) (place value : ℕ) → length flags ≡ length words → place < length words → cells_of (set words place value) (set flags place 0) ≡ set (cells_of words flags) place (word_of_number value 0)
@@ -46,16 +43,7 @@ cells_of-set words flags place value as_many within =
     ])
 
 pub word_programmed : (size : Size) (words flags wears : List ℕ) (page at value width : ℕ) → length words ≡ page_count size * size.words → length flags ≡ page_count size * size.words → page < page_count size → at < size.words → value < all_ones → width ≡ size.words → mirrored_device size (set words (page * width + at) value) (set flags (page * width + at) 0) wears ≡ device_after (Program page at value) (mirrored_device size words flags wears)
-word_programmed size words flags wears page at value width as_many flagged page_in place_in below is_width =
-    let place = page * size.words + at in
-    let within = mul-add-lt page size.words at (page_count size) page_in place_in in
-    let same_length : length flags ≡ length words = flagged ∙ sym as_many in
-    let test : (value == all_ones) ≡ false = grind (arith, nat_tests) in
-    let held : word_of_number value 0 ≡ Held value = rw test refl in
-    let with_pages : List (List Word) → Device = λ pages. record (mirrored_device size words flags wears) { image = pages } in
-    ap (λ (w : ℕ). mirrored_device size (set words (page * w + at) value) (set flags (page * w + at) 0) wears) is_width
-    ∙ ap (λ (cells : List Word). with_pages (pages_of size cells)) (cells_of-set words flags place value same_length (omega arith) ∙ ap (set (cells_of words flags) place) held)
-    ∙ ap with_pages (pages_of-set size (cells_of words flags) page at (Held value) (length-cells_of words flags same_length ∙ as_many) page_in place_in)
+word_programmed size words flags wears page at value width as_many flagged page_in place_in below is_width = grind (arith, common_steps, cells_of-set, length-cells_of, mul-add-lt, nat_tests, pages_of-set)
 
 -- a stretch of words erased
 cells_of-erased : (words flags : List ℕ) (start width : ℕ) → length flags ≡ length words → start + width ≤ length words → cells_of (put_mid start width words (replicate width all_ones)) (put_mid start width flags (replicate width 0)) ≡ put_mid start width (cells_of words flags) (replicate width Erased)
@@ -97,14 +85,7 @@ cells_of-erased words flags start width as_many within =
     ])
 
 pub page_erased : (size : Size) (words flags ones zeros : List ℕ) (page start width : ℕ) → length words ≡ page_count size * size.words → length flags ≡ page_count size * size.words → page < page_count size → start ≡ page * size.words → width ≡ size.words → ones ≡ replicate width all_ones → zeros ≡ replicate width 0 → pages_of size (cells_of (put_mid start width words ones) (put_mid start width flags zeros)) ≡ set (pages_of size (cells_of words flags)) page (replicate size.words Erased)
-page_erased size words flags ones zeros page start width as_many flagged page_in is_start is_width is_ones is_zeros =
-    let same_length : length flags ≡ length words = flagged ∙ sym as_many in
-    let fits : page * size.words + size.words ≤ length words = omega (arith, row_fits page size.words (page_count size) size.words page_in (omega arith)) in
-    let all_ones_there : ones ≡ replicate size.words all_ones = is_ones ∙ ap (λ (n : ℕ). replicate n all_ones) is_width in
-    let zeros_there : zeros ≡ replicate size.words 0 = is_zeros ∙ ap (λ (n : ℕ). replicate n 0) is_width in
-    rw (is_start, is_width, all_ones_there, zeros_there) (
-    ap (pages_of size) (cells_of-erased words flags (page * size.words) size.words same_length fits)
-    ∙ pages_of-rewritten size (cells_of words flags) page (replicate size.words Erased) (length-cells_of words flags same_length ∙ as_many) page_in (length-replicate size.words Erased))
+page_erased size words flags ones zeros page start width as_many flagged page_in is_start is_width is_ones is_zeros = search (rules, cells_of-erased, length-cells_of, length-replicate, pages_of-rewritten, row_fits)
 
 -- the length of a stretch of a list
 pub part_length : (xs : List ℕ) (start width : ℕ) → start + width ≤ length xs → length (take width (drop start xs)) ≡ width
@@ -112,17 +93,11 @@ part_length xs start width within = search (rules, places)
 
 -- a step whose place is not all ones is a program
 pub is_program : (step : ListedStep) → (step.place ≡ all_ones → ⊥) → step_listed_so step ≡ Program step.page step.place step.value
-is_program step other =
-    let test : (step.place == all_ones) ≡ false = grind (arith, nat_tests) in
-    rw test refl
+is_program step other = search (rules, nat_tests)
 
 -- the step that comes can be taken
 pub step_may : (start now : Device) (listed : List ListedStep) (count taken : ℕ) (none : ListedStep) → count ≤ length listed → taken < count → CanTakeAll (steps_of count listed) start → now ≡ all_completed (steps_of taken listed) start → CanTake (step_listed_so (get_or listed taken none)) now
-step_may start now listed count taken none within below all_taken is_now =
-    let step = step_listed_so (get_or listed taken none) in
-    let more : steps_of (taken + 1) listed ≡ steps_of taken listed ++ step ∷ [] = next_listed listed taken none (omega arith) in
-    let so_far : CanTakeAll (steps_of taken listed ++ step ∷ []) start = subst (λ (steps : List Step). CanTakeAll steps start) more (part_taken listed count (taken + 1) start within (omega arith) all_taken) in
-    subst (CanTake step) (sym is_now) (next_taken (steps_of taken listed) step start so_far)
+step_may start now listed count taken none within below all_taken is_now = search (rules, next_listed, next_taken, part_taken)
 
 -- and leaves what one step more leaves
 pub step_done : (start now next : Device) (listed : List ListedStep) (taken : ℕ) (none : ListedStep) → taken < length listed → now ≡ all_completed (steps_of taken listed) start → next ≡ device_after (step_listed_so (get_or listed taken none)) now → next ≡ all_completed (steps_of (taken + 1) listed) start

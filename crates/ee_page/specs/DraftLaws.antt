@@ -1,23 +1,15 @@
 -- Why a draft is formed, and what listing one more step does to it.
 use Rattle.std.specs.Prelude.{◌≡◌, ◌≤◌, ℕ, Bool, List, [], ◌∷◌, ◌++◌, length}
 use Rattle.std.specs.List.{All}
-use Rattle.std.proofs.Common.{refl, subst, ap, ◌∙◌, inl}
+use Rattle.std.proofs.Common.{refl, subst, ap, ◌∙◌}
 use Rattle.std.proofs.lemmas.Option.{none-some}
 use Rattle.ee_flash.specs.Device.{Device, IsFormed, IsOn, all_ones}
 use Rattle.ee_flash.specs.Laws.{CanTake, all_completed}
 use Rattle.ee_flash.specs.Size.{Size, page_count}
 use Rattle.ee_flash.specs.Step.{Step, Program, Erase, device_after}
-use Rattle.ee_flash.proofs.Public.{step_keeps_formed}
+use Rattle.ee_flash.proofs.Public.{completed_on, completed_size, still_formed}
 use Rattle.ee_flash.specs.Endurance.{CanTakeAll}
 use Rattle.ee_page.specs.Draft.{IsFresh, drafted_device}
-
-completed_on : (step : Step) (device : Device) → (device_after step device).on ≡ device.on
-completed_on (Program page at value) device = refl
-completed_on (Erase page) device = refl
-
-completed_size : (step : Step) (device : Device) → (device_after step device).size ≡ device.size
-completed_size (Program page at value) device = refl
-completed_size (Erase page) device = refl
 
 completed_cuts : (step : Step) (device : Device) → (device_after step device).cuts ≡ device.cuts
 completed_cuts (Program page at value) device = refl
@@ -26,10 +18,6 @@ completed_cuts (Erase page) device = refl
 completed_cuts_left : (step : Step) (device : Device) → (device_after step device).cuts_left ≡ device.cuts_left
 completed_cuts_left (Program page at value) device = refl
 completed_cuts_left (Erase page) device = refl
-
-pub same_on : (steps : List Step) (device : Device) → (all_completed steps device).on ≡ device.on
-same_on [] device = refl
-same_on (step ∷ steps) device = same_on steps (device_after step device) ∙ completed_on step device
 
 pub same_size : (steps : List Step) (device : Device) → (all_completed steps device).size ≡ device.size
 same_size [] device = refl
@@ -43,14 +31,10 @@ pub same_cuts_left : (steps : List Step) (device : Device) → (all_completed st
 same_cuts_left [] device = refl
 same_cuts_left (step ∷ steps) device = same_cuts_left steps (device_after step device) ∙ completed_cuts_left step device
 
-step_formed : (step : Step) (device : Device) → IsFormed device → IsOn device → CanTake step device → IsFormed (device_after step device)
-step_formed step device formed on may =
-    step_keeps_formed step device (device_after step device) (record { formed = formed; may = may; follows = inl (record { was_on = on; done = refl }) })
-
 pub all_formed : (steps : List Step) (device : Device) → IsFormed device → IsOn device → CanTakeAll steps device → IsFormed (all_completed steps device)
 all_formed [] device formed on taken = formed
 all_formed (step ∷ steps) device formed on taken =
-    all_formed steps (device_after step device) (step_formed step device formed on taken.0) (completed_on step device ∙ on) taken.1
+    all_formed steps (device_after step device) (still_formed step device formed on taken.0) (completed_on step device ∙ on) taken.1
 
 pub IsFormed-drafted : (start : Device) (steps : List Step) (wear : List ℕ) (cuts : ℕ) (on : Bool) → IsFresh start → CanTakeAll steps start → length wear ≡ page_count start.size → All (λ count. count ≤ all_ones) wear → cuts ≤ all_ones → IsFormed (drafted_device start steps wear cuts on)
 IsFormed-drafted start steps wear cuts on fresh taken as_long fits fit =

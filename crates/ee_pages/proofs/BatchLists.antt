@@ -9,6 +9,7 @@ use Rattle.ee_codec.specs.Words.{IsAddress}
 use Rattle.std.specs.List.{insert}
 use Rattle.std.specs.Prelude.{unwrap_or}
 use Rattle.ee_pages.specs.Nearest.{IsPlace, IsRising, Named, living, with_said}
+use Rattle.ee_pages.proofs.SetPrograms.{take_of_set}
 
 -- one entry of a batch
 abbrev pub entry : ℕ × ℕ → Bool → Named
@@ -52,17 +53,11 @@ set-with_said (first ∷ items) (false ∷ lives) zero item live = with_said-con
 set-with_said (first ∷ items) (true ∷ lives) (suc place) item live = ap (λ (l : List Named). (first.0, Some first.1) ∷ l) (set-with_said items lives place item live)
 set-with_said (first ∷ items) (false ∷ lives) (suc place) item live = ap (λ (l : List Named). (first.0, None) ∷ l) (set-with_said items lives place item live)
 
-take-set-any : {X : Type 0} (n : ℕ) (list : List X) (place : ℕ) (item : X) → take n (set list place item) ≡ set (take n list) place item
-take-set-any zero list place item = refl
-take-set-any (suc n) [] place item = refl
-take-set-any (suc n) (first ∷ list) zero item = refl
-take-set-any {X} (suc n) (first ∷ list) (suc place) item = ap (λ (l : List X). first ∷ l) (take-set-any n list place item)
-
 -- what is said of an address of the batch is said anew
 pub said_anew : (count : ℕ) (items : List (ℕ × ℕ)) (lives : List Bool) (place address : ℕ) (said : Option ℕ) → with_said (take count (set items place (address, unwrap_or said 0))) (take count (set lives place (is_some said))) ≡ set (with_said (take count items) (take count lives)) place (address, said)
 said_anew count items lives place address said =
-    ap (λ (l : List (ℕ × ℕ)). with_said l (take count (set lives place (is_some said)))) (take-set-any count items place (address, unwrap_or said 0))
-    ∙ ap (λ (l : List Bool). with_said (set (take count items) place (address, unwrap_or said 0)) l) (take-set-any count lives place (is_some said))
+    ap (λ (l : List (ℕ × ℕ)). with_said l (take count (set lives place (is_some said)))) (take_of_set count items place (address, unwrap_or said 0))
+    ∙ ap (λ (l : List Bool). with_said (set (take count items) place (address, unwrap_or said 0)) l) (take_of_set count lives place (is_some said))
     ∙ set-with_said (take count items) (take count lives) place (address, unwrap_or said 0) (is_some said)
     ∙ ap (λ (new : Named). set (with_said (take count items) (take count lives)) place new) (entry_of address said)
 
@@ -125,17 +120,6 @@ module _ (count : ℕ) (items : List (ℕ × ℕ)) (lives : List Bool) (few : co
 
 -- ---- an item is put in, and the others go one further
 
--- while they go, the list and the one that is carried are those of the end
-pub carried_on : {X : Type 0} (list : List X) (at : ℕ) (carried next : X) → at < length list → next ≡ get_or list at next → insert (set list at carried) (suc at) next ≡ insert list at carried
-carried_on [] at carried next within is = absurd (omega (arith, within))
-carried_on {X} (first ∷ list) zero carried next within is = ap (λ (x : X). carried ∷ x ∷ list) is
-carried_on {X} (first ∷ list) (suc at) carried next within is = ap (λ (l : List X). first ∷ l) (carried_on list at carried next (omega arith) is)
-
-pub take-insert : {X : Type 0} (n : ℕ) (list : List X) (item : X) → n ≤ length list → take n (insert list n item) ≡ take n list
-take-insert zero list item few = refl
-take-insert (suc n) [] item few = absurd (omega (arith, few))
-take-insert {X} (suc n) (first ∷ list) item few = ap (λ (l : List X). first ∷ l) (take-insert n list item (omega arith))
-
 insert-take : {X : Type 0} (n place : ℕ) (list : List X) (item : X) → place ≤ n → place ≤ length list → take (suc n) (insert list place item) ≡ insert (take n list) place item
 insert-take n zero list item low few = refl
 insert-take zero (suc place) list item low few = absurd (omega (arith, low))
@@ -190,7 +174,7 @@ living-more zero (first ∷ items) (false ∷ lives) item live few short is live
 living-more (suc n) (first ∷ items) (true ∷ lives) item live few short is lives_is = ap (λ (l : List (ℕ × ℕ)). first ∷ l) (living-more n items lives item live (omega arith) (omega arith) is lives_is)
 living-more (suc n) (first ∷ items) (false ∷ lives) item live few short is lives_is = living-more n items lives item live (omega arith) (omega arith) is lives_is
 
-one_proper : (found : ℕ × ℕ) → IsAddress found.0 → All (λ (one : ℕ × ℕ). IsAddress one.0) (found ∷ [])
+pub one_proper : (found : ℕ × ℕ) → IsAddress found.0 → All (λ (one : ℕ × ℕ). IsAddress one.0) (found ∷ [])
 one_proper found proper zero none h = proper
 one_proper found proper (suc k) none h = absurd (omega (arith, h))
 

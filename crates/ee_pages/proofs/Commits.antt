@@ -9,7 +9,7 @@ use Rattle.ee_flash.specs.Size.{Size}
 use Rattle.ee_flash.specs.Step.{device_after, with_word}
 use Rattle.ee_flash.specs.declared.word.Word.{Word}
 use Rattle.ee_flash.specs.declared.word.Word.TheVariants.{Erased, Held, Torn}
-use Rattle.ee_flash.proofs.Public.{step_changes_one_page, step_keeps_formed, step_leaves_pages}
+use Rattle.ee_flash.proofs.Public.{length-page_at, step_changes_one_page, step_keeps_formed, step_leaves_pages}
 use Rattle.ee_codec.proofs.Public.{receive_of-receive}
 use Rattle.ee_codec.specs.Reading.{mark_of, receive_of}
 use Rattle.ee_codec.specs.Words.{mark_number, IsGeneration}
@@ -23,7 +23,8 @@ use Rattle.ee_pages.specs.declared.side.Side.TheVariants.{First, Second}
 use Rattle.ee_pages.specs.declared.state.Mark.TheVariants.{Active}
 use Rattle.ee_pages.proofs.OtherSet.{greater_first, greater_second, keeps_live, same_set}
 use Rattle.ee_pages.proofs.OwnSet.{header_word, own_set, page_of_set}
-use Rattle.ee_pages.proofs.Slots.{length-page_at, length-set_of}
+use Rattle.ee_pages.proofs.Slots.{length-set_of}
+use Rattle.ee_pages.proofs.SetPrograms.{as_it_was}
 
 -- the set of a side and its generation, of two that are committed
 abbrev generation_in : Option (Side × ℕ) → ℕ
@@ -105,12 +106,8 @@ module _ (old new : Device) (side : Side) (formed : IsFormed old) (differs : Dif
       own_set side old new page 0 differs at formed.within_limits.some_pages
       ∙ ap (set (set_of side old) 0) (there ∙ ap (λ (words : List Word). set words 1 word) (sym first))
 
-same_image : (side : Side) (old new : Device) → new.size ≡ old.size → new.image ≡ old.image → set_of side new ≡ set_of side old
-same_image First old new size image = rw (size, image) refl
-same_image Second old new size image = rw (size, image) refl
-
-pub in_other_set : (side : Side) (device : Device) → IsFormed device → IsPageOf device.size side (first_page device.size side)
-in_other_set side device formed = record { from = omega arith; below = omega (arith, formed.within_limits.some_pages) }
+pub first_in_set : (side : Side) (device : Device) → IsFormed device → IsPageOf device.size side (first_page device.size side)
+first_in_set side device formed = record { from = omega arith; below = omega (arith, formed.within_limits.some_pages) }
 
 module _ (old new : Device) (side : Side) (generation count : ℕ) (live : IsLive old side generation) (filling : IsFilling old (other side) (generation + 1) count) (proper : generation + 1 < 4294967295) (taken : IsStep (marking (first_page old.size (other side)) Active) old new) where
   differs : DiffersInPage (first_page old.size (other side)) old new
@@ -120,7 +117,7 @@ module _ (old new : Device) (side : Side) (generation count : ℕ) (live : IsLiv
   formed_after = step_keeps_formed (marking (first_page old.size (other side)) Active) old new taken
 
   same_live : set_of side new ≡ set_of side old
-  same_live = same_set side old new (first_page old.size (other side)) differs (in_other_set (other side) old taken.formed)
+  same_live = same_set side old new (first_page old.size (other side)) differs (first_in_set (other side) old taken.formed)
 
   some : 0 < length (set_of (other side) old)
   some = omega (arith, length-set_of (other side) old taken.formed, taken.formed.within_limits.some_pages)
@@ -166,7 +163,7 @@ module _ (old new : Device) (side : Side) (generation count : ℕ) (live : IsLiv
 
   outcomes : KeepsLiveSet old new side generation ⊎ IsCommitted old new (other side) (generation + 1)
   outcomes = elim (step_leaves_pages (marking (first_page old.size (other side)) Active) old new taken) [
-    | inl same ↦ inl (keeps_by (inl (ap committed_generation (same_image (other side) old new differs.same_size same))))
+    | inl same ↦ inl (keeps_by (inl (ap committed_generation (as_it_was (other side) old new differs.same_size same))))
     | inr (inl held) ↦ inr (commits_whole held)
     | inr (inr torn) ↦ inl (torn_keeps torn)
   ]

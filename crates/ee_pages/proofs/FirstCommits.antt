@@ -5,7 +5,7 @@ use Rattle.ee_flash.specs.Laws.{DiffersInPage, IsStep}
 use Rattle.ee_flash.specs.Step.{device_after}
 use Rattle.ee_flash.specs.declared.word.Word.{Word}
 use Rattle.ee_flash.specs.declared.word.Word.TheVariants.{Held}
-use Rattle.ee_flash.proofs.Public.{step_changes_one_page, step_keeps_formed}
+use Rattle.ee_flash.proofs.Public.{length-page_at, step_changes_one_page, step_keeps_formed}
 use Rattle.ee_codec.proofs.Public.{receive_of-receive}
 use Rattle.ee_codec.specs.Reading.{receive_of}
 use Rattle.ee_codec.specs.Words.{mark_number, IsGeneration}
@@ -17,12 +17,12 @@ use Rattle.ee_pages.specs.Sets.{committed_generation, first_page, live_of, other
 use Rattle.ee_pages.specs.declared.side.Side.{Side}
 use Rattle.ee_pages.specs.declared.side.Side.TheVariants.{First, Second}
 use Rattle.ee_pages.specs.declared.state.Mark.TheVariants.{Active}
-use Rattle.ee_pages.proofs.Commits.{in_other_set, mark_allowed, marked, marked_commits, set_marked}
+use Rattle.ee_pages.proofs.Commits.{first_in_set, mark_allowed, marked, marked_commits, set_marked}
 use Rattle.ee_pages.proofs.OtherSet.{same_set}
 use Rattle.ee_pages.proofs.OwnSet.{header_word, page_of_set}
-use Rattle.ee_pages.proofs.Slots.{length-page_at, length-set_of}
+use Rattle.ee_pages.proofs.Slots.{length-set_of}
 
-other_twice : (side : Side) → other (other side) ≡ side
+pub other_twice : (side : Side) → other (other side) ≡ side
 other_twice First = refl
 other_twice Second = refl
 
@@ -38,7 +38,7 @@ module _ (old new : Device) (side : Side) (generation count : ℕ) (filling : Is
   pub other_set_stays : set_of (other side) new ≡ set_of (other side) old
   other_set_stays =
       let at : IsPageOf old.size (other (other side)) (first_page old.size side) =
-      subst (λ set. IsPageOf old.size set (first_page old.size side)) (sym (other_twice side)) (in_other_set side old taken.formed) in
+      subst (λ set. IsPageOf old.size set (first_page old.size side)) (sym (other_twice side)) (first_in_set side old taken.formed) in
       same_set (other side) old new (first_page old.size side) differs at
 
   some_pages : 0 < length (set_of side old)

@@ -1,5 +1,5 @@
 -- A word put into a page of a set: the set's words and slots afterwards, and when the table is obeyed still.
-use Rattle.std.proofs.Common.{◌≡◌, ◌≢◌, ◌⊎◌, inl, inr, ℕ, ◌+◌, ◌-◌, ◌*◌, ◌<◌, ◌≤◌, Bool, true, false, not, ◌&&◌, ◌||◌, cond, nat_le, Option, Some, None, List, [], ◌∷◌, ◌++◌, length, drop, get_or, set, refl, sym, ap, ◌∙◌, arith, suc, zero}
+use Rattle.std.proofs.Common.{◌≡◌, ◌≢◌, ◌⊎◌, inl, inr, ℕ, ◌+◌, ◌-◌, ◌*◌, ◌<◌, ◌≤◌, Bool, true, false, not, ◌&&◌, ◌||◌, cond, nat_le, None, List, [], ◌∷◌, ◌++◌, length, drop, get_or, set, refl, sym, ap, ◌∙◌, arith, suc, zero}
 use Rattle.std.specs.List.{All, filter, prefix_len}
 use Rattle.std.proofs.lemmas.Bool.{cases_eq}
 use Rattle.std.proofs.lemmas.Grind.{common_steps}
@@ -11,7 +11,7 @@ use Rattle.ee_pages.specs.Legal.{fits, is_allowed, is_allowed_at, place_of, slot
 use Rattle.ee_pages.specs.Meaning.{later, latest_in, says}
 use Rattle.ee_pages.specs.Page.{is_written, word_in}
 use Rattle.ee_pages.specs.Sets.{front, slots_of, word_of}
-use Rattle.ee_pages.proofs.LastSaid.{latest_in-erased}
+use Rattle.ee_pages.proofs.LastSaid.{later-later, later-none, latest_in-erased}
 
 -- the pages with this word at a place of one of them
 abbrev pub with_word_in : List (List Word) → ℕ → ℕ → Word → List (List Word)
@@ -82,24 +82,16 @@ module _ {X : Type 0} (p : X → Bool) (y : X) (passes : p y ≡ true) where
   filter-set (x ∷ xs) zero d h fails = rw (passes, fails) (omega arith)
   filter-set (x ∷ xs) (suc i) d h fails = one_longer (p x) x (filter p (set xs i y)) (filter p xs) (filter-set xs i d (omega arith) fails)
 
-none_before : (said : Option (Option ℕ)) → later None said ≡ said
-none_before None = refl
-none_before (Some new) = refl
-
-later_assoc : (first second third : Option (Option ℕ)) → later first (later second third) ≡ later (later first second) third
-later_assoc first second None = refl
-later_assoc first second (Some new) = refl
-
 -- put in front of erased slots, a word says the last
 pub latest_in-set : (slots : List Word) (slot : ℕ) (word : Word) (address : ℕ) → slot < length slots → ((k : ℕ) → slot ≤ k → is_written (get_or slots k Erased) ≡ false) → latest_in (set slots slot word) address ≡ later (latest_in slots address) (says word address)
 latest_in-set [] slot word address h behind = absurd (omega arith)
 latest_in-set (old ∷ slots) zero word address h behind =
     let rest : latest_in slots address ≡ None = latest_in-erased slots address (λ k. behind (suc k) (omega arith)) in
     let all : latest_in (old ∷ slots) address ≡ None = latest_in-erased (old ∷ slots) address (λ k. behind k (omega arith)) in
-    ap (later (says word address)) rest ∙ sym (ap (λ said. later said (says word address)) all ∙ none_before (says word address))
+    ap (later (says word address)) rest ∙ sym (ap (λ said. later said (says word address)) all ∙ later-none (says word address))
 latest_in-set (old ∷ slots) (suc slot) word address h behind =
     ap (later (says old address)) (latest_in-set slots slot word address (omega arith) (λ k low. behind (suc k) (omega arith)))
-    ∙ later_assoc (says old address) (latest_in slots address) (says word address)
+    ∙ later-later (says old address) (latest_in slots address) (says word address)
 
 -- a word that fits stays allowed where at least as many slots before it are written
 pub more_written : (fit written : Bool) (before front more : ℕ) → (fit && (not written || nat_le before front)) ≡ true → front ≤ more → (fit && (not written || nat_le before more)) ≡ true

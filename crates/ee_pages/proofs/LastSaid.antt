@@ -40,11 +40,11 @@ latest_in-step slot words address h =
     rw (e, drop-cons words slot Erased h) refl
 
 -- what is said of an address in two parts, one behind the other
-later-none : (said : Option (Option ℕ)) → later None said ≡ said
+pub later-none : (said : Option (Option ℕ)) → later None said ≡ said
 later-none None = refl
 later-none (Some said) = refl
 
-later-later : (first second third : Option (Option ℕ)) → later first (later second third) ≡ later (later first second) third
+pub later-later : (first second third : Option (Option ℕ)) → later first (later second third) ≡ later (later first second) third
 later-later first second None = refl
 later-later first second (Some said) = refl
 

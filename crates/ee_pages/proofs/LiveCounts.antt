@@ -1,7 +1,7 @@
 -- How many addresses have a value.
 use Rattle.ee_pages.specs.Sets.{fill_of}
 use Rattle.ee_codec.specs.Words.{IsAddress}
-use Rattle.std.proofs.Common.{◌≡◌, ◌≢◌, inl, inr, ℕ, ◌+◌, ◌<◌, ◌≤◌, Bool, true, false, cond, Option, Some, None, is_some, List, [], ◌∷◌, refl, sym, ap, ◌∙◌, arith, suc, zero}
+use Rattle.std.proofs.Common.{◌≡◌, ◌≢◌, inl, inr, ℕ, ◌+◌, ◌<◌, ◌≤◌, Bool, true, false, cond, Some, None, is_some, List, [], ◌∷◌, refl, sym, ap, ◌∙◌, arith, suc, zero}
 use Rattle.std.proofs.lemmas.Bool.{cases_eq}
 use Rattle.std.proofs.lemmas.Grind.{common_steps}
 use Rattle.ee_flash.specs.declared.word.Word.{Word}
@@ -9,9 +9,10 @@ use Rattle.ee_flash.specs.declared.word.Word.TheVariants.{Erased, Held, Torn}
 use Rattle.ee_codec.specs.Reading.{slot_of}
 use Rattle.ee_codec.specs.declared.slot.Slot.{Slot}
 use Rattle.ee_codec.specs.declared.slot.Slot.TheVariants.{Free, Spoiled, Element, Forgotten, Foreign}
-use Rattle.ee_pages.specs.Meaning.{Forget, Map, Put, map_after, later, latest_in, live_in, live_to, meaning, slot_says, value_said, Change}
+use Rattle.ee_pages.specs.Meaning.{Forget, Map, Put, map_after, latest_in, live_in, live_to, meaning, slot_says, value_said, Change}
 use Rattle.ee_pages.specs.Pending.{IsCountAfter, address_of}
 use Rattle.ee_pages.proofs.Counts.{gap_to, live_to-suc, live_to-zero}
+use Rattle.ee_pages.proofs.LastSaid.{later-none}
 
 one_or_none : (b : Bool) → cond b 1 0 ≤ 1
 one_or_none true = omega arith
@@ -62,7 +63,7 @@ put_elsewhere named value address map other = grind (arith, common_steps)
 forget_elsewhere : (named address : ℕ) (map : Map) → address ≢ named → map_after (Forget named) map address ≡ map address
 forget_elsewhere named address map other = grind (arith, common_steps)
 
-put_there : (named value : ℕ) (map : Map) → map_after (Put named value) map named ≡ Some value
+pub put_there : (named value : ℕ) (map : Map) → map_after (Put named value) map named ≡ Some value
 put_there named value map = grind (arith, common_steps)
 
 forget_there : (named : ℕ) (map : Map) → map_after (Forget named) map named ≡ None
@@ -98,16 +99,12 @@ silent_elsewhere Free address other = refl
 silent_elsewhere Spoiled address other = refl
 silent_elsewhere Foreign address other = refl
 
-later_none : (said : Option (Option ℕ)) → later None said ≡ said
-later_none None = refl
-later_none (Some said) = refl
-
 -- a slot in front changes the map at one address at most
 in_front : (slot : Word) (slots : List Word) (address : ℕ) → address ≢ named_by (slot_of slot) → meaning (slot ∷ slots) address ≡ meaning slots address
-in_front slot slots address other = rw (silent_elsewhere (slot_of slot) address other) (ap value_said (later_none (latest_in slots address)))
+in_front slot slots address other = rw (silent_elsewhere (slot_of slot) address other) (ap value_said (later-none (latest_in slots address)))
 
 erased_in_front : (slots : List Word) (address : ℕ) → meaning (Erased ∷ slots) address ≡ meaning slots address
-erased_in_front slots address = ap value_said (later_none (latest_in slots address))
+erased_in_front slots address = ap value_said (later-none (latest_in slots address))
 
 one_front : (slot : Word) (slots : List Word) → live_in (meaning (slot ∷ slots)) ≤ live_in (meaning slots) + 1
 one_front slot slots = one_at_most (meaning slots) (meaning (slot ∷ slots)) (named_by (slot_of slot)) (in_front slot slots) 65534

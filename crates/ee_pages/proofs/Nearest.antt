@@ -12,6 +12,7 @@ use Rattle.ee_flash.specs.declared.word.Word.{Word}
 use Rattle.ee_flash.specs.declared.word.Word.TheVariants.{Erased}
 use Rattle.ee_pages.specs.Meaning.{AreLiveThrough, AreNextLive, IsNoneLive, last_of, later, latest_in, meaning, says, slot_says, value_said}
 use Rattle.ee_pages.specs.Nearest.{IsPlace, IsRising, Named, with_each_named, last_named, living, with_named, noted_above, slot_names}
+use Rattle.ee_pages.proofs.LastSaid.{later-none}
 
 -- what a list says of an address
 abbrev pub said_in : List Named → ℕ → Option (Option ℕ)
@@ -285,12 +286,6 @@ rising-take zero above list rising = tt
 rising-take (suc n) above [] rising = tt
 rising-take (suc n) above (first ∷ rest) rising = (rising.0, rising-take n first.0 rest rising.1)
 
--- one address more
-pub living-append : (list : List Named) (address : ℕ) (said : Option ℕ) → living (list ++ (address, said) ∷ []) ≡ living list ++ living ((address, said) ∷ [])
-living-append [] address said = refl
-living-append ((first, Some value) ∷ rest) address said = ap (λ (l : List (ℕ × ℕ)). (first, value) ∷ l) (living-append rest address said)
-living-append ((first, None) ∷ rest) address said = living-append rest address said
-
 -- a slot of a page of a set is one of the set's
 pub in_set : (page pages slots slot : ℕ) → page < pages → slot < slots → page * slots + slot < pages * slots
 in_set page pages slots slot below few =
@@ -304,10 +299,6 @@ last_is (first ∷ []) above default some = refl
 last_is (first ∷ second ∷ rest) above default some =
     let one_less : length (first ∷ second ∷ rest) - 1 ≡ suc (length (second ∷ rest) - 1) = omega arith in
     ap (λ k. (get_or (first ∷ second ∷ rest) k default).0) one_less ∙ last_is (second ∷ rest) first.0 default (omega arith)
-
-later-none : (said : Option (Option ℕ)) → later None said ≡ said
-later-none None = refl
-later-none (Some said) = refl
 
 -- in a list of so many at most
 module _ (room : ℕ) where
@@ -334,9 +325,6 @@ module _ (room : ℕ) where
       let same : place ≡ length list = omega arith in
       let all : length list ≡ room = omega arith in
       rw (lt-ltb above new.0 high) (sym (ap (λ n. take n (with_named new list)) (sym all) ∙ put_behind list new (subst (λ n. IsPlace new.0 list n) same at)))
-
-  pub put_above : (above : ℕ) (new : Named) (list after : List Named) → above < new.0 → after ≡ take room (with_named new list) → after ≡ take room (noted_above above (Some new) list)
-  put_above above new list after high put = rw (lt-ltb above new.0 high) put
 
   -- what is gathered rises, and is no more than there is room for
   pub rising_of : (above : ℕ) (words : List Word) (list : List Named) → list ≡ take room (with_each_named above words []) → IsRising above list

@@ -22,7 +22,7 @@ use Rattle.ee_pages.proofs.BlankWords.{blank_set}
 uncommitted : (pages : List (List Word)) → All (λ page. is_blank page ≡ true) pages → committed_generation pages ≡ None
 uncommitted pages blank = rw (blank_set pages 0 1 blank) refl
 
-none_live : (first second : Option ℕ) → first ≡ None → second ≡ None → greater first second ≡ None
+pub none_live : (first second : Option ℕ) → first ≡ None → second ≡ None → greater first second ≡ None
 none_live first second e f = rw e (rw f refl)
 
 not_less : (n : ℕ) → nat_lt n n ≡ false

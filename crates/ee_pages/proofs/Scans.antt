@@ -25,7 +25,7 @@ layout_found device side generation written current formed live e allowed place 
   current = place;
 }
 
-first_below : (device : Device) (side : Side) → first_page device.size side ≤ device.size.pages
+pub first_below : (device : Device) (side : Side) → first_page device.size side ≤ device.size.pages
 first_below device First = omega arith
 first_below device Second = omega arith
 

@@ -15,7 +15,7 @@ use Rattle.ee_pages.specs.declared.side.Side.TheVariants.{First, Second}
 use Rattle.ee_pages.proofs.InTheSet.{with_word_in}
 use Rattle.ee_pages.proofs.OtherSet.{same_set}
 
-take_of_set : {X : Type 0} (n : ℕ) (xs : List X) (i : ℕ) (x : X) → take n (set xs i x) ≡ set (take n xs) i x
+pub take_of_set : {X : Type 0} (n : ℕ) (xs : List X) (i : ℕ) (x : X) → take n (set xs i x) ≡ set (take n xs) i x
 take_of_set zero xs i x = refl
 take_of_set (suc n) [] i x = refl
 take_of_set (suc n) (y ∷ xs) zero x = refl
@@ -40,7 +40,7 @@ put_in_set Second old new k at word h same put =
     ∙ drop-set-add old.size.pages old.image k (set (get_or old.image (old.size.pages + k) []) at word)
     ∙ ap (λ (words : List Word). set (drop old.size.pages old.image) k (set words at word)) (sym (get_or-drop old.size.pages old.image k []))
 
-as_it_was : (side : Side) (old new : Device) → new.size ≡ old.size → new.image ≡ old.image → set_of side new ≡ set_of side old
+pub as_it_was : (side : Side) (old new : Device) → new.size ≡ old.size → new.image ≡ old.image → set_of side new ≡ set_of side old
 as_it_was First old new same image = ap (λ size. take size.pages new.image) same ∙ ap (take old.size.pages) image
 as_it_was Second old new same image = ap (λ size. drop size.pages new.image) same ∙ ap (drop old.size.pages) image
 

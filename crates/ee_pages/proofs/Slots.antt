@@ -10,8 +10,8 @@ use Rattle.std.proofs.lemmas.List.Elements.{All-from_get_or}
 use Rattle.std.proofs.lemmas.List.Folds.{list_any_none}
 use Rattle.std.specs.Prelude.{not, true, false}
 use Rattle.ee_pages.specs.Page.{is_blank, is_written, word_in}
-use Rattle.ee_flash.specs.Device.{Device, IsFormed, page_at}
-use Rattle.ee_flash.specs.Size.{page_count, slot_count}
+use Rattle.ee_flash.specs.Device.{Device, IsFormed}
+use Rattle.ee_flash.specs.Size.{slot_count}
 use Rattle.ee_flash.specs.declared.word.Word.{Word}
 use Rattle.ee_flash.specs.declared.word.Word.TheVariants.{Erased}
 use Rattle.ee_pages.specs.Sets.{page_of_slot, place_of_slot, set_of, slots_of, word_of}
@@ -77,9 +77,6 @@ slot_at side device slot formed h =
     let split : slot ≡ slot / (device.size.words - 4) * (device.size.words - 4) + slot % (device.size.words - 4) = split_by slot (device.size.words - 4) in
     ap (λ n. get_or (slots_of pages) n Erased) split
     ∙ get_or-slots_of device.size.words pages (slot / (device.size.words - 4)) (slot % (device.size.words - 4)) (pages-set_of side device formed) in_range within
-
-pub length-page_at : (device : Device) (page : ℕ) → IsFormed device → page < page_count device.size → length (page_at device page) ≡ device.size.words
-length-page_at device page formed h = All-get_or (λ page. length page ≡ device.size.words) device.image page [] (omega (arith, formed.image_length)) formed.page_lengths
 
 pub length-slots : (side : Side) (device : Device) → IsFormed device → length (slots_of (set_of side device)) ≡ slot_count device.size
 length-slots side device formed = length-slots_of device.size.words (set_of side device) (pages-set_of side device formed) ∙ ap (λ n. n * (device.size.words - 4)) (length-set_of side device formed)

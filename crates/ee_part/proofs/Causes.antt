@@ -1,5 +1,5 @@
 -- There is one cause at most for which nothing moves, but for want of memory; and none where something did.
-use Rattle.std.proofs.Common.{◌≡◌, ◌≢◌, ◌⊎◌, inl, inr, ◌∙◌, refl, sym, ap, subst, ℕ, List, length, Result, Ok, Err, IfErr, IfOk, MatchResult}
+use Rattle.std.proofs.Common.{◌≡◌, ◌≢◌, ◌⊎◌, inl, inr, ◌∙◌, refl, sym, ap, ℕ, List, length, Result, Ok, Err, IfErr, IfOk, MatchResult, rules}
 use Rattle.ee_flash.specs.Device.{Device, IsFormed}
 use Rattle.ee_flash.specs.Size.{Size}
 use Rattle.ee_image.specs.Text.{at_rest}
@@ -25,16 +25,10 @@ IsNamed fault cause = (fault ≡ cause) ⊎ (fault ≡ Memory)
 -- ---- two devices of one text
 
 moved_torn : (device other : Device) (page at : ℕ) → at_rest device ≡ at_rest other → IsFirstTorn device page at → IsFirstTorn other page at
-moved_torn device other page at same first =
-    let here : IsFirstTorn (at_rest device) page at = record { torn = first.torn; whole_before = first.whole_before; none_before = first.none_before } in
-    let there : IsFirstTorn (at_rest other) page at = subst (λ d. IsFirstTorn d page at) same here in
-    record { torn = there.torn; whole_before = there.whole_before; none_before = there.none_before }
+moved_torn device other page at same first = search rules
 
 pub moved_dump : (device other : Device) (bytes : List ℕ) → at_rest device ≡ at_rest other → IsDump device bytes → IsDump other bytes
-moved_dump device other bytes same is =
-    let here : IsDump (at_rest device) bytes = record { whole = is.whole; bytes_are = is.bytes_are } in
-    let there : IsDump (at_rest other) bytes = subst (λ d. IsDump d bytes) same here in
-    record { whole = there.whole; bytes_are = there.bytes_are }
+moved_dump device other bytes same is = search rules
 
 pub same_size : (device other : Device) → at_rest device ≡ at_rest other → device.size ≡ other.size
 same_size device other same = ap (λ (d : Device). d.size) same
@@ -45,17 +39,10 @@ one_write_fault : (device other : Device) (cause fault : WriteFault) → at_rest
     → (fault ≡ cause) ⊎ (fault ≡ write.Memory) ⊎ (cause ≡ write.Memory)
 one_write_fault device other cause write.Memory same h i = inr (inl refl)
 one_write_fault device other write.Memory fault same h i = inr (inr refl)
-one_write_fault device other (write.TornWord page at) (write.TornWord torn_page place) same h i =
-    let is = one_first other page at torn_page place (moved_torn device other page at same h) i in
-    inl (ap (λ (p : ℕ). write.TornWord p place) is.0 ∙ ap (λ (a : ℕ). write.TornWord page a) is.1)
+one_write_fault device other (write.TornWord page at) (write.TornWord torn_page place) same h i = search (rules, moved_torn, one_first)
 
 pub one_device_fault : (device other : Device) (cause fault : Fault) → at_rest device ≡ at_rest other → cause ≢ Memory → IsDeviceFault device cause → IsDeviceFault other fault → IsNamed fault cause
-one_device_fault device other cause fault same some h i =
-    elim (one_write_fault device other h.cause i.cause same h.applies i.applies) [
-      | inl one ↦ inl (i.fault_is ∙ ap fault_of_write one ∙ sym h.fault_is)
-      | inr (inl none) ↦ inr (i.fault_is ∙ ap fault_of_write none)
-      | inr (inr none) ↦ absurd (some (h.fault_is ∙ ap fault_of_write none))
-    ]
+one_device_fault device other cause fault same some h i = search (rules, one_write_fault)
 
 dump_has_none : (device : Device) (bytes : List ℕ) (cause : WriteFault) → IsDump device bytes → IsWriteFault device cause → cause ≡ write.Memory
 dump_has_none device bytes (write.TornWord page at) is first = absurd (no_torn device bytes page at is first)
@@ -86,12 +73,7 @@ one_dump_fault size bytes dump.Memory fault h i = inr (inr refl)
 one_dump_fault size bytes dump.Length dump.Length h i = inl refl
 
 pub one_import_fault : (size : Size) (bytes : List ℕ) (cause fault : Fault) → cause ≢ Memory → IsImportFault size bytes cause → IsImportFault size bytes fault → IsNamed fault cause
-one_import_fault size bytes cause fault some h i =
-    elim (one_dump_fault size bytes h.cause i.cause h.applies i.applies) [
-      | inl one ↦ inl (i.fault_is ∙ ap fault_of_dump one ∙ sym h.fault_is)
-      | inr (inl none) ↦ inr (i.fault_is ∙ ap fault_of_dump none)
-      | inr (inr none) ↦ absurd (some (h.fault_is ∙ ap fault_of_dump none))
-    ]
+one_import_fault size bytes cause fault some h i = search (rules, one_dump_fault)
 
 long_has_none : (size : Size) (bytes : List ℕ) (cause : DumpFault) → length bytes ≡ dump_length size → IsDumpFault size bytes cause → cause ≡ dump.Memory
 long_has_none size bytes dump.Length long other = absurd (other long)
@@ -111,11 +93,7 @@ imported_good size bytes image cause is some h = some (import_lacks size bytes c
 
 -- memory may run out where a dump was read
 pub import_memory : (size : Size) (bytes : List ℕ) (device : Device) → IsFormed device → IsImport size bytes device → IsImportFault size bytes Memory
-import_memory size bytes device formed made = record {
-  cause = dump.Memory;
-  applies = dumps_are_read_lem device bytes formed made.dump_is ∙ ap (λ (d : Device). dump_length d.size) made.never_used;
-  fault_is = refl;
-}
+import_memory size bytes device formed made = search (rules, dumps_are_read_lem)
 
 -- ---- a device that was read, and then written as bytes, or not
 

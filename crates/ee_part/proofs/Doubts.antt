@@ -1,6 +1,6 @@
 -- An address is told to be in doubt exactly where a torn slot stands between the last slot that speaks of it and the end.
-use Rattle.std.proofs.Common.{◌≡◌, ◌≢◌, ◌∙◌, ◌+◌, ◌<◌, ◌≤◌, ℕ, suc, Bool, true, false, cond, is_some, Option, Some, None, List, [], ◌∷◌, ◌++◌, length, refl, sym, ap, arith, inl, inr}
-use Rattle.std.specs.Prelude.{◌||◌, nat_lt}
+use Rattle.std.proofs.Common.{◌≡◌, ◌≢◌, ◌∙◌, ◌+◌, ◌<◌, ◌≤◌, ℕ, suc, Bool, true, false, cond, is_some, Option, Some, None, List, [], ◌∷◌, ◌++◌, length, refl, sym, ap, arith, inl, inr, rules}
+use Rattle.std.specs.Prelude.{◌||◌}
 use Rattle.std.specs.List.{list_any}
 use Rattle.std.proofs.lemmas.Bool.{and_from, and_parts, both_ways, cases_Bool, lt-ltb, ltb-true}
 use Rattle.std.proofs.lemmas.List.{length-append}
@@ -60,10 +60,6 @@ or_none : (a b : Bool) → (a || b) ≡ false → b ≡ false
 or_none true b none = absurd (cc none)
 or_none false b none = none
 
-first_said : (a b : Bool) → a ≡ true → (a || b) ≡ true
-first_said true b is = refl
-first_said false b is = absurd (cc is)
-
 parted : (such : Word → Bool) (slots : List Word) → list_any such slots ≡ true → IsParted such slots
 parted such [] some = absurd (cc some)
 parted such (first ∷ slots) some = elim (cases_Bool (list_any such slots)) [
@@ -96,10 +92,7 @@ parted such (first ∷ slots) some = elim (cases_Bool (list_any such slots)) [
 ]
 
 up_or_none : (such : Word → Bool) (slots : List Word) → 0 < up_to_last such slots → list_any such slots ≡ true
-up_or_none such slots some = elim (cases_Bool (list_any such slots)) [
-  | inl is ↦ is
-  | inr none ↦ absurd (omega (arith, some, no_last such slots none))
-]
+up_or_none such slots some = search (rules, cases_Bool, no_last)
 
 last_within : (such : Word → Bool) (slots : List Word) → up_to_last such slots ≤ length slots
 last_within such slots = elim (cases_Bool (list_any such slots)) [
@@ -161,15 +154,4 @@ doubt_to slots address doubted =
     (omega (arith, up, some), omega (arith, up, last, positive, within))
 
 pub doubts_are_told : DoubtsAreTold
-doubts_are_told slots address = (
-  λ is.
-      let spoken = up_to_last (speaks_of address) slots in
-      let torn = up_to_last is_torn slots in
-      let both = and_parts (nat_lt 0 spoken) (nat_lt spoken torn) is in
-      doubt_from slots address spoken torn refl refl (ltb-true 0 spoken both.0) (ltb-true spoken torn both.1),
-  λ doubted.
-      let spoken = up_to_last (speaks_of address) slots in
-      let torn = up_to_last is_torn slots in
-      let both = doubt_to slots address doubted in
-      and_from (nat_lt 0 spoken) (nat_lt spoken torn) (lt-ltb 0 spoken both.0) (lt-ltb spoken torn both.1),
-)
+doubts_are_told slots address = search (rules, and_from, and_parts, doubt_from, doubt_to, lt-ltb, ltb-true)

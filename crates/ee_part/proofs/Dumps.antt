@@ -1,5 +1,5 @@
 -- What was exported is imported as it was, and the other way round.
-use Rattle.std.proofs.Common.{◌≡◌, ◌∙◌, sym, subst, ℕ, List}
+use Rattle.std.proofs.Common.{◌≡◌, ◌∙◌, sym, subst, ℕ, List, rules}
 use Rattle.ee_flash.specs.Device.{Device}
 use Rattle.ee_flash.specs.Size.{Size}
 use Rattle.ee_dump.specs.Dump.{IsDump}
@@ -23,11 +23,7 @@ image_again bytes other device image spelled is again =
 
 pub import_again_lem : (image bytes : List ℕ) (device : Device) → SpellsDevice image device → IsExported image bytes
     → ((fault : Fault) → IsImportFault device.size bytes fault → fault ≡ Memory) × ((other : List ℕ) → IsImported device.size bytes other → SpellsDevice other (unworn_device device))
-import_again_lem image bytes device spelled exported =
-    let is = dump_exported image bytes device spelled exported in (
-      λ fault wrong. import_lacks device.size bytes fault (dumps_are_read_lem device bytes spelled.formed is) wrong,
-      λ other again. image_again bytes other device image spelled is again,
-    )
+import_again_lem image bytes device spelled exported = search (rules, dump_exported, dumps_are_read_lem, image_again, import_lacks)
 
 pub export_of_import_lem : (image bytes : List ℕ) (size : Size) → IsImported size bytes image → IsExported image bytes × ((other : List ℕ) → IsExported image other → other ≡ bytes)
 export_of_import_lem image bytes size imported = (

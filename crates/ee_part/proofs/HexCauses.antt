@@ -1,5 +1,5 @@
 -- There is one cause at most for which nothing moves by Intel HEX, but for want of memory.
-use Rattle.std.proofs.Common.{◌≡◌, ◌≢◌, ◌⊎◌, inl, inr, ◌∙◌, refl, sym, ap, subst, arith, ℕ, ◌+◌, ◌≤◌, ◌^◌, List, length, Result, Ok, Err, IfErr, IfOk}
+use Rattle.std.proofs.Common.{◌≡◌, ◌≢◌, ◌⊎◌, inl, inr, ◌∙◌, refl, sym, ap, subst, arith, ℕ, ◌+◌, ◌≤◌, ◌^◌, List, length, Result, Ok, Err, IfErr, IfOk, rules}
 use Rattle.ee_flash.specs.Device.{Device, IsFormed}
 use Rattle.ee_flash.specs.Size.{Size}
 use Rattle.ee_image.specs.Text.{at_rest}
@@ -38,12 +38,7 @@ named_by text base count given hex.Memory names lack = inr (inr refl)
 text_named : (size : Size) (base : ℕ) (text : List ℕ) (given : HexFault) (fault cause : Fault)
     → ((n : ℕ) → IsBadHexLine text base (dump_length size) n → (given ≡ hex.BadLine n) ⊎ (given ≡ hex.Memory)) → fault ≡ fault_of_hex given → cause ≢ Memory
     → IsHexTextFault size base text cause → IsNamed fault cause
-text_named size base text given fault cause names told some h =
-    elim (named_by text base (dump_length size) given h.cause names h.applies) [
-      | inl one ↦ inl (told ∙ ap fault_of_hex one ∙ sym h.fault_is)
-      | inr (inl none) ↦ inr (told ∙ ap fault_of_hex none)
-      | inr (inr none) ↦ absurd (some (h.fault_is ∙ ap fault_of_hex none))
-    ]
+text_named size base text given fault cause names told some h = search (rules, named_by)
 
 -- what the reader told is the cause
 pub hex_named : (size : Size) (base count : ℕ) (text : List ℕ) (given : HexFault) (fault cause : Fault) → count ≡ dump_length size → PartFits base size

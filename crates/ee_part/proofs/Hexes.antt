@@ -1,5 +1,6 @@
 -- What was exported by Intel HEX is imported as it was.
-use Rattle.std.proofs.Common.{◌≡◌, refl, sym, subst, ℕ, ◌+◌, ◌≤◌, ◌^◌, List, length}
+use Rattle.std.proofs.Common.{◌≡◌, refl, sym, subst, ℕ, ◌+◌, ◌≤◌, ◌^◌, List, length, arith}
+use Rattle.std.proofs.lemmas.Grind.{common_steps}
 use Rattle.ee_flash.specs.Device.{Device}
 use Rattle.ee_dump.specs.Dump.{IsDump, dump_length}
 use Rattle.ee_dump.specs.Laws.{unworn_device}
@@ -18,9 +19,7 @@ use Rattle.ee_image_store.proofs.Public.{same_at_rest}
 
 -- the text of an export fits each device that the image spells
 fits_here : (image hex : List ℕ) (base : ℕ) (device : Device) → SpellsDevice image device → IsHexExported image base hex → PartFits base device.size
-fits_here image hex base device spelled is =
-    let other = is.exported.device in
-    subst (PartFits base) (same_size other device (same_at_rest image other device is.exported.spelled spelled)) is.fits
+fits_here image hex base device spelled is = grind (arith, common_steps, same_at_rest, same_size)
 
 -- and says its dump, from its address on
 says_dump : (image hex : List ℕ) (base : ℕ) (device : Device) → SpellsDevice image device → (is : IsHexExported image base hex) → IsHexOf hex base (dump_length device.size) is.dump

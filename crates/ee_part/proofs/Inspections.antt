@@ -1,24 +1,22 @@
 -- What is told of an image, a number, a slot or an address further.
-use Rattle.std.proofs.Common.{◌≡◌, ◌∙◌, ◌+◌, ◌<◌, ◌≤◌, ℕ, zero, suc, Bool, true, false, not, cond, Option, Some, None, List, [], ◌∷◌, ◌++◌, length, get_or, set, take, refl, sym, ap, arith, add-one, append_assoc, inl, inr}
-use Rattle.std.specs.Prelude.{◌||◌, ◌==◌}
+use Rattle.std.proofs.Common.{◌≡◌, ◌∙◌, ◌+◌, ◌<◌, ◌≤◌, ℕ, zero, suc, Bool, true, false, not, cond, None, List, [], ◌∷◌, ◌++◌, length, get_or, take, refl, sym, ap, arith, add-one, rules}
+use Rattle.std.proofs.lemmas.Grind.{common_steps}
+use Rattle.std.specs.Prelude.{◌||◌}
 use Rattle.std.specs.List.{filter, list_any}
-use Rattle.std.proofs.lemmas.Bool.{cases_eq, eq-eqb, ne_eqb}
-use Rattle.std.proofs.lemmas.List.{append-nil, length-take-le, take_more, get_or-set_same, get_or-set_other}
+use Rattle.std.proofs.lemmas.List.{append-nil, length-take-le, take_more}
 use Rattle.std.proofs.lemmas.List.Folds.{list_any-append}
 use Rattle.ee_flash.specs.declared.word.Word.{Word}
 use Rattle.ee_flash.specs.declared.word.Word.TheVariants.{Erased, Held, Torn}
 use Rattle.ee_pages.specs.Meaning.{Map, later, latest_in, live_in, live_to, meaning, value_said}
 use Rattle.ee_pages.specs.Page.{is_torn}
 use Rattle.ee_pages.specs.Sets.{fill_of, torn_of}
-use Rattle.ee_pages.proofs.Public.{live_to-suc, live_to-zero, live_within_fill}
-use Rattle.ee_part.specs.Inspecting.{doubt_line, doubt_lines, each_below, is_before, is_in_doubt, speaks_of, up_to_last}
+use Rattle.ee_pages.proofs.Public.{later-none, live_to-suc, live_to-zero, live_within_fill}
+use Rattle.ee_part.specs.Inspecting.{doubt_line, doubt_lines, each_below, is_before, speaks_of, up_to_last}
 
 -- four parts of a text, one behind another
 pub four_parts : (old a b given c d first second third fourth : List ℕ) → first ≡ old ++ a → second ≡ first ++ given → given ≡ b → third ≡ second ++ c
     → fourth ≡ third ++ d → fourth ≡ old ++ (((a ++ b) ++ c) ++ d)
-four_parts old a b given c d first second third fourth one two same three four =
-    four ∙ ap (λ l. l ++ d) three ∙ ap (λ l. (l ++ c) ++ d) two ∙ ap (λ l. ((l ++ given) ++ c) ++ d) one
-    ∙ ap (λ l. (((old ++ a) ++ l) ++ c) ++ d) same ∙ simp append_assoc
+four_parts old a b given c d first second third fourth one two same three four = grind (arith, common_steps)
 
 -- ---- what is told of each number
 
@@ -33,17 +31,12 @@ told_none text old = sym (append-nil old)
 -- one number more
 pub told_more : (n : ℕ) (text : ℕ → List ℕ) (old out new : List ℕ) → out ≡ old ++ each_below n text → new ≡ out ++ text n
     → new ≡ old ++ each_below (n + 1) text
-told_more n text old out new so_far written =
-    written ∙ ap (λ l. l ++ text n) so_far ∙ append_assoc old (each_below n text) (text n)
-    ∙ ap (λ l. old ++ l) (sym (more_below n text))
+told_more n text old out new so_far written = grind (arith, common_steps, more_below)
 
 pub told_alike : (n : ℕ) (text other : ℕ → List ℕ) → ((k : ℕ) → k < n → text k ≡ other k) → each_below n text ≡ each_below n other
 unfolding each_below
 told_alike zero text other same = refl
-told_alike (suc n) text other same =
-    let rest = told_alike n text other (λ k h. same k (omega arith)) in
-    let here = same n (omega arith) in
-    rw (rest, here) refl
+told_alike (suc n) text other same = search (rules, (told_alike n text other (λ k h. same k (omega arith))))
 
 -- ---- the last slot of a kind
 
@@ -67,28 +60,16 @@ some_last such (first ∷ slots) some = rw some (omega arith)
 pub last_behind : (such : Word → Bool) (slots more : List Word) → list_any such more ≡ true
     → up_to_last such (slots ++ more) ≡ length slots + up_to_last such more
 last_behind such [] more some = omega arith
-last_behind such (first ∷ slots) more some =
-    let any : list_any such (first ∷ (slots ++ more)) ≡ true =
-    list_any-append such (first ∷ slots) more ∙ ap (λ b. list_any such (first ∷ slots) || b) some ∙ or_true (list_any such (first ∷ slots)) in
-    let rest = last_behind such slots more some in
-    rw any (omega (arith, rest))
+last_behind such (first ∷ slots) more some = search (rules, list_any-append, or_true, (last_behind such slots more some))
 
 pub last_before : (such : Word → Bool) (slots more : List Word) → list_any such more ≡ false
     → up_to_last such (slots ++ more) ≡ up_to_last such slots
 last_before such [] more none = no_last such more none
-last_before such (first ∷ slots) more none =
-    let any : list_any such (first ∷ (slots ++ more)) ≡ list_any such (first ∷ slots) =
-    list_any-append such (first ∷ slots) more ∙ ap (λ b. list_any such (first ∷ slots) || b) none ∙ or_false (list_any such (first ∷ slots)) in
-    ap (λ b. cond b (suc (up_to_last such (slots ++ more))) 0) any
-    ∙ ap (λ n. cond (list_any such (first ∷ slots)) (suc n) 0) (last_before such slots more none)
+last_before such (first ∷ slots) more none = search (rules, list_any-append, or_false, (last_before such slots more none))
 
 push_there : (such : Word → Bool) (slots : List Word) (slot : Word) → such slot ≡ true
     → up_to_last such (slots ++ slot ∷ []) ≡ length slots + 1
-push_there such slots slot is =
-    let some : list_any such (slot ∷ []) ≡ true = ap (λ b. b || false) is in
-    let one : up_to_last such (slot ∷ []) ≡ 1 = rw some refl in
-    let behind = last_behind such slots (slot ∷ []) some in
-    omega (arith, one, behind)
+push_there such slots slot is = search (rules, last_behind)
 
 push_same : (such : Word → Bool) (slots : List Word) (slot : Word) → such slot ≡ false
     → up_to_last such (slots ++ slot ∷ []) ≡ up_to_last such slots
@@ -100,9 +81,7 @@ module _ (such : Word → Bool) (slots : List Word) (n : ℕ) (slot : Word) (wit
   grown = take_more slots n Erased within ∙ ap (λ w. take n slots ++ w ∷ []) (sym here)
 
   pub last_there : such slot ≡ true → n + 1 ≡ up_to_last such (take (n + 1) slots)
-  last_there is =
-      let front = length-take-le n slots (omega arith) in
-      sym (ap (up_to_last such) grown ∙ push_there such (take n slots) slot is ∙ ap (λ k. k + 1) front)
+  last_there is = search (rules, grown, length-take-le, push_there)
 
   pub last_same : (last : ℕ) → such slot ≡ false → last ≡ up_to_last such (take n slots) → last ≡ up_to_last such (take (n + 1) slots)
   last_same last is so_far = so_far ∙ sym (ap (up_to_last such) grown ∙ push_same such (take n slots) slot is)
@@ -127,33 +106,12 @@ spoken_more slots n slot old new within here noted so_far address below =
     noted address below
     ∙ last_more (speaks_of address) slots n slot (speaks_of address slot) (get_or old address 0) within here refl (so_far address below)
 
--- a place of the table is written
-pub noted_at : (spoken : List ℕ) (named count address : ℕ) (said : Bool) → named < length spoken → said ≡ (named == address)
-    → get_or (set spoken named count) address 0 ≡ cond said count (get_or spoken address 0)
-noted_at spoken named count address said within is = elim (cases_eq address named) [
-  | inl same ↦
-      let yes : said ≡ true = is ∙ eq-eqb named address (sym same) in
-      rw yes (ap (λ k. get_or (set spoken named count) k 0) same ∙ get_or-set_same spoken named count 0 within)
-  | inr other ↦
-      let no : said ≡ false = is ∙ ne_eqb named address (λ e. other (sym e)) in
-      rw no (get_or-set_other spoken named address count 0 other)
-]
-
 -- the lines of the addresses in doubt, by the table
 pub told_doubts : (slots : List Word) (spoken : List ℕ) (torn : ℕ) → length spoken ≡ 65535 → torn ≡ up_to_last is_torn slots → AreSpoken slots spoken
     → each_below (length spoken) (λ address. doubt_line (is_before (get_or spoken address 0) torn) address) ≡ doubt_lines slots
-told_doubts slots spoken torn long last each =
-    ap (λ n. each_below n (λ address. doubt_line (is_before (get_or spoken address 0) torn) address)) long
-    ∙ told_alike 65535 (λ address. doubt_line (is_before (get_or spoken address 0) torn) address)
-    (λ address. doubt_line (is_in_doubt slots address) address)
-    (λ k below. ap (λ n. doubt_line (is_before n torn) k) (each k below)
-    ∙ ap (λ n. doubt_line (is_before (up_to_last (speaks_of k) slots) n) k) last)
+told_doubts slots spoken torn long last each = search (rules, told_alike)
 
 -- ---- the used slots are those that give an address its value, those that are torn, and others
-
-later_none : (said : Option (Option ℕ)) → later None said ≡ said
-later_none None = refl
-later_none (Some said) = refl
 
 abbrev whole : List Word → List Word
 whole slots = filter (λ word. not (is_torn word)) slots
@@ -162,7 +120,7 @@ whole_says : (slots : List Word) (address : ℕ) → latest_in (whole slots) add
 whole_says [] address = refl
 whole_says (Erased ∷ slots) address = ap (λ said. later None said) (whole_says slots address)
 whole_says (Held number ∷ slots) address = rw (whole_says slots address) refl
-whole_says (Torn ∷ slots) address = whole_says slots address ∙ sym (later_none (latest_in slots address))
+whole_says (Torn ∷ slots) address = whole_says slots address ∙ sym (later-none (latest_in slots address))
 
 whole_count : (slots : List Word) → fill_of (whole slots) + torn_of slots ≡ fill_of slots
 whole_count [] = refl
@@ -172,9 +130,7 @@ whole_count (Torn ∷ slots) = let rest = whole_count slots in omega (arith, res
 
 live_alike : (map other : Map) (n : ℕ) → ((address : ℕ) → map address ≡ other address) → live_to map n ≡ live_to other n
 live_alike map other zero same = live_to-zero map ∙ sym (live_to-zero other)
-live_alike map other (suc n) same =
-    let rest = live_alike map other n same in
-    live_to-suc map n ∙ rw (rest, same (suc n)) (sym (live_to-suc other n))
+live_alike map other (suc n) same = search (rules, live_to-suc, (live_alike map other n same))
 
 pub fill_within : (slots : List Word) → fill_of slots ≤ length slots
 fill_within [] = omega arith

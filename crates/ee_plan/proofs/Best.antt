@@ -1,5 +1,5 @@
 -- A schedule reaches a tight certificate and none betters it, and so it is wherever the trace is broken off.
-use Rattle.std.proofs.Common.{◌≡◌, ℕ, List, length, map, ap, ◌∙◌, arith, inl, inr}
+use Rattle.std.proofs.Common.{◌≡◌, ℕ, List, length, map, ap, ◌∙◌, rules}
 use Rattle.ee_check.specs.declared.change.Change.{Change}
 use Rattle.ee_check.specs.Schedule.{Situation, IsProper}
 use Rattle.ee_check.specs.Certificate.{Claim, IsTight, room}
@@ -9,27 +9,15 @@ use Rattle.ee_plan.proofs.Prefixes.{claim_within, positions_within, prefix_is_ti
 
 pub tight_is_reached : (start : Situation) (trace : List Change) (claim : Claim) → IsProper start → IsTight start trace claim
     → IsReached start trace (length claim.stretches) (room start trace claim.stretches)
-tight_is_reached start trace claim proper tight =
-    let met = tight_is_met_lem start trace claim proper tight in
-    record { moves = met.0; schedule = met.1; cost_is = met.2; free_is = let a = met.3 in let b = tight.fits in omega arith }
+tight_is_reached start trace claim proper tight = search (rules, tight_is_met_lem)
 
 none_betters_tight : (start : Situation) (trace : List Change) (claim : Claim) → IsProper start → IsTight start trace claim
     → NoneIsBetter start trace (length claim.stretches) (room start trace claim.stretches)
-none_betters_tight start trace claim proper tight = λ moves schedule.
-    elim (certificates_dominate_lem start trace claim moves proper (tight_are_certificates_lem start trace claim tight) schedule) [
-      | inl more ↦ inl more
-      | inr same ↦ inr (same.0, (let a = same.1 in let b = tight.fits in omega arith))
-    ]
+none_betters_tight start trace claim proper tight = search (rules, certificates_dominate_lem, tight_are_certificates_lem)
 
 best : (start : Situation) (trace : List Change) (claim : Claim) (moments : List ℕ) → IsProper start → IsTight start trace claim
     → moments ≡ map (λ stretch. stretch.to) claim.stretches → IsBest start trace moments
-best start trace claim moments proper tight positions = record {
-  claim = claim;
-  tight = tight;
-  positions = positions;
-  reached = tight_is_reached start trace claim proper tight;
-  none_better = none_betters_tight start trace claim proper tight;
-}
+best start trace claim moments proper tight positions = search (rules, none_betters_tight, tight_is_reached)
 
 pub best_throughout : (start : Situation) (trace : List Change) (claim : Claim) (moments : List ℕ) → IsProper start → IsTight start trace claim
     → moments ≡ map (λ stretch. stretch.to) claim.stretches → IsBestThroughout start trace moments

@@ -1,6 +1,6 @@
 -- The counts of two rounds count the live addresses of all of them.
-use Rattle.std.proofs.Common.{◌≡◌, ℕ, zero, suc, ◌+◌, ◌-◌, ◌*◌, ◌%◌, ◌/◌, ◌<◌, ◌≤◌, List, [], ◌∷◌, ◌++◌, length, take, get_or, inl, inr, refl, sym, ap, subst, ◌∙◌, arith, replicate, set}
-use Rattle.std.specs.Prelude.{nat_lt, true, false}
+use Rattle.std.proofs.Common.{◌≡◌, ℕ, zero, suc, ◌+◌, ◌-◌, ◌*◌, ◌%◌, ◌/◌, ◌<◌, ◌≤◌, List, [], ◌∷◌, ◌++◌, length, take, get_or, inl, inr, refl, sym, ap, subst, ◌∙◌, arith, replicate, set, rules}
+use Rattle.std.specs.Prelude.{nat_lt, false}
 use Rattle.std.proofs.lemmas.Bool.{cases_eq, cases_lt, lt-ltb, le-ltb}
 use Rattle.std.proofs.lemmas.List.{get_or-replicate, get_or-set_other, get_or-set_same, length-replicate, length-set, take-append-le}
 use Rattle.std.proofs.Math.Seq.{take-append-add}
@@ -28,19 +28,13 @@ pub later_length : {A : Type 0} (trace : List Change) (counts : Counts A) → Ar
 later_length trace counts are = ap length are.later ∙ counts_length (live_after [] trace) trace
 
 pub are_rounds : {A : Type 0} (trace : List Change) (counts : Counts A) → AreRoundCounts trace counts → 0 < length trace → AreRounds counts
-are_rounds trace counts are some =
-    let a = ap length are.first ∙ counts_length [] trace in
-    let b = later_length trace counts are in
-    record { some = omega arith; as_many = omega arith; flats = are.flats }
+are_rounds trace counts are some = search (rules, counts_length, later_length)
 
 -- ---- rounds that leave the addresses which they find
 
 settled_count : (live : List ℕ) (trace : List Change) (runs n : ℕ) → 0 < length trace → live_after live trace ≡ live → n ≤ runs * length trace
     → live_count live (repeated_trace runs trace) n ≡ live_count live trace (n % length trace)
-settled_count live trace zero n some settled within =
-    let e : n ≡ 0 = omega arith in
-    let m : n % length trace ≡ 0 = ap (λ k. k % length trace) e ∙ mod-eq_of_lt some in
-    rw (m, e) refl
+settled_count live trace zero n some settled within = search (rules, mod-eq_of_lt)
 settled_count live trace (suc runs) n some settled within = elim (cases_lt n (length trace)) [
   | inl first ↦ rw (mod-eq_of_lt first, take-append-le n trace (repeated_trace runs trace) (omega arith)) refl
   | inr later ↦
@@ -60,17 +54,11 @@ settled_count live trace (suc runs) n some settled within = elim (cases_lt n (le
 
 first_count : {A : Type 0} (trace : List Change) (counts : Counts A) (n : ℕ) → AreRoundCounts trace counts → n < length trace
     → count_after counts n ≡ live_count [] trace n
-first_count trace counts n are within =
-    let size = later_length trace counts are in
-    let test : nat_lt n (length counts.later.items) ≡ true = lt-ltb n (length counts.later.items) (omega arith) in
-    rw (test, are.first) (counts_at [] trace n within)
+first_count trace counts n are within = search (rules, counts_at, later_length, lt-ltb)
 
 later_count : {A : Type 0} (trace : List Change) (counts : Counts A) (n : ℕ) → AreRoundCounts trace counts → 0 < length trace → length trace ≤ n
     → count_after counts n ≡ live_count (live_after [] trace) trace (n % length trace)
-later_count trace counts n are some behind =
-    let size = later_length trace counts are in
-    let test : nat_lt n (length counts.later.items) ≡ false = le-ltb n (length counts.later.items) (omega arith) in
-    rw (test, size, are.later) (counts_at (live_after [] trace) trace (n % length trace) (mod-lt n some))
+later_count trace counts n are some behind = search (rules, counts_at, later_length, le-ltb, mod-lt)
 
 pub counted : {A : Type 0} (trace : List Change) (counts : Counts A) (runs n : ℕ) → AreRoundCounts trace counts → 0 < length trace → n ≤ runs * length trace
     → count_after counts n ≡ live_count [] (repeated_trace runs trace) n
@@ -94,9 +82,7 @@ counted trace counts (suc runs) n are some within = elim (cases_lt n (length tra
 
 -- in the second round the place in it needs no division
 pub one_round_back : (n size : ℕ) → size ≤ n → n - size < size → n % size ≡ n - size
-one_round_back n size behind second =
-    let e : n ≡ size + (n - size) = omega arith in
-    ap (λ k. k % size) e ∙ add-mod_left size (n - size) ∙ mod-eq_of_lt second
+one_round_back n size behind second = search (rules, add-mod_left, mod-eq_of_lt)
 
 -- while the counts of a round stay the same, so do those after so many changes
 pub stays_flat : {A : Type 0} (counts : Counts A) (n j : ℕ) → AreRounds counts → length counts.later.items ≤ n
@@ -113,13 +99,7 @@ stays_flat counts n j rounds behind within =
 
 -- none is known to stay so at first
 pub no_flats : (counts flats : List ℕ) → flats ≡ replicate (length counts) 0 → AreFlats counts flats
-no_flats counts flats is = record {
-  as_many = ap length is ∙ length-replicate (length counts) 0;
-  same = λ i j within h.
-      let none : get_or flats i 0 ≡ 0 = ap (λ l. get_or l i 0) is ∙ get_or-replicate (length counts) i 0 0 within in
-      let e : i + j ≡ i = omega arith in
-      (omega arith, ap (λ k. get_or counts k 0) e);
-}
+no_flats counts flats is = search (rules, get_or-replicate, length-replicate)
 
 -- what stays so ends within the round
 pub flat_within : (counts flats : List ℕ) (i : ℕ) → AreFlats counts flats → i < length counts → get_or flats i 0 < length counts
@@ -153,10 +133,7 @@ flat_more counts flats at are within same = record {
 
 pub same_count : {A : Type 0} (counts : Counts A) (m n : ℕ) → length counts.later.items ≤ m → length counts.later.items ≤ n
     → m % length counts.later.items ≡ n % length counts.later.items → count_after counts m ≡ count_after counts n
-same_count counts m n h k e =
-    let one : nat_lt m (length counts.later.items) ≡ false = le-ltb m (length counts.later.items) (omega arith) in
-    let other : nat_lt n (length counts.later.items) ≡ false = le-ltb n (length counts.later.items) (omega arith) in
-    rw (one, other, e) refl
+same_count counts m n h k e = search (rules, le-ltb)
 
 pub comes_round : {A : Type 0} (counts : Counts A) (d n : ℕ) → d % length counts.later.items ≡ 0 → length counts.later.items ≤ n
     → count_after counts (n + d) ≡ count_after counts n

@@ -1,10 +1,11 @@
 -- What the places of the transfers and the counts say of a trace.
-use Rattle.std.proofs.Common.{◌≡◌, ℕ, suc, zero, ◌+◌, ◌*◌, ◌<◌, ◌≤◌, List, [], ◌∷◌, ◌++◌, length, take, drop, get_or, refl, sym, ap, subst, ◌∙◌, arith, add-one, drop-cons}
+use Rattle.std.proofs.Common.{◌≡◌, ℕ, suc, zero, ◌+◌, ◌*◌, ◌<◌, ◌≤◌, List, [], ◌∷◌, ◌++◌, length, take, drop, get_or, refl, sym, ap, ◌∙◌, arith, add-one, drop-cons, rules}
+use Rattle.std.proofs.lemmas.Grind.{common_steps}
 use Rattle.std.proofs.lemmas.List.{length-append, length-take-le, take-append-drop, take-append-le}
 use Rattle.ee_check.specs.declared.change.Change.{Change}
 use Rattle.ee_check.specs.declared.change.Change.TheVariants.{Forget}
 use Rattle.ee_check.specs.declared.certificate.Stretch.{Stretch}
-use Rattle.ee_check.specs.Live.{live_after_one, live_after, live_count, KeepsWithin}
+use Rattle.ee_check.specs.Live.{live_after_one, live_count, KeepsWithin}
 use Rattle.ee_check.specs.Schedule.{IsProper}
 use Rattle.ee_check.specs.Certificate.{Claim, IsTight, IsTightStretch, EachStretch, first_place, last_place, place_at}
 use Rattle.ee_check.proofs.Public.{certificates_bound_schedules_lem, tight_are_certificates_lem, tight_is_met_lem, EachStretch-append, last_place-append, live_after_more}
@@ -26,9 +27,7 @@ record LeadsTo (slots : ℕ) (trace : List Change) (k place : ℕ) : Type 0 wher
 leads : (count : ℕ → ℕ) (slots : ℕ) (trace : List Change) → ((n : ℕ) → n ≤ length trace → count n ≡ live_count [] trace n)
     → ((n : ℕ) → n ≤ length trace → count n ≤ slots) → (k : ℕ) → place_in_round count slots k ≤ length trace
     → LeadsTo slots trace k (place_in_round count slots k)
-leads count slots trace counts fits zero within =
-    let begun : LeadsTo slots trace 0 0 = record { stretches = []; each = tt; many = refl; last = refl } in
-    subst (LeadsTo slots trace 0) (sym (place_first count slots)) begun
+leads count slots trace counts fits zero within = search (rules, place_first)
 leads count slots trace counts fits (suc k) within =
     let p = place_in_round count slots k in
     let q = place_in_round count slots (suc k) in
@@ -87,14 +86,7 @@ keeps_by_counts slots live (change ∷ changes) fits =
 -- before some change of it
 keeps_before : (slots : ℕ) (trace : List Change) (m : ℕ) → m ≤ length trace → ((n : ℕ) → n ≤ m → live_count [] trace n ≤ slots)
     → KeepsWithin slots [] (take m trace)
-keeps_before slots trace m h fits = keeps_by_counts slots [] (take m trace) (λ n k.
-    let size = length-take-le m trace h in
-    let within : n ≤ length (take m trace) = k in
-    let e : take n trace ≡ take n (take m trace) =
-    ap (take n) (sym (take-append-drop m trace)) ∙ take-append-le n (take m trace) (drop m trace) within in
-    let f = ap (λ l. length (live_after [] l)) e in
-    let g = fits n (omega arith) in
-    omega arith)
+keeps_before slots trace m h fits = grind (arith, common_steps, keeps_by_counts, length-take-le, take-append-drop, take-append-le)
 
 pub first_not_fitting : (slots : ℕ) (trace : List Change) (n : ℕ) → n ≤ length trace → slots < live_count [] trace n
     → ((m : ℕ) → m < n → live_count [] trace m ≤ slots) → IsFirstNotFitting (fresh slots) trace n
@@ -118,10 +110,7 @@ repeated_nothing (suc runs) (change ∷ changes) empty = absurd (omega arith)
 
 pub length-repeated : (runs : ℕ) (trace : List Change) → length (repeated_trace runs trace) ≡ runs * length trace
 length-repeated zero trace = omega arith
-length-repeated (suc runs) trace =
-    let a = length-append trace (repeated_trace runs trace) in let b = length-repeated runs trace in
-    let product : suc runs * length trace ≡ runs * length trace + length trace = omega arith in
-    omega arith
+length-repeated (suc runs) trace = search (rules, length-append, (length-repeated runs trace))
 
 pub nothing_takes_none : (slots : ℕ) → IsFewest (fresh slots) [] 0
 nothing_takes_none slots =

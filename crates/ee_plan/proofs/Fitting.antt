@@ -1,5 +1,5 @@
 -- Traces that keep within the slots, and the first change that doesn't fit.
-use Rattle.std.proofs.Common.{◌≡◌, ℕ, ◌+◌, ◌<◌, ◌≤◌, List, [], ◌∷◌, ◌++◌, length, refl, sym, ◌∙◌, subst, arith}
+use Rattle.std.proofs.Common.{◌≡◌, ℕ, ◌+◌, ◌<◌, ◌≤◌, List, [], ◌∷◌, ◌++◌, length, refl, subst, arith, rules}
 use Rattle.std.specs.Ordering.{nat_cmp}
 use Rattle.std.specs.BTreeMap.{is_at}
 use Rattle.ee_check.specs.declared.change.Change.{Change}
@@ -33,10 +33,7 @@ keeps_back slots live (change ∷ changes) more keeps = keeps_back slots (live_a
 
 -- where all fit none is the first that doesn't
 pub none_breaks : (start : Situation) (trace : List Change) (n : ℕ) → KeepsWithin start.slots start.live trace → IsFirstNotFitting start trace n → ⊥
-none_breaks start trace n keeps first =
-    let all : KeepsWithin start.slots start.live (first.before ++ Write first.address ∷ first.rest) = subst (λ l. KeepsWithin start.slots start.live l) first.trace_is keeps in
-    let here = keeps_back start.slots start.live first.before (Write first.address ∷ first.rest) all in
-    let a = here.0 in let b = first.breaks in omega arith
+none_breaks start trace n keeps first = search (rules, keeps_back)
 
 -- two changes that are each the first are one
 same_length : (slots : ℕ) (live : List ℕ) (before others rest more : List Change) (address other : ℕ)
@@ -44,14 +41,8 @@ same_length : (slots : ℕ) (live : List ℕ) (before others rest more : List Ch
     → slots < length (live_after_one (live_after live before) (Write address)) → slots < length (live_after_one (live_after live others) (Write other))
     → length before ≡ length others
 same_length slots live [] [] rest more address other e keeps keep breaks break = refl
-same_length slots live [] (change ∷ others) rest more address other e keeps keep breaks break =
-    let same : change ≡ Write address = cc in
-    let fits : KeepsWithin slots live (Write address ∷ others) = subst (λ c. KeepsWithin slots live (c ∷ others)) same keep in
-    absurd (let a = fits.0 in omega arith)
-same_length slots live (change ∷ before) [] rest more address other e keeps keep breaks break =
-    let same : change ≡ Write other = cc in
-    let fits : KeepsWithin slots live (Write other ∷ before) = subst (λ c. KeepsWithin slots live (c ∷ before)) same keeps in
-    absurd (let a = fits.0 in omega arith)
+same_length slots live [] (change ∷ others) rest more address other e keeps keep breaks break = search rules
+same_length slots live (change ∷ before) [] rest more address other e keeps keep breaks break = search rules
 same_length slots live (change ∷ before) (first ∷ others) rest more address other e keeps keep breaks break =
     let same : first ≡ change = cc in
     let tails : before ++ Write address ∷ rest ≡ others ++ Write other ∷ more = cc in
@@ -63,10 +54,7 @@ same_length slots live (change ∷ before) (first ∷ others) rest more address 
     omega arith
 
 pub one_first : (start : Situation) (trace : List Change) (m n : ℕ) → IsFirstNotFitting start trace m → IsFirstNotFitting start trace n → m ≡ n
-one_first start trace m n first other =
-    let h = same_length start.slots start.live first.before other.before first.rest other.rest first.address other.address (sym first.trace_is ∙ other.trace_is)
-    first.keeps other.keeps first.breaks other.breaks in
-    let a = first.number in let b = other.number in omega arith
+one_first start trace m n first other = search (rules, same_length)
 
 -- a change after which more addresses are live than there are slots is a write
 pub first_breaks : (start : Situation) (trace before rest : List Change) (change : Change) (n : ℕ) → trace ≡ before ++ change ∷ rest

@@ -1,5 +1,6 @@
 -- The late store, one change further.
-use Rattle.std.proofs.Common.{◌≡◌, ℕ, ◌+◌, ◌<◌, ◌≤◌, List, [], ◌∷◌, ◌++◌, length, take, drop, get_or, refl, sym, ◌∙◌, ap, subst, arith, inl, inr, drop-cons, add-one}
+use Rattle.std.proofs.Common.{◌≡◌, ℕ, ◌+◌, ◌<◌, ◌≤◌, List, [], ◌∷◌, ◌++◌, length, take, drop, get_or, refl, sym, ◌∙◌, ap, subst, arith, inl, inr, drop-cons, add-one, rules}
+use Rattle.std.proofs.lemmas.Grind.{common_steps}
 use Rattle.std.proofs.lemmas.List.{take_more, take-append-drop, length-take-le}
 use Rattle.ee_check.specs.declared.change.Change.{Change}
 use Rattle.ee_check.specs.declared.certificate.Stretch.{Stretch}
@@ -16,45 +17,18 @@ use Rattle.ee_plan.proofs.Fitting.{keeps_more, keeps_append, first_breaks}
 -- before the first change
 pub made_none : (start : Situation) (trace : List Change) (store : LateStore) → IsProper start → store ≡ record { now = start; from = start.fill; stretches = [] }
     → HasMade start trace 0 store
-made_none start trace store proper e =
-    let begun : HasMade start trace 0 record { now = start; from = start.fill; stretches = [] } = record {
-      slots = refl;
-      live = refl;
-      keeps = tt;
-      stretches = tt;
-      from = refl;
-      behind = omega arith;
-      fill = omega arith;
-      held = proper.held;
-      fits = proper.fits;
-    } in
-    subst (λ s. HasMade start trace 0 s) (sym e) begun
+made_none start trace store proper e = search rules
 
 -- the changes fit, one more with them
 keeps_one_more : (start : Situation) (trace : List Change) (n : ℕ) (live : List ℕ) (change : Change) → n < length trace → change ≡ get_or trace n change
     → live ≡ live_after start.live (take n trace) → KeepsWithin start.slots start.live (take n trace) → length (live_after_one live change) ≤ start.slots
     → KeepsWithin start.slots start.live (take (n + 1) trace)
-keeps_one_more start trace n live change h is live_is keeps fits =
-    let there : length (live_after_one (live_after start.live (take n trace)) change) ≤ start.slots = subst (λ l. length (live_after_one l change) ≤ start.slots) live_is fits in
-    let one = keeps_more start.slots (live_after start.live (take n trace)) change [] there tt in
-    let all = keeps_append start.slots start.live (take n trace) (change ∷ []) keeps one in
-    let e : take n trace ++ change ∷ [] ≡ take (n + 1) trace = ap (λ c. take n trace ++ c ∷ []) is ∙ sym (take_more trace n change h) in
-    subst (λ l. KeepsWithin start.slots start.live l) e all
+keeps_one_more start trace n live change h is live_is keeps fits = grind (arith, common_steps, keeps_append, keeps_more, take_more)
 
 appended : (start : Situation) (trace : List Change) (n : ℕ) (change : Change) (old : LateStore) → n < length trace → HasMade start trace n old
     → change ≡ get_or trace n change → length (live_after_one old.now.live change) ≤ start.slots → old.now.fill < old.now.slots
     → HasMade start trace (n + 1) record old { now = record { slots = old.now.slots; fill = old.now.fill + 1; live = live_after_one old.now.live change } }
-appended start trace n change old h made is fits free = record {
-  slots = made.slots;
-  live = one_made start.live old.now.live (live_after_one old.now.live change) trace n change h made.live is refl;
-  keeps = keeps_one_more start trace n old.now.live change h is made.live made.keeps fits;
-  stretches = made.stretches;
-  from = made.from;
-  behind = let a = made.behind in omega arith;
-  fill = let a = made.behind in let b = made.fill in omega arith;
-  held = let a = changed-le old.now.live change in let b = made.held in omega arith;
-  fits = let a = made.slots in omega arith;
-}
+appended start trace n change old h made is fits free = search (rules, changed-le, keeps_one_more, one_made)
 
 carried : (start : Situation) (trace : List Change) (n : ℕ) (change : Change) (old : LateStore) → n < length trace → HasMade start trace n old
     → change ≡ get_or trace n change → length (live_after_one old.now.live change) ≤ start.slots → old.now.slots ≤ old.now.fill

@@ -1,9 +1,9 @@
 -- The live addresses of a store, one after another.
-use Rattle.std.proofs.Common.{◌≡◌, ◌≢◌, IfOk, Result, Ok, Err, inl, inr, ℕ, ◌-◌, ◌*◌, ◌<◌, ◌≤◌, Option, Some, None, List, [], ◌∷◌, ◌++◌, length, length-append, refl, sym, subst, ap, ◌∙◌, arith}
+use Rattle.std.proofs.Common.{◌≡◌, ◌≢◌, IfOk, Result, Ok, Err, inl, inr, ℕ, ◌-◌, ◌*◌, ◌<◌, ◌≤◌, Option, Some, None, List, [], ◌∷◌, ◌++◌, length, length-append, refl, sym, subst, ◌∙◌, arith, rules}
 use Rattle.std.proofs.Math.Nat.{mul-le-mul}
 use Rattle.std.proofs.lemmas.Bool.{cases_lt, cases_eq}
 use Rattle.std.proofs.lemmas.Cmp.{nat_cmp_total}
-use Rattle.std.proofs.lemmas.List.Elements.{All-head, All-nil, All-push, All-tail, All-weaker, Contains-append_left, Contains-push, recursion_from_All}
+use Rattle.std.proofs.lemmas.List.Elements.{All-head, All-push, All-tail, All-weaker, Contains-append_left, Contains-push, recursion_from_All}
 use Rattle.std.proofs.lemmas.Map.Lookups.{btree_set_from_contains, exact_unsigned}
 use Rattle.std.specs.declared.cmp.Ordering.TheVariants.{Less}
 use Rattle.std.specs.List.{All, AllByRecursion, Contains}
@@ -18,7 +18,7 @@ use Rattle.ee_pages.specs.declared.side.Side.{Side}
 use Rattle.ee_flash.specs.Device.{Device}
 use Rattle.ee_flash.specs.Size.{slot_count}
 use Rattle.ee_core.specs.Finished.{IsStore}
-use Rattle.ee_core.specs.State.{State, state_in, state_of}
+use Rattle.ee_core.specs.State.{state_in, state_of}
 use Rattle.ee_core.proofs.Public.{meaning-zero, few_within, few_slots, state_is}
 use Rattle.ee_check.specs.Start.{IsStart}
 use Rattle.ee_plan.specs.Start.{AreLive, with_addresses}
@@ -51,14 +51,7 @@ some_value : (found : Option ℕ) (value : ℕ) → found ≡ Some value → fou
 some_value found value e = λ none. absurd (cc (sym e ∙ none))
 
 pub none_yet : (map : Map) → map 0 ≡ None → AreLiveTo map 0 []
-none_yet map none = record {
-  below = All-nil _;
-  ascending = none_sorted;
-  proper = All-nil _;
-  have_values = All-nil _;
-  all = λ address low has. absurd (has (let e : address ≡ 0 = omega arith in ap map e ∙ none));
-  count = sym (live_to-zero map);
-}
+none_yet map none = search (rules, live_to-zero, none_sorted)
 
 -- the list with the address behind it
 pushed : (map : Map) (above address value : ℕ) (live : List ℕ) → AreLiveTo map above live → IsAddress address → IsNextLive map above (Some (address, value))
@@ -90,17 +83,7 @@ batch_more map (first ∷ more) above live so_far proper next =
 
 -- no more of them up to a further address
 none_more : (map : Map) (above to : ℕ) (live : List ℕ) → AreLiveTo map above live → IsNoneLive map above (Some to) → AreLiveTo map to live
-none_more map above to live so_far none = record {
-  below = All-weaker (λ x. x ≤ above) (λ x. x ≤ to) (λ x low. omega (arith, none.0)) live so_far.below;
-  ascending = so_far.ascending;
-  proper = so_far.proper;
-  have_values = so_far.have_values;
-  all = λ k low has. elim (cases_lt above k) [
-    | inl more ↦ absurd (has (none.1 k more low))
-    | inr less ↦ so_far.all k less has
-  ];
-  count = so_far.count ∙ sym (gap_to map above to none.0 none.1);
-}
+none_more map above to live so_far none = search (rules, cases_lt, gap_to)
 
 -- a whole batch
 pub through_batch : (map : Map) (found : List (ℕ × ℕ)) (above to : ℕ) (live : List ℕ) → AreLiveTo map above live → All (λ (one : ℕ × ℕ). IsAddress one.0) found → AreLiveThrough map above found (Some to)
@@ -109,15 +92,7 @@ through_batch map found above to live so_far proper batch =
     none_more map (last_of above found) to (with_addresses live found) (batch_more map found above live so_far proper batch.next) batch.rest
 
 all_live : (map : Map) (above : ℕ) (live : List ℕ) → AreLiveTo map above live → IsNextLive map above None → AreLive map live
-all_live map above live so_far none = record {
-  ascending = so_far.ascending;
-  proper = so_far.proper;
-  have_values = so_far.have_values;
-  all = λ address has. elim (cases_lt above address) [
-    | inl more ↦ absurd (has (none address more))
-    | inr less ↦ so_far.all address less has
-  ];
-}
+all_live map above live so_far none = search (rules, cases_lt)
 
 all_counted : (map : Map) (above : ℕ) (live : List ℕ) → above < 65535 → AreLiveTo map above live → IsNextLive map above None → length live ≡ live_in map
 all_counted map above live below so_far none = so_far.count ∙ sym (live_to-end map above below none)
@@ -152,27 +127,9 @@ zero_has_none device = zero_in_state device (live_of device)
 
 -- a set has a slot
 some_slots : (pages words : ℕ) → 1 ≤ pages → 5 ≤ words → 1 ≤ pages * (words - 4)
-some_slots pages words some long =
-    let left : 1 ≤ words - 4 = omega arith in
-    let low : 1 * 1 ≤ pages * (words - 4) = mul-le-mul some left in
-    omega arith
+some_slots pages words some long = search (rules, mul-le-mul)
 
 -- what a store has is a start
 pub store_starts : (device : Device) (slots fill : ℕ) (live : List ℕ) → IsStore device → slots ≡ slot_count device.size → fill ≡ (state_of device).fill
     → length live ≡ live_in (state_of device).map → IsStart record { slots = slots; fill = fill; live = live }
-store_starts device slots fill live store counted filled held =
-    let side = store.legal.0 in
-    let legal = store.legal.2 in
-    let state = state_is device side store.legal.1 legal in
-    let limits = legal.formed.within_limits in
-    let one = some_slots device.size.pages device.size.words limits.some_pages limits.some_words in
-    let most = few_slots device legal.formed in
-    let fits = few_within device side legal.formed in
-    let enough = live_within_fill (slots_of (set_of side device)) in
-    let fill_is = ap (λ (s : State). s.fill) state in
-    let count_is = ap (λ (s : State). live_in s.map) state in
-    record {
-      some = omega arith;
-      most = omega arith;
-      proper = record { held = omega arith; fits = omega arith };
-    }
+store_starts device slots fill live store counted filled held = search (rules, few_slots, few_within, live_within_fill, some_slots, state_is)

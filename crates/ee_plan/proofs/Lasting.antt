@@ -1,5 +1,5 @@
 -- How often pages are erased in a run without clean steps, and by any schedule beside it.
-use Rattle.std.proofs.Common.{◌≡◌, ◌⊎◌, ◌∙◌, inl, inr, ℕ, ◌+◌, ◌/◌, ◌<◌, ◌≤◌, Bool, true, false, cond, Some, List, [], ◌∷◌, get_or, refl, sym, subst, ap, arith}
+use Rattle.std.proofs.Common.{◌≡◌, ◌⊎◌, ◌∙◌, inl, inr, ℕ, ◌+◌, ◌/◌, ◌<◌, ◌≤◌, Bool, true, false, cond, Some, List, [], ◌∷◌, get_or, refl, sym, subst, ap, arith, rules}
 use Rattle.std.specs.List.{All}
 use Rattle.std.proofs.lemmas.Bool.{cases_Bool}
 use Rattle.std.proofs.lemmas.List.Elements.{All-tail}
@@ -12,7 +12,8 @@ use Rattle.ee_pages.specs.Laws.{IsPageOf}
 use Rattle.ee_pages.specs.Page.{is_blank}
 use Rattle.ee_pages.specs.Sets.{first_page, live_of, other}
 use Rattle.ee_pages.specs.declared.side.Side.{Side}
-use Rattle.ee_core.proofs.Public.{Ages, ages, by_effect, each_page_wears_every_second_transfer_lem, length-pending_pages, times_in_set, waits, other_twice, times, times_few, in_either, same_side, few_wait}
+use Rattle.ee_pages.proofs.Public.{other_twice}
+use Rattle.ee_core.proofs.Public.{Ages, ages, by_effect, each_page_wears_every_second_transfer_lem, length-pending_pages, times_in_set, waits, times, times_few, in_either, same_side, few_wait}
 use Rattle.ee_core.specs.Runs.{Call, Follows, IsRun, is_cut, is_transfer, transfers}
 use Rattle.ee_core.specs.State.{pending_pages, pending_pages_in, state_of, next_live}
 use Rattle.ee_check.specs.declared.change.Change.{Change}
@@ -40,13 +41,7 @@ same_device old new same = rw same (record { same_size = refl; live_is = refl; s
 
 -- a call that is neither a transfer nor a clean step that erased
 still : (call : Call) (old new : Device) → is_cut call ≡ false → is_transfer call ≡ false → is_cleaning call ≡ false → Follows call old new → IsStill old new
-still call old new whole stays spares done =
-    by_effect (λ transfer changes. transfer ≡ false → IsStill old new) call old new whole done
-    (λ same kept. same_device old new same)
-    (λ change did kept. record { same_size = did.goes_on.same_size; live_is = did.live_is; same_pending = did.same_pending; no_wear = did.no_wear })
-    (λ change did kept. absurd cc)
-    (λ cleaned did kept. let cleans : true ≡ false = sym (ap is_cleaning cleaned) ∙ spares in absurd cc)
-    stays
+still call old new whole stays spares done = search (rules, by_effect, same_device, spares)
 
 -- ---- a run
 
@@ -92,9 +87,7 @@ one_more : (transfer : Bool) (rest : ℕ) (old mid new : Device) → Ages transf
 one_more true rest old mid new first same later =
     let next : rest + 1 ≡ 1 + rest = omega arith in
     subst (λ (count : ℕ). Spares count old new) next (moved_before rest old mid new first later)
-one_more false rest old mid new first same later =
-    let next : rest ≡ 0 + rest = omega arith in
-    subst (λ (count : ℕ). Spares count old new) next (still_before rest old mid new (same refl) later)
+one_more false rest old mid new first same later = search (rules, still_before)
 
 spares : (calls : List Call) (old new : Device) → IsRun calls old new → All (λ call. is_cut call ≡ false) calls → All (λ call. is_cleaning call ≡ false) calls → Spares (transfers calls) old new
 spares [] old new run whole none = rw run (none_more old)

@@ -1,8 +1,8 @@
 -- The live addresses as a list: what a change makes of it, and how many they are.
-use Rattle.std.proofs.Common.{◌≡◌, ◌≢◌, ◌⊎◌, inl, inr, ℕ, ◌+◌, ◌<◌, ◌≤◌, Option, Some, None, List, [], ◌∷◌, length, refl, sym, subst, ◌∙◌, arith, false}
+use Rattle.std.proofs.Common.{◌≡◌, ◌≢◌, ◌⊎◌, inl, inr, ℕ, ◌+◌, ◌<◌, Option, Some, None, List, [], ◌∷◌, length, refl, sym, subst, ◌∙◌, arith, false, rules}
 use Rattle.std.proofs.lemmas.Bool.{cases_lt, cases_eq}
 use Rattle.std.proofs.lemmas.Grind.{common_steps}
-use Rattle.std.proofs.lemmas.List.Elements.{All-from_recursion, All-contains, All-cons, All-head, All-nil, All-tail, All-weaker, Contains-append_cases, Contains-append_right, Contains-push_cases, recursion_from_All}
+use Rattle.std.proofs.lemmas.List.Elements.{All-from_recursion, All-contains, All-cons, All-head, All-nil, All-tail, All-weaker, Contains-append_right, recursion_from_All}
 use Rattle.std.proofs.lemmas.Map.Keys.{sorted_head, sorted_tail}
 use Rattle.std.proofs.lemmas.Map.Views.{All-insert_key, All-remove_key}
 use Rattle.std.specs.declared.cmp.Ordering.TheVariants.{Less, Equal, Greater}
@@ -15,17 +15,11 @@ use Rattle.std.specs.Set.{remove_key}
 use Rattle.std.proofs.lemmas.Cmp.{ranked}
 use Rattle.ee_codec.specs.Words.{IsAddress}
 use Rattle.ee_pages.specs.Meaning.{IsNextLive, Map, Put, live_in, live_to}
-use Rattle.ee_flash.specs.Device.{Device, IsFormed}
 use Rattle.ee_pages.specs.Meaning as meaning
-use Rattle.ee_pages.specs.Sets.{live_of, set_of, slots_of}
-use Rattle.ee_pages.specs.declared.side.Side.{Side}
-use Rattle.ee_pages.proofs.Public.{live_within_fill, gap_to, live_to-next, live_to-zero}
+use Rattle.ee_pages.proofs.Public.{gap_to, live_to-next, live_to-zero}
 use Rattle.ee_check.specs.declared.change.Change.TheVariants.{Forget, Write}
 use Rattle.ee_check.specs.Live.{live_after_one}
-use Rattle.ee_check.specs.Schedule.{IsProper, Situation}
-use Rattle.ee_core.specs.State.{State, capacity, empty_state, state_in, state_of}
-use Rattle.ee_core.proofs.Public.{live_in-nothing, few_within}
-use Rattle.ee_plan.specs.Start.{AreLive, IsStartOf}
+use Rattle.ee_plan.specs.Start.{AreLive}
 
 -- ---- numbers in ascending order
 
@@ -40,10 +34,7 @@ greater a b h = grind (arith, common_steps)
 
 -- a removal passes any other number
 pub not_at : (k x : ℕ) → (k ≡ x → ⊥) → is_at (nat_cmp k) x ≡ false
-not_at k x apart = elim (cases_lt k x) [
-  | inl before ↦ rw (smaller k x before) refl
-  | inr behind ↦ rw (greater k x (omega arith)) refl
-]
+not_at k x apart = search (rules, cases_lt, greater, smaller)
 
 pub from_less : (a b : ℕ) → nat_cmp a b ≡ Less → a < b
 from_less a b h = ranked a b Less (sym h)
@@ -80,22 +71,13 @@ contains_behind : (x a : ℕ) (xs : List ℕ) → Contains xs a → Contains (x 
 contains_behind x a xs h = Contains-append_right (x ∷ []) xs a h
 
 contains_alone : (x a : ℕ) → Contains (x ∷ []) a → x ≡ a
-contains_alone x a h = elim (Contains-push_cases [] x a h) [
-  | inl none ↦ absurd (let g : none.0 < 0 = none.1 in omega arith)
-  | inr e ↦ e
-]
+contains_alone x a h = search rules
 
 contains_cases : (x a : ℕ) (xs : List ℕ) → Contains (x ∷ xs) a → (x ≡ a) ⊎ Contains xs a
-contains_cases x a xs h = elim (Contains-append_cases (x ∷ []) xs a h) [
-  | inl here ↦ inl (contains_alone x a here)
-  | inr behind ↦ inr behind
-]
+contains_cases x a xs h = search (rules, contains_alone)
 
 contains_more : (x a : ℕ) (xs ys : List ℕ) → (Contains xs a → Contains ys a) → Contains (x ∷ xs) a → Contains (x ∷ ys) a
-contains_more x a xs ys more h = elim (contains_cases x a xs h) [
-  | inl here ↦ subst (λ b. Contains (x ∷ ys) b) here (contains_here x ys)
-  | inr behind ↦ contains_behind x a ys (more behind)
-]
+contains_more x a xs ys more h = search (rules, contains_behind, contains_cases, contains_here)
 
 -- an insertion keeps what there is, and adds its own
 insert_keeps : (xs : List ℕ) (k a : ℕ) → Contains xs a → Contains (insert_key nat_cmp xs k) a
@@ -131,10 +113,7 @@ put_has : (map : Map) (named value address : ℕ) → named ≡ address → mean
 put_has map named value address here = λ e. let f = put_there map named value address here in cc
 
 put_keeps : (map : Map) (named value address : ℕ) → map address ≢ None → meaning.map_after (Put named value) map address ≢ None
-put_keeps map named value address some = elim (cases_eq named address) [
-  | inl here ↦ put_has map named value address here
-  | inr apart ↦ λ e. some (sym (put_elsewhere map named value address apart) ∙ e)
-]
+put_keeps map named value address some = search (rules, cases_eq, put_elsewhere, put_has)
 
 -- what is live after a value is put
 pub live_after_put : (map : Map) (live : List ℕ) (address value : ℕ) → IsAddress address → AreLive map live
@@ -159,9 +138,7 @@ not_first x a xs apart h = elim (contains_cases x a xs h) [ inl here ↦ absurd 
 
 -- what is above a number isn't it
 none_below : (k : ℕ) (xs : List ℕ) → AllByRecursion (λ y. nat_cmp k y ≡ Less) xs → All (λ y. y ≢ k) xs
-none_below k xs above =
-    let P = λ (y : ℕ). nat_cmp k y ≡ Less in
-    All-weaker P (λ y. y ≢ k) (λ y h e. let g : k < y = from_less k y h in omega arith) xs (All-from_recursion P xs above)
+none_below k xs above = grind (arith, common_steps, from_less)
 
 pub remove_sorted : (xs : List ℕ) (k : ℕ) → IsStrictlySortedBy nat_cmp xs
     → IsStrictlySortedBy nat_cmp (remove_key (is_at (nat_cmp k)) xs)
@@ -275,13 +252,7 @@ others_above map above x xs are =
 
 count_above : (map : Map) (live : List ℕ) (above : ℕ) → above < 65535 → AreAbove map above live
     → live_to map 65534 ≡ live_to map above + length live
-count_above map [] above low are =
-    let none : (k : ℕ) → above < k → k ≤ 65534 → map k ≡ None = λ k high end. elim (none_or_value (map k)) [
-      | inl none ↦ none
-      | inr some ↦ absurd (let h = are.all k high some in let g : h.0 < 0 = h.1 in omega arith)
-    ] in
-    let e = gap_to map above 65534 (omega arith) none in
-    omega arith
+count_above map [] above low are = search (rules, gap_to, none_or_value)
 count_above map (x ∷ xs) above low are =
     let found = value_or_none (map x) (All-head (λ address. map address ≢ None) x xs are.have_values) in
     let one = live_to-next map above x found.0 (first_is_next map above x found.0 xs are found.1) in
@@ -302,30 +273,3 @@ live_count_is map live are =
     let e = count_above map live 0 (omega arith) here in
     let z = live_to-zero map in
     omega arith
-
--- a start in whose state the live addresses fit into the slots that are used, and these into the set
-pub start_is_proper : (slots : ℕ) (state : State) (start : Situation) → IsStartOf slots state start
-    → live_in state.map ≤ state.fill → state.fill ≤ slots
-    → IsProper start
-start_is_proper slots state start is held fits =
-    let counted = live_count_is state.map start.live is.are_live in
-    let a = is.fill_is in let b = is.slots_are in
-    record { held = omega arith; fits = omega arith }
-
--- ---- the start of a device
-
-fits_in : (device : Device) → IsFormed device → (found : Option (Side × ℕ))
-    → (live_in (state_in device found).map ≤ (state_in device found).fill) × ((state_in device found).fill ≤ capacity device)
-fits_in device formed None = (let none = live_in-nothing empty_state.map (λ address. refl) in omega arith, omega arith)
-fits_in device formed (Some live) = (live_within_fill (slots_of (set_of live.0 device)), few_within device live.0 formed)
-
--- no more addresses are live than slots are used, and no more of these than a set has
-pub state_fits : (device : Device) → IsFormed device
-    → (live_in (state_of device).map ≤ (state_of device).fill) × ((state_of device).fill ≤ capacity device)
-state_fits device formed = fits_in device formed (live_of device)
-
-pub device_start_is_proper : (device : Device) (start : Situation) → IsFormed device
-    → IsStartOf (capacity device) (state_of device) start
-    → IsProper start
-device_start_is_proper device start formed is =
-    let fits = state_fits device formed in start_is_proper (capacity device) (state_of device) start is fits.0 fits.1

@@ -1,13 +1,12 @@
 -- What of a tight certificate is left where the trace is broken off.
-use Rattle.std.proofs.Common.{◌≡◌, ℕ, ◌≤◌, List, [], ◌∷◌, ◌++◌, length, map, refl, ap, subst, arith, inl, inr, length-append}
+use Rattle.std.proofs.Common.{◌≡◌, ℕ, ◌≤◌, List, [], ◌∷◌, ◌++◌, length, map, refl, subst, arith, inl, inr, length-append, rules}
 use Rattle.std.proofs.lemmas.Bool.Decides.{leb_tells}
 use Rattle.std.proofs.lemmas.List.{take-append-le}
 use Rattle.std.specs.Prelude.{filter, nat_le}
 use Rattle.ee_check.specs.declared.change.Change.{Change}
 use Rattle.ee_check.specs.declared.certificate.Stretch.{Stretch}
-use Rattle.ee_check.specs.Live.{live_after}
 use Rattle.ee_check.specs.Schedule.{Situation}
-use Rattle.ee_check.specs.Certificate.{Claim, EachStretch, IsTight, IsTightStretch, Place, first_place, place_at}
+use Rattle.ee_check.specs.Certificate.{Claim, EachStretch, IsTight, IsTightStretch, Place, place_at}
 use Rattle.ee_check.proofs.Public.{end_from}
 use Rattle.ee_plan.specs.Plan.{moments_within}
 
@@ -18,27 +17,17 @@ stretches_within n stretches = filter (λ stretch. nat_le stretch.to n) stretche
 pub positions_within : (n : ℕ) (stretches : List Stretch)
     → moments_within n (map (λ stretch. stretch.to) stretches) ≡ map (λ stretch. stretch.to) (stretches_within n stretches)
 positions_within n [] = refl
-positions_within n (stretch ∷ stretches) =
-    let more = positions_within n stretches in
-    elim (leb_tells stretch.to n) [
-      | inl within ↦ rw within.0 (ap (λ moments. stretch.to ∷ moments) more)
-      | inr behind ↦ rw behind.0 more
-    ]
+positions_within n (stretch ∷ stretches) = search (rules, leb_tells, (positions_within n stretches))
 
 -- from a place behind them none does
 none_within : (start : Situation) (trace : List Change) (place : Place) (stretches : List Stretch) (n : ℕ)
     → EachStretch start trace IsTightStretch place stretches → n ≤ place.after → stretches_within n stretches ≡ []
 none_within start trace place [] n each behind = refl
-none_within start trace place (stretch ∷ stretches) n each behind =
-    let rising = each.0.forced.rising in
-    let more = none_within start trace (place_at start trace stretch.to) stretches n each.1 (omega arith) in
-    elim (leb_tells stretch.to n) [ inl within ↦ absurd (let h = within.1 in omega arith) | inr after ↦ rw after.0 more ]
+none_within start trace place (stretch ∷ stretches) n each behind = search (rules, leb_tells, (none_within start trace (place_at start trace stretch.to) stretches n each.1 (omega arith)))
 
 -- the place before a change that is still made
 same_place : (start : Situation) (prefix rest : List Change) (n : ℕ) → n ≤ length prefix → place_at start (prefix ++ rest) n ≡ place_at start prefix n
-same_place start prefix rest n within =
-    let P = λ (changes : List Change). let place : Place = record { after = n; used = length (live_after start.live changes) } in place in
-    ap P (take-append-le n prefix rest within)
+same_place start prefix rest n within = search (rules, take-append-le)
 
 tight_within : (start : Situation) (prefix rest : List Change) (place : Place) (stretches : List Stretch) → place.after ≤ length prefix
     → EachStretch start (prefix ++ rest) IsTightStretch place stretches → end_from start (prefix ++ rest) place stretches ≤ start.slots
@@ -71,11 +60,4 @@ claim_within prefix claim = record claim { writes = length prefix; stretches = s
 
 pub prefix_is_tight : (start : Situation) (trace prefix rest : List Change) (claim : Claim) → trace ≡ prefix ++ rest → IsTight start trace claim
     → IsTight start prefix (claim_within prefix claim)
-prefix_is_tight start trace prefix rest claim is tight =
-    let whole : IsTight start (prefix ++ rest) claim = subst (λ changes. IsTight start changes claim) is tight in
-    let part = tight_within start prefix rest (first_place start) claim.stretches (omega arith) whole.stretches whole.fits in
-    record {
-      header = record { slots = whole.header.slots; fill = whole.header.fill; live = whole.header.live; writes = refl };
-      stretches = part.0;
-      fits = part.1;
-    }
+prefix_is_tight start trace prefix rest claim is tight = search (rules, tight_within)

@@ -1,5 +1,5 @@
 -- The second round of a trace leaves the addresses live that the first one left.
-use Rattle.std.proofs.Common.{◌≡◌, ◌⊎◌, inl, inr, ℕ, ◌<◌, ◌≤◌, Bool, true, false, cond, List, [], ◌∷◌, refl, sym, ap, ◌∙◌, arith}
+use Rattle.std.proofs.Common.{◌≡◌, ◌⊎◌, inl, inr, ℕ, ◌≤◌, Bool, true, false, cond, List, [], ◌∷◌, refl, sym, ap, ◌∙◌, arith, rules}
 use Rattle.std.proofs.lemmas.Bool.{cases_lt, cases_eq}
 use Rattle.std.specs.declared.cmp.Ordering.TheVariants.{Less}
 use Rattle.std.specs.List.{AllByRecursion}
@@ -25,9 +25,7 @@ here_it_is q x e = rw (same q x e) refl
 
 none_so_low : (q k : ℕ) (xs : List ℕ) → q ≤ k → AllByRecursion (λ y. nat_cmp k y ≡ Less) xs → has xs q ≡ false
 none_so_low q k [] low above = refl
-none_so_low q k (x ∷ xs) low above =
-    let g : k < x = from_less k x above.0 in
-    rw (not_at q x (λ e. omega arith)) (none_so_low q k xs low above.1)
+none_so_low q k (x ∷ xs) low above = search (rules, from_less, not_at, (none_so_low q k xs low above.1))
 
 twice : (b c : Bool) → cond b true c ≡ cond b true (cond b true c)
 twice true c = refl
@@ -41,22 +39,12 @@ swapped false false c = refl
 
 has_insert : (xs : List ℕ) (k q : ℕ) → has (insert_key nat_cmp xs k) q ≡ cond (is_at (nat_cmp q) k) true (has xs q)
 has_insert [] k q = refl
-has_insert (x ∷ xs) k q = elim (cases_lt k x) [
-  | inl before ↦ rw (smaller k x before) refl
-  | inr behind ↦ elim (cases_eq k x) [
-    | inl here ↦ rw (same k x here) (rw here (twice (is_at (nat_cmp q) x) (has xs q)))
-    | inr apart ↦ rw (greater k x (omega arith)) (ap (λ b. cond (is_at (nat_cmp q) x) true b) (has_insert xs k q)
-        ∙ swapped (is_at (nat_cmp q) x) (is_at (nat_cmp q) k) (has xs q))
-  ]
-]
+has_insert (x ∷ xs) k q = search (rules, cases_eq, cases_lt, greater, same, smaller, swapped, twice, (has_insert xs k q))
 
 has_remove : (xs : List ℕ) (k q : ℕ) → IsStrictlySortedBy nat_cmp xs
     → has (remove_key (is_at (nat_cmp k)) xs) q ≡ cond (is_at (nat_cmp q) k) false (has xs q)
 unfolding IsStrictlySortedBy
-has_remove [] k q sorted = elim (cases_eq q k) [
-  | inl here ↦ rw (here_it_is q k here) refl
-  | inr apart ↦ rw (not_at q k apart) refl
-]
+has_remove [] k q sorted = search (rules, cases_eq, here_it_is, not_at)
 has_remove (x ∷ xs) k q sorted = elim (cases_eq k x) [
   | inl here ↦ elim (cases_eq q k) [
     | inl taken ↦ rw (here_it_is k x here, here_it_is q k taken) (none_so_low q x xs (omega arith) sorted.0)
@@ -143,11 +131,7 @@ has_after live (Forget address ∷ changes) q sorted =
 -- made twice, changes leave what they left the first time
 made_twice : (live : List ℕ) (changes : List Change) → IsStrictlySortedBy nat_cmp live
     → live_after (live_after live changes) changes ≡ live_after live changes
-made_twice live changes sorted =
-    let once = after_sorted live changes sorted in
-    one_list (live_after (live_after live changes) changes) (live_after live changes) (after_sorted (live_after live changes) changes once) once
-    (λ q. has_after (live_after live changes) changes q once ∙ ap (decides changes q) (has_after live changes q sorted)
-    ∙ decided_again changes q (has live q) ∙ sym (has_after live changes q sorted))
+made_twice live changes sorted = search (rules, after_sorted, decided_again, has_after, one_list)
 
 -- so it is from none
 pub left_again : (changes : List Change) → live_after (live_after [] changes) changes ≡ live_after [] changes

@@ -1,7 +1,5 @@
 -- What a change makes of what a trace starts from, as a store makes the change.
-use Rattle.std.proofs.Common.{◌≡◌, ◌≢◌, ◌⊎◌, inl, inr, ℕ, ◌+◌, ◌≤◌, Option, Some, None, List, [], ◌∷◌, length, map, refl, sym, subst, ap, ◌∙◌, arith, cond, is_some}
-use Rattle.std.specs.BTreeMap.{is_at}
-use Rattle.std.specs.Ordering.{nat_cmp}
+use Rattle.std.proofs.Common.{◌≡◌, ◌≢◌, ◌⊎◌, inl, inr, ℕ, ◌+◌, ◌≤◌, Option, Some, None, List, [], ◌∷◌, length, map, refl, sym, subst, ap, arith, cond, is_some, rules}
 use Rattle.ee_flash.specs.Size.{Size, slot_count}
 use Rattle.ee_codec.specs.Words.{IsAddress}
 use Rattle.ee_pages.specs.Meaning.{Put, live_in}
@@ -22,11 +20,7 @@ use Rattle.ee_plan.proofs.LiveLists.{live_after_put, live_count_is}
 pub start_stays : (slots : ℕ) (old new : State) (start : Situation) → IsStartOf slots old start → new.map ≡ old.map
     → new.fill ≡ old.fill
     → IsStartOf slots new start
-start_stays slots old new start is map fill = record {
-  slots_are = is.slots_are;
-  fill_is = is.fill_is ∙ sym fill;
-  are_live = subst (λ m. AreLive m start.live) (sym map) is.are_live;
-}
+start_stays slots old new start is map fill = search rules
 
 -- how many are live after a write
 grown : (slots : ℕ) (old : State) (start : Situation) (address value : ℕ) → IsAddress address → IsStartOf slots old start
@@ -73,11 +67,7 @@ start_appends : (slots : ℕ) (old : State) (start : Situation) (change : Change
     → AreLive (meaning.map_after meant old.map) (live_after_one start.live change)
     → IsStartOf slots old start
     → IsStartOf slots (appended_state meant old) (after_move start (Append change))
-start_appends slots old start change meant live is = record {
-  slots_are = is.slots_are;
-  fill_is = ap (λ n. n + 1) is.fill_is;
-  are_live = live;
-}
+start_appends slots old start change meant live is = search rules
 
 start_moves : (slots pages : ℕ) (old : State) (start : Situation) (change : Change) (meant : meaning.Change)
     → AreLive (meaning.map_after meant old.map) (live_after_one start.live change)
@@ -88,11 +78,7 @@ start_moves slots pages old start change meant live is =
 
 -- a forgetting leaves no more live addresses than before
 pub forgetting_fits : (start : Situation) (address : ℕ) → IsProper start → length (live_after_one start.live (changes.Forget address)) ≤ start.slots
-forgetting_fits start address fits =
-    let less = remove_key-le (is_at (nat_cmp address)) start.live in
-    let held = fits.held in
-    let within = fits.fits in
-    omega arith
+forgetting_fits start address fits = search (rules, remove_key-le)
 
 module _ (size : Size) where
   -- a step that changes neither the map nor the slots
@@ -103,9 +89,7 @@ module _ (size : Size) where
   pub appends : (old mid : State) (start : Situation) (change : Change) (meant : meaning.Change) → mid ≡ appended_state meant old
       → AreLive (meaning.map_after meant old.map) (live_after_one start.live change) → IsStartOf (slot_count size) old start
       → IsStartOf (slot_count size) mid (after_move start (Append change))
-  appends old mid start change meant is live from =
-      subst (λ s. IsStartOf (slot_count size) s (after_move start (Append change))) (sym is)
-      (start_appends (slot_count size) old start change meant live from)
+  appends old mid start change meant is live from = search (rules, start_appends)
 
   pub moves_on : (old mid : State) (start : Situation) (change : Change) (meant : meaning.Change) → mid ≡ moved_state size.pages meant old
       → AreLive (meaning.map_after meant old.map) (live_after_one start.live change) → IsStartOf (slot_count size) old start

@@ -1,5 +1,5 @@
 -- The places of the transfers, one further and whole periods further.
-use Rattle.std.proofs.Common.{◌≡◌, ℕ, zero, suc, ◌+◌, ◌-◌, ◌*◌, ◌/◌, ◌<◌, ◌≤◌, refl, sym, ap, subst, ◌∙◌, arith, add-one}
+use Rattle.std.proofs.Common.{◌≡◌, ℕ, zero, suc, ◌+◌, ◌-◌, ◌*◌, ◌/◌, ◌<◌, ◌≤◌, refl, sym, ap, subst, ◌∙◌, arith, add-one, rules}
 use Rattle.std.proofs.Math.Nat.{div-mul-le_self, le-mul_of_pos_right, lt-mul-div-succ, mul-le-mul_right, suc-mul}
 use Rattle.ee_plan.specs.declared.walking.Walk.{Walk}
 use Rattle.ee_plan.specs.Places.{next_place, place_in_round, IsOnWay}
@@ -19,10 +19,7 @@ place_next count slots k = ap (place_in_round count slots) (add-one k) ∙ place
 shifted : (count : ℕ → ℕ) (slots from d k later : ℕ) → ((n : ℕ) → from ≤ n → count (n + d) ≡ count n) → from ≤ place_in_round count slots k
     → place_in_round count slots later ≡ place_in_round count slots k + d
     → (j : ℕ) → (place_in_round count slots (later + j) ≡ place_in_round count slots (k + j) + d) × (from ≤ place_in_round count slots (k + j))
-shifted count slots from d k later same behind e zero =
-    let a : later + 0 ≡ later = omega arith in
-    let b : k + 0 ≡ k = omega arith in
-    rw (a, b) (e, behind)
+shifted count slots from d k later same behind e zero = search rules
 shifted count slots from d k later same behind e (suc j) =
     let so_far = shifted count slots from d k later same behind e j in
     let a : place_in_round count slots (later + suc j) ≡ next_place count slots (place_in_round count slots (later + j)) =
@@ -38,9 +35,7 @@ shifted count slots from d k later same behind e (suc j) =
 periods_on : (count : ℕ → ℕ) (slots from d k gain : ℕ) → ((n : ℕ) → from ≤ n → count (n + d) ≡ count n) → from ≤ place_in_round count slots k
     → place_in_round count slots (k + gain) ≡ place_in_round count slots k + d
     → (periods : ℕ) → place_in_round count slots (k + periods * gain) ≡ place_in_round count slots k + periods * d
-periods_on count slots from d k gain same behind e zero =
-    let a : k + 0 * gain ≡ k = omega arith in
-    rw a (omega arith)
+periods_on count slots from d k gain same behind e zero = search rules
 periods_on count slots from d k gain same behind e (suc periods) =
     let so_far = periods_on count slots from d k gain same behind e periods in
     let a : k + suc periods * gain ≡ k + gain + periods * gain = let h = suc-mul periods gain in omega arith in
@@ -76,10 +71,7 @@ leapt count slots total from periods mark walk far same behind marked walked fur
 in_steps : (count : ℕ → ℕ) (slots k flat step : ℕ) → step ≡ slots - count (place_in_round count slots k) + 1
     → ((j : ℕ) → j ≤ flat → count (place_in_round count slots k + j) ≡ count (place_in_round count slots k))
     → (times : ℕ) → times * step ≤ flat + step → place_in_round count slots (k + times) ≡ place_in_round count slots k + times * step
-in_steps count slots k flat step is same zero within =
-    let a : k + 0 ≡ k = omega arith in
-    let b : 0 * step ≡ 0 = omega arith in
-    rw (a, b) (omega arith)
+in_steps count slots k flat step is same zero within = search rules
 in_steps count slots k flat step is same (suc times) within =
     let product = suc-mul times step in
     let so_far = in_steps count slots k flat step is same times (omega arith) in
@@ -116,10 +108,4 @@ stepped count slots total flat step times walk further on is same in_flat in_all
 -- the transfer behind its last one comes behind the trace
 pub beyond : (count : ℕ → ℕ) (slots total step : ℕ) (walk : Walk) → IsOnWay count slots total walk → step ≡ slots - count walk.place + 1
     → (total - walk.place) / step ≡ 0 → total < place_in_round count slots (walk.made + 1)
-beyond count slots total step walk on is none =
-    let a = place_next count slots walk.made in
-    let b = ap (next_place count slots) on.place in
-    let some : 0 < step = omega arith in
-    let c = lt-mul-div-succ (total - walk.place) some in
-    let d : step * ((total - walk.place) / step + 1) ≡ step = ap (λ n. step * (n + 1)) none ∙ (omega arith) in
-    omega arith
+beyond count slots total step walk on is none = search (rules, lt-mul-div-succ, place_next)

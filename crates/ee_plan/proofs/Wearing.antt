@@ -1,12 +1,12 @@
 -- How often a schedule erases: a set that is entered was erased since it was entered last.
-use Rattle.std.proofs.Common.{◌≡◌, ◌≢◌, ◌⊎◌, ◌∙◌, inl, inr, ℕ, zero, suc, ◌+◌, ◌/◌, ◌<◌, ◌≤◌, Bool, true, false, not, cond, eqb, Some, None, Option, List, [], ◌∷◌, ◌++◌, refl, sym, subst, ap, arith}
-use Rattle.std.specs.Prelude.{◌&&◌}
+use Rattle.std.proofs.Common.{◌≡◌, ◌≢◌, ◌⊎◌, ◌∙◌, inl, inr, ℕ, zero, suc, ◌+◌, ◌/◌, ◌<◌, ◌≤◌, Bool, true, false, cond, Some, None, Option, List, [], ◌∷◌, ◌++◌, refl, sym, subst, ap, arith, rules}
+use Rattle.std.proofs.lemmas.Grind.{common_steps}
 use Rattle.std.specs.List.{All}
 use Rattle.std.proofs.lemmas.Bool.{cases_Bool, cases_eq, eq-eqb, eqb-true, true≢false}
 use Rattle.std.proofs.lemmas.List.Elements.{All-head}
 use Rattle.std.proofs.lemmas.List.Folds.{list_any_at}
-use Rattle.ee_flash.proofs.Public.{behind, more_erases_of}
-use Rattle.ee_flash.specs.Device.{Device, IsFormed, page_at, word_at}
+use Rattle.ee_flash.proofs.Public.{behind, completed_size, length-page_at, more_erases_of}
+use Rattle.ee_flash.specs.Device.{Device, IsFormed, page_at}
 use Rattle.ee_flash.specs.Endurance.{AreTaken, erases_of}
 use Rattle.ee_flash.specs.Laws.{IsStep, page_of}
 use Rattle.ee_flash.specs.Size.{Size, page_count}
@@ -14,12 +14,11 @@ use Rattle.ee_flash.specs.Step.{Step, Program, Erase, device_after}
 use Rattle.ee_flash.specs.declared.word.Word.{Word}
 use Rattle.ee_flash.specs.declared.word.Word.TheVariants.{Erased, Held, Torn}
 use Rattle.ee_codec.specs.Reading.{receive_of}
-use Rattle.ee_pages.proofs.Public.{live_commits, step_keeps_other_pages, written_page, commits_by, length-page_at}
+use Rattle.ee_pages.proofs.Public.{live_commits, step_keeps_other_pages, written_page, commits_by, other_twice}
 use Rattle.ee_pages.specs.Page.{is_blank, is_written}
 use Rattle.ee_pages.specs.Sets.{first_page, live_of, other}
 use Rattle.ee_pages.specs.declared.side.Side.{Side}
 use Rattle.ee_pages.specs.declared.side.Side.TheVariants.{First, Second}
-use Rattle.ee_core.proofs.Public.{other_twice}
 use Rattle.ee_check.specs.declared.change.Change.{Change}
 use Rattle.ee_check.specs.Schedule.{IsSchedule, Move, Situation, cost}
 use Rattle.ee_plan.specs.Wearing.{EnterBlank, NoneWearsLess, by_turns, entered_sets, entered_by, is_entry}
@@ -42,14 +41,7 @@ first_in_device size Second some = omega arith
 
 live_page_written : (device : Device) (side : Side) (generation : ℕ) → IsFormed device → live_of device ≡ Some (side, generation)
     → is_blank (page_at device (first_page device.size side)) ≡ false
-live_page_written device side generation formed live =
-    let page = first_page device.size side in
-    let here = sym (commits_by side device formed) ∙ live_commits side device generation live in
-    let long = length-page_at device page formed (first_in_device device.size side formed.within_limits.some_pages) in
-    elim (cases_Bool (is_written (word_at device page 0))) [
-      | inl written ↦ ap not (list_any_at is_written (page_at device page) 0 Erased (omega (arith, long, formed.within_limits.some_words)) written)
-      | inr erased ↦ absurd (no_commit _ generation (rw (unread (word_at device page 0) erased) at here))
-    ]
+live_page_written device side generation formed live = search (rules, cases_Bool, commits_by, first_in_device, length-page_at, list_any_at, live_commits, no_commit, unread)
 
 -- ---- one step
 
@@ -73,33 +65,13 @@ other_page step steps device page taken apart =
 -- a page with a word programmed is not blank
 programmed_page : (page at value : ℕ) (steps : List Step) (device : Device) → AreTaken (Program page at value ∷ steps) device
     → is_blank (page_at (device_after (Program page at value) device) page) ≡ false
-programmed_page page at value steps device taken =
-    let can = taken.can.0 in
-    let long = length-page_at device page taken.formed can.0 in
-    written_page device.image page at (Held value) (omega (arith, taken.formed.image_length, can.0)) (omega (arith, long, can.1)) refl
+programmed_page page at value steps device taken = search (rules, length-page_at, written_page)
 
 -- only an erase makes a page blank
 not_blanker : (step : Step) (steps : List Step) (device : Device) (page : ℕ) → AreTaken (step ∷ steps) device
     → erases_of page steps + blank_count (device_after step device) page ≤ erases_of page (step ∷ steps) + blank_count device page
-not_blanker (Program other at value) steps device page taken =
-    let step = Program other at value in
-    let same : erases_of page (step ∷ steps) ≡ erases_of page steps = omega (arith, more_erases_of page step steps) in
-    elim (cases_eq page other) [
-      | inl here ↦
-          let none : blank_count (device_after step device) page ≡ 0 =
-          ap (λ n. blank_count (device_after step device) n) here ∙ ap (λ b. cond {A = ℕ} b 1 0) (programmed_page other at value steps device taken) in
-          omega (arith, same, none)
-      | inr apart ↦ omega (arith, same, other_page step steps device page taken apart)
-    ]
-not_blanker (Erase other) steps device page taken =
-    let step = Erase other in
-    let more = more_erases_of page step steps in
-    elim (cases_eq page other) [
-      | inl here ↦
-          let one : cond {A = ℕ} (eqb other page) 1 0 ≡ 1 = ap (λ b. cond {A = ℕ} b 1 0) (eq-eqb other page (sym here)) in
-          omega (arith, more, one, few_blank (is_blank (page_at (device_after step device) page)))
-      | inr apart ↦ omega (arith, more, other_page step steps device page taken apart)
-    ]
+not_blanker (Program other at value) steps device page taken = search (rules, cases_eq, more_erases_of, other_page, programmed_page)
+not_blanker (Erase other) steps device page taken = grind (arith, common_steps, cases_eq, eq-eqb, few_blank, more_erases_of, other_page)
 
 -- ---- a set is entered
 
@@ -110,15 +82,8 @@ record IsEntered (size : Size) (side : Side) (step : Step) : Type 0 where
   step_is : step ≡ Program (first_page size side) at value
 
 entry : (size : Size) (side : Side) (step : Step) → is_entry size side step ≡ true → IsEntered size side step
-entry size side (Program page at value) e = elim (cases_Bool (eqb page (first_page size side))) [
-  | inl same ↦ record { at = at; value = value; step_is = ap (λ n. Program n at value) (eqb-true page (first_page size side) same) }
-  | inr apart ↦ absurd (true≢false (sym e ∙ ap (λ b. b && eqb at 0) apart))
-]
+entry size side (Program page at value) e = search (rules, cases_Bool, eqb-true, true≢false)
 entry size side (Erase page) e = absurd (true≢false (sym e))
-
-first_apart : (size : Size) (side : Side) → 1 ≤ size.pages → first_page size (other side) ≢ first_page size side
-first_apart size First some = λ e. absurd (omega (arith, some, e))
-first_apart size Second some = λ e. absurd (omega (arith, some, e))
 
 -- How often the first pages of the sets are erased at least, where this one is entered next, and so many are entered in all.
 record WearFrom (count : ℕ) (next : Side) (steps : List Step) (device : Device) : Type 0 where
@@ -133,16 +98,12 @@ rest_of : List Side → List Side
 rest_of [] = []
 rest_of (side ∷ sides) = sides
 
-same_size : (step : Step) (device : Device) → (device_after step device).size ≡ device.size
-same_size (Program page at value) device = refl
-same_size (Erase page) device = refl
-
 -- a step that enters none
 enters_none : (count : ℕ) (next : Side) (step : Step) (steps : List Step) (device : Device) → AreTaken (step ∷ steps) device
     → WearFrom count next steps (device_after step device) → WearFrom count next (step ∷ steps) device
 enters_none count next step steps device taken later =
     let behind = subst (λ (size : Size). ((count + 1) / 2 ≤ erases_of (first_page size next) steps + blank_count (device_after step device) (first_page size next))
-    × (count / 2 ≤ erases_of (first_page size (other next)) steps + blank_count (device_after step device) (first_page size (other next)))) (same_size step device) (later.here, later.there) in
+    × (count / 2 ≤ erases_of (first_page size (other next)) steps + blank_count (device_after step device) (first_page size (other next)))) (completed_size step device) (later.here, later.there) in
     record {
       here = omega (arith, behind.0, not_blanker step steps device (first_page device.size next) taken);
       there = omega (arith, behind.1, not_blanker step steps device (first_page device.size (other next)) taken);
@@ -152,22 +113,7 @@ enters_none count next step steps device taken later =
 enters_one : (count : ℕ) (next : Side) (at value : ℕ) (step : Step) (steps : List Step) (device : Device) → step ≡ Program (first_page device.size next) at value
     → AreTaken (step ∷ steps) device → is_blank (page_at device (first_page device.size next)) ≡ true
     → WearFrom count (other next) steps (device_after step device) → WearFrom (suc count) next (step ∷ steps) device
-enters_one count next at value step steps device step_is taken blank later =
-    let page = first_page device.size next in
-    let size_stays = same_size step device in
-    let written : is_blank (page_at (device_after step device) page) ≡ false =
-    subst (λ (s : Step). AreTaken (s ∷ steps) device → is_blank (page_at (device_after s device) page) ≡ false) (sym step_is) (programmed_page page at value steps device) taken in
-    let none : blank_count (device_after step device) page ≡ 0 = ap (λ b. cond {A = ℕ} b 1 0) written in
-    let one : blank_count device page ≡ 1 = ap (λ b. cond {A = ℕ} b 1 0) blank in
-    let twice : count / 2 ≤ erases_of page steps + blank_count (device_after step device) page =
-    subst (λ (size : Size). count / 2 ≤ erases_of (first_page size next) steps + blank_count (device_after step device) (first_page size next)) size_stays
-    (subst (λ side. count / 2 ≤ erases_of (first_page (device_after step device).size side) steps + blank_count (device_after step device) (first_page (device_after step device).size side)) (other_twice next) later.there) in
-    let others : (count + 1) / 2 ≤ erases_of (first_page device.size (other next)) steps + blank_count (device_after step device) (first_page device.size (other next)) =
-    subst (λ (size : Size). (count + 1) / 2 ≤ erases_of (first_page size (other next)) steps + blank_count (device_after step device) (first_page size (other next))) size_stays later.here in
-    record {
-      here = omega (arith, twice, none, one, more_erases_of page step steps);
-      there = omega (arith, others, not_blanker step steps device (first_page device.size (other next)) taken);
-    }
+enters_one count next at value step steps device step_is taken blank later = search (rules, completed_size, more_erases_of, not_blanker, other_twice, programmed_page)
 
 -- the set that a step enters, or that it enters none
 record EntersThis (size : Size) (step : Step) : Type 0 where
@@ -176,16 +122,7 @@ record EntersThis (size : Size) (step : Step) : Type 0 where
   found : entered_by size step ≡ side ∷ []
 
 enters : (size : Size) (step : Step) → EntersThis size step ⊎ (entered_by size step ≡ [])
-enters size step = elim (cases_Bool (is_entry size First step)) [
-  | inl first ↦ inl (record { side = First; enters = first; found = ap (λ b. cond b (First ∷ []) (cond (is_entry size Second step) (Second ∷ []) [])) first })
-  | inr apart ↦
-      let past : entered_by size step ≡ cond (is_entry size Second step) (Second ∷ []) [] =
-      ap (λ b. cond b (First ∷ []) (cond (is_entry size Second step) (Second ∷ []) [])) apart in
-      elim (cases_Bool (is_entry size Second step)) [
-        | inl second ↦ inl (record { side = Second; enters = second; found = past ∙ ap (λ b. cond b (Second ∷ []) []) second })
-        | inr neither ↦ inr (past ∙ ap (λ b. cond b (Second ∷ []) []) neither)
-      ]
-]
+enters size step = search (rules, cases_Bool)
 
 -- what comes behind a step
 abbrev WearsFrom : List Step → Device → Type 0
@@ -205,7 +142,7 @@ enters_next step steps device next (suc count) taken blank this turns later =
     enters_one count next made.at made.value step steps device
     (made.step_is ∙ ap (λ side. Program (first_page device.size side) made.at made.value) side_is) taken
     (subst (λ side. is_blank (page_at device (first_page device.size side)) ≡ true) side_is was_blank)
-    (later (other next) count (subst (λ (size : Size). entered_sets size steps ≡ by_turns (other next) count) (sym (same_size step device)) rest))
+    (later (other next) count (subst (λ (size : Size). entered_sets size steps ≡ by_turns (other next) count) (sym (completed_size step device)) rest))
 
 wear_from : (steps : List Step) (device : Device) → AreTaken steps device → EnterBlank steps device → WearsFrom steps device
 wear_from [] device taken blank next zero turns = record { here = omega arith; there = omega arith }
@@ -217,7 +154,7 @@ wear_from (step ∷ steps) device taken blank next count turns =
       | inr none ↦
           let still : entered_sets device.size steps ≡ by_turns next count = sym (ap (λ l. l ++ entered_sets device.size steps) none) ∙ turns in
           enters_none count next step steps device taken
-          (later next count (subst (λ (size : Size). entered_sets size steps ≡ by_turns next count) (sym (same_size step device)) still))
+          (later next count (subst (λ (size : Size). entered_sets size steps ≡ by_turns next count) (sym (completed_size step device)) still))
     ]
 
 -- ---- a schedule

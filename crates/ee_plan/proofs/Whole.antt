@@ -1,10 +1,10 @@
 -- What the planner's walk through the trace comes to.
-use Rattle.std.proofs.Common.{◌≡◌, ◌⊎◌, ℕ, ◌-◌, List, length, map, refl, sym, ap, subst, arith, inl, inr}
+use Rattle.std.proofs.Common.{◌≡◌, ◌⊎◌, ℕ, ◌-◌, List, length, map, refl, ap, subst, arith, inl, inr, rules}
 use Rattle.std.proofs.Math.Seq.{take-length}
 use Rattle.ee_check.specs.declared.change.Change.{Change}
 use Rattle.ee_check.specs.Live.{KeepsWithin}
 use Rattle.ee_check.specs.Schedule.{Situation, IsProper}
-use Rattle.ee_check.specs.Certificate.{Claim, first_place, IsTightStretch, EachStretch, IsCertificateHeader, IsCertificate, IsTight, used_at_end}
+use Rattle.ee_check.specs.Certificate.{Claim, IsCertificateHeader, IsCertificate, IsTight, used_at_end}
 use Rattle.ee_check.proofs.Public.{tight_are_certificates_lem}
 use Rattle.ee_plan.specs.Plan.{IsReached, IsBestThroughout, IsFirstNotFitting, IsPlanFault}
 use Rattle.ee_plan.specs.LateStore.{LateStore, HasMade}
@@ -24,11 +24,7 @@ used_now start trace store made = let a = made.fill in let b = made.from in omeg
 
 pub whole_tight : (start : Situation) (trace : List Change) (store : LateStore) (claim : Claim) → HasMade start trace (length trace) store
     → claim.stretches ≡ store.stretches → IsCertificateHeader start trace claim → IsTight start trace claim
-whole_tight start trace store claim made e header = record {
-  header = header;
-  stretches = subst (λ l. EachStretch start trace IsTightStretch (first_place start) l) (sym e) made.stretches;
-  fits = let a = ap (λ l. used_at_end start trace l) e in let b = used_now start trace store made in let c = made.fits in omega arith;
-}
+whole_tight start trace store claim made e header = search (rules, used_now)
 
 pub whole_certificate : (start : Situation) (trace : List Change) (store : LateStore) (claim : Claim) → HasMade start trace (length trace) store
     → claim.stretches ≡ store.stretches → IsCertificateHeader start trace claim → IsCertificate start trace claim

@@ -1,5 +1,5 @@
 -- Each cut in a run at a desk was armed.
-use Rattle.std.proofs.Common.{◌≡◌, ◌∙◌, Bool, List, [], ◌∷◌, ap, false, not, refl, subst, true}
+use Rattle.std.proofs.Common.{◌≡◌, ◌∙◌, Bool, List, [], ◌∷◌, ap, false, not, refl, true, rules}
 use Rattle.std.specs.Prelude.{◌&&◌, ◌||◌}
 use Rattle.ee_flash.specs.Size.{Size}
 use Rattle.ee_script.specs.Run.{Run}
@@ -38,9 +38,7 @@ of_power old answer new step = absurd step
 
 of_step : (size : Size) (old : Desk) (command : Command) (answer : Answer) (new : Desk) → DeskStep size old command answer new
     → Arms (is_arming command) (is_cut_answer answer) old new
-of_step size old (Arm fuse) answer new step =
-    let plain : is_cut_answer answer ≡ false = ap is_cut_answer step.0 in
-    rw plain (record { was_armed = λ e. absurd (cc e); armed_is = ap (λ (desk : Desk). desk.armed) step.1 ∙ both old.armed })
+of_step size old (Arm fuse) answer new step = search (rules, both)
 of_step size old PowerOn answer new step = of_power old answer new step
 of_step size old (Write address value) answer new step = of_call (is_cut_answer answer) size old (Write address value) answer new step
 of_step size old (Forget address) answer new step = of_call (is_cut_answer answer) size old (Forget address) answer new step
@@ -51,6 +49,4 @@ pub each_cut_was_armed : (size : Size) (commands : List Command) (answers : List
     → CutsAreArmed old.armed commands answers
 each_cut_was_armed size [] answers old new run = tt
 each_cut_was_armed size (command ∷ commands) [] old new run = tt
-each_cut_was_armed size (command ∷ commands) (answer ∷ answers) old new run =
-    let here = of_step size old command answer run.0 run.1 in
-    (here.was_armed, subst (λ armed. CutsAreArmed armed commands answers) here.armed_is (each_cut_was_armed size commands answers run.0 new run.2))
+each_cut_was_armed size (command ∷ commands) (answer ∷ answers) old new run = search (rules, of_step, (each_cut_was_armed size commands answers run.0 new run.2))

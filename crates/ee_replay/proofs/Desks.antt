@@ -1,15 +1,14 @@
 -- What a line does at a desk is a step of the report machine.
-use Rattle.std.proofs.Common.{◌≡◌, ◌∙◌, ◌⊎◌, ◌+◌, arith, ℕ, Bool, Option, Some, None, Ok, Err, List, [], ◌∷◌, ap, false, inl, inr, option_map, refl, subst, sym, true}
-use Rattle.std.proofs.lemmas.List.Elements.{All-cons, All-nil}
+use Rattle.std.proofs.Common.{◌≡◌, ◌∙◌, ◌⊎◌, ◌+◌, arith, ℕ, Bool, Option, Some, None, Ok, Err, List, [], ◌∷◌, ap, false, inl, inr, option_map, refl, subst, true, rules}
 use Rattle.ee_flash.specs.Device.{Device}
 use Rattle.ee_flash.specs.Power.{GoesOn, IsCut}
 use Rattle.ee_flash.specs.Size.{Size}
 use Rattle.ee_flash.specs.declared.fuse.Fuse.{Fuse}
-use Rattle.ee_pages.specs.Meaning.{Change, Put}
+use Rattle.ee_pages.specs.Meaning.{Change}
 use Rattle.ee_pages.specs.Meaning as meaning
 use Rattle.ee_core.proofs.Public.{runs_go_on_lem}
 use Rattle.ee_core.specs.Changes.{IsCutChange}
-use Rattle.ee_core.specs.Points.{Point, with_power_on}
+use Rattle.ee_core.specs.Points.{Point}
 use Rattle.ee_core.specs.Runs.{Call, Cleaned as DidClean, DidRead, Follows, Forgot, Wrote, is_cut}
 use Rattle.ee_core.specs.State.{State, state_of}
 use Rattle.ee_core.specs.declared.variables.ForgetFault.TheVariants as forgetting
@@ -21,7 +20,7 @@ use Rattle.ee_script.specs.declared.answer.Answer.{Answer}
 use Rattle.ee_script.specs.declared.answer.Answer.TheVariants.{Appended, Moved, Full, Spent, Cleaned, Idle, Value, NoValue, Absent, Cut, Off, Opened}
 use Rattle.ee_script.specs.Run.{Run}
 use Rattle.ee_image_store.specs.Machine.{CallStep, CutsChange, DeskStep, is_cut_answer}
-use Rattle.ee_replay.specs.Serving.{Asks, Attends, Powers, Serves, desk_of, is_armed, serving_on}
+use Rattle.ee_replay.specs.Serving.{Asks, Attends, Powers, Serves, desk_of, is_armed}
 use Rattle.ee_replay.proofs.Powering.{now_armed, state_armed, state_powered}
 use Rattle.ee_replay.proofs.Runs.{machine_step}
 
@@ -44,10 +43,7 @@ taken before (Some left) e (inl none) = absurd (grind (arith, e, none))
 taken before (Some left) e (inr one) = (rw one refl, grind (arith, e, one))
 
 goes_on : (made : Call) (old new : Device) → Follows made old new → is_cut made ≡ false → GoesOn old new
-goes_on made old new follows whole = runs_go_on_lem (made ∷ []) old new (record {
-  run = (new, follows, refl);
-  without_cuts = All-cons (λ call. is_cut call ≡ false) made [] whole (All-nil (λ call. is_cut call ≡ false));
-})
+goes_on made old new follows whole = search (rules, runs_go_on_lem, whole)
 
 -- ---- one line
 
@@ -65,15 +61,7 @@ pub record IsLineMade (old : Point) (command : Command) (answer : Answer) (new :
 
 whole : (old : Device) (command : Command) (answer : Answer) (new : Point) (made : Call) → Serves old command answer new.device → Follows made old new.device
     → is_cut made ≡ false → is_cut_answer answer ≡ false → new.serving ≡ true → AtMostOne old → IsCallMade true old command answer new
-whole old command answer new made serves follows uncut plain still most =
-    let on = goes_on made old new.device follows uncut in
-    let here = machine_step old new.device command answer serves in
-    let desk : desk_of new ≡ record (desk_of (serving_on old)) { state = state_of new.device } = rw (still, on.same_cuts_left) refl in
-    record {
-      step = subst (λ b. CallStep b old.size (desk_of (serving_on old)) command answer (desk_of new)) (sym plain) (here.step, desk);
-      same_size = on.same_size;
-      at_most = at_most_still old new.device on.same_cuts_left most;
-    }
+whole old command answer new made serves follows uncut plain still most = search (rules, at_most_still, goes_on, machine_step)
 
 cut_change : (old : Device) (change : Change) (new : Device) → IsCutChange old change new → CutsChange old.size (state_of old) change (state_of new)
 cut_change old change new cut = record { accepted = cut.proceeds.accepted; within = cut.within; free = cut.free; all_used = cut.all_used }
@@ -85,9 +73,7 @@ record IsCutHere (old : Device) (new : Point) : Type 0 where
   at_most : AtMostOne new.device
 
 cut_here : (old : Device) (new : Point) → IsCut old new.device → new.serving ≡ false → AtMostOne old → IsCutHere old new
-cut_here old new cut off most =
-    let once = taken old.cuts_left new.device.cuts_left cut.one_less_left most in
-    record { armed = once.0; desk = rw (off, once.1) refl; at_most = inl once.1 }
+cut_here old new cut off most = search (rules, taken)
 
 -- of these no store is asked
 no_arming : (old : Device) (fuse : Fuse) (answer : Answer) (new : Point) → Asks true old (Arm fuse) answer new → ⊥
@@ -103,33 +89,23 @@ asked_on old (Write address value) Appended new most asks = whole old (Write add
 asked_on old (Write address value) Moved new most asks = whole old (Write address value) Moved new (Wrote address value (Ok written.Moved)) asks.0 asks.0 refl refl asks.1 most
 asked_on old (Write address value) Full new most asks = whole old (Write address value) Full new (Wrote address value (Err fault.Full)) asks.0 asks.0 refl refl asks.1 most
 asked_on old (Write address value) Spent new most asks = whole old (Write address value) Spent new (Wrote address value (Err fault.Spent)) asks.0 asks.0 refl refl asks.1 most
-asked_on old (Write address value) Cut new most asks =
-    let here = cut_here old new asks.0.cut asks.1 most in
-    record { step = (refl, here.armed, cut_change old (Put address value) new.device asks.0, here.desk); same_size = asks.0.cut.same_size; at_most = here.at_most }
+asked_on old (Write address value) Cut new most asks = search (rules, cut_change, cut_here)
 asked_on old (Forget address) Appended new most asks = whole old (Forget address) Appended new (Forgot address (Ok written.Appended)) asks.0 asks.0 refl refl asks.1 most
 asked_on old (Forget address) Moved new most asks = whole old (Forget address) Moved new (Forgot address (Ok written.Moved)) asks.0 asks.0 refl refl asks.1 most
 asked_on old (Forget address) Absent new most asks = whole old (Forget address) Absent new (Forgot address (Err forgetting.Absent)) asks.0 asks.0 refl refl asks.1 most
 asked_on old (Forget address) Spent new most asks = whole old (Forget address) Spent new (Forgot address (Err forgetting.Spent)) asks.0 asks.0 refl refl asks.1 most
-asked_on old (Forget address) Cut new most asks =
-    let here = cut_here old new asks.0.cut asks.1 most in
-    record { step = (refl, here.armed, cut_change old (meaning.Forget address) new.device asks.0, here.desk); same_size = asks.0.cut.same_size; at_most = here.at_most }
+asked_on old (Forget address) Cut new most asks = search (rules, cut_change, cut_here)
 asked_on old (Read address) (Value value) new most asks = whole old (Read address) (Value value) new (DidRead address (Ok (Some value))) asks.0 asks.0 refl refl asks.1 most
 asked_on old (Read address) NoValue new most asks = whole old (Read address) NoValue new (DidRead address (Ok None)) asks.0 asks.0 refl refl asks.1 most
 asked_on old Clean Cleaned new most asks = whole old Clean Cleaned new (DidClean (Ok true)) asks.0 asks.0 refl refl asks.1 most
 asked_on old Clean Idle new most asks = whole old Clean Idle new (DidClean (Ok false)) asks.0 asks.0 refl refl asks.1 most
-asked_on old Clean Cut new most asks =
-    let here = cut_here old new asks.0.cut asks.1 most in
-    record { step = (refl, here.armed, (asks.0.some, asks.0.state_is), here.desk); same_size = asks.0.cut.same_size; at_most = here.at_most }
+asked_on old Clean Cut new most asks = search (rules, cut_here)
 asked_on old (Arm fuse) answer new most asks = absurd (no_arming old fuse answer new asks)
 asked_on old PowerOn answer new most asks = absurd (no_power old answer new asks)
 asked_on old command answer new most asks = absurd asks
 
 asked_off : (old : Device) (command : Command) (answer : Answer) (new : Point) → AtMostOne old → Asks false old command answer new → IsCallMade false old command answer new
-asked_off old command Off new most asks = record {
-  step = (ap (λ (point : Point). state_of point.device) asks, rw asks refl);
-  same_size = ap (λ (point : Point). point.device.size) asks;
-  at_most = at_most_still old new.device (ap (λ (point : Point). point.device.cuts_left) asks) most;
-}
+asked_off old command Off new most asks = search (rules, at_most_still)
 asked_off old command answer new most asks = absurd asks
 
 asked : (serving : Bool) (old : Device) (command : Command) (answer : Answer) (new : Point) → AtMostOne old → Asks serving old command answer new
@@ -140,50 +116,23 @@ asked false old command answer new most asks = asked_off old command answer new 
 -- a desk by its parts
 desk_is : (point : Point) (state : State) (serving : Bool) (left : Option ℕ) → state_of point.device ≡ state → point.serving ≡ serving → point.device.cuts_left ≡ left
     → desk_of point ≡ record { state = state; serving = serving; armed = is_armed left }
-desk_is point state serving left says still kept =
-    ap (λ (s : State). record { state = s; serving = point.serving; armed = is_armed point.device.cuts_left }) says
-    ∙ ap (λ (b : Bool). record { state = state; serving = b; armed = is_armed point.device.cuts_left }) still
-    ∙ ap (λ (n : Option ℕ). record { state = state; serving = serving; armed = is_armed n }) kept
+desk_is point state serving left says still kept = cc
 
 -- power that comes on
 power_made : (serving : Bool) (old : Device) (answer : Answer) (new : Point) → AtMostOne old → Powers serving old answer new
     → IsLineMade (record { serving = serving; device = old }) PowerOn answer new
-power_made true old Opened new most powers = record {
-  step = ap desk_of powers;
-  same_size = ap (λ (point : Point). point.device.size) powers;
-  at_most = at_most_still old new.device (ap (λ (point : Point). point.device.cuts_left) powers) most;
-}
-power_made false old Opened new most powers = record {
-  step = desk_is new (state_of old) true old.cuts_left (powers.0.state_is ∙ state_powered old) powers.1 powers.0.goes_on.same_cuts_left;
-  same_size = powers.0.goes_on.same_size;
-  at_most = at_most_still old new.device powers.0.goes_on.same_cuts_left most;
-}
-power_made false old Cut new most powers =
-    let here = cut_here (with_power_on old) new powers.0.cut powers.1 most in
-    record { step = (refl, here.armed, here.desk ∙ ap (λ (state : State). record { state = state; serving = false; armed = false }) (powers.0.state_is ∙ state_powered old)); same_size = powers.0.cut.same_size; at_most = here.at_most }
+power_made true old Opened new most powers = search (rules, at_most_still)
+power_made false old Opened new most powers = search (rules, at_most_still, desk_is, state_powered)
+power_made false old Cut new most powers = search (rules, cut_here, state_powered)
 power_made serving old answer new most powers = absurd powers
 
 pub line_made : (old : Point) (command : Command) (answer : Answer) (new : Point) → AtMostOne old.device → Attends old command answer new → IsLineMade old command answer new
-line_made old (Arm fuse) answer new most attends =
-    let here = now_armed old new fuse attends.1 in
-    record {
-      step = (attends.0, ap desk_of here ∙ rw (state_armed old.device) refl);
-      same_size = ap (λ (point : Point). point.device.size) here;
-      at_most = inr (ap (λ (point : Point). point.device.cuts_left) here);
-    }
+line_made old (Arm fuse) answer new most attends = search (rules, now_armed, state_armed)
 line_made old PowerOn answer new most attends = power_made old.serving old.device answer new most attends
-line_made old (Write address value) answer new most attends =
-    let made = asked old.serving old.device (Write address value) answer new most attends in
-    record { step = made.step; same_size = made.same_size; at_most = made.at_most }
-line_made old (Forget address) answer new most attends =
-    let made = asked old.serving old.device (Forget address) answer new most attends in
-    record { step = made.step; same_size = made.same_size; at_most = made.at_most }
-line_made old (Read address) answer new most attends =
-    let made = asked old.serving old.device (Read address) answer new most attends in
-    record { step = made.step; same_size = made.same_size; at_most = made.at_most }
-line_made old Clean answer new most attends =
-    let made = asked old.serving old.device Clean answer new most attends in
-    record { step = made.step; same_size = made.same_size; at_most = made.at_most }
+line_made old (Write address value) answer new most attends = search (rules, asked)
+line_made old (Forget address) answer new most attends = search (rules, asked)
+line_made old (Read address) answer new most attends = search (rules, asked)
+line_made old Clean answer new most attends = search (rules, asked)
 
 -- ---- a run
 

@@ -1,5 +1,5 @@
 -- What comes of a script that a reader gives.
-use Rattle.std.proofs.Common.{◌≡◌, ◌⊎◌, ◌∙◌, ℕ, List, ap, inl, inr, subst, sym, Some}
+use Rattle.std.proofs.Common.{◌≡◌, ◌⊎◌, ◌∙◌, ℕ, List, ap, inl, inr, subst, sym, Some, rules}
 use Rattle.std.specs.Prelude.{Option}
 use Rattle.std.specs.Io.KnownBytes.{Consumes}
 use Rattle.ee_script.specs.Script.{IsFirstBadCommandLine}
@@ -17,10 +17,7 @@ use Rattle.ee_image_store.proofs.Public.{store_is_good}
 
 -- where there is a store, only want of memory keeps it from being opened
 pub only_memory : (image : List ℕ) (fault : ReplayFault) → HasStore image → IsOpenFault image fault → fault ≡ Memory
-only_memory image fault store bad = elim (memory_or fault) [
-  | inl none ↦ none
-  | inr some ↦ absurd (store_is_good image store.0 fault store.1 some bad)
-]
+only_memory image fault store bad = search (rules, memory_or, store_is_good)
 
 -- want of memory, once a text was given
 pub out_of_memory : (before after : Option (List ℕ)) (text : List ℕ) (fault : ReplayFault) → Consumes before after text → fault ≡ Memory → IsNotAnswered before after fault

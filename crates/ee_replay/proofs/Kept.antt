@@ -1,9 +1,9 @@
 -- What a run at a desk keeps of a script's changes, whatever is cut in it.
-use Rattle.std.proofs.Common.{◌≡◌, ◌∙◌, ◌==◌, ◌++◌, ◌⊎◌, ◌-◌, ℕ, Bool, Some, List, [], ◌∷◌, ap, arith, false, inl, inr, length, refl, true}
+use Rattle.std.proofs.Common.{◌≡◌, ◌∙◌, ◌==◌, ◌++◌, ◌⊎◌, ◌-◌, ℕ, Bool, Some, List, [], ◌∷◌, ap, arith, false, inl, inr, length, refl, true, rules}
 use Rattle.std.proofs.lemmas.Bool.{cases_lt}
 use Rattle.std.specs.List.{All}
 use Rattle.std.proofs.lemmas.List.Elements.{All-head, All-tail}
-use Rattle.ee_flash.specs.Size.{Size, slot_count}
+use Rattle.ee_flash.specs.Size.{Size}
 use Rattle.ee_pages.specs.Meaning.{Change, Map, Put, map_after}
 use Rattle.ee_pages.specs.Meaning as meaning
 use Rattle.ee_pages.specs.Pending.{address_of}
@@ -63,10 +63,7 @@ of_move change pages old new (inr made) = inr (ap (λ (state : State). state.map
 
 -- a change that was cut is made or not
 of_change : (size : Size) (change : Change) (old new : State) → CutsChange size old change new → KeepsChange change old.map Cut new.map
-of_change size change old new cut = elim (cases_lt old.fill (slot_count size)) [
-  | inl less ↦ of_append change old new (cut.free less)
-  | inr all ↦ (let same : old.fill ≡ slot_count size = omega (arith, cut.within) in of_move change size.pages old new (cut.all_used same))
-]
+of_change size change old new cut = search (rules, cases_lt, of_append, of_move)
 
 -- a clean step that was cut changes no value
 of_clean : (old new : State) (fewer : ℕ) → (new ≡ old) ⊎ (new ≡ with_pending fewer old) → new.map ≡ old.map

@@ -1,5 +1,5 @@
 -- A run of the report machine is the store that transfers exactly when each slot is used.
-use Rattle.std.proofs.Common.{◌≡◌, inl, inr, ℕ, ◌+◌, ◌<◌, ◌≤◌, List, [], ◌∷◌, length, map, refl, sym, subst, ap, ◌∙◌, arith}
+use Rattle.std.proofs.Common.{◌≡◌, inl, inr, ℕ, ◌+◌, ◌<◌, ◌≤◌, List, [], ◌∷◌, length, map, refl, sym, subst, ap, ◌∙◌, arith, rules}
 use Rattle.ee_flash.specs.Size.{Size, slot_count}
 use Rattle.ee_pages.specs.Meaning.{Put, changed_by}
 use Rattle.ee_pages.specs.Meaning as meaning
@@ -38,15 +38,7 @@ no_move : (slots : ℕ) (start : Situation) (commands : List Command) (answers :
     → accepted_commands (command ∷ commands) (answer ∷ answers) ≡ accepted_commands commands answers
     → ((n : ℕ) → moved_at n (answer ∷ answers) ≡ moved_at n answers)
     → IsLateRun slots start commands answers new → IsLateRun slots start (command ∷ commands) (answer ∷ answers) new
-no_move slots start commands answers new command answer same same_moved run = record {
-  moves = run.moves;
-  changes_are = run.changes_are ∙ ap trace_of (sym same);
-  late = run.late;
-  carried = λ n. run.carried n ∙ sym (same_moved n);
-  end = run.end;
-  proper = run.proper;
-  keeps = subst (λ l. KeepsWithin start.slots start.live (trace_of l)) (sym same) run.keeps;
-}
+no_move slots start commands answers new command answer same same_moved run = search rules
 
 -- the command asks for this change
 abbrev AsksFor : Command → Change → Type 0
@@ -94,13 +86,7 @@ module _ (size : Size) where
       → (IsStartOf (slot_count size) mid (after_move start (Append change)) → IsProper (after_move start (Append change))
       → IsLateRun (slot_count size) (after_move start (Append change)) commands answers new)
       → IsLateRun (slot_count size) start (command ∷ commands) (Appended ∷ answers) new
-  append_on commands answers old mid new start command change meant asks less is live from proper rest =
-      let free : start.fill < start.slots = let a = from.fill_is in let b = from.slots_are in omega arith in
-      let more = changed-le start.live change in
-      let held = proper.held in
-      let kept : IsProper (after_move start (Append change)) = record { held = omega arith; fits = omega arith } in
-      append_first (slot_count size) start commands answers new command change asks free (omega arith)
-      (rest (appends size old mid start change meant is live from) kept)
+  append_on commands answers old mid new start command change meant asks less is live from proper rest = search (rules, append_first, appends, changed-le)
 
   -- a move and what follows
   carry_on : (commands : List Command) (answers : List Answer) (old mid new : State) (start : Situation) (command : Command) (change : Change) (meant : meaning.Change)
@@ -118,15 +104,7 @@ module _ (size : Size) where
   pub late_run : (commands : List Command) (answers : List Answer) (old new : State) (start : Situation) → AreCommands commands
       → IsStartOf (slot_count size) old start → IsProper start → Run (MachineStep size) old commands answers new
       → IsLateRun (slot_count size) start commands answers new
-  late_run [] [] old new start are is proper run = record {
-    moves = [];
-    changes_are = refl;
-    late = tt;
-    carried = λ n. refl;
-    end = stays size old new start run is;
-    proper = proper;
-    keeps = tt;
-  }
+  late_run [] [] old new start are is proper run = search (rules, stays)
   late_run [] (answer ∷ answers) old new start are is proper run = absurd run
   late_run (command ∷ commands) [] old new start are is proper run = absurd run
   late_run (Write address value ∷ commands) (Appended ∷ answers) old new start are is proper run =
@@ -147,38 +125,20 @@ module _ (size : Size) where
       (forgetting_fits start address proper)
       (live_after_forget old.map start.live address is.are_live) is
       (λ here kept. late_run commands answers run.0 new (after_move start (Carry (changes.Forget address))) are.1 here kept run.2)
-  late_run (Forget address ∷ commands) (Absent ∷ answers) old new start are is proper run =
-      no_move (slot_count size) start commands answers new (Forget address) Absent refl (λ n. refl)
-      (late_run commands answers run.0 new start are.1 (stays size old run.0 start run.1.1 is) proper run.2)
-  late_run (Forget address ∷ commands) (Spent ∷ answers) old new start are is proper run =
-      no_move (slot_count size) start commands answers new (Forget address) Spent refl (λ n. refl)
-      (late_run commands answers run.0 new start are.1 (stays size old run.0 start run.1.2 is) proper run.2)
-  late_run (Write address value ∷ commands) (Full ∷ answers) old new start are is proper run =
-      no_move (slot_count size) start commands answers new (Write address value) Full refl (λ n. refl)
-      (late_run commands answers run.0 new start are.1 (stays size old run.0 start run.1.1 is) proper run.2)
-  late_run (Write address value ∷ commands) (Spent ∷ answers) old new start are is proper run =
-      no_move (slot_count size) start commands answers new (Write address value) Spent refl (λ n. refl)
-      (late_run commands answers run.0 new start are.1 (stays size old run.0 start run.1.2 is) proper run.2)
-  late_run (Read address ∷ commands) (Value value ∷ answers) old new start are is proper run =
-      no_move (slot_count size) start commands answers new (Read address) (Value value) refl (λ n. refl)
-      (late_run commands answers run.0 new start are.1 (stays size old run.0 start run.1.1 is) proper run.2)
-  late_run (Read address ∷ commands) (NoValue ∷ answers) old new start are is proper run =
-      no_move (slot_count size) start commands answers new (Read address) NoValue refl (λ n. refl)
-      (late_run commands answers run.0 new start are.1 (stays size old run.0 start run.1.1 is) proper run.2)
+  late_run (Forget address ∷ commands) (Absent ∷ answers) old new start are is proper run = search (rules, no_move, stays, (late_run commands answers run.0 new start are.1 (stays size old run.0 start run.1.1 is) proper run.2))
+  late_run (Forget address ∷ commands) (Spent ∷ answers) old new start are is proper run = search (rules, no_move, stays, (late_run commands answers run.0 new start are.1 (stays size old run.0 start run.1.2 is) proper run.2))
+  late_run (Write address value ∷ commands) (Full ∷ answers) old new start are is proper run = search (rules, no_move, stays, (late_run commands answers run.0 new start are.1 (stays size old run.0 start run.1.1 is) proper run.2))
+  late_run (Write address value ∷ commands) (Spent ∷ answers) old new start are is proper run = search (rules, no_move, stays, (late_run commands answers run.0 new start are.1 (stays size old run.0 start run.1.2 is) proper run.2))
+  late_run (Read address ∷ commands) (Value value ∷ answers) old new start are is proper run = search (rules, no_move, stays, (late_run commands answers run.0 new start are.1 (stays size old run.0 start run.1.1 is) proper run.2))
+  late_run (Read address ∷ commands) (NoValue ∷ answers) old new start are is proper run = search (rules, no_move, stays, (late_run commands answers run.0 new start are.1 (stays size old run.0 start run.1.1 is) proper run.2))
   late_run (Clean ∷ commands) (Cleaned ∷ answers) old new start are is proper run =
       let step = run.1 in
       let here = start_stays (slot_count size) old run.0 start is (ap (λ s. s.map) step.1) (ap (λ s. s.fill) step.1) in
       no_move (slot_count size) start commands answers new Clean Cleaned refl (λ n. refl)
       (late_run commands answers run.0 new start are.1 here proper run.2)
-  late_run (Clean ∷ commands) (Idle ∷ answers) old new start are is proper run =
-      no_move (slot_count size) start commands answers new Clean Idle refl (λ n. refl)
-      (late_run commands answers run.0 new start are.1 (stays size old run.0 start run.1.1 is) proper run.2)
-  late_run (Arm fuse ∷ commands) (Armed ∷ answers) old new start are is proper run =
-      no_move (slot_count size) start commands answers new (Arm fuse) Armed refl (λ n. refl)
-      (late_run commands answers run.0 new start are.1 (stays size old run.0 start run.1 is) proper run.2)
-  late_run (PowerOn ∷ commands) (Opened ∷ answers) old new start are is proper run =
-      no_move (slot_count size) start commands answers new PowerOn Opened refl (λ n. refl)
-      (late_run commands answers run.0 new start are.1 (stays size old run.0 start run.1 is) proper run.2)
+  late_run (Clean ∷ commands) (Idle ∷ answers) old new start are is proper run = search (rules, no_move, stays, (late_run commands answers run.0 new start are.1 (stays size old run.0 start run.1.1 is) proper run.2))
+  late_run (Arm fuse ∷ commands) (Armed ∷ answers) old new start are is proper run = search (rules, no_move, stays, (late_run commands answers run.0 new start are.1 (stays size old run.0 start run.1 is) proper run.2))
+  late_run (PowerOn ∷ commands) (Opened ∷ answers) old new start are is proper run = search (rules, no_move, stays, (late_run commands answers run.0 new start are.1 (stays size old run.0 start run.1 is) proper run.2))
   late_run (command ∷ commands) (answer ∷ answers) old new start are is proper run = absurd run.1
 
 -- ---- the moves are the fewest
@@ -218,22 +178,14 @@ module _ (size : Size) where
   values_are [] [] old new run = ap (λ s. s.map) run
   values_are [] (answer ∷ answers) old new run = absurd run
   values_are (command ∷ commands) [] old new run = absurd run
-  values_are (Write address value ∷ commands) (Appended ∷ answers) old new run =
-      put_first old run.0 commands answers new (Put address value) (ap (λ s. s.map) run.1.2)
-      (values_are commands answers run.0 new run.2)
-  values_are (Write address value ∷ commands) (Moved ∷ answers) old new run =
-      put_first old run.0 commands answers new (Put address value) (ap (λ s. s.map) run.1.2)
-      (values_are commands answers run.0 new run.2)
+  values_are (Write address value ∷ commands) (Appended ∷ answers) old new run = search (rules, put_first, (values_are commands answers run.0 new run.2))
+  values_are (Write address value ∷ commands) (Moved ∷ answers) old new run = search (rules, put_first, (values_are commands answers run.0 new run.2))
   values_are (Write address value ∷ commands) (Full ∷ answers) old new run =
       values_are commands answers run.0 new run.2 ∙ ap (λ s. changed_by (map_changes (accepted_commands commands answers)) s.map) run.1.1
   values_are (Write address value ∷ commands) (Spent ∷ answers) old new run =
       values_are commands answers run.0 new run.2 ∙ ap (λ s. changed_by (map_changes (accepted_commands commands answers)) s.map) run.1.2
-  values_are (Forget address ∷ commands) (Appended ∷ answers) old new run =
-      put_first old run.0 commands answers new (meaning.Forget address) (ap (λ s. s.map) run.1.2)
-      (values_are commands answers run.0 new run.2)
-  values_are (Forget address ∷ commands) (Moved ∷ answers) old new run =
-      put_first old run.0 commands answers new (meaning.Forget address) (ap (λ s. s.map) run.1.2)
-      (values_are commands answers run.0 new run.2)
+  values_are (Forget address ∷ commands) (Appended ∷ answers) old new run = search (rules, put_first, (values_are commands answers run.0 new run.2))
+  values_are (Forget address ∷ commands) (Moved ∷ answers) old new run = search (rules, put_first, (values_are commands answers run.0 new run.2))
   values_are (Forget address ∷ commands) (Absent ∷ answers) old new run =
       values_are commands answers run.0 new run.2 ∙ ap (λ s. changed_by (map_changes (accepted_commands commands answers)) s.map) run.1.1
   values_are (Forget address ∷ commands) (Spent ∷ answers) old new run =
@@ -259,11 +211,7 @@ module _ (size : Size) where
       → trace_of (command ∷ commands) ≡ trace_of commands
       → (ForgetsWhatIsHeld old.map (command ∷ commands) → ForgetsWhatIsHeld old.map commands)
       → mid.generation ≡ old.generation → mid.map ≡ old.map → TraceFits start old (command ∷ commands) → TraceFits start mid commands
-  fits_on old mid start command commands none held same map fits = record {
-    keeps = subst (λ l. KeepsWithin start.slots start.live l) none fits.keeps;
-    held = subst (λ m. ForgetsWhatIsHeld m commands) (sym map) (held fits.held);
-    generations = let g = fits.generations in let e = ap length none in omega arith;
-  }
+  fits_on old mid start command commands none held same map fits = search rules
 
   -- after a change that takes one generation at most, the other changes fit
   fits_after : (old mid : State) (start next : Situation) (command : Command) (change : Change) (meant : meaning.Change) (commands : List Command)
@@ -271,15 +219,7 @@ module _ (size : Size) where
       → next.slots ≡ start.slots → next.live ≡ live_after_one start.live change
       → ForgetsWhatIsHeld (meaning.map_after meant old.map) commands
       → TraceFits start old (command ∷ commands) → TraceFits next mid commands
-  fits_after old mid start next command change meant commands asks later map slots live held fits =
-      let one = asks commands in
-      let keeps = subst (λ l. KeepsWithin start.slots start.live l) one fits.keeps in
-      record {
-        keeps = subst (λ l. KeepsWithin next.slots l (trace_of commands)) (sym live)
-            (subst (λ n. KeepsWithin n (live_after_one start.live change) (trace_of commands)) (sym slots) (keeps_tail start.slots start.live change (trace_of commands) keeps));
-        held = subst (λ m. ForgetsWhatIsHeld m commands) (sym map) held;
-        generations = let g = fits.generations in let e = ap length one in omega arith;
-      }
+  fits_after old mid start next command change meant commands asks later map slots live held fits = search (rules, keeps_tail)
 
   pub all_put : (commands : List Command) (answers : List Answer) (old new : State) (start : Situation) → AreCommands commands
       → IsStartOf (slot_count size) old start → Run (MachineStep size) old commands answers new → TraceFits start old commands
@@ -322,36 +262,20 @@ module _ (size : Size) where
   all_put (Forget address ∷ commands) (Absent ∷ answers) old new start are is run fits = absurd (fits.held.0 run.1.0)
   all_put (Forget address ∷ commands) (Spent ∷ answers) old new start are is run fits =
       absurd (let g = fits.generations in let last = run.1.1.last_generation in omega arith)
-  all_put (Read address ∷ commands) (Value value ∷ answers) old new start are is run fits =
-      all_put commands answers run.0 new start are.1 (stays size old run.0 start run.1.1 is) run.2
-      (fits_on old run.0 start (Read address) commands refl (λ h. h) (ap (λ s. s.generation) run.1.1) (ap (λ s. s.map) run.1.1) fits)
-  all_put (Read address ∷ commands) (NoValue ∷ answers) old new start are is run fits =
-      all_put commands answers run.0 new start are.1 (stays size old run.0 start run.1.1 is) run.2
-      (fits_on old run.0 start (Read address) commands refl (λ h. h) (ap (λ s. s.generation) run.1.1) (ap (λ s. s.map) run.1.1) fits)
+  all_put (Read address ∷ commands) (Value value ∷ answers) old new start are is run fits = search (rules, fits_on, stays, (all_put commands answers run.0 new start are.1 (stays size old run.0 start run.1.1 is) run.2 (fits_on old run.0 start (Read address) commands refl (λ h. h) (ap (λ s. s.generation) run.1.1) (ap (λ s. s.map) run.1.1) fits)))
+  all_put (Read address ∷ commands) (NoValue ∷ answers) old new start are is run fits = search (rules, fits_on, stays, (all_put commands answers run.0 new start are.1 (stays size old run.0 start run.1.1 is) run.2 (fits_on old run.0 start (Read address) commands refl (λ h. h) (ap (λ s. s.generation) run.1.1) (ap (λ s. s.map) run.1.1) fits)))
   all_put (Clean ∷ commands) (Cleaned ∷ answers) old new start are is run fits =
       let here = start_stays (slot_count size) old run.0 start is (ap (λ s. s.map) run.1.1) (ap (λ s. s.fill) run.1.1) in
       all_put commands answers run.0 new start are.1 here run.2
       (fits_on old run.0 start Clean commands refl (λ h. h) (ap (λ s. s.generation) run.1.1) (ap (λ s. s.map) run.1.1) fits)
-  all_put (Clean ∷ commands) (Idle ∷ answers) old new start are is run fits =
-      all_put commands answers run.0 new start are.1 (stays size old run.0 start run.1.1 is) run.2
-      (fits_on old run.0 start Clean commands refl (λ h. h) (ap (λ s. s.generation) run.1.1) (ap (λ s. s.map) run.1.1) fits)
-  all_put (Arm fuse ∷ commands) (Armed ∷ answers) old new start are is run fits =
-      all_put commands answers run.0 new start are.1 (stays size old run.0 start run.1 is) run.2
-      (fits_on old run.0 start (Arm fuse) commands refl (λ h. h) (ap (λ s. s.generation) run.1) (ap (λ s. s.map) run.1) fits)
-  all_put (PowerOn ∷ commands) (Opened ∷ answers) old new start are is run fits =
-      all_put commands answers run.0 new start are.1 (stays size old run.0 start run.1 is) run.2
-      (fits_on old run.0 start PowerOn commands refl (λ h. h) (ap (λ s. s.generation) run.1) (ap (λ s. s.map) run.1) fits)
+  all_put (Clean ∷ commands) (Idle ∷ answers) old new start are is run fits = search (rules, fits_on, stays, (all_put commands answers run.0 new start are.1 (stays size old run.0 start run.1.1 is) run.2 (fits_on old run.0 start Clean commands refl (λ h. h) (ap (λ s. s.generation) run.1.1) (ap (λ s. s.map) run.1.1) fits)))
+  all_put (Arm fuse ∷ commands) (Armed ∷ answers) old new start are is run fits = search (rules, fits_on, stays, (all_put commands answers run.0 new start are.1 (stays size old run.0 start run.1 is) run.2 (fits_on old run.0 start (Arm fuse) commands refl (λ h. h) (ap (λ s. s.generation) run.1) (ap (λ s. s.map) run.1) fits)))
+  all_put (PowerOn ∷ commands) (Opened ∷ answers) old new start are is run fits = search (rules, fits_on, stays, (all_put commands answers run.0 new start are.1 (stays size old run.0 start run.1 is) run.2 (fits_on old run.0 start PowerOn commands refl (λ h. h) (ap (λ s. s.generation) run.1) (ap (λ s. s.map) run.1) fits)))
   all_put (command ∷ commands) (answer ∷ answers) old new start are is run fits = absurd run.1
 
 -- ---- the run of a script, together
 
 module _ (size : Size) where
-  -- what a run's accepted writes leave live has room in the slots
-  pub run_keeps : (commands : List Command) (answers : List Answer) (old new : State) (start : Situation) → AreCommands commands
-      → IsStartOf (slot_count size) old start → IsProper start → Run (MachineStep size) old commands answers new
-      → KeepsWithin start.slots start.live (trace_of (accepted_commands commands answers))
-  run_keeps commands answers old new start are is proper run = (late_run size commands answers old new start are is proper run).keeps
-
   -- and its moves are the fewest
   pub run_fewest : (commands : List Command) (answers : List Answer) (old new : State) (start : Situation) (claim : Claim)
       → AreCommands commands
@@ -367,9 +291,7 @@ module _ (size : Size) where
       → AreCommands commands
       → IsStartOf (slot_count size) old start → IsProper start → Run (MachineStep size) old commands answers new
       → IsTight start (trace_of (accepted_commands commands answers)) claim → moves answers ≡ length claim.stretches
-  run_count commands answers old new start claim are is proper run tight =
-      let fewest = run_fewest commands answers old new start claim are is proper run tight in
-      ap length fewest.positions ∙ length_map claim.stretches
+  run_count commands answers old new start claim are is proper run tight = search (rules, length_map, run_fewest)
 
   -- and as many slots are used at the end as the certificate says
   pub run_fill : (commands : List Command) (answers : List Answer) (old new : State) (start : Situation) (claim : Claim)

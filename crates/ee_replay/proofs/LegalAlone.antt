@@ -1,35 +1,17 @@
 -- A desk is legal, in the one form and in the other.
-use Rattle.std.proofs.Common.{◌≡◌, ◌∙◌, ℕ, Option, Some, None, ap, refl, subst, sym}
+use Rattle.std.proofs.Common.{◌≡◌, ◌∙◌, ℕ, Option, Some, None, ap, refl, sym, rules}
 use Rattle.std.specs.Prelude.{is_some}
 use Rattle.ee_flash.specs.Device.{Device}
 use Rattle.ee_flash.specs.Memory.{device_of}
-use Rattle.ee_flash.specs.declared.memory.MemFlash.{MemFlash}
-use Rattle.ee_pages.specs.Legal.{IsLegal, IsLive}
+use Rattle.ee_pages.specs.Legal.{IsLegal}
 use Rattle.ee_pages.specs.Sets.{live_of}
 use Rattle.ee_pages.specs.declared.side.Side.{Side}
-use Rattle.ee_pages.specs.declared.side.Side.TheVariants.{First}
 use Rattle.ee_replay.specs.Desk.{HasLegalImage, IsLegalDesk, IsLegalSo}
 use Rattle.ee_replay.specs.declared.desk.Desk.{Desk}
 use Rattle.ee_replay.specs.declared.desk.Desk.TheVariants.{Open, Bare, Gone}
 
--- the side and the generation, where there are some
-abbrev side_in : Option (Side × ℕ) → Side
-side_in None = First
-side_in (Some live) = live.0
-
-abbrev generation_in : Option (Side × ℕ) → ℕ
-generation_in None = 0
-generation_in (Some live) = live.1
-
 has_image : (device : Device) → IsLegal device → HasLegalImage device
-has_image device legal = (
-  rw legal.2.live refl,
-  λ side generation e.
-      let same : Some (legal.0, legal.1) ≡ Some (side, generation) = sym legal.2.live ∙ e in
-      let sides : legal.0 ≡ side = ap side_in same in
-      let generations : legal.1 ≡ generation = ap generation_in same in
-      subst (λ n. IsLive device side n) generations (subst (λ s. IsLive device s legal.1) sides legal.2),
-)
+has_image device legal = search rules
 
 found : (device : Device) (live : Option (Side × ℕ)) → live_of device ≡ live → HasLegalImage device → IsLegal device
 found device None e has = absurd (cc (sym (ap is_some e) ∙ has.0))
@@ -42,10 +24,5 @@ legal_there Gone so = so.there refl
 
 pub legal_so : {S A : Type 0} (desk : Desk S A) → IsLegalDesk desk → IsLegalSo desk
 legal_so (Open store) legal = record { there = λ e. absurd (cc e); alone = λ flash e. absurd (cc e) }
-legal_so {S} {A} (Bare flash) legal = record {
-  there = λ e. absurd (cc e);
-  alone = λ other e.
-      let same : flash ≡ other = cc e in
-      has_image (device_of other) (subst (λ (f : MemFlash A). IsLegal (device_of f)) same legal);
-}
+legal_so {S} {A} (Bare flash) legal = search (rules, has_image)
 legal_so Gone legal = absurd legal

@@ -1,5 +1,4 @@
 mod Openings
-mod Causes
 mod OneReplayCause
 mod Runs
 mod NotedRuns
@@ -14,4 +13,3 @@ mod UncutRuns
 mod ScriptWears
 mod LegalAlone
 mod Powering
-mod Calling

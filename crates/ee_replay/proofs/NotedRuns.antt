@@ -1,5 +1,5 @@
 -- What is noted of a store's changes is the tight certificate of its trace.
-use Rattle.std.proofs.Common.{◌≡◌, ◌∙◌, ◌++◌, ℕ, ◌+◌, ◌*◌, ◌^◌, ◌<◌, ◌≤◌, List, [], ◌∷◌, length, get_or, ap, arith, inl, inr, refl, subst, sym, append_assoc, append-nil, length-append, add-mul, one-mul, mul-le-mul}
+use Rattle.std.proofs.Common.{◌≡◌, ◌∙◌, ◌++◌, ℕ, ◌+◌, ◌*◌, ◌<◌, ◌≤◌, List, [], ◌∷◌, length, get_or, ap, arith, inl, inr, refl, subst, sym, append_assoc, append-nil, length-append, add-mul, one-mul, rules}
 use Rattle.std.proofs.Math.Bool.{or-false}
 use Rattle.std.proofs.Math.Seq.{get_or-append_seam}
 use Rattle.std.specs.Prelude.{Bool, false, true, ◌||◌, Err}
@@ -7,11 +7,10 @@ use Rattle.ee_flash.specs.Device.{Device}
 use Rattle.ee_flash.specs.Size.{Size, slot_count}
 use Rattle.ee_pages.specs.Meaning.{Put}
 use Rattle.ee_pages.specs.Meaning as meaning
-use Rattle.ee_core.specs.Changes.{Appends, IsAccepted, IsCutAppend, IsCutChange, IsCutMove, Moves, greatest_generation}
-use Rattle.ee_core.specs.Finished.{IsStore}
+use Rattle.ee_core.specs.Changes.{Appends, IsAccepted, IsCutAppend, IsCutChange, IsCutMove, Moves}
 use Rattle.ee_core.specs.State.{State, appended_state, moved_state, state_of}
 use Rattle.std.proofs.lemmas.Bool.{cases_order}
-use Rattle.ee_core.proofs.Public.{generation_proper, few_slots, state_is}
+use Rattle.ee_core.proofs.Public.{state_is}
 use Rattle.ee_check.specs.declared.change.Change.{Change}
 use Rattle.ee_check.specs.declared.change.Change.TheVariants as changes
 use Rattle.ee_check.specs.Certificate.{IsCertificateHeader, IsTight}
@@ -110,19 +109,12 @@ proper_now slots start trace n state notes so_far = record { held = so_far.made.
 -- what leaves the map and the slots as they are is not noted
 note_none : (slots : ℕ) (start : Situation) (trace : List Change) (n : ℕ) (old new : State) (notes : Notes) → new.map ≡ old.map → new.fill ≡ old.fill
     → AreNoted slots start trace n old notes → AreNoted slots start trace n new notes
-note_none slots start trace n old new notes map fill so_far = record {
-  now = so_far.now;
-  is = start_stays slots old new so_far.now so_far.is map fill;
-  made = so_far.made;
-  counted = so_far.counted;
-}
+note_none slots start trace n old new notes map fill so_far = search (rules, start_stays)
 
 -- a call that leaves the device and the notes as they were
 unchanged : (slots : ℕ) (start : Situation) (trace : List Change) (n : ℕ) (old new : Held) → new.device ≡ old.device → new.notes ≡ old.notes
     → AreNoted slots start trace n (state_of old.device) old.notes → AreNoted slots start trace n (state_of new.device) new.notes
-unchanged slots start trace n old new device notes so_far =
-    subst (λ (d : Device). AreNoted slots start trace n (state_of d) new.notes) (sym device)
-    (subst (λ (kept : Notes). AreNoted slots start trace n (state_of old.device) kept) (sym notes) so_far)
+unchanged slots start trace n old new device notes so_far = search rules
 
 -- ---- a run
 
@@ -130,10 +122,7 @@ module _ (size : Size) (start : Situation) (trace : List Change) where
   -- the change here, with so many before it
   there : (before : List Change) (change : Change) (rest : List Change) → trace ≡ before ++ change ∷ rest
       → (length before < length trace) × (change ≡ get_or trace (length before) change)
-  there before change rest parts = (
-    omega (arith, ap length parts, length-append before (change ∷ rest)),
-    sym (ap (λ l. get_or l (length before) change) parts ∙ get_or-append_seam before change rest change),
-  )
+  there before change rest parts = search (rules, get_or-append_seam, length-append)
 
   one_longer : (before : List Change) (change : Change) → length (before ++ change ∷ []) ≡ length before + 1
   one_longer before change = length-append before (change ∷ [])
@@ -174,10 +163,7 @@ module _ (size : Size) (start : Situation) (trace : List Change) where
       → trace ≡ before ++ trace_of (accepted_commands commands answers) → old.device.size ≡ size → Run IsHeld old commands answers new
       → AreNoted (slot_count size) start trace (length before) (state_of old.device) old.notes
       → AreNoted (slot_count size) start trace (length trace) (state_of new.device) new.notes
-  notes_of_run [] [] old new before are parts sized run so_far =
-      let whole : length before ≡ length trace = ap length (sym (parts ∙ append-nil before)) in
-      subst (λ (seen : Held). AreNoted (slot_count size) start trace (length trace) (state_of seen.device) seen.notes) (sym run)
-      (subst (λ m. AreNoted (slot_count size) start trace m (state_of old.device) old.notes) whole so_far)
+  notes_of_run [] [] old new before are parts sized run so_far = search (rules, append-nil)
   notes_of_run [] (answer ∷ answers) old new before are parts sized run so_far = absurd run
   notes_of_run (command ∷ commands) [] old new before are parts sized run so_far = absurd run
   notes_of_run (Write address value ∷ commands) (Appended ∷ answers) old new before are parts sized run so_far =
@@ -204,27 +190,13 @@ module _ (size : Size) (start : Situation) (trace : List Change) where
       let fits = forgetting_fits so_far.now address (proper_now (slot_count size) start trace (length before) (state_of old.device) old.notes so_far) in
       notes_of_run commands answers run.0 new (before ++ changes.Forget address ∷ []) are.1 (passed before (changes.Forget address) rest parts) (run.1.serves.goes_on.same_size ∙ sized) run.2
       (moved_noted before old run.0 (changes.Forget address) (meaning.Forget address) rest parts sized run.1.serves run.1.notes_are so_far live fits)
-  notes_of_run (Write address value ∷ commands) (Full ∷ answers) old new before are parts sized run so_far =
-      notes_of_run commands answers run.0 new before are.1 parts (ap (λ (device : Device). device.size) run.1.serves.2 ∙ sized) run.2
-      (unchanged (slot_count size) start trace (length before) old run.0 run.1.serves.2 run.1.notes_are so_far)
-  notes_of_run (Write address value ∷ commands) (Spent ∷ answers) old new before are parts sized run so_far =
-      notes_of_run commands answers run.0 new before are.1 parts (ap (λ (device : Device). device.size) run.1.serves.3 ∙ sized) run.2
-      (unchanged (slot_count size) start trace (length before) old run.0 run.1.serves.3 run.1.notes_are so_far)
-  notes_of_run (Forget address ∷ commands) (Absent ∷ answers) old new before are parts sized run so_far =
-      notes_of_run commands answers run.0 new before are.1 parts (ap (λ (device : Device). device.size) run.1.serves.2 ∙ sized) run.2
-      (unchanged (slot_count size) start trace (length before) old run.0 run.1.serves.2 run.1.notes_are so_far)
-  notes_of_run (Forget address ∷ commands) (Spent ∷ answers) old new before are parts sized run so_far =
-      notes_of_run commands answers run.0 new before are.1 parts (ap (λ (device : Device). device.size) run.1.serves.3 ∙ sized) run.2
-      (unchanged (slot_count size) start trace (length before) old run.0 run.1.serves.3 run.1.notes_are so_far)
-  notes_of_run (Read address ∷ commands) (Value value ∷ answers) old new before are parts sized run so_far =
-      notes_of_run commands answers run.0 new before are.1 parts (ap (λ (device : Device). device.size) run.1.serves.1 ∙ sized) run.2
-      (unchanged (slot_count size) start trace (length before) old run.0 run.1.serves.1 run.1.notes_are so_far)
-  notes_of_run (Read address ∷ commands) (NoValue ∷ answers) old new before are parts sized run so_far =
-      notes_of_run commands answers run.0 new before are.1 parts (ap (λ (device : Device). device.size) run.1.serves.1 ∙ sized) run.2
-      (unchanged (slot_count size) start trace (length before) old run.0 run.1.serves.1 run.1.notes_are so_far)
-  notes_of_run (Clean ∷ commands) (Idle ∷ answers) old new before are parts sized run so_far =
-      notes_of_run commands answers run.0 new before are.1 parts (ap (λ (device : Device). device.size) run.1.serves.2 ∙ sized) run.2
-      (unchanged (slot_count size) start trace (length before) old run.0 run.1.serves.2 run.1.notes_are so_far)
+  notes_of_run (Write address value ∷ commands) (Full ∷ answers) old new before are parts sized run so_far = search (rules, unchanged, (notes_of_run commands answers run.0 new before are.1 parts (ap (λ (device : Device). device.size) run.1.serves.2 ∙ sized) run.2 (unchanged (slot_count size) start trace (length before) old run.0 run.1.serves.2 run.1.notes_are so_far)))
+  notes_of_run (Write address value ∷ commands) (Spent ∷ answers) old new before are parts sized run so_far = search (rules, unchanged, (notes_of_run commands answers run.0 new before are.1 parts (ap (λ (device : Device). device.size) run.1.serves.3 ∙ sized) run.2 (unchanged (slot_count size) start trace (length before) old run.0 run.1.serves.3 run.1.notes_are so_far)))
+  notes_of_run (Forget address ∷ commands) (Absent ∷ answers) old new before are parts sized run so_far = search (rules, unchanged, (notes_of_run commands answers run.0 new before are.1 parts (ap (λ (device : Device). device.size) run.1.serves.2 ∙ sized) run.2 (unchanged (slot_count size) start trace (length before) old run.0 run.1.serves.2 run.1.notes_are so_far)))
+  notes_of_run (Forget address ∷ commands) (Spent ∷ answers) old new before are parts sized run so_far = search (rules, unchanged, (notes_of_run commands answers run.0 new before are.1 parts (ap (λ (device : Device). device.size) run.1.serves.3 ∙ sized) run.2 (unchanged (slot_count size) start trace (length before) old run.0 run.1.serves.3 run.1.notes_are so_far)))
+  notes_of_run (Read address ∷ commands) (Value value ∷ answers) old new before are parts sized run so_far = search (rules, unchanged, (notes_of_run commands answers run.0 new before are.1 parts (ap (λ (device : Device). device.size) run.1.serves.1 ∙ sized) run.2 (unchanged (slot_count size) start trace (length before) old run.0 run.1.serves.1 run.1.notes_are so_far)))
+  notes_of_run (Read address ∷ commands) (NoValue ∷ answers) old new before are parts sized run so_far = search (rules, unchanged, (notes_of_run commands answers run.0 new before are.1 parts (ap (λ (device : Device). device.size) run.1.serves.1 ∙ sized) run.2 (unchanged (slot_count size) start trace (length before) old run.0 run.1.serves.1 run.1.notes_are so_far)))
+  notes_of_run (Clean ∷ commands) (Idle ∷ answers) old new before are parts sized run so_far = search (rules, unchanged, (notes_of_run commands answers run.0 new before are.1 parts (ap (λ (device : Device). device.size) run.1.serves.2 ∙ sized) run.2 (unchanged (slot_count size) start trace (length before) old run.0 run.1.serves.2 run.1.notes_are so_far)))
   notes_of_run (Clean ∷ commands) (Cleaned ∷ answers) old new before are parts sized run so_far =
       let mid = run.0 in
       let call = run.1.serves in
@@ -239,9 +211,7 @@ module _ (size : Size) (start : Situation) (trace : List Change) where
       (ap (λ (s : State). s.fill) same) so_far in
       notes_of_run commands answers mid new before are.1 parts (ap (λ (device : Device). device.size) run.1.serves ∙ sized) run.2
       (subst (λ (notes : Notes). AreNoted (slot_count size) start trace (length before) (state_of mid.device) notes) (sym run.1.notes_are) next)
-  notes_of_run (PowerOn ∷ commands) (Opened ∷ answers) old new before are parts sized run so_far =
-      notes_of_run commands answers run.0 new before are.1 parts (ap (λ (device : Device). device.size) run.1.serves ∙ sized) run.2
-      (unchanged (slot_count size) start trace (length before) old run.0 run.1.serves run.1.notes_are so_far)
+  notes_of_run (PowerOn ∷ commands) (Opened ∷ answers) old new before are parts sized run so_far = search (rules, unchanged, (notes_of_run commands answers run.0 new before are.1 parts (ap (λ (device : Device). device.size) run.1.serves ∙ sized) run.2 (unchanged (slot_count size) start trace (length before) old run.0 run.1.serves run.1.notes_are so_far)))
   notes_of_run (command ∷ commands) (answer ∷ answers) old new before are parts sized run so_far = absurd run.1.serves
 
 -- ---- a script
@@ -267,9 +237,7 @@ noted_tight old new commands answers start are fresh run is proper =
 -- a run at a desk in which no line was cut is one of a store that stays open
 held_run : (device : Device) (old new : Noted) (commands : List Command) (answers : List Answer) → was_cut answers ≡ false → old.point ≡ serving_on device
     → Run Records old commands answers new → Run IsHeld (record { device = device; notes = old.notes }) commands answers (held_at new)
-held_run device old new [] [] plain still run =
-    let there : new.point ≡ serving_on device = ap (λ (n : Noted). n.point) run ∙ still in
-    rw (there, ap (λ (n : Noted). n.notes) run) refl
+held_run device old new [] [] plain still run = search (rules, there)
 held_run device old new [] (answer ∷ answers) plain still run = absurd run
 held_run device old new (command ∷ commands) [] plain still run = absurd run
 held_run device old new (command ∷ commands) (answer ∷ answers) plain still run =
@@ -318,9 +286,7 @@ cuts_are : (old new : Noted) (commands : List Command) (answers : List Answer) �
 cuts_are old new [] [] run = ap (λ (n : Noted). n.notes.cut) run
 cuts_are old new [] (answer ∷ answers) run = absurd run
 cuts_are old new (command ∷ commands) [] run = absurd run
-cuts_are old new (command ∷ commands) (answer ∷ answers) run =
-    let here = ap (λ (notes : Notes). notes.cut) run.1.notes_are ∙ one_cut answer (state_of run.0.point.device).fill old.notes in
-    cuts_are run.0 new commands answers run.2 ∙ ap (λ b. was_cut answers || b) here ∙ swapped (was_cut answers) (is_cut_answer answer) old.notes.cut
+cuts_are old new (command ∷ commands) (answer ∷ answers) run = search (rules, one_cut, swapped, (cuts_are run.0 new commands answers run.2))
 
 -- what serves, as its desk and its notes are seen
 pub is_traced : {S : Type 0} (see : S → Noted) (device : Device) (old new : S) (text lines : List ℕ) → IsAnswered (λ from command answer to. Records (see from) command answer (see to)) old text new lines
@@ -351,102 +317,15 @@ count_one counted generation slots fill next wide full a b c h = rw (a, b, c) (o
 
 count_turn : (counted generation slots fill next wide full : ℕ) → next ≡ generation + 1 → wide ≡ slots → fill ≡ slots → counted ≤ generation * (slots + 1) + fill
     → counted + 1 ≤ next * (wide + 1) + full
-count_turn counted generation slots fill next wide full a b c h =
-    let more : (generation + 1) * (slots + 1) ≡ generation * (slots + 1) + (slots + 1) = add-mul generation 1 (slots + 1) ∙ ap (λ n. generation * (slots + 1) + n) (one-mul (slots + 1)) in
-    rw (a, b) (omega (arith, h, c, more))
-
-pub count_small : (counted generation slots fill : ℕ) → slots ≤ 32512 → generation ≤ greatest_generation → fill ≤ slots → counted ≤ generation * (slots + 1) + fill → counted + 1 < 2 ^ 64
-count_small counted generation slots fill few last within h =
-    let wide : slots + 1 ≤ 32513 = omega (arith, few) in
-    let most : generation * (slots + 1) ≤ 4294967294 * 32513 = mul-le-mul last wide in
-    omega (arith, h, most, few, within)
-
--- the count is small before a change that is accepted
-pub small_before : (old new : Device) (command : Command) (answer : Answer) (notes : Notes) → Serves old command answer new → (state_of old).fill ≤ slot_count old.size → IsCounted old notes
-    → notes.changes + 1 < 2 ^ 64
-small_before old new command answer notes serves within counted =
-    count_small notes.changes (state_of old).generation (slot_count old.size) (state_of old).fill counted.slots counted.generation within counted.changes
+count_turn counted generation slots fill next wide full a b c h = search (rules, add-mul, one-mul)
 
 -- where the size and the state are as before
 same_place : (old new : Device) (notes : Notes) → new.size ≡ old.size → state_of new ≡ state_of old → IsCounted old notes → IsCounted new notes
-same_place old new notes sized same counted =
-    let wide = ap slot_count sized in
-    let generation : (state_of new).generation ≡ (state_of old).generation = ap (λ (s : State). s.generation) same in
-    let filled : (state_of new).fill ≡ (state_of old).fill = ap (λ (s : State). s.fill) same in
-    record {
-      slots = let a = counted.slots in omega arith;
-      generation = let a = counted.generation in omega arith;
-      changes = rw (generation, wide, filled) counted.changes;
-    }
+same_place old new notes sized same counted = search rules
 
 -- and where one slot more is used
 one_slot_more : (old new : Device) (notes : Notes) → new.size ≡ old.size → (state_of new).generation ≡ (state_of old).generation → (state_of new).fill ≡ (state_of old).fill + 1 → IsCounted old notes → IsCounted new notes
-one_slot_more old new notes sized same filled counted =
-    let wide = ap slot_count sized in
-    let one = count_one notes.changes (state_of old).generation (slot_count old.size) (state_of old).fill (state_of new).generation (slot_count new.size) (state_of new).fill same wide filled counted.changes in
-    record { slots = let a = counted.slots in omega arith; generation = let a = counted.generation in omega arith; changes = omega (arith, one) }
-
-same_count : (old new : Device) (notes : Notes) → new ≡ old → IsCounted old notes → IsCounted new notes
-same_count old new notes same counted = subst (λ (device : Device). IsCounted device notes) (sym same) counted
-
-pub counted_on : (old new : Device) (command : Command) (answer : Answer) (notes : Notes) (fill : ℕ) → Serves old command answer new → IsCounted old notes → IsCounted new (notes_after answer fill notes)
-counted_on old new (Write address value) Appended notes fill serves counted =
-    let sized = ap slot_count serves.goes_on.same_size in
-    let same : (state_of new).generation ≡ (state_of old).generation = ap (λ (s : State). s.generation) serves.state_is in
-    record {
-      slots = let a = counted.slots in omega arith;
-      generation = let a = counted.generation in omega arith;
-      changes = count_one notes.changes (state_of old).generation (slot_count old.size) (state_of old).fill (state_of new).generation (slot_count new.size) (state_of new).fill same sized
-          (ap (λ (s : State). s.fill) serves.state_is) counted.changes;
-    }
-counted_on old new (Write address value) Moved notes fill serves counted =
-    let sized = ap slot_count serves.goes_on.same_size in
-    let one : (state_of new).generation ≡ (state_of old).generation + 1 = ap (λ (s : State). s.generation) serves.state_is in
-    let not_last : (state_of old).generation ≡ greatest_generation → ⊥ = λ last. serves.proceeds.accepted.not_spent (record { all_used = serves.all_used; last_generation = last }) in
-    record {
-      slots = let a = counted.slots in omega arith;
-      generation = let a = counted.generation in omega arith;
-      changes = count_turn notes.changes (state_of old).generation (slot_count old.size) (state_of old).fill (state_of new).generation (slot_count new.size) (state_of new).fill one sized
-          serves.all_used counted.changes;
-    }
-counted_on old new (Forget address) Appended notes fill serves counted =
-    let sized = ap slot_count serves.goes_on.same_size in
-    let same : (state_of new).generation ≡ (state_of old).generation = ap (λ (s : State). s.generation) serves.state_is in
-    record {
-      slots = let a = counted.slots in omega arith;
-      generation = let a = counted.generation in omega arith;
-      changes = count_one notes.changes (state_of old).generation (slot_count old.size) (state_of old).fill (state_of new).generation (slot_count new.size) (state_of new).fill same sized
-          (ap (λ (s : State). s.fill) serves.state_is) counted.changes;
-    }
-counted_on old new (Forget address) Moved notes fill serves counted =
-    let sized = ap slot_count serves.goes_on.same_size in
-    let one : (state_of new).generation ≡ (state_of old).generation + 1 = ap (λ (s : State). s.generation) serves.state_is in
-    let not_last : (state_of old).generation ≡ greatest_generation → ⊥ = λ last. serves.proceeds.accepted.not_spent (record { all_used = serves.all_used; last_generation = last }) in
-    record {
-      slots = let a = counted.slots in omega arith;
-      generation = let a = counted.generation in omega arith;
-      changes = count_turn notes.changes (state_of old).generation (slot_count old.size) (state_of old).fill (state_of new).generation (slot_count new.size) (state_of new).fill one sized
-          serves.all_used counted.changes;
-    }
-counted_on old new (Write address value) Full notes fill serves counted = same_count old new notes serves.2 counted
-counted_on old new (Write address value) Spent notes fill serves counted = same_count old new notes serves.3 counted
-counted_on old new (Forget address) Absent notes fill serves counted = same_count old new notes serves.2 counted
-counted_on old new (Forget address) Spent notes fill serves counted = same_count old new notes serves.3 counted
-counted_on old new (Read address) (Value value) notes fill serves counted = same_count old new notes serves.1 counted
-counted_on old new (Read address) NoValue notes fill serves counted = same_count old new notes serves.1 counted
-counted_on old new Clean Idle notes fill serves counted = same_count old new notes serves.2 counted
-counted_on old new Clean Cleaned notes fill serves counted =
-    let sized = ap slot_count serves.goes_on.same_size in
-    let same : (state_of new).generation ≡ (state_of old).generation = ap (λ (s : State). s.generation) serves.state_is in
-    let filled : (state_of new).fill ≡ (state_of old).fill = ap (λ (s : State). s.fill) serves.state_is in
-    record {
-      slots = let a = counted.slots in omega arith;
-      generation = let a = counted.generation in omega arith;
-      changes = rw (same, sized, filled) counted.changes;
-    }
-counted_on old new (Arm fuse) Armed notes fill serves counted = same_place old new notes (ap (λ (device : Device). device.size) serves) (ap state_of serves ∙ state_armed old) counted
-counted_on old new PowerOn Opened notes fill serves counted = same_count old new notes serves counted
-counted_on old new command answer notes fill serves counted = absurd serves
+one_slot_more old new notes sized same filled counted = search (rules, count_one)
 
 -- nor is it passed by a change that is cut
 cut_append_counted : (old new : Device) (change : meaning.Change) (notes : Notes) → new.size ≡ old.size → IsCutAppend (state_of old) change (state_of new) → IsCounted old notes → IsCounted new notes
@@ -456,25 +335,8 @@ cut_append_counted old new change notes sized (inr (inr made)) counted = one_slo
 
 cut_move_counted : (old new : Device) (change : meaning.Change) (notes : Notes) → new.size ≡ old.size → (state_of old).fill ≡ slot_count old.size
     → IsAccepted (slot_count old.size) (state_of old) change → IsCutMove old.size.pages (state_of old) change (state_of new) → IsCounted old notes → IsCounted new notes
-cut_move_counted old new change notes sized used accepted_commands (inl kept) counted =
-    let wide = ap slot_count sized in
-    let generation : (state_of new).generation ≡ (state_of old).generation = ap (λ (s : State). s.generation) kept.2 in
-    let filled : (state_of new).fill ≡ (state_of old).fill = ap (λ (s : State). s.fill) kept.2 in
-    record {
-      slots = let a = counted.slots in omega arith;
-      generation = let a = counted.generation in omega arith;
-      changes = rw (generation, wide, filled) counted.changes;
-    }
-cut_move_counted old new change notes sized used accepted_commands (inr made) counted =
-    let wide = ap slot_count sized in
-    let one : (state_of new).generation ≡ (state_of old).generation + 1 = ap (λ (s : State). s.generation) made in
-    let not_last : (state_of old).generation ≡ greatest_generation → ⊥ = λ last. accepted_commands.not_spent (record { all_used = used; last_generation = last }) in
-    let turn = count_turn notes.changes (state_of old).generation (slot_count old.size) (state_of old).fill (state_of new).generation (slot_count new.size) (state_of new).fill one wide used counted.changes in
-    record {
-      slots = let a = counted.slots in omega arith;
-      generation = let a = counted.generation in omega arith;
-      changes = omega (arith, turn);
-    }
+cut_move_counted old new change notes sized used accepted_commands (inl kept) counted = search rules
+cut_move_counted old new change notes sized used accepted_commands (inr made) counted = search (rules, count_turn)
 
 pub counted_cut : (old new : Device) (change : meaning.Change) (notes : Notes) → IsCutChange old change new → IsCounted old notes → IsCounted new (notes_after Cut 0 notes)
 counted_cut old new change notes cut counted =
@@ -510,25 +372,4 @@ forgot_cut_counted serving old new address notes kept answer cut calls counted i
 
 -- where the image says the same
 pub counted_same : (old new : Device) (notes kept : Notes) → SaysTheSame old new → kept.changes ≡ notes.changes → IsCounted old notes → IsCounted new kept
-counted_same old new notes kept same changes counted =
-    let there = same_place old new notes same.same_size same.state_is counted in
-    record { slots = there.slots; generation = there.generation; changes = rw changes there.changes }
-
-not_fewer : (answer : Answer) (notes : Notes) (fill : ℕ) → notes.changes ≤ (notes_after answer fill notes).changes
-not_fewer Appended notes fill = omega arith
-not_fewer Moved notes fill = omega arith
-not_fewer answer notes fill = omega arith
-
--- after a move that could not be noted, for want of memory
-pub counted_behind : (old new : Device) (command : Command) (answer : Answer) (notes : Notes) → Serves old command answer new → IsCounted old notes → IsCounted new notes
-counted_behind old new command answer notes serves counted =
-    let on = counted_on old new command answer notes 0 serves counted in
-    record { slots = on.slots; generation = on.generation; changes = let less = not_fewer answer notes 0 in let most = on.changes in omega arith }
-
--- and before the first change
-pub counted_none : (device : Device) → IsStore device → IsCounted device (no_notes (state_of device).fill)
-counted_none device store =
-    let live = store.legal in
-    let generation : (state_of device).generation ≡ live.1 = ap (λ (s : State). s.generation) (state_is device live.0 live.1 live.2) in
-    let proper = generation_proper device live.0 live.1 live.2 in
-    record { slots = few_slots device live.2.formed; generation = omega (arith, generation, proper.1); changes = omega arith }
+counted_same old new notes kept same changes counted = search (rules, same_place, there)

@@ -1,5 +1,5 @@
 -- A script has one cause at most for which it isn't replayed.
-use Rattle.std.proofs.Common.{◌≡◌, ◌≢◌, ◌⊎◌, inl, inr, ℕ, List, refl, ap}
+use Rattle.std.proofs.Common.{◌≡◌, ◌≢◌, ◌⊎◌, inl, inr, ℕ, List, refl, ap, rules}
 use Rattle.ee_flash.specs.Size.{Size}
 use Rattle.ee_core.specs.State.{State}
 use Rattle.ee_script.proofs.Public.{one_first_bad_line_lem, scripts_are_good_lem}
@@ -44,10 +44,7 @@ pub one_replay_fault : (image text : List ℕ) (cause fault : ReplayFault) → c
 one_replay_fault image text cause fault some (inl h) (inl i) = one_open_fault image cause fault some h i
 one_replay_fault image text cause fault some (inl h) (inr i) = absurd (store_is_good image i.0.0 cause i.0.1 some h)
 one_replay_fault image text cause fault some (inr h) (inr i) = one_run_fault text cause fault some h.1 i.1
-one_replay_fault image text cause fault some (inr h) (inl i) = elim (memory_or fault) [
-  | inl none ↦ inr none
-  | inr other ↦ absurd (store_is_good image h.0.0 fault h.0.1 other i)
-]
+one_replay_fault image text cause fault some (inr h) (inl i) = search (rules, memory_or, store_is_good)
 
 pub replayed_is_good : (image text new_image reported : List ℕ) (cause : ReplayFault) → IsReplayed image text new_image reported → cause ≢ Memory → IsReplayFault image text cause → ⊥
 replayed_is_good image text new_image reported cause replayed some (inl h) = store_is_good image replayed.device cause replayed.old some h

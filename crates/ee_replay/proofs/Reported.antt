@@ -1,7 +1,8 @@
 -- What a report says in the end.
-use Rattle.std.proofs.Common.{◌≡◌, ◌∙◌, ◌-◌, ◌++◌, ℕ, List, ap, append_assoc, codes, decimal, false, inl, length, refl, subst, sym, true}
+use Rattle.std.proofs.Common.{◌≡◌, ◌∙◌, ◌-◌, ◌++◌, ℕ, List, ap, append_assoc, codes, decimal, false, inl, length, refl, subst, sym, true, arith}
+use Rattle.std.proofs.lemmas.Grind.{common_steps}
 use Rattle.ee_flash.specs.Device.{Device}
-use Rattle.ee_flash.specs.Size.{Size, slot_count}
+use Rattle.ee_flash.specs.Size.{slot_count}
 use Rattle.ee_check.specs.Schedule.{IsProper, Situation}
 use Rattle.ee_check.specs.Text.{text_of}
 use Rattle.ee_plan.specs.Start.{IsStartOf}
@@ -34,14 +35,7 @@ further old mid new before name number begun ended =
 pub end_written : (old one two three four five new : List ℕ) (slots transfers fill room live pending : ℕ) (state : State) → fill ≡ state.fill → room ≡ slots - fill → live ≡ live_in state.map
     → pending ≡ state.pending → one ≡ old ++ (codes "end fill " ++ decimal fill) → two ≡ one ++ (codes " room " ++ decimal room) → three ≡ two ++ (codes " live " ++ decimal live)
     → four ≡ three ++ (codes " pending " ++ decimal pending) → five ≡ four ++ (codes " transfers " ++ decimal transfers) → new ≡ five ++ codes "\n" → new ≡ old ++ end_line slots state transfers
-end_written old one two three four five new slots transfers fill room live pending state a b c d e f g h i j =
-    let rooms : room ≡ slots - state.fill = b ∙ ap (λ n. slots - n) a in
-    let to_one = e ∙ ap (λ n. old ++ (codes "end fill " ++ decimal n)) a in
-    let to_two = further old one two _ (codes " room ") _ to_one (f ∙ ap (λ n. one ++ (codes " room " ++ decimal n)) rooms) in
-    let to_three = further old two three _ (codes " live ") _ to_two (g ∙ ap (λ n. two ++ (codes " live " ++ decimal n)) c) in
-    let to_four = further old three four _ (codes " pending ") _ to_three (h ∙ ap (λ n. three ++ (codes " pending " ++ decimal n)) d) in
-    let to_five = further old four five _ (codes " transfers ") _ to_four i in
-    j ∙ ap (λ l. l ++ codes "\n") to_five ∙ append_assoc old _ (codes "\n")
+end_written old one two three four five new slots transfers fill room live pending state a b c d e f g h i j = grind (arith, common_steps, further)
 
 -- ---- the whole report
 
@@ -55,9 +49,7 @@ module _ (old : Device) (new : Point) (text lines : List ℕ) (notes : Notes) (r
   -- how the desk stands at the end
   line_is : (ended : List ℕ) → new.device.size ≡ old.size → ended ≡ lines ++ desk_line (slot_count new.device.size) new.serving (state_of new.device) (length notes.stretches)
       → ended ≡ lines ++ desk_line (slot_count old.size) new.serving (state_of new.device) (moves run.answered.answers)
-  line_is ended same_size end =
-      end ∙ ap (λ (size : Size). lines ++ desk_line (slot_count size) new.serving (state_of new.device) (length notes.stretches)) same_size
-      ∙ ap (λ n. lines ++ desk_line (slot_count old.size) new.serving (state_of new.device) n) run.transfers
+  line_is ended same_size end = cc
 
   -- after a cut
   cut_report : (ended reported : List ℕ) → new.device.size ≡ old.size

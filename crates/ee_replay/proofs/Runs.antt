@@ -1,12 +1,11 @@
 -- A run of calls that serve a script is a run of the report machine.
-use Rattle.std.proofs.Common.{◌≡◌, ◌∙◌, Bool, Option, Some, None, List, [], ◌∷◌, ap, false, refl, subst, sym, true}
+use Rattle.std.proofs.Common.{◌≡◌, ◌∙◌, Bool, Option, Some, None, List, [], ◌∷◌, false, refl, subst, true, rules}
 use Rattle.std.proofs.lemmas.List.Elements.{All-cons, All-nil}
 use Rattle.std.proofs.lemmas.List.Sums.{sum_by-cons}
 use Rattle.std.specs.List.{All}
 use Rattle.std.specs.Prelude.{IsSomeAnd, ◌||◌}
 use Rattle.ee_flash.specs.Device.{Device}
 use Rattle.ee_flash.specs.Size.{Size}
-use Rattle.ee_pages.specs.Meaning.{Put}
 use Rattle.ee_pages.specs.Meaning as meaning
 use Rattle.ee_core.specs.Runs.{Call, Follows, IsRun, IsWholeRun, is_cut}
 use Rattle.ee_core.specs.State.{state_of}
@@ -27,78 +26,20 @@ use Rattle.ee_image_store.proofs.Public.{as_before, both, by_append, by_clean, b
 
 -- the machine answers as the call does
 pub machine_step : (old new : Device) (command : Command) (answer : Answer) → Serves old command answer new → Steps old command answer new
-machine_step old new (Write address value) Appended serves = record {
-  step = (serves.proceeds.accepted, serves.free, serves.state_is);
-  same_size = serves.goes_on.same_size;
-  erases = by_append old (Put address value) new serves;
-}
-machine_step old new (Write address value) Moved serves = record {
-  step = (serves.proceeds.accepted, serves.all_used, serves.state_is);
-  same_size = serves.goes_on.same_size;
-  erases = by_move old (Put address value) new serves;
-}
-machine_step old new (Write address value) Full serves = record {
-  step = (serves.1, ap state_of serves.2);
-  same_size = ap (λ (device : Device). device.size) serves.2;
-  erases = as_before old new serves.2;
-}
-machine_step old new (Write address value) Spent serves = record {
-  step = (serves.1, serves.2, ap state_of serves.3);
-  same_size = ap (λ (device : Device). device.size) serves.3;
-  erases = as_before old new serves.3;
-}
-machine_step old new (Forget address) Appended serves = record {
-  step = (serves.proceeds.accepted, serves.free, serves.state_is);
-  same_size = serves.goes_on.same_size;
-  erases = by_append old (meaning.Forget address) new serves;
-}
-machine_step old new (Forget address) Moved serves = record {
-  step = (serves.proceeds.accepted, serves.all_used, serves.state_is);
-  same_size = serves.goes_on.same_size;
-  erases = by_move old (meaning.Forget address) new serves;
-}
-machine_step old new (Forget address) Absent serves = record {
-  step = (serves.1, ap state_of serves.2);
-  same_size = ap (λ (device : Device). device.size) serves.2;
-  erases = as_before old new serves.2;
-}
-machine_step old new (Forget address) Spent serves = record {
-  step = (serves.1, serves.2, ap state_of serves.3);
-  same_size = ap (λ (device : Device). device.size) serves.3;
-  erases = as_before old new serves.3;
-}
-machine_step old new (Read address) (Value value) serves = record {
-  step = (sym serves.0.1, ap state_of serves.1);
-  same_size = ap (λ (device : Device). device.size) serves.1;
-  erases = as_before old new serves.1;
-}
-machine_step old new (Read address) NoValue serves = record {
-  step = (sym serves.0.1, ap state_of serves.1);
-  same_size = ap (λ (device : Device). device.size) serves.1;
-  erases = as_before old new serves.1;
-}
-machine_step old new Clean Cleaned serves = record {
-  step = (serves.some, serves.state_is);
-  same_size = serves.goes_on.same_size;
-  erases = by_clean old new serves;
-}
-machine_step old new Clean Idle serves = record {
-  step = (serves.1, ap state_of serves.2);
-  same_size = ap (λ (device : Device). device.size) serves.2;
-  erases = as_before old new serves.2;
-}
-machine_step old new (Arm fuse) Armed serves =
-    let same = ap state_of serves ∙ state_armed old in
-    record {
-      step = same;
-      same_size = ap (λ (device : Device). device.size) serves;
-      erases = by_wear old new same (no_wear old new (ap (λ (device : Device). device.wear) serves));
-    }
-machine_step old new PowerOn Opened serves = record {
-  step = ap state_of serves;
-  same_size = ap (λ (device : Device). device.size) serves;
-  erases = as_before old new serves;
-}
+machine_step old new (Write address value) Appended serves = search (rules, by_append)
+machine_step old new (Write address value) Moved serves = search (rules, by_move)
+machine_step old new (Write address value) Full serves = search (rules, as_before)
+machine_step old new (Write address value) Spent serves = search (rules, as_before)
+machine_step old new (Forget address) Appended serves = search (rules, by_append)
+machine_step old new (Forget address) Moved serves = search (rules, by_move)
+machine_step old new (Forget address) Absent serves = search (rules, as_before)
+machine_step old new (Forget address) Spent serves = search (rules, as_before)
+machine_step old new (Read address) (Value value) serves = search (rules, as_before)
+machine_step old new (Read address) NoValue serves = search (rules, as_before)
+machine_step old new Clean Cleaned serves = search (rules, by_clean)
+machine_step old new Clean Idle serves = search (rules, as_before)
+machine_step old new (Arm fuse) Armed serves = search (rules, by_wear, no_wear, state_armed)
+machine_step old new PowerOn Opened serves = search (rules, as_before)
 machine_step old new command answer serves = absurd serves
 
 -- ---- in none of them power is cut
@@ -154,11 +95,7 @@ pub record IsMachineRun (old new : Device) (commands : List Command) (answers : 
   pub erases : ErasesRise (erases_of_all old.size answers) old new
 
 pub machine_run : (old new : Device) (commands : List Command) (answers : List Answer) → Run Serves old commands answers new → IsMachineRun old new commands answers
-machine_run old new [] [] run = record {
-  run = ap state_of run;
-  same_size = ap (λ (device : Device). device.size) run;
-  erases = as_before old new run;
-}
+machine_run old new [] [] run = search (rules, as_before)
 machine_run old new [] (answer ∷ answers) run = absurd run
 machine_run old new (command ∷ commands) [] run = absurd run
 machine_run old new (command ∷ commands) (answer ∷ answers) run =

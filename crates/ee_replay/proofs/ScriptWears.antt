@@ -1,5 +1,5 @@
 -- How often pages are erased by a script that is not cut.
-use Rattle.std.proofs.Common.{◌≡◌, ℕ, ◌+◌, Bool, true, false, cond, Ok, Err, Option, Some, None, List, [], ◌∷◌, length, refl, sym, subst, arith}
+use Rattle.std.proofs.Common.{◌≡◌, ℕ, ◌+◌, Bool, true, false, cond, Ok, Err, Option, Some, None, List, [], ◌∷◌, length, refl, subst, arith, rules}
 use Rattle.ee_flash.specs.Device.{Device}
 use Rattle.ee_pages.specs.Sets.{live_of, other}
 use Rattle.ee_pages.specs.declared.side.Side.{Side}
@@ -94,10 +94,7 @@ lines_age : (old new : Device) (commands : List Command) (answers : List Answer)
 lines_age old new [] [] run = rw run (none_more old)
 lines_age old new [] (answer ∷ answers) run = absurd run
 lines_age old new (command ∷ commands) [] run = absurd run
-lines_age old new (command ∷ commands) (answer ∷ answers) run =
-    let later = lines_age run.0 new commands answers run.2 in
-    subst (λ (count : ℕ). Aged count old new) (sym (moves_more answer answers))
-    (one_more (is_move answer) (moves answers) old run.0 new (line_ages old run.0 command answer run.1) later)
+lines_age old new (command ∷ commands) (answer ∷ answers) run = search (rules, is_move, line_ages, moves_more, one_more, (lines_age run.0 new commands answers run.2))
 
 -- ---- a script
 

@@ -1,5 +1,5 @@
 -- Where no line is cut, a desk is a store that stays open.
-use Rattle.std.proofs.Common.{◌≡◌, List, [], ◌∷◌, ap, false, refl, subst, true}
+use Rattle.std.proofs.Common.{◌≡◌, List, [], ◌∷◌, ap, false, refl, subst, true, rules}
 use Rattle.ee_flash.specs.Device.{Device}
 use Rattle.ee_core.specs.Points.{Point}
 use Rattle.ee_script.specs.Run.{Run}
@@ -19,9 +19,7 @@ pub record IsServedOpen (old : Device) (command : Command) (answer : Answer) (ne
 
 pub served_open : (old : Device) (command : Command) (answer : Answer) (new : Point) → is_cut_answer answer ≡ false → Attends (serving_on old) command answer new
     → IsServedOpen old command answer new
-served_open old (Arm fuse) Armed new plain attends =
-    let here = now_armed (serving_on old) new fuse attends.1 in
-    record { serves = ap (λ (point : Point). point.device) here; still = ap (λ (point : Point). point.serving) here }
+served_open old (Arm fuse) Armed new plain attends = search (rules, now_armed)
 served_open old (Arm fuse) answer new plain attends = absurd (cc (attends.0))
 served_open old PowerOn Opened new plain attends = record { serves = ap (λ (point : Point). point.device) attends; still = ap (λ (point : Point). point.serving) attends }
 served_open old (Write address value) Appended new plain attends = record { serves = attends.0; still = attends.1 }

@@ -23,10 +23,6 @@ pub fault_within : {S : Type 0} (old : Progress S) (bytes line tail : List ℕ) 
     → NoLine (old.unfinished ++ bytes) → fault ≡ BadLine (saturating_count (old.lines + 1)) → IsFault old bytes fault
 fault_within old bytes line tail fault before lacks cut none e = subst (IsFault old bytes) (sym e) (meets_within old bytes line tail before lacks cut none)
 
--- want of memory is a fault of any piece
-pub fault_of_memory : {S : Type 0} (old : Progress S) (piece : List ℕ) (fault : ScriptFault) → fault ≡ Memory → IsFault old piece fault
-fault_of_memory old piece fault e = subst (IsFault old piece) (sym e) tt
-
 -- a fault in what comes next is a fault in the whole piece
 pub fault_later : {S : Type 0} (step : S → Command → Answer → S → Type 0) (old mid : Progress S) (front back : List ℕ) (fault : ScriptFault)
     → Goes step old front mid → IsFault mid back fault → IsFault old (front ++ back) fault
@@ -53,13 +49,6 @@ judged_line step old mid new piece rest line behind judged cut went = record {
   piece_is = judged.piece_is ∙ ap (λ text. judged.front ++ text) cut ∙ sym (append_assoc judged.front line behind);
   went = goes_on step old mid new judged.front line judged.went went;
 }
-
--- a fault at a line is a fault in the whole piece
-pub fault_in_turn : {S : Type 0} (step : S → Command → Answer → S → Type 0) (old mid : Progress S) (piece rest line behind : List ℕ) (fault : ScriptFault)
-    → HasJudged step old piece rest mid → rest ≡ line ++ behind → IsFault mid line fault → IsFault old piece fault
-fault_in_turn step old mid piece rest line behind fault judged cut met =
-    subst (λ text. IsFault old text fault) (append_assoc judged.front line behind ∙ sym (judged.piece_is ∙ ap (λ text. judged.front ++ text) cut))
-    (fault_before old (judged.front ++ line) behind fault (fault_later step old mid judged.front line fault judged.went met))
 
 -- the rest of a piece is an unfinished line
 pub judged_all : {S : Type 0} (step : S → Command → Answer → S → Type 0) (old mid new : Progress S) (piece rest : List ℕ)

@@ -2,7 +2,6 @@
 use Rattle.std.proofs.Common.{◌≡◌, ℕ, ◌<◌, ◌≤◌, ◌+◌, ◌^◌, ◌++◌, List, ◌∷◌, length, refl, arith, inl, length-append, codes, sym, ◌∙◌}
 use Rattle.std.specs.Fmt.{decimal}
 use Rattle.std.proofs.lemmas.Fmt.{length-decimal-le}
-use Rattle.ee_codec.specs.Words.{IsAddress}
 use Rattle.ee_flash.specs.declared.fuse.Tear.{Tear}
 use Rattle.ee_flash.specs.declared.fuse.Tear.TheVariants.{Nothing, Done, Torn, Mixed}
 use Rattle.ee_text.specs.Field.{IsField, Lacks}
@@ -57,12 +56,6 @@ length-spelling (Arm fuse) h =
     let t : length (letter fuse.tear) ≡ 1 = length-letter fuse.tear in
     simp length-append (omega arith)
 length-spelling PowerOn h = omega arith
-
--- fields that spell an address and a value are cut at the space between them
-pub cut_between : (fields field tail : List ℕ) (address value : ℕ) → IsField field → fields ≡ field ++ 32 ∷ tail
-    → IsAddress address → fields ≡ decimal address ++ 32 ∷ decimal value → (field ≡ decimal address) × (tail ≡ decimal value)
-cut_between fields field tail address value in_field cut proper spelled =
-    first_place 32 field (decimal address) tail (decimal value) in_field (Lacks-decimal 32 address (inl (omega arith)) (omega arith)) (sym cut ∙ spelled)
 
 -- a text that spells a step and a tear is cut at the first space, and its front is the step
 pub cut_behind_step : (text field tail behind : List ℕ) (step : ℕ) (tear : Tear) → IsField field → text ≡ field ++ 32 ∷ tail

@@ -122,10 +122,6 @@ meets_when_long old bytes line long = record {
   number = ap saturating_count (omega arith);
 }
 
--- no command is spelled so long
-pub too_long_to_spell : (text bytes : List ℕ) (command : Command) → 24 < length text + length bytes → IsCommand command → text ++ bytes ≡ command_text command → ⊥
-too_long_to_spell text bytes command long proper e = omega (arith, ap length e, length-append text bytes, length-spelling command proper)
-
 -- ---- pieces
 
 pub no_front : (front back : List ℕ) → front ++ back ≡ [] → front ≡ []

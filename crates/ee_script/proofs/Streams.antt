@@ -53,15 +53,6 @@ taken_kept step old held before now after most limit taken kept within = record 
   went = taken.went;
 }
 
-pub taken_empty : {S : Type 0} (step : S → Command → Answer → S → Type 0) (old held : Progress S) (before now after : Option (List ℕ)) (most : ℕ) (bytes : List ℕ)
-    → HasTaken step old before now most held → Consumes now after bytes → bytes ≡ [] → HasTaken step old before after most held
-taken_empty step old held before now after most bytes taken given none = record {
-  text = taken.text ++ bytes;
-  given = Consumes-trans before now after taken.text bytes taken.given given;
-  few = omega (arith, taken.few, length-append taken.text bytes, ap length none);
-  went = goes_on step old held held taken.text bytes taken.went (subst (λ l. Goes step held l held) (sym none) (goes_nowhere step held));
-}
-
 pub takes : {S : Type 0} (step : S → Command → Answer → S → Type 0) (old held : Progress S) (before now : Option (List ℕ)) (most : ℕ) → most < 2 ^ 64
     → HasTaken step old before now most held → TakesText step old before now held
 takes step old held before now most small taken = record { text = taken.text; given = taken.given; countable = omega (arith, taken.few); went = taken.went }

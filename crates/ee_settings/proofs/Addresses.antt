@@ -1,5 +1,5 @@
 -- The addresses of settings: which of them are taken, and by a look-up.
-use Rattle.std.proofs.Common.{◌≡◌, ◌∙◌, ◌<◌, ℕ, Bool, true, false, List, [], ◌∷◌, length, get_or, inl, inr, refl, sym, ap, arith, suc, nat_cmp}
+use Rattle.std.proofs.Common.{◌≡◌, ◌∙◌, ◌<◌, ℕ, Bool, true, false, List, [], ◌∷◌, length, inl, inr, refl, sym, ap, arith, suc, nat_cmp, rules}
 use Rattle.std.specs.Prelude.{◌==◌, ◌||◌}
 use Rattle.std.proofs.lemmas.Bool.{cases_eq, eq-eqb, ne_eqb}
 use Rattle.std.proofs.lemmas.Grind.{common_steps}
@@ -19,11 +19,7 @@ taken_found (s ∷ settings) address h = elim (cases_eq s.numbers.address addres
 ]
 
 pub found_taken : (settings : List Setting) (address : ℕ) → IsTaken settings address → has_address settings address ≡ true
-found_taken settings address taken =
-    let at = taken.1.0 in
-    let here : get_or settings at taken.0 ≡ taken.0 = taken.1.2 in
-    list_any_at (λ (s : Setting). s.numbers.address == address) settings at taken.0 taken.1.1
-    (ap (λ (s : Setting). s.numbers.address == address) here ∙ eq-eqb taken.0.numbers.address address taken.2)
+found_taken settings address taken = search (rules, eq-eqb, list_any_at)
 
 pub none_taken : (settings : List Setting) (address : ℕ) → has_address settings address ≡ false → ¬ IsTaken settings address
 none_taken settings address h = λ taken. let found = found_taken settings address taken in cc

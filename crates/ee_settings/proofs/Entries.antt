@@ -1,5 +1,5 @@
 -- Settings one by one: of those so far none is so, and what one more adds.
-use Rattle.std.proofs.Common.{◌≡◌, inl, inr, subst, suc, ℕ, ◌<◌, ◌+◌, List, [], ◌∷◌, ◌++◌, length, get_or, refl, sym, ap, ◌∙◌, arith, Result, Err}
+use Rattle.std.proofs.Common.{◌≡◌, inl, inr, suc, ℕ, ◌<◌, ◌+◌, List, [], ◌∷◌, ◌++◌, length, get_or, refl, sym, ap, ◌∙◌, arith, Result, Err, rules}
 use Rattle.std.proofs.lemmas.Bool.{cases_lt}
 use Rattle.std.proofs.lemmas.List.{get_or_default}
 use Rattle.std.proofs.lemmas.List.Elements.{Contains-push_cases}
@@ -16,13 +16,7 @@ abbrev pub NoneOf : (Setting → Type 0) → List Setting → ℕ → Type 0
 NoneOf P settings n = (k : ℕ) (d : Setting) → k < n → k < length settings → ¬ P (get_or settings k d)
 
 pub none_more : (P : Setting → Type 0) (settings : List Setting) (n : ℕ) (setting : Setting) → setting ≡ get_or settings n setting → ¬ P setting → NoneOf P settings n → NoneOf P settings (n + 1)
-none_more P settings n setting here not before k d below inside =
-    elim (cases_lt k n) [
-      | inl h ↦ before k d h inside
-      | inr h ↦ λ holds.
-          let at : k ≡ n = omega arith in
-          not (subst P (get_or_default settings k d setting inside ∙ ap (λ i. get_or settings i setting) at ∙ sym here) holds)
-    ]
+none_more P settings n setting here not before k d below inside = search (rules, cases_lt, get_or_default)
 
 pub own_more : (settings : List Setting) (setting : Setting) → HaveOwnAddresses settings → ¬ IsTaken settings setting.numbers.address → HaveOwnAddresses (settings ++ setting ∷ [])
 own_more settings setting own free one other first second same =
@@ -44,10 +38,7 @@ each_more (e ∷ entries) [] entry setting h here = absurd h
 each_more (e ∷ entries) (s ∷ settings) entry setting h here = (h.0, each_more entries settings entry setting h.1 here)
 
 pub schema_more : (entries : List Entry) (settings : List Setting) (entry : Entry) (setting : Setting) → IsSchemaOf entries settings → IsEntryOf entry setting × ¬ IsTaken settings setting.numbers.address → IsSchemaOf (entries ++ entry ∷ []) (settings ++ setting ∷ [])
-schema_more entries settings entry setting h here = record {
-  each = each_more entries settings entry setting h.each here.0;
-  addresses = own_more settings setting h.addresses here.1;
-}
+schema_more entries settings entry setting h here = search (rules, each_more, own_more)
 
 not_below_zero : (n : ℕ) → n < 0 → ⊥
 not_below_zero n h = omega arith
@@ -63,16 +54,7 @@ as_many (e ∷ entries) (s ∷ settings) h = ap suc (as_many entries settings h.
 
 first_fault : (rule : Rule) (all before after : List Entry) (entry : Entry) (settings : List Setting) (number at : ℕ) → all ≡ before ++ entry ∷ after → number ≡ length settings + 1 → IsSchemaOf before settings
     → (at ≡ number) × BreaksFirst rule settings entry → IsFirstFault all at rule
-first_fault rule all before after entry settings number at split count good h = record {
-  before = before;
-  entry = entry;
-  after = after;
-  settings = settings;
-  split = split;
-  number_is = h.0 ∙ count ∙ ap (λ n. n + 1) (sym (as_many before settings good.each));
-  good = good;
-  bad = h.1;
-}
+first_fault rule all before after entry settings number at split count good h = search (rules, as_many)
 
 pub fault_named : (fault : SchemaFault) (all before after : List Entry) (entry : Entry) (settings : List Setting) (number : ℕ) → all ≡ before ++ entry ∷ after → number ≡ length settings + 1 → IsSchemaOf before settings
     → GivesSetting settings number entry (Err fault) → IsSchemaFault all fault
@@ -85,11 +67,7 @@ fault_named fault.Memory all before after entry settings number split count good
 -- a proper name and the numbers that stand under it make the entry's setting
 pub entry_is : (name : List ℕ) (tree : Data) (fields : Fields) (numbers : Numbers) → IsName name → IsTableOf tree fields → fields ≡ fields_of_numbers numbers → AreProper numbers
     → IsEntryOf (name, tree) (record { name = name; numbers = numbers })
-entry_is name tree fields numbers named under same proper = record {
-  name = refl;
-  numbers = subst (IsTableOf tree) same under;
-  proper = record { name = named; numbers = proper };
-}
+entry_is name tree fields numbers named under same proper = search rules
 
 pub entry_made : (earlier : List Setting) (entry : Entry) (made setting : Setting) → made ≡ setting → IsEntryOf entry setting → ¬ IsTaken earlier setting.numbers.address → IsEntryOf entry made × ¬ IsTaken earlier made.numbers.address
 entry_made earlier entry made setting e here free = rw e (here, free)

@@ -1,19 +1,19 @@
 -- What is listed rises by address, is so, and leaves no address out.
-use Rattle.std.proofs.Common.{◌≡◌, ◌∙◌, ◌≢◌, ◌⊎◌, ◌+◌, ◌<◌, ◌≤◌, ◌==◌, ℕ, zero, suc, Bool, true, false, cond, List, [], ◌∷◌, ◌++◌, Option, Some, None, map, inl, inr, refl, sym, ap, subst, arith, nat_cmp, Less}
+use Rattle.std.proofs.Common.{◌≡◌, ◌∙◌, ◌≢◌, ◌⊎◌, ◌+◌, ◌<◌, ◌≤◌, ◌==◌, ℕ, zero, suc, Bool, true, false, cond, List, [], ◌∷◌, ◌++◌, Option, Some, None, map, inl, inr, refl, sym, ap, subst, arith, nat_cmp, Less, rules}
+use Rattle.std.proofs.lemmas.Grind.{common_steps}
 use Rattle.std.specs.List.{All, AllByRecursion, Contains}
 use Rattle.std.specs.List.Sorted.{IsStrictlySortedBy}
 use Rattle.std.specs.Prelude.{◌||◌, slice_get}
 use Rattle.std.specs.Cmp.{nat_cmp_is}
 use Rattle.std.proofs.lemmas.Bool.{cases_eq, eqb-true}
-use Rattle.std.proofs.lemmas.Bool.Decides.{nat_tests}
 use Rattle.std.proofs.lemmas.List.Elements.{All-append, All-cons, All-head, All-nil, All-tail, All-weaker, Contains-append_left, Contains-append_right}
 use Rattle.ee_codec.specs.Words.{IsAddress}
 use Rattle.ee_pages.specs.Meaning.{Map}
 use Rattle.ee_settings.specs.Laws.{IsListedExact}
-use Rattle.ee_settings.specs.Listing.{IsHeld, IsListedSo, held_by, listed_of, listed_to, named_from, named_in}
-use Rattle.ee_settings.specs.Setting.{Setting, has_address, is_in_range}
+use Rattle.ee_settings.specs.Listing.{IsListedSo, held_by, listed_of, listed_to, named_from, named_in}
+use Rattle.ee_settings.specs.Setting.{Setting, has_address}
 use Rattle.ee_settings.specs.Stale.{entry_of}
-use Rattle.ee_settings.specs.declared.listing.Held.TheVariants.{Value, Stale, Default}
+use Rattle.ee_settings.specs.declared.listing.Held.TheVariants.{Value, Default}
 use Rattle.ee_settings.specs.declared.listing.Listed.{Listed}
 use Rattle.ee_settings.specs.declared.numbers.Numbers.{Numbers}
 
@@ -42,13 +42,6 @@ named_at n (setting ∷ settings) address = first_or_later (setting.numbers.addr
 
 -- ---- what is said of one address
 
-held_is : (numbers : Numbers) (stored : Option ℕ) (value : ℕ) → stored ≡ Some value → IsHeld numbers stored (held_by numbers value)
-held_is numbers stored value is = by_test (is_in_range numbers value) refl
-  where
-    by_test : (b : Bool) → is_in_range numbers value ≡ b → IsHeld numbers stored (cond b (Value value) (Stale value))
-    by_test true e = (is, (grind (arith, nat_tests), grind (arith, nat_tests)))
-    by_test false e = (is, λ within. let low = within.0 in let high = within.1 in grind (arith, nat_tests))
-
 entry_is : (settings : List Setting) (entry k : ℕ) (setting : Setting) → entry ≡ 1 + k → slice_get settings k ≡ Some setting → entry_of settings entry ≡ Some setting
 entry_is settings zero k setting is here = absurd (omega (arith, is))
 entry_is settings (suc index) k setting is here = ap (slice_get settings) (omega (arith, is)) ∙ here
@@ -58,13 +51,8 @@ said_of : (settings : List Setting) (stored : Map) (address : ℕ) (named : Opti
 said_of settings stored address None None proper at holds = All-nil (IsListedSo settings stored)
 said_of settings stored address None (Some value) proper at holds =
     All-cons (IsListedSo settings stored) (record { address = address; entry = None; held = Value value }) [] (proper, (at, value, holds, refl)) (All-nil (IsListedSo settings stored))
-said_of settings stored address (Some named) None proper at holds =
-    All-cons (IsListedSo settings stored) (record { address = address; entry = Some named.0; held = Default named.1.default }) []
-    (proper, (at.1, entry_is settings named.0 at.0 at.1 at.2 at.3, at.5, (holds, ap (λ (numbers : Numbers). numbers.default) (sym at.4)))) (All-nil (IsListedSo settings stored))
-said_of settings stored address (Some named) (Some value) proper at holds =
-    All-cons (IsListedSo settings stored) (record { address = address; entry = Some named.0; held = held_by named.1 value }) []
-    (proper, (at.1, entry_is settings named.0 at.0 at.1 at.2 at.3, at.5, subst (λ (numbers : Numbers). IsHeld numbers (stored address) (held_by named.1 value)) (sym at.4) (held_is named.1 (stored address) value holds)))
-    (All-nil (IsListedSo settings stored))
+said_of settings stored address (Some named) None proper at holds = search (rules, entry_is)
+said_of settings stored address (Some named) (Some value) proper at holds = search (rules, entry_is)
 
 abbrev IsAt : ℕ → Listed → Type 0
 IsAt address listed = listed.address ≡ address
@@ -140,11 +128,7 @@ rising_with address (listed ∷ listeds) more low rising at last =
 low_to : (settings : List Setting) (stored : Map) (n : ℕ) → All (λ (listed : Listed). listed.address < suc n) (listed_to settings stored n)
 unfolding listed_to
 low_to settings stored zero = All-nil (λ (listed : Listed). listed.address < 1)
-low_to settings stored (suc n) =
-    let last = listed_of (suc n) (named_in settings (suc n)) (stored (suc n)) in
-    All-append (λ (listed : Listed). listed.address < suc (suc n)) (listed_to settings stored n) last
-    (All-weaker (λ (listed : Listed). listed.address < suc n) (λ (listed : Listed). listed.address < suc (suc n)) (λ listed low. omega (arith, low)) (listed_to settings stored n) (low_to settings stored n))
-    (All-weaker (IsAt (suc n)) (λ (listed : Listed). listed.address < suc (suc n)) (λ listed is. omega (arith, is)) last (at_address (suc n) (named_in settings (suc n)) (stored (suc n))))
+low_to settings stored (suc n) = grind (arith, common_steps, at_address, (low_to settings stored n))
 
 rising_to : (settings : List Setting) (stored : Map) (n : ℕ) → IsStrictlySortedBy nat_cmp (map (λ (listed : Listed). listed.address) (listed_to settings stored n))
 unfolding listed_to IsStrictlySortedBy
@@ -154,8 +138,4 @@ rising_to settings stored (suc n) =
     (at_address (suc n) (named_in settings (suc n)) (stored (suc n))) (last_rising (suc n) (named_in settings (suc n)) (stored (suc n)))
 
 pub listed_exact : (settings : List Setting) (stored : Map) → IsListedExact settings stored
-listed_exact settings stored = record {
-  rising = rising_to settings stored 65534;
-  each = said_to settings stored 65534 (omega arith);
-  all = λ address told. found_to settings stored 65534 address told.0.0 (let high = told.0.1 in omega arith) told.1;
-}
+listed_exact settings stored = search (rules, found_to, rising_to, said_to)

@@ -1,8 +1,7 @@
 -- A table whose names rise has one first fault.
-use Rattle.std.proofs.Common.{◌≡◌, ◌≢◌, ◌∙◌, ◌<◌, ◌+◌, ℕ, List, [], ◌∷◌, ◌++◌, length, map, refl, ap, sym, subst, inl, inr, arith, Err, Less, nat_cmp, Ordering}
+use Rattle.std.proofs.Common.{◌≡◌, ◌≢◌, ◌∙◌, ◌<◌, ◌+◌, ℕ, List, [], ◌∷◌, ◌++◌, length, map, refl, ap, sym, subst, inl, inr, arith, Err, Less, Ordering, rules}
 use Rattle.std.proofs.lemmas.Bool.{cases_lt}
 use Rattle.std.proofs.lemmas.List.{map-append}
-use Rattle.std.specs.Cmp.Lexicographic.{slice_cmp}
 use Rattle.std.specs.List.{AllByRecursion}
 use Rattle.std.specs.List.Sorted.{IsStrictlySortedBy}
 use Rattle.toml.specs.Data.{Members}
@@ -24,10 +23,7 @@ rising_front c (x ∷ xs) ys h = (all_front (λ y. c x y ≡ Less) xs ys h.0, ri
 
 -- the settings before a fault have rising names
 front_rises : (entries before : List Entry) (entry : Entry) (after : List Entry) (settings : List Setting) → HaveRisingKeys entries → entries ≡ before ++ entry ∷ after → map (λ s. s.name) settings ≡ map (λ e. e.0) before → HaveRisingNames settings
-front_rises entries before entry after settings rising split names =
-    let whole : IsStrictlySortedBy (slice_cmp nat_cmp) (map (λ (e : Entry). e.0) before ++ map (λ (e : Entry). e.0) (entry ∷ after)) =
-    subst (IsStrictlySortedBy (slice_cmp nat_cmp)) (ap (map (λ (e : Entry). e.0)) split ∙ map-append (λ (e : Entry). e.0) before (entry ∷ after)) rising in
-    subst (IsStrictlySortedBy (slice_cmp nat_cmp)) (sym names) (rising_front (slice_cmp nat_cmp) (map (λ (e : Entry). e.0) before) (map (λ (e : Entry). e.0) (entry ∷ after)) whole)
+front_rises entries before entry after settings rising split names = search (rules, map-append, rising_front)
 
 same_head : (x y : Entry) (xs ys : List Entry) → x ∷ xs ≡ y ∷ ys → x ≡ y
 same_head x y xs ys h = cc
@@ -40,19 +36,13 @@ longer_front : (before other : List Entry) (entry more : Entry) (after rest : Li
 longer_front [] [] entry more after rest h less = absurd (omega arith)
 longer_front [] (y ∷ other) entry more after rest h less = (other, ap (λ e. e ∷ other) (sym (same_head entry y after (other ++ more ∷ rest) h)))
 longer_front (x ∷ before) [] entry more after rest h less = absurd (omega arith)
-longer_front (x ∷ before) (y ∷ other) entry more after rest h less =
-    let r = longer_front before other entry more after rest (same_tail x y (before ++ entry ∷ after) (other ++ more ∷ rest) h) (omega arith) in
-    let e = same_head x y (before ++ entry ∷ after) (other ++ more ∷ rest) h in
-    (r.0, ap (λ es. y ∷ es) r.1 ∙ ap (λ z. z ∷ (before ++ entry ∷ r.0)) (sym e))
+longer_front (x ∷ before) (y ∷ other) entry more after rest h less = search (rules, same_head, same_tail, (longer_front before other entry more after rest (same_tail x y (before ++ entry ∷ after) (other ++ more ∷ rest) h) (omega arith)))
 
 same_front : (before other : List Entry) (entry more : Entry) (after rest : List Entry) → before ++ entry ∷ after ≡ other ++ more ∷ rest → length before ≡ length other → (before ≡ other) × (entry ≡ more)
 same_front [] [] entry more after rest h same = (refl, same_head entry more after rest h)
 same_front [] (y ∷ other) entry more after rest h same = absurd (omega arith)
 same_front (x ∷ before) [] entry more after rest h same = absurd (omega arith)
-same_front (x ∷ before) (y ∷ other) entry more after rest h same =
-    let r = same_front before other entry more after rest (same_tail x y (before ++ entry ∷ after) (other ++ more ∷ rest) h) (omega arith) in
-    let e = same_head x y (before ++ entry ∷ after) (other ++ more ∷ rest) h in
-    (ap (λ z. z ∷ before) e ∙ ap (λ es. y ∷ es) r.0, r.1)
+same_front (x ∷ before) (y ∷ other) entry more after rest h same = search (rules, same_head, same_tail, (same_front before other entry more after rest (same_tail x y (before ++ entry ∷ after) (other ++ more ∷ rest) h) (omega arith)))
 
 -- an entry breaks one rule first
 one_rule : (r q : Rule) (earlier : List Setting) (entry : Entry) → BreaksFirst r earlier entry → BreaksFirst q earlier entry → r ≡ q

@@ -1,5 +1,6 @@
 -- Addresses forgotten one after another: how such runs join, and what they leave.
-use Rattle.std.proofs.Common.{◌≡◌, ◌≢◌, ◌∙◌, ◌<◌, ℕ, false, arith, List, [], ◌∷◌, ◌++◌, Ok, Err, refl, sym, ap, subst, append_assoc}
+use Rattle.std.proofs.Common.{◌≡◌, ◌≢◌, ◌∙◌, ◌<◌, ℕ, false, arith, List, [], ◌∷◌, ◌++◌, Ok, Err, refl, sym, ap, subst, rules}
+use Rattle.std.proofs.lemmas.Grind.{common_steps}
 use Rattle.std.specs.List.{All}
 use Rattle.std.proofs.lemmas.List.Elements.{All-head, All-tail}
 use Rattle.ee_flash.specs.Device.{Device, IsOn}
@@ -65,18 +66,7 @@ stops_one settings address fault old new free stopped = record {
 }
 
 at_later : (front addresses rest : List ℕ) (fault : ForgetFault) (old mid new : Device) → ForgetsEach front old mid → StopsForgetting addresses fault mid new → StopsForgetting (front ++ (addresses ++ rest)) fault old new
-at_later front addresses rest fault old mid new done stops = record {
-  front = front ++ stops.front;
-  address = stops.address;
-  rest = stops.rest ++ rest;
-  addresses_are =
-      ap (λ l. front ++ (l ++ rest)) stops.addresses_are
-      ∙ ap (λ l. front ++ l) (append_assoc stops.front (stops.address ∷ stops.rest) rest)
-      ∙ sym (append_assoc front stops.front (stops.address ∷ (stops.rest ++ rest)));
-  last = stops.last;
-  forgotten = each_later front stops.front old mid stops.last done stops.forgotten;
-  stopped = stops.stopped;
-}
+at_later front addresses rest fault old mid new done stops = grind (arith, common_steps, each_later)
 
 pub stops_later : (front addresses rest all : List ℕ) (fault : TidyFault) (old mid new : Device) → all ≡ front ++ (addresses ++ rest) → ForgetsEach front old mid → Stops addresses mid fault new → Stops all old fault new
 stops_later front addresses rest all tidy.Off old mid new split done stops = stops
@@ -89,8 +79,4 @@ stops_later front addresses rest all tidy.Cut old mid new split done stops =
 
 pub still_next : (map other : Map) (above : ℕ) (found : List (ℕ × ℕ)) → ((address : ℕ) → above < address → other address ≡ map address) → AreNextLive map above found → AreNextLive other above found
 still_next map other above [] same next = tt
-still_next map other above (first ∷ more) same next =
-    let far : above < first.0 = next.0.0 in (
-      (far, same first.0 far ∙ next.0.1, λ address low high. same address low ∙ next.0.2 address low high),
-      still_next map other first.0 more (λ address high. same address (omega arith)) next.1,
-    )
+still_next map other above (first ∷ more) same next = search (rules, (still_next map other first.0 more (λ address high. same address (omega arith)) next.1))

@@ -1,11 +1,11 @@
 -- The names of a table's entries rise, so a name is that of one setting.
-use Rattle.std.proofs.Common.{◌≡◌, ◌≢◌, ◌∙◌, ◌<◌, ℕ, List, [], ◌∷◌, length, get_or, map, refl, ap, sym, subst, String, Global, string_bytes, Less, nat_cmp, inl, inr, arith}
+use Rattle.std.proofs.Common.{◌≡◌, ◌≢◌, ◌∙◌, ◌<◌, ℕ, List, [], ◌∷◌, length, get_or, map, refl, ap, sym, subst, String, Global, string_bytes, Less, nat_cmp, arith, rules}
+use Rattle.std.proofs.lemmas.Grind.{common_steps}
 use Rattle.std.proofs.lemmas.Bool.{cases_lt}
 use Rattle.std.proofs.lemmas.Cmp.{nat_list_cmp_total}
 use Rattle.std.proofs.Math.ListN.{get_or-map}
 use Rattle.std.proofs.lemmas.List.{get_or_default, length-map}
 use Rattle.std.proofs.lemmas.Map.Keys.{Less-from_sorted}
-use Rattle.std.specs.Cmp.{tied_itself}
 use Rattle.std.specs.Cmp.Lexicographic.{slice_cmp}
 use Rattle.std.specs.List.{AllByRecursion, Contains}
 use Rattle.std.specs.List.Sorted.{IsStrictlySortedBy}
@@ -39,19 +39,10 @@ pub rising_names : (es : List (String Global × Value)) (settings : List Setting
 rising_names es settings each sorted = subst (IsStrictlySortedBy (slice_cmp nat_cmp)) (sym (names_as_entries (map seen es) settings each ∙ entry_names es)) (rising_bytes (keys_of es) sorted)
 
 name_at : (settings : List Setting) (one : Setting) (i : ℕ) (d : List ℕ) → i < length settings → get_or settings i one ≡ one → get_or (map (λ (s : Setting). s.name) settings) i d ≡ one.name
-name_at settings one i d inside at =
-    let names = map (λ (s : Setting). s.name) settings in
-    let within : i < length names = rw (length-map settings (λ (s : Setting). s.name)) inside in
-    let here : get_or names i d ≡ get_or names i one.name = get_or_default names i d one.name within in
-    let mapped : get_or names i one.name ≡ (get_or settings i one).name = get_or-map (λ (s : Setting). s.name) settings i one in
-    let found : (get_or settings i one).name ≡ one.name = ap (λ (s : Setting). s.name) at in
-    here ∙ mapped ∙ found
+name_at settings one i d inside at = grind (arith, common_steps, get_or-map, get_or_default, length-map)
 
 pub never_equal : (a b : List ℕ) → slice_cmp nat_cmp a b ≡ Less → a ≢ b
-never_equal a b less e =
-    let tie = tied_itself nat_list_cmp_total a in
-    let same : slice_cmp nat_cmp a a ≡ Less = ap (slice_cmp nat_cmp a) e ∙ less in
-    cc
+never_equal a b less e = search (rules, nat_list_cmp_total)
 
 pub later_differs : (settings : List Setting) → HaveRisingNames settings → (one other : Setting) (i j : ℕ) → i < j → j < length settings → get_or settings i one ≡ one → get_or settings j other ≡ other → one.name ≢ other.name
 later_differs settings rising one other i j less inside at_one at_other =
@@ -61,13 +52,4 @@ later_differs settings rising one other i j less inside at_one at_other =
     never_equal one.name other.name (rw (name_at settings one i [] first at_one, name_at settings other j [] inside at_other) at order)
 
 pub names_apart : (settings : List Setting) → HaveRisingNames settings → (one other : Setting) → Contains settings one → Contains settings other → one.name ≡ other.name → one ≡ other
-names_apart settings rising one other first second same =
-    elim (cases_lt first.0 second.0) [
-      | inl less ↦ absurd (later_differs settings rising one other first.0 second.0 less second.1 first.2 second.2 same)
-      | inr more ↦ elim (cases_lt second.0 first.0) [
-        | inl less ↦ absurd (later_differs settings rising other one second.0 first.0 less first.1 second.2 first.2 (sym same))
-        | inr fewer ↦
-            let at : first.0 ≡ second.0 = omega arith in
-            sym first.2 ∙ get_or_default settings first.0 one other first.1 ∙ ap (λ i. get_or settings i other) at ∙ second.2
-      ]
-    ]
+names_apart settings rising one other first second same = search (rules, cases_lt, get_or_default, later_differs)

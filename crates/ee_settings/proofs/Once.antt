@@ -1,5 +1,5 @@
 -- A table that spells settings spells no others, and has no first fault.
-use Rattle.std.proofs.Common.{◌≡◌, ◌≢◌, ◌∙◌, ◌<◌, ◌+◌, ℕ, ℤ, List, [], ◌∷◌, ◌++◌, length, get_or, refl, ap, sym, subst, arith, Ok, Err}
+use Rattle.std.proofs.Common.{◌≡◌, ◌≢◌, ◌∙◌, ◌<◌, ◌+◌, ℕ, ℤ, List, [], ◌∷◌, ◌++◌, length, get_or, refl, ap, subst, arith, Ok, Err, rules}
 use Rattle.std.proofs.Math.ListN.{get_or-append}
 use Rattle.std.proofs.Math.Seq.{get_or-append_seam}
 use Rattle.std.proofs.lemmas.List.{length-append}
@@ -46,9 +46,7 @@ same_setting : (one other : Setting) → one.name ≡ other.name → one.numbers
 same_setting one other p q = setting_by one.name other.name one.numbers other.numbers p q
 
 pub entry_once : (entry : Entry) (one other : Setting) → IsEntryOf entry one → IsEntryOf entry other → one ≡ other
-entry_once entry one other h k =
-    same_setting one other (h.name ∙ sym k.name)
-    (spelled_once one.numbers other.numbers (fields_once entry.1 (fields_of_numbers one.numbers) (fields_of_numbers other.numbers) h.numbers k.numbers))
+entry_once entry one other h k = search (rules, fields_once, same_setting, spelled_once)
 
 pub entries_once : (entries : List Entry) (one other : List Setting) → AreEntriesOf entries one → AreEntriesOf entries other → one ≡ other
 entries_once [] [] [] h k = refl

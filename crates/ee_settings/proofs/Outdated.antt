@@ -1,12 +1,13 @@
 -- Stale entries, one setting after another.
-use Rattle.std.proofs.Common.{◌≡◌, ◌∙◌, ◌+◌, ◌<◌, ◌≤◌, ℕ, Bool, true, false, cond, List, [], ◌∷◌, ◌++◌, Option, Some, None, length, map, drop, get_or, inl, inr, refl, sym, ap, append_assoc, arith, suc, zero, nat_cmp, Less}
+use Rattle.std.proofs.Common.{◌≡◌, ◌+◌, ◌<◌, ◌≤◌, ℕ, Bool, true, false, cond, List, [], ◌∷◌, ◌++◌, Option, Some, None, length, map, drop, get_or, refl, sym, arith, suc, zero, nat_cmp, Less, rules}
+use Rattle.std.proofs.lemmas.Grind.{common_steps}
 use Rattle.std.specs.List.{All, AllByRecursion, Contains}
 use Rattle.std.specs.List.Sorted.{IsStrictlySortedBy}
 use Rattle.std.specs.Prelude.{slice_get}
 use Rattle.std.specs.Cmp.{nat_cmp_is}
 use Rattle.std.proofs.lemmas.Bool.{cases_lt}
 use Rattle.std.proofs.lemmas.Bool.Decides.{nat_tests}
-use Rattle.std.proofs.lemmas.List.Elements.{All-append, All-cons, All-head, All-nil, All-tail, All-weaker, Contains-append_left, Contains-append_right}
+use Rattle.std.proofs.lemmas.List.Elements.{All-append, All-cons, All-head, All-nil, All-tail, All-weaker, Contains-append_right}
 use Rattle.std.proofs.lemmas.List.{drop_more}
 use Rattle.ee_pages.specs.Meaning.{Map}
 use Rattle.ee_settings.specs.Laws.{IsStaleExact}
@@ -18,35 +19,12 @@ use Rattle.ee_settings.specs.declared.stale.Stale.{Stale}
 pub one_further : (stored : Map) (settings : List Setting) (n : ℕ) (setting : Setting) (numbers : Numbers) (value : Option ℕ) (before after all : List Stale) → n < length settings → setting ≡ get_or settings n setting
     → numbers ≡ setting.numbers → value ≡ stored numbers.address → after ≡ before ++ stale_at (n + 1) numbers value → before ++ stale_from (n + 1) stored (drop n settings) ≡ all
     → after ++ stale_from (n + 1 + 1) stored (drop (n + 1) settings) ≡ all
-one_further stored settings n setting numbers value before after all inside here same found pushed so_far =
-    let rest = stale_from (n + 1 + 1) stored (drop (n + 1) settings) in
-    let first : stale_at (n + 1) numbers value ≡ stale_at (n + 1) setting.numbers (stored setting.numbers.address) = ap (stale_at (n + 1) numbers) found ∙ ap (λ (m : Numbers). stale_at (n + 1) m (stored m.address)) same in
-    let split : drop n settings ≡ setting ∷ drop (n + 1) settings = drop_more settings n setting inside ∙ ap (λ (s : Setting). s ∷ drop (n + 1) settings) (sym here) in
-    ap (λ l. l ++ rest) pushed
-    ∙ append_assoc before (stale_at (n + 1) numbers value) rest
-    ∙ ap (λ l. before ++ (l ++ rest)) first
-    ∙ ap (λ l. before ++ stale_from (n + 1) stored l) (sym split)
-    ∙ so_far
-
-at_entry : (entry : ℕ) (numbers : Numbers) (value : Option ℕ) → All (λ (stale : Stale). stale.entry ≡ entry) (stale_at entry numbers value)
-at_entry entry numbers None = All-nil (λ (stale : Stale). stale.entry ≡ entry)
-at_entry entry numbers (Some value) = by_test (is_in_range numbers value)
-  where
-    by_test : (b : Bool) → All (λ (stale : Stale). stale.entry ≡ entry) (cond b [] (record { entry = entry; value = value } ∷ []))
-    by_test true = All-nil (λ (stale : Stale). stale.entry ≡ entry)
-    by_test false = All-cons (λ (stale : Stale). stale.entry ≡ entry) (record { entry = entry; value = value }) [] refl (All-nil (λ (stale : Stale). stale.entry ≡ entry))
+one_further stored settings n setting numbers value before after all inside here same found pushed so_far = grind (arith, common_steps, drop_more)
 
 -- stale entries are entries
 pub stale_within : (stored : Map) (settings : List Setting) (n : ℕ) → All (λ (stale : Stale). (n ≤ stale.entry) × (stale.entry < n + length settings)) (stale_from n stored settings)
 stale_within stored [] n = All-nil (λ (stale : Stale). (n ≤ stale.entry) × (stale.entry < n + 0))
-stale_within stored (setting ∷ settings) n =
-    let P = λ (stale : Stale). (n ≤ stale.entry) × (stale.entry < n + suc (length settings)) in
-    let first = stale_at n setting.numbers (stored setting.numbers.address) in
-    let rest = stale_from (n + 1) stored settings in
-    All-append P first rest
-    (All-weaker (λ (stale : Stale). stale.entry ≡ n) P (λ stale is. (omega arith, omega arith)) first (at_entry n setting.numbers (stored setting.numbers.address)))
-    (All-weaker (λ (stale : Stale). (n + 1 ≤ stale.entry) × (stale.entry < n + 1 + length settings)) P
-    (λ stale is. (let low = is.0 in omega arith, let high = is.1 in omega arith)) rest (stale_within stored settings (n + 1)))
+stale_within stored (setting ∷ settings) n = search (rules, (stale_within stored settings (n + 1)))
 
 -- ---- exactly those
 
@@ -54,10 +32,7 @@ not_in_range : (numbers : Numbers) (value : ℕ) → is_in_range numbers value �
 not_in_range numbers value test within = let low = within.0 in let high = within.1 in grind (arith, nat_tests)
 
 out_of_range : (numbers : Numbers) (value : ℕ) → ¬ IsInRange numbers value → is_in_range numbers value ≡ false
-out_of_range numbers value outside = elim (cases_lt value numbers.min) [
-  | inl low ↦ grind (arith, nat_tests)
-  | inr above ↦ elim (cases_lt numbers.max value) [ inl high ↦ grind (arith, nat_tests) | inr below ↦ absurd (outside (above, below)) ]
-]
+out_of_range numbers value outside = search (rules, cases_lt, nat_tests)
 
 -- the setting at this place of the list is the entry, and it is stale
 abbrev IsStaleAt : ℕ → Map → List Setting → Stale → Type 0
@@ -86,9 +61,7 @@ all_stale n stored (setting ∷ settings) =
     (All-weaker (IsStaleAt (n + 1) stored settings) (IsStaleAt n stored (setting ∷ settings)) (one_later n stored setting settings) (stale_from (n + 1) stored settings) (all_stale (n + 1) stored settings))
 
 from_first : (settings : List Setting) (stored : Map) (stale : Stale) → IsStaleAt 1 stored settings stale → IsStale settings stored stale
-from_first settings stored stale h =
-    let e : stale.entry ≡ suc h.0 = (let is = h.2 in omega arith) in
-    (h.1, ap (entry_of settings) e ∙ h.3, h.4, h.5)
+from_first settings stored stale h = search rules
 
 told_here : (n value : ℕ) (numbers : Numbers) (stored : Option ℕ) → stored ≡ Some value → is_in_range numbers value ≡ false → stale_at n numbers stored ≡ record { entry = n; value = value } ∷ []
 told_here n value numbers stored is out = rw (is, out) refl
@@ -96,11 +69,7 @@ told_here n value numbers stored is out = rw (is, out) refl
 told : (n k value : ℕ) (stored : Map) (settings : List Setting) (setting : Setting) → slice_get settings k ≡ Some setting → stored setting.numbers.address ≡ Some value → is_in_range setting.numbers value ≡ false
     → Contains (stale_from n stored settings) (record { entry = n + k; value = value })
 told n k value stored [] setting here is out = absurd (let wrong : ◌≡◌ {A = Option Setting} None (Some setting) = here in cc wrong)
-told n zero value stored (first ∷ settings) setting here is out =
-    let same : first ≡ setting = cc here in
-    let one : stale_at n first.numbers (stored first.numbers.address) ≡ record { entry = n; value = value } ∷ [] = rw same (told_here n value setting.numbers (stored setting.numbers.address) is out) in
-    let e : n + 0 ≡ n = omega arith in
-    rw (one, e) (Contains-append_left (record { entry = n; value = value } ∷ []) (stale_from (n + 1) stored settings) (record { entry = n; value = value }) (0, omega arith, refl))
+told n zero value stored (first ∷ settings) setting here is out = search (rules, told_here)
 told n (suc k) value stored (first ∷ settings) setting here is out =
     let e : n + suc k ≡ n + 1 + k = omega arith in
     rw e (Contains-append_right (stale_at n first.numbers (stored first.numbers.address)) (stale_from (n + 1) stored settings) (record { entry = n + 1 + k; value = value })

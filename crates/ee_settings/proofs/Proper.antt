@@ -1,5 +1,5 @@
 -- Only proper addresses have values.
-use Rattle.std.proofs.Common.{◌≡◌, ◌⊎◌, ℕ, Bool, true, false, cond, Option, Some, None, List, [], ◌∷◌, inl, inr, refl, ap, arith}
+use Rattle.std.proofs.Common.{◌≡◌, ◌⊎◌, ℕ, Bool, true, false, cond, Option, Some, None, List, [], ◌∷◌, refl, ap, rules}
 use Rattle.std.specs.Prelude.{◌&&◌, ◌==◌, ◌/◌, ◌%◌, ◌^◌, nat_lt}
 use Rattle.std.proofs.lemmas.Bool.{cases_eq, cases_lt, ne_eqb}
 use Rattle.std.proofs.lemmas.Bool.Decides.{nat_tests}
@@ -19,10 +19,7 @@ abbrev is_proper : ℕ → Bool
 is_proper address = nat_lt 0 address && nat_lt address 65535
 
 not_proper : (address : ℕ) → ¬ IsAddress address → is_proper address ≡ false
-not_proper address outside = elim (cases_lt 0 address) [
-  | inr none ↦ grind (arith, nat_tests)
-  | inl some ↦ elim (cases_lt address 65535) [ inl few ↦ absurd (outside (some, few)) | inr many ↦ grind (arith, nat_tests) ]
-]
+not_proper address outside = search (rules, cases_lt, nat_tests)
 
 element_other : (named value address : ℕ) → (named ≡ address → ⊥) → slot_says (Element named value) address ≡ None
 element_other named value address other = ap (λ (b : Bool). cond b (Some (Some value)) None) (ne_eqb named address other)
@@ -37,10 +34,7 @@ one_of false false element forgotten address e f = refl
 
 parts_outside : (named value : ℕ) (first second : Bool) (address : ℕ) → is_proper address ≡ false
     → slot_says (cond (is_proper named && first) (Element named value) (cond (is_proper named && second) (Forgotten named value) Foreign)) address ≡ None
-parts_outside named value first second address outside = elim (cases_eq named address) [
-  | inl same ↦ rw (same, outside) refl
-  | inr other ↦ one_of (is_proper named && first) (is_proper named && second) (Element named value) (Forgotten named value) address (element_other named value address other) (forgotten_other named value address other)
-]
+parts_outside named value first second address outside = search (rules, cases_eq, element_other, forgotten_other, one_of)
 
 says_outside : (word : Word) (address : ℕ) → is_proper address ≡ false → says word address ≡ None
 says_outside Erased address outside = refl
@@ -59,7 +53,4 @@ pub none_outside : (device : Device) (address : ℕ) → ¬ IsAddress address �
 none_outside device address outside = in_state device (live_of device) address (not_proper address outside)
 
 pub proper_or_not : (address : ℕ) → IsAddress address ⊎ ¬ IsAddress address
-proper_or_not address = elim (cases_lt 0 address) [
-  | inr none ↦ inr (λ proper. let some = proper.0 in omega arith)
-  | inl some ↦ elim (cases_lt address 65535) [ inl few ↦ inl (some, few) | inr many ↦ inr (λ proper. let low = proper.1 in omega arith) ]
-]
+proper_or_not address = search (rules, cases_lt)

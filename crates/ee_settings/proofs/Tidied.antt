@@ -1,5 +1,5 @@
 -- How far a store is tidied: within a batch of live addresses, and from batch to batch.
-use Rattle.std.proofs.Common.{◌≡◌, ◌≢◌, ◌∙◌, ◌+◌, ◌<◌, ◌≤◌, ℕ, Bool, true, false, cond, Option, Some, None, List, [], ◌∷◌, ◌++◌, length, take, drop, get_or, refl, sym, ap, subst, arith, length-append, append_assoc, Ok, Err}
+use Rattle.std.proofs.Common.{◌≡◌, ◌≢◌, ◌∙◌, ◌+◌, ◌<◌, ◌≤◌, ℕ, Bool, true, false, cond, Option, Some, None, List, [], ◌∷◌, ◌++◌, length, take, drop, get_or, sym, ap, subst, arith, length-append, append_assoc, Ok, Err, rules}
 use Rattle.std.specs.List.{All}
 use Rattle.std.proofs.lemmas.List.{drop_more}
 use Rattle.std.proofs.lemmas.List.Elements.{All-cons, All-nil}
@@ -80,9 +80,7 @@ pub record TidiedTo (settings : List Setting) (above forgotten : ℕ) (old now :
   pub same : (address : ℕ) → above < address → (state_of now).map address ≡ (state_of old).map address
 
 pub tidying_begins : (settings : List Setting) (now : Device) → IsOn now → TidiedTo settings 0 0 now now
-tidying_begins settings now on =
-    let none = unnamed_to-zero settings (state_of now).map in
-    record { on = on; below = omega arith; count = rw none refl; made = rw none refl; same = λ address high. refl }
+tidying_begins settings now on = search (rules, unnamed_to-zero)
 
 module _ (settings : List Setting) (above forgotten : ℕ) (old now : Device) (found : List (ℕ × ℕ)) (so_far : TidiedTo settings above forgotten old now) (proper : All (λ (one : ℕ × ℕ). IsAddress one.0) found) where
   abbrev was : Map
@@ -98,10 +96,7 @@ module _ (settings : List Setting) (above forgotten : ℕ) (old now : Device) (f
   last_low = last_below found above so_far.below proper
 
   counted : (all : List ℕ) (more : ℕ) → all ≡ front ++ unnamed_among settings found → more ≡ length (unnamed_among settings found) → forgotten + more ≡ length all
-  counted all more split is =
-      let joined = length-append front (unnamed_among settings found) in
-      let k = so_far.count in
-      rw split (omega (arith, joined))
+  counted all more split is = search (rules, length-append, split)
 
   pub tidied_through : (new : Device) (through more : ℕ) → through < 65535 → AreLiveThrough (state_of now).map above found (Some through) → more ≡ length (unnamed_among settings found)
       → ForgetsEach (unnamed_among settings found) now new → TidiedTo settings through (forgotten + more) old new

@@ -1,16 +1,17 @@
 -- What tidying leaves of the map, and when the store is spent in it.
-use Rattle.std.proofs.Common.{◌≡◌, ◌⊎◌, ◌∙◌, ◌-◌, ◌<◌, ◌≤◌, ℕ, Bool, true, false, cond, not, is_some, Option, Some, None, List, [], ◌∷◌, ◌++◌, length, map, inl, inr, refl, sym, ap, subst, append_assoc, arith, suc, zero, Result, Ok, Err}
+use Rattle.std.proofs.Common.{◌≡◌, ◌⊎◌, ◌∙◌, ◌-◌, ◌<◌, ◌≤◌, ℕ, Bool, true, false, cond, not, is_some, Option, Some, None, List, [], ◌∷◌, ◌++◌, length, map, inl, inr, refl, sym, ap, subst, append_assoc, arith, suc, zero, Result, Ok, Err, rules}
+use Rattle.std.proofs.lemmas.Grind.{common_steps}
 use Rattle.std.specs.Prelude.{◌&&◌}
 use Rattle.std.specs.List.{All, Contains, flat_map}
 use Rattle.std.proofs.lemmas.Bool.{cases_eq, eq-eqb, ne_eqb}
-use Rattle.std.proofs.lemmas.List.Elements.{All-append, All-cons, All-head, All-nil, All-tail}
+use Rattle.std.proofs.lemmas.List.Elements.{All-cons, All-head, All-nil, All-tail}
 use Rattle.ee_flash.specs.Device.{Device, IsFormed}
 use Rattle.ee_flash.specs.Size.{slot_count}
 use Rattle.ee_pages.specs.Meaning.{Forget, Map, map_after}
 use Rattle.ee_core.proofs.Public.{forget-at, forget-other, cut_map}
 use Rattle.ee_core.specs.Calls.{Forgets}
 use Rattle.ee_core.specs.Runs.{Call, Forgot, IsWholeRun, changes_of_call, is_cut}
-use Rattle.ee_core.specs.State.{appended_state, moved_state, state_of}
+use Rattle.ee_core.specs.State.{state_of}
 use Rattle.ee_core.specs.declared.variables.ForgetFault.TheVariants as forget
 use Rattle.ee_core.specs.declared.variables.Written.{Written}
 use Rattle.ee_core.specs.declared.variables.Written.TheVariants.{Appended, Moved}
@@ -39,10 +40,7 @@ low settings values true address is = All-cons (λ a. has_address settings a ≡
 -- none of them is a setting's
 unnamed_free : (settings : List Setting) (values : Map) (n : ℕ) → All (λ a. has_address settings a ≡ false) (unnamed_to settings values n)
 unnamed_free settings values zero = rw (unnamed_to-zero settings values) (All-nil (λ a. has_address settings a ≡ false))
-unnamed_free settings values (suc n) =
-    rw (unnamed_to-suc settings values n)
-    (All-append (λ a. has_address settings a ≡ false) (unnamed_to settings values n) (cond (is_unnamed settings values (suc n)) (suc n ∷ []) []) (unnamed_free settings values n)
-    (low settings values (is_unnamed settings values (suc n)) (suc n) refl))
+unnamed_free settings values (suc n) = grind (arith, common_steps, unnamed_to-suc, (unnamed_free settings values n))
 
 free_front : (settings : List Setting) (front rest : List ℕ) → All (λ a. has_address settings a ≡ false) (front ++ rest) → All (λ a. has_address settings a ≡ false) front
 free_front settings [] rest free = All-nil (λ a. has_address settings a ≡ false)
@@ -60,19 +58,13 @@ abbrev TakesUnnamed : List Setting → Map → Map → Type 0
 TakesUnnamed settings old new = (address : ℕ) → (new address ≡ old address) ⊎ ((has_address settings address ≡ false) × (new address ≡ None))
 
 takes_both : (settings : List Setting) (old mid new : Map) → TakesUnnamed settings old mid → TakesUnnamed settings mid new → TakesUnnamed settings old new
-takes_both settings old mid new first second address = elim (second address) [
-  | inl same ↦ elim (first address) [ inl before ↦ inl (same ∙ before) | inr taken ↦ inr (taken.0, same ∙ taken.1) ]
-  | inr taken ↦ inr taken
-]
+takes_both settings old mid new first second address = search rules
 
 takes_none : (settings : List Setting) (old new : Map) → new ≡ old → TakesUnnamed settings old new
 takes_none settings old new same address = inl (ap (λ (values : Map). values address) same)
 
 takes_one : (settings : List Setting) (old new : Map) (named : ℕ) → has_address settings named ≡ false → new ≡ map_after (Forget named) old → TakesUnnamed settings old new
-takes_one settings old new named free is address = elim (cases_eq named address) [
-  | inl same ↦ inr (sym (ap (has_address settings) same) ∙ free, ap (λ (values : Map). values address) is ∙ forget-at old named address (sym same))
-  | inr other ↦ inl (ap (λ (values : Map). values address) is ∙ forget-other old named address (λ e. other (sym e)))
-]
+takes_one settings old new named free is address = search (rules, cases_eq, forget-at, forget-other)
 
 each_takes : (settings : List Setting) (addresses : List ℕ) (old new : Device) → All (λ a. has_address settings a ≡ false) addresses → ForgetsEach addresses old new → TakesUnnamed settings (state_of old).map (state_of new).map
 each_takes settings [] old new free done = takes_none settings (state_of old).map (state_of new).map (ap (λ (device : Device). (state_of device).map) done)
@@ -130,10 +122,7 @@ stays_none (one ∷ addresses) old new address done none =
     stays_none addresses done.1 new address done.3 there
 
 gone : (front rest : List ℕ) (address : ℕ) (old new : Device) → ForgetsEach (front ++ address ∷ rest) old new → (state_of new).map address ≡ None
-gone [] rest address old new done =
-    let there : (state_of done.1).map address ≡ None =
-    ap (λ (values : Map). values address) (map_without old done.1 address done.0 done.2) ∙ forget-at (state_of old).map address address refl in
-    stays_none rest done.1 new address done.3 there
+gone [] rest address old new done = search (rules, forget-at, map_without, stays_none)
 gone (one ∷ front) rest address old new done = gone front rest address done.1 new done.3
 
 -- a live address that no setting has is among them
@@ -162,11 +151,7 @@ none_left settings old new address (Some value) is free done = elim (proper_or_n
 left_at : (settings : List Setting) (old new : Device) (address : ℕ) (named : Bool) → has_address settings address ≡ named → ForgetsEach (unnamed_in settings (state_of old).map) old new
     → (state_of new).map address ≡ cond named ((state_of old).map address) None
 left_at settings old new address false is done = none_left settings old new address ((state_of old).map address) refl is done
-left_at settings old new address true is done =
-    elim (each_takes settings (unnamed_in settings (state_of old).map) old new (unnamed_free settings (state_of old).map 65534) done address) [
-      | inl same ↦ same
-      | inr taken ↦ (let wrong : true ≡ false = sym is ∙ taken.0 in cc)
-    ]
+left_at settings old new address true is done = search (rules, each_takes, unnamed_free)
 
 pub leaves_named : (settings : List Setting) (old new : Device) (count : ℕ) → Tidies settings old (Ok count) new → (address : ℕ) → (state_of new).map address ≡ kept_map settings (state_of old).map address
 leaves_named settings old new count done address = left_at settings old new address (has_address settings address) refl done.2
@@ -190,22 +175,13 @@ each_as_run (address ∷ addresses) old new done =
 
 pub as_run : (settings : List Setting) (old new : Device) (count : ℕ) → Tidies settings old (Ok count) new
     → (calls : List Call) × IsWholeRun calls old new × (flat_map changes_of_call calls ≡ map Forget (unnamed_in settings (state_of old).map)) × (length calls ≡ count)
-as_run settings old new count done =
-    let run = each_as_run (unnamed_in settings (state_of old).map) old new done.2 in
-    (run.0, run.1, run.2, run.3 ∙ sym done.1)
+as_run settings old new count done = search (rules, each_as_run)
 
 -- ---- the states, and when the store is spent
 
 state_after : (old new : Device) (address : ℕ) (written : Written) → Forgets old address (Ok written) new → state_of new ≡ after_forgetting old.size address (state_of old)
-state_after old new address Appended done =
-    let free = done.free in
-    done.state_is
-    ∙ ap (λ (b : Bool). cond b (moved_state old.size.pages (Forget address) (state_of old)) (appended_state (Forget address) (state_of old)))
-    (sym (ne_eqb (state_of old).fill (slot_count old.size) (λ e. omega arith)))
-state_after old new address Moved done =
-    done.state_is
-    ∙ ap (λ (b : Bool). cond b (moved_state old.size.pages (Forget address) (state_of old)) (appended_state (Forget address) (state_of old)))
-    (sym (eq-eqb (state_of old).fill (slot_count old.size) done.all_used))
+state_after old new address Appended done = search (rules, ne_eqb)
+state_after old new address Moved done = search (rules, eq-eqb)
 
 same_size : (old new : Device) (address : ℕ) (written : Written) → Forgets old address (Ok written) new → new.size ≡ old.size
 same_size old new address Appended done = done.goes_on.same_size
@@ -217,20 +193,14 @@ not_spent old new address Moved done = done.proceeds.accepted.not_spent
 
 states_after : (addresses : List ℕ) (old new : Device) → ForgetsEach addresses old new → state_of new ≡ after_forgettings old.size addresses (state_of old)
 states_after [] old new done = ap state_of done
-states_after (address ∷ addresses) old new done =
-    states_after addresses done.1 new done.3
-    ∙ ap (λ size. after_forgettings size addresses (state_of done.1)) (same_size old done.1 address done.0 done.2)
-    ∙ ap (after_forgettings old.size addresses) (state_after old done.1 address done.0 done.2)
+states_after (address ∷ addresses) old new done = search (rules, same_size, state_after, (states_after addresses done.1 new done.3))
 
 pub leaves_state : (settings : List Setting) (old new : Device) (count : ℕ) → Tidies settings old (Ok count) new → state_of new ≡ after_forgettings old.size (unnamed_in settings (state_of old).map) (state_of old)
 leaves_state settings old new count done = states_after (unnamed_in settings (state_of old).map) old new done.2
 
 spent_here : (front rest : List ℕ) (address : ℕ) (old last : Device) → ForgetsEach front old last → IsSpent (slot_count last.size) (state_of last) → IsSpentAmong old.size (front ++ address ∷ rest) (state_of old)
 spent_here [] rest address old last done spent = inl (subst (λ (device : Device). IsSpent (slot_count device.size) (state_of device)) done spent)
-spent_here (one ∷ front) rest address old last done spent =
-    let later = spent_here front rest address done.1 last done.3 spent in
-    let sized = subst (λ size. IsSpentAmong size (front ++ address ∷ rest) (state_of done.1)) (same_size old done.1 one done.0 done.2) later in
-    inr (subst (IsSpentAmong old.size (front ++ address ∷ rest)) (state_after old done.1 one done.0 done.2) sized)
+spent_here (one ∷ front) rest address old last done spent = search (rules, same_size, state_after, (spent_here front rest address done.1 last done.3 spent))
 
 never_spent : (addresses : List ℕ) (old new : Device) → ForgetsEach addresses old new → ¬ IsSpentAmong old.size addresses (state_of old)
 never_spent [] old new done spent = spent

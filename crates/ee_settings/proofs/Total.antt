@@ -1,5 +1,5 @@
 -- Every table is a schema or has a first fault: each rule can be told of each entry.
-use Rattle.std.proofs.Common.{◌≡◌, ◌≢◌, ◌⊎◌, ℕ, ℤ, pos, negsuc, zero, suc, ◌+◌, ◌<◌, ◌^◌, Bool, true, false, List, [], ◌∷◌, ◌++◌, length, get_or, refl, sym, ap, ◌∙◌, subst, arith, inl, inr, codes, append_assoc, Option, Some, None, Ok, Err}
+use Rattle.std.proofs.Common.{◌≡◌, ◌≢◌, ◌⊎◌, ℕ, ℤ, pos, negsuc, zero, suc, ◌+◌, ◌<◌, Bool, true, false, List, [], ◌∷◌, ◌++◌, length, get_or, refl, sym, ap, ◌∙◌, subst, arith, inl, inr, codes, append_assoc, Option, Some, None, Ok, Err, rules}
 use Rattle.std.proofs.lemmas.Bool.{cases_eq, cases_lt}
 use Rattle.std.proofs.lemmas.List.{append-nil}
 use Rattle.toml.specs.Data.{Data, Members, array, boolean, datetime, float, get_member, integer, string, table}
@@ -68,23 +68,7 @@ told_natural (pos n) = inl (n, refl)
 told_natural (negsuc n) = inr (λ m e. cc)
 
 told_proper : (numbers : Numbers) → AreProper numbers ⊎ ¬ AreProper numbers
-told_proper numbers =
-    elim (cases_lt 0 numbers.address) [
-      | inl some ↦ elim (cases_lt numbers.address 65535) [
-        | inl few ↦ elim (cases_lt numbers.max (2 ^ 32)) [
-          | inl fits ↦ elim (cases_lt numbers.default numbers.min) [
-            | inl low ↦ inr (λ proper. let h = proper.default.0 in omega arith)
-            | inr least ↦ elim (cases_lt numbers.max numbers.default) [
-              | inl high ↦ inr (λ proper. let h = proper.default.1 in omega arith)
-              | inr most ↦ inl record { address = (some, few); max = fits; default = (least, most) }
-            ]
-          ]
-          | inr large ↦ inr (λ proper. let h = proper.max in omega arith)
-        ]
-        | inr many ↦ inr (λ proper. let h = proper.address.1 in omega arith)
-      ]
-      | inr none ↦ inr (λ proper. let h = proper.address.0 in omega arith)
-    ]
+told_proper numbers = search (rules, cases_lt)
 
 proper_range : (fields : Fields) (numbers : Numbers) → fields ≡ fields_of_numbers numbers → ((known : Numbers) × AreProper known × (fields ≡ fields_of_numbers known)) ⊎ HaveBadRange fields
 proper_range fields numbers is =

@@ -1,11 +1,11 @@
 -- The live addresses that no setting has, gathered by rising address.
-use Rattle.std.proofs.Common.{◌≡◌, ◌≢◌, ◌∙◌, ◌+◌, ◌-◌, ◌<◌, ◌≤◌, ℕ, Bool, true, false, cond, not, is_some, Option, Some, None, List, [], ◌∷◌, ◌++◌, length, take, drop, get_or, refl, sym, ap, arith, suc, zero, length-append, append_assoc}
+use Rattle.std.proofs.Common.{◌≡◌, ◌≢◌, ◌∙◌, ◌+◌, ◌-◌, ◌<◌, ◌≤◌, ℕ, Bool, true, false, cond, not, is_some, Option, Some, None, List, [], ◌∷◌, ◌++◌, length, take, drop, get_or, refl, sym, ap, arith, suc, zero, length-append, append_assoc, rules}
 use Rattle.std.specs.Prelude.{◌&&◌}
 use Rattle.std.specs.List.{All}
-use Rattle.std.proofs.lemmas.Grind.{flat_map-append}
+use Rattle.std.proofs.lemmas.Grind.{common_steps, flat_map-append}
 use Rattle.std.proofs.lemmas.List.{append-nil, drop_more, take_more}
 use Rattle.std.proofs.Common.{take-append-drop}
-use Rattle.std.proofs.lemmas.List.Elements.{All-append, All-cons, All-nil, All-weaker}
+use Rattle.std.proofs.lemmas.List.Elements.{All-cons, All-nil, All-weaker}
 use Rattle.ee_pages.specs.Meaning.{AreLiveThrough, AreNextLive, IsNextLive, IsNoneLive, Map, last_of}
 use Rattle.ee_pages.proofs.Public.{last_rises}
 use Rattle.ee_settings.proofs.Forgetting.{still_next}
@@ -108,10 +108,7 @@ so_few false address = omega arith
 
 pub few : (settings : List Setting) (map : Map) (n : ℕ) → length (unnamed_to settings map n) ≤ n
 few settings map zero = rw (unnamed_to-zero settings map) (omega arith)
-few settings map (suc n) =
-    let rest = few settings map n in
-    let one = so_few (is_unnamed settings map (suc n)) (suc n) in
-    rw (unnamed_to-suc settings map n, length-append (unnamed_to settings map n) (if_so (is_unnamed settings map (suc n)) (suc n))) (omega arith)
+few settings map (suc n) = search (rules, length-append, so_few, unnamed_to-suc, (few settings map n))
 
 -- ---- those that were found lie up to the last one
 
@@ -121,11 +118,7 @@ low_of false address last low = All-cons (λ a. a ≤ last) address [] low (All-
 
 among_low : (settings : List Setting) (map : Map) (above : ℕ) (found : List (ℕ × ℕ)) → AreNextLive map above found → All (λ a. a ≤ last_of above found) (unnamed_among settings found)
 among_low settings map above [] next = All-nil (λ a. a ≤ above)
-among_low settings map above (first ∷ more) next =
-    let last = last_of first.0 more in
-    let rises = last_rises map more first.0 next.1 in
-    All-append (λ a. a ≤ last) (unnamed_of settings first.0) (unnamed_among settings more)
-    (low_of (has_address settings first.0) first.0 last (omega arith)) (among_low settings map first.0 more next.1)
+among_low settings map above (first ∷ more) next = search (rules, last_rises, low_of, (among_low settings map first.0 more next.1))
 
 pub among_others : (settings : List Setting) (map : Map) (above address : ℕ) (found : List (ℕ × ℕ)) → AreNextLive map above found → last_of above found < address → All (λ a. a ≢ address) (unnamed_among settings found)
 among_others settings map above address found next high =
@@ -138,22 +131,13 @@ none_same map other above None same none = λ address high. same address high �
 none_same map other above (Some to) same none = (none.0, λ address high low. same address high ∙ none.1 address high low)
 
 pub live_same : (map other : Map) (above : ℕ) (found : List (ℕ × ℕ)) (through : Option ℕ) → ((address : ℕ) → above < address → other address ≡ map address) → AreLiveThrough map above found through → AreLiveThrough other above found through
-live_same map other above found through same live =
-    let rises = last_rises map found above live.next in
-    record {
-      next = still_next map other above found same live.next;
-      rest = none_same map other (last_of above found) through (λ address high. same address (omega arith)) live.rest;
-      further = live.further;
-    }
+live_same map other above found through same live = search (rules, last_rises, none_same, still_next)
 
 -- ---- within a batch
 
 pub among_more : (settings : List Setting) (found : List (ℕ × ℕ)) (n : ℕ) (one : ℕ × ℕ) → n < length found → one ≡ get_or found n one
     → unnamed_among settings (take (n + 1) found) ≡ unnamed_among settings (take n found) ++ unnamed_of settings one.0
-among_more settings found n one inside here =
-    ap (unnamed_among settings) (take_more found n one inside ∙ ap (λ (x : ℕ × ℕ). take n found ++ x ∷ []) (sym here))
-    ∙ flat_map-append (λ (x : ℕ × ℕ). unnamed_of settings x.0) (take n found) (one ∷ [])
-    ∙ ap (λ l. unnamed_among settings (take n found) ++ l) (append-nil (unnamed_of settings one.0))
+among_more settings found n one inside here = grind (arith, common_steps, append-nil, flat_map-append, take_more)
 
 pub among_split : (settings : List Setting) (found : List (ℕ × ℕ)) (n : ℕ) (one : ℕ × ℕ) → n < length found → one ≡ get_or found n one
     → unnamed_among settings found ≡ unnamed_among settings (take n found) ++ (unnamed_of settings one.0 ++ unnamed_among settings (drop (n + 1) found))

@@ -20,7 +20,7 @@ pub record IsReadUpTo (all rest : List ℕ) (value : ℕ) : Type 0 where
   pub front : AllDigits 10 rest → AllDigits 10 all
   pub back : AllDigits 10 all → AllDigits 10 rest
 
-digit_value_is : (b : ℕ) → 48 ≤ b → b ≤ 57 → digit_value b ≡ b - 48
+pub digit_value_is : (b : ℕ) → 48 ≤ b → b ≤ 57 → digit_value b ≡ b - 48
 digit_value_is b low high = grind (arith, common_steps)
 
 -- digits that follow a number make it no smaller

@@ -1,5 +1,5 @@
 -- Texts that lack a byte: what stands before its first place.
-use Rattle.std.proofs.Common.{◌≡◌, ◌≢◌, ℕ, ◌<◌, ◌≤◌, ◌^◌, ◌++◌, ◌⊎◌, List, [], ◌∷◌, length, refl, arith, inl, inr}
+use Rattle.std.proofs.Common.{◌≡◌, ◌≢◌, ℕ, suc, zero, ◌<◌, ◌≤◌, ◌^◌, ◌++◌, ◌⊎◌, List, [], ◌∷◌, length, get_or, refl, arith, inl, inr}
 use Rattle.std.specs.Fmt.{decimal}
 use Rattle.std.specs.Str.Parse.{AllDigits}
 use Rattle.std.proofs.lemmas.Bool.{ne_eqb}
@@ -14,6 +14,12 @@ Lacks-parts c x xs lacks = elim (eqb_tells x c) [
   | inl same ↦ let e = rw same.0 at lacks in absurd (cc e)
   | inr other ↦ (other.1, rw other.0 at lacks)
 ]
+
+-- a byte that a list lacks is at none of its places
+pub lacks_at : (c : ℕ) (xs : List ℕ) (k : ℕ) → Lacks c xs → 0 ≢ c → get_or xs k 0 ≢ c
+lacks_at c [] k lacks other = other
+lacks_at c (x ∷ xs) zero lacks other = (Lacks-parts c x xs lacks).0
+lacks_at c (x ∷ xs) (suc k) lacks other = lacks_at c xs k (Lacks-parts c x xs lacks).1 other
 
 pub Lacks-cons : (c x : ℕ) (xs : List ℕ) → x ≢ c → Lacks c xs → Lacks c (x ∷ xs)
 Lacks-cons c x xs other lacks = rw (ne_eqb x c other) lacks

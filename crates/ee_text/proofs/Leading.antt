@@ -9,11 +9,7 @@ use Rattle.std.proofs.lemmas.Int.Digits.{digits_value_more}
 use Rattle.std.proofs.lemmas.List.{drop-take, length-take, length-take-le, take-take, take_all, take_more}
 use Rattle.std.proofs.lemmas.Str.Parse.{digits_value_short}
 use Rattle.ee_text.specs.Number.{IsWorth, StartsWithNoDigit}
-use Rattle.ee_text.proofs.Digits.{own, zero_alone}
-
--- a digit, by its byte
-digit_value_is : (byte : ℕ) → 48 ≤ byte → byte ≤ 57 → digit_value byte ≡ byte - 48
-digit_value_is byte low high = grind (arith, common_steps)
+use Rattle.ee_text.proofs.Digits.{digit_value_is, own, zero_alone}
 
 not_a_digit : (byte : ℕ) → (byte < 48) ⊎ (57 < byte) → digit_value byte < 10 → ⊥
 not_a_digit byte (inl low) digit = grind (arith, common_steps)
@@ -22,10 +18,6 @@ not_a_digit byte (inr high) digit = grind (arith, common_steps)
 AllDigits-snoc : (xs : List ℕ) (x : ℕ) → AllDigits 10 xs → digit_value x < 10 → AllDigits 10 (xs ++ x ∷ [])
 AllDigits-snoc [] x all digit = (digit, tt)
 AllDigits-snoc (y ∷ xs) x all digit = (all.0, AllDigits-snoc xs x all.1 digit)
-
--- nothing was read
-pub worth_nothing : (text : List ℕ) → IsWorth text 0 0
-worth_nothing text = record { within = omega arith; digits = tt; value_is = refl }
 
 -- one digit more
 pub worth_more : (text : List ℕ) (count value : ℕ) → count < length text → 48 ≤ get_or text count 0 → get_or text count 0 ≤ 57 → IsWorth text count value

@@ -6,5 +6,6 @@ mod Lacking
 mod LineFeeds
 mod NumberText
 mod Parting
+mod Results
 mod Leading
 pub mod Public

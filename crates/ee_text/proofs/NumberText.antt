@@ -18,12 +18,6 @@ IsLine-decimal n fits = Lacks-decimal 10 n (inl (omega arith)) fits
 pub length-decimal-u64 : (n : ℕ) → n < 2 ^ 64 → length (decimal n) ≤ 20
 length-decimal-u64 n fits = length-decimal-le 20 n (omega arith) (omega arith) fits
 
-pub length-decimal-u32 : (n : ℕ) → n < 2 ^ 32 → length (decimal n) ≤ 10
-length-decimal-u32 n fits = length-decimal-le 10 n (omega arith) (omega arith) (omega arith)
-
-pub length-decimal-u16 : (n : ℕ) → n < 2 ^ 16 → length (decimal n) ≤ 5
-length-decimal-u16 n fits = length-decimal-le 5 n (omega arith) (omega arith) (omega arith)
-
 pub number_is_field : (n : ℕ) → n < 2 ^ 64 → IsNumberField (decimal n)
 number_is_field n fits = record {
   field = IsField-decimal n fits;

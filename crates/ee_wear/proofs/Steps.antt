@@ -7,12 +7,8 @@ use Rattle.std.proofs.lemmas.List.Sums.{sum_by-set}
 use Rattle.ee_flash.specs.Device.{Device, IsOn, all_ones, wear_at}
 use Rattle.ee_flash.specs.Laws.{IsStep}
 use Rattle.ee_flash.specs.Step.{Step, Program, Erase, MayFollow, device_after, one_more}
+use Rattle.ee_flash.proofs.Public.{wear_is}
 use Rattle.ee_wear.specs.Since.{NoneFell}
-
-wear_is : (step : Step) (old new : Device) → MayFollow step old new → (new.wear ≡ old.wear) ⊎ (new.wear ≡ (device_after step old).wear)
-wear_is step old new (inl done) = inr (ap (λ (device : Device). device.wear) done.done)
-wear_is step old new (inr (inl cut)) = inr cut.wear
-wear_is step old new (inr (inr untouched)) = inl (ap (λ (device : Device). device.wear) untouched.same)
 
 NoneFell-same : (old new : List ℕ) → new ≡ old → NoneFell old new
 NoneFell-same old new is = rw is record { as_many = refl; each = λ k below. omega arith }

@@ -1,6 +1,6 @@
 use Rattle.std.proofs.Common.{inl, inr, refl, rules}
 use Rattle.std.proofs.lemmas.Result.{err_from_is_err_and}
-use Rattle.ee_check.proofs.Public.{error_passed_on, passed_on}
+use Rattle.ee_text.proofs.Public.{error_passed_on, passed_on}
 use Rattle.ee_by_name.proofs.Listings.{is_list}
 use Rattle.ee_image_store.proofs.Public.{no_memory_to_open}
 use Rattle.ee_by_name.proofs.TidiedImages.{stale_good, stale_unopened, stale_unspelled}

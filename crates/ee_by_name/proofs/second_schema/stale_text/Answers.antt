@@ -1,7 +1,7 @@
 use Rattle.std.proofs.Common.{◌∙◌, ◌≤◌, ◌<◌, ◌+◌, inl, inr, refl, length, rules, subst, sym}
 use Rattle.std.proofs.lemmas.Result.{err_from_is_err_and}
 use Rattle.std.specs.List.{All}
-use Rattle.ee_check.proofs.Public.{error_passed_on, passed_on}
+use Rattle.ee_text.proofs.Public.{error_passed_on, passed_on}
 use Rattle.ee_settings.proofs.Public.{stale_within}
 use Rattle.ee_settings.specs.declared.stale.Stale.{Stale}
 use Rattle.ee_core.specs.State.{state_of}

@@ -1,6 +1,6 @@
 use Rattle.std.proofs.Common.{inl, inr, rules}
 use Rattle.std.proofs.lemmas.Result.{err_from_is_err_and}
-use Rattle.ee_check.proofs.Public.{passed_on}
+use Rattle.ee_text.proofs.Public.{passed_on}
 use Rattle.ee_image_store.proofs.Public.{no_memory_to_open}
 use Rattle.ee_by_name.proofs.TidiedImages.{is_spent_for, is_tidied_image, tidy_good, tidy_spent, tidy_unopened, tidy_unspelled}
 use Rattle.ee_by_name.proofs.second_schema.tidy_image.Goals as goal

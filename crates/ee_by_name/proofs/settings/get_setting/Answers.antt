@@ -1,5 +1,5 @@
 use Rattle.std.proofs.Common.{inl, inr, refl}
-use Rattle.ee_check.proofs.Public.{error_passed_on, passed_on}
+use Rattle.ee_text.proofs.Public.{error_passed_on, passed_on}
 use Rattle.ee_by_name.proofs.Named.{get_unknown, get_unopened, get_unspelled, got_good}
 use Rattle.ee_image_store.proofs.Public.{no_memory_to_open}
 use Rattle.ee_by_name.proofs.settings.get_setting.Goals as goal

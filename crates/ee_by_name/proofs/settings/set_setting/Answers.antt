@@ -1,6 +1,6 @@
 use Rattle.std.proofs.Common.{inl, inr}
 use Rattle.std.proofs.lemmas.Result.{err_from_is_err_and}
-use Rattle.ee_check.proofs.Public.{passed_on}
+use Rattle.ee_text.proofs.Public.{passed_on}
 use Rattle.ee_by_name.proofs.Named.{is_refused_in, is_set, set_good, set_refused, set_unopened, set_unspelled}
 use Rattle.ee_image_store.proofs.Public.{no_memory_to_open}
 use Rattle.ee_by_name.proofs.settings.set_setting.Goals as goal

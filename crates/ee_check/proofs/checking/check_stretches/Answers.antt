@@ -1,8 +1,8 @@
 use Rattle.std.proofs.Common.{◌⊎◌, ◌≡◌, inl, arith}
+use Rattle.ee_text.proofs.Public.{passed_on}
 use Rattle.ee_check.specs.declared.certificate.Stretch.{Stretch}
 use Rattle.ee_check.specs.declared.checking.CheckFault.TheVariants.{Memory}
 use Rattle.ee_check.specs.Fault.{IsFirstFlaw}
-use Rattle.ee_check.proofs.Fields.{passed_on}
 use Rattle.ee_check.proofs.Flaws.{one_further, flaw_met}
 use Rattle.ee_check.proofs.checking.check_stretches.Goals as goal
 

@@ -1,9 +1,9 @@
 use Rattle.std.proofs.Common.{◌⊎◌, ◌≡◌, ap, ◌∙◌, rules}
 use Rattle.ee_text.specs.Line.{line_of}
+use Rattle.ee_text.proofs.Public.{error_passed_on, passed_on}
 use Rattle.ee_check.specs.declared.reading.TextFault.TheVariants.{BadText, Memory}
 use Rattle.ee_check.specs.Certificate.{Claim, claim_of}
 use Rattle.ee_check.specs.Text.{IsCertificateTextFault, IsText, IsClaim, ending}
-use Rattle.ee_check.proofs.Fields.{passed_on, error_passed_on}
 use Rattle.ee_check.proofs.Texts.{front_read, text_read, fault_behind, text_answered, bad_line_answered, one_text_lem, texts_are_good_lem}
 use Rattle.ee_check.proofs.reading.read_certificate.Given
 use Rattle.ee_check.proofs.reading.read_certificate.Goals as goal

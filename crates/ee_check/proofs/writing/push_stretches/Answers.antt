@@ -1,8 +1,7 @@
 use Rattle.std.proofs.Common.{take}
 use Rattle.ee_text.specs.Line.{IsLonger}
+use Rattle.ee_text.proofs.Public.{longer_still, on_err_anyway}
 use Rattle.ee_check.specs.Text.{stretch_lines}
-use Rattle.ee_check.proofs.Fields.{on_err_anyway}
-use Rattle.ee_check.proofs.Texts.{longer_still}
 use Rattle.ee_check.proofs.writing.push_stretches.Goals as goal
 
 pub returns-in_err-push_stretch-clause-err : goal.returns-in_err-push_stretch-clause-err

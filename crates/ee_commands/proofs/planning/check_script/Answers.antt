@@ -1,7 +1,6 @@
 use Rattle.std.proofs.Common.{◌≡◌, ◌⊎◌, rules}
-use Rattle.ee_image.proofs.Public.{error_passed_on}
+use Rattle.ee_text.proofs.Public.{error_passed_on, passed_on}
 use Rattle.ee_check.specs.Certificate.{claim_of}
-use Rattle.ee_check.proofs.Public.{passed_on}
 use Rattle.ee_faults.specs.declared.fault.Fault.TheVariants.{Memory}
 use Rattle.ee_faults.specs.Fault.{fault_of_certificate, fault_of_check}
 use Rattle.ee_commands.specs.Planning.{IsCheckingFault, IsTask}

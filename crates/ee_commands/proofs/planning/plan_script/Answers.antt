@@ -1,5 +1,5 @@
 use Rattle.std.proofs.Common.{◌≡◌, ◌⊎◌, rules, subst, sym}
-use Rattle.ee_image.proofs.Public.{error_passed_on}
+use Rattle.ee_text.proofs.Public.{error_passed_on}
 use Rattle.ee_check.specs.Schedule.{IsProper}
 use Rattle.ee_faults.specs.declared.fault.Fault.TheVariants.{Memory}
 use Rattle.ee_commands.specs.Planning.{IsTask}

@@ -1,4 +1,4 @@
-use Rattle.ee_check.proofs.Public.{passed_on}
+use Rattle.ee_text.proofs.Public.{passed_on}
 use Rattle.ee_faults.specs.Fault.{fault_of_script}
 use Rattle.ee_commands.specs.Planning.{IsTaskFault}
 use Rattle.ee_commands.proofs.OneTask.{no_trace}

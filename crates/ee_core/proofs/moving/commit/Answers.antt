@@ -1,12 +1,13 @@
 use Rattle.std.proofs.Common.{◌≡◌, ◌+◌, inl, inr}
 use Rattle.std.proofs.lemmas.Result.{err_from_is_err_and}
 use Rattle.ee_pages.specs.Sets.{first_page, other as other_of}
-use Rattle.ee_core.proofs.OtherSteps.{active_commits, active_done, active_unmarked, first_in_set}
+use Rattle.ee_core.proofs.OtherSteps.{active_commits, active_done, active_unmarked}
 use Rattle.ee_core.proofs.Cuts.{cut_size, mark_partly_at}
 use Rattle.ee_core.proofs.CutMoves.{commit_partly}
 use Rattle.ee_core.proofs.SetPages.{page_of_device}
 use Rattle.ee_core.proofs.Making.{always_on_err}
 use Rattle.ee_pages.specs.declared.state.Mark.TheVariants.{Active}
+use Rattle.ee_pages.proofs.Public.{first_in_set}
 use Rattle.ee_core.specs.Cuts.{SetsPartly}
 use Rattle.ee_core.proofs.moving.commit.Goals as goal
 

@@ -1,10 +1,11 @@
 use Rattle.std.proofs.Common.{◌≡◌, ◌+◌, inl, inr}
 use Rattle.ee_pages.specs.declared.state.Mark.TheVariants.{Receive}
 use Rattle.ee_pages.specs.Sets.{first_page, other as other_of}
+use Rattle.ee_pages.proofs.Public.{first_in_set}
 use Rattle.ee_core.proofs.Drawings.{sets_mark_at}
 use Rattle.ee_core.proofs.MovedSets.{blank_drawn, opens_blank}
 use Rattle.ee_core.proofs.SetPages.{page_of_device}
-use Rattle.ee_core.proofs.OtherSteps.{first_in_set, opening_done, opening_keeps, opening_unmarked}
+use Rattle.ee_core.proofs.OtherSteps.{opening_done, opening_keeps, opening_unmarked}
 use Rattle.ee_core.proofs.Cuts.{mark_partly_at, put_apart_partly}
 use Rattle.ee_core.proofs.CutMoves.{open_partly}
 use Rattle.ee_core.proofs.Making.{always_on_err}

@@ -3,6 +3,7 @@ use Rattle.std.proofs.lemmas.Result.{err_from_is_err_and}
 use Rattle.ee_flash.specs.Size.{Size}
 use Rattle.ee_pages.specs.declared.side.Side.{Side}
 use Rattle.ee_pages.specs.Sets.{fill_of, other as other_of, set_of, slots_of, page_of_slot}
+use Rattle.ee_pages.proofs.Public.{other_twice}
 use Rattle.ee_core.proofs.MarkedSets.{waits}
 use Rattle.ee_core.proofs.MovedSets.{all_retired, filled_up}
 use Rattle.ee_core.specs.Picture.{IsDrawn, blank, filled_set, moved_words, picture_of, retired_pages}
@@ -15,7 +16,6 @@ use Rattle.ee_core.proofs.CutMoves.{marked_partly, retires_partly}
 use Rattle.ee_core.specs.Cuts.{IsDrawnPartly}
 use Rattle.ee_core.specs.Finished.{last_used}
 use Rattle.ee_core.proofs.moving.transfer.Goals as goal
-use Rattle.ee_core.proofs.States.{other_twice}
 
 pub returns-clause-moves : goal.returns-clause-moves
 returns-clause-moves g c =

@@ -1,5 +1,6 @@
+use Rattle.ee_text.proofs.Public.{passed_on}
 use Rattle.ee_image.specs.Reading.{IsPageFault}
-use Rattle.ee_image.proofs.Taken.{page_wrong, passed_on}
+use Rattle.ee_image.proofs.Taken.{page_wrong}
 use Rattle.ee_image.proofs.reading.next_page.Goals as goal
 
 pub returns-in_err-wear-clause-fault : goal.returns-in_err-wear-clause-fault

@@ -1,11 +1,11 @@
 use Rattle.std.proofs.Common.{◌≡◌, ◌⊎◌, ◌≤◌, length, rules, arith, inl, []}
+use Rattle.ee_text.proofs.Public.{error_passed_on}
 use Rattle.ee_flash.specs.Size.{IsWithinLimits, size_of}
 use Rattle.ee_flash.specs.Cells.{device_from}
 use Rattle.ee_flash.specs.Memory.{device_of, memory_of}
 use Rattle.ee_image.specs.Text.{at_rest}
 use Rattle.ee_image.specs.Fault.{BeginsWithSize, IsImageFault}
 use Rattle.ee_image.specs.declared.fault.ImageFault.TheVariants.{TooLong, BadShape, Memory}
-use Rattle.ee_image.proofs.Taken.{error_passed_on}
 use Rattle.ee_image.proofs.Answered.{IsDevice, are_cells, device_read, fault_behind, is_named, kept_device, no_cell_fault, no_fault, only_memory, same_device}
 use Rattle.ee_image.proofs.reading.read_image.Given
 use Rattle.ee_image.proofs.reading.read_image.Goals as goal

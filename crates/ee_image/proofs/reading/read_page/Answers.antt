@@ -1,9 +1,10 @@
 use Rattle.std.proofs.Common.{sym, arith, map}
 use Rattle.ee_text.specs.Fields.{fields_left}
+use Rattle.ee_text.proofs.Public.{passed_on}
 use Rattle.ee_image.specs.Text.{word_text}
 use Rattle.ee_image.specs.Reading.{IsLineFault}
 use Rattle.ee_image.proofs.Rows.{none_left}
-use Rattle.ee_image.proofs.Taken.{other_line, words_wrong, too_many_words, passed_on}
+use Rattle.ee_image.proofs.Taken.{other_line, words_wrong, too_many_words}
 use Rattle.ee_image.proofs.reading.read_page.Goals as goal
 
 pub returns-in_default-clause-fault : goal.returns-in_default-clause-fault

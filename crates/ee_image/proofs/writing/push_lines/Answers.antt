@@ -1,7 +1,8 @@
 use Rattle.std.proofs.Common.{◌++◌, take, rules}
 use Rattle.ee_text.specs.Line.{line_of, IsLonger}
+use Rattle.ee_text.proofs.Public.{longer_still, on_err_anyway}
 use Rattle.ee_image.specs.Text.{page_lines, size_text}
-use Rattle.ee_image.proofs.Growing.{image_grows, longer_still, on_err_anyway}
+use Rattle.ee_image.proofs.Growing.{image_grows}
 use Rattle.ee_image.proofs.writing.push_lines.Goals as goal
 
 pub returns-in_err-push_page-clause-err : goal.returns-in_err-push_page-clause-err

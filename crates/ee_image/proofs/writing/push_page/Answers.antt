@@ -1,8 +1,9 @@
 use Rattle.std.proofs.Common.{◌≡◌, ◌<◌, ◌++◌, ◌∷◌, [], take, rules}
 use Rattle.ee_text.specs.Line.{IsLonger}
+use Rattle.ee_text.proofs.Public.{longer_still, on_err_anyway}
 use Rattle.ee_flash.specs.Device.{page_at, wear_at}
 use Rattle.ee_image.specs.Text.{page_text}
-use Rattle.ee_image.proofs.Growing.{longer, longer_still, on_err_anyway, page_grows}
+use Rattle.ee_image.proofs.Growing.{longer, page_grows}
 use Rattle.ee_image.proofs.writing.push_page.Goals as goal
 
 pub returns-in_err-extend_from_slice-clause-err : goal.returns-in_err-extend_from_slice-clause-err

@@ -1,6 +1,7 @@
 use Rattle.std.proofs.Common.{sym, arith, ap}
 use Rattle.ee_flash.specs.Device.{page_at}
-use Rattle.ee_pages.proofs.Slots.{blank_page, length-page_at}
+use Rattle.ee_flash.proofs.Public.{length-page_at}
+use Rattle.ee_pages.proofs.Slots.{blank_page}
 use Rattle.ee_pages.proofs.state.is_blank.Goals as goal
 
 pub returns : goal.returns

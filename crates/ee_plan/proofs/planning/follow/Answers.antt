@@ -1,5 +1,5 @@
 use Rattle.std.proofs.Common.{◌+◌, arith}
-use Rattle.ee_check.proofs.Public.{passed_on}
+use Rattle.ee_text.proofs.Public.{passed_on}
 use Rattle.ee_plan.specs.Plan.{IsPlanFault}
 use Rattle.ee_plan.proofs.Following.{made_more, refused}
 use Rattle.ee_plan.proofs.planning.follow.Goals as goal

@@ -1,5 +1,5 @@
 use Rattle.std.proofs.Common.{◌≡◌, ◌⊎◌, arith, rules}
-use Rattle.ee_check.proofs.Public.{passed_on, error_passed_on}
+use Rattle.ee_text.proofs.Public.{error_passed_on, passed_on}
 use Rattle.ee_plan.specs.declared.planned.PlanFault.TheVariants.{NotFitting, Memory}
 use Rattle.ee_plan.proofs.Whole.{whole_certificate, whole_reached, whole_best, whole_breaks_nowhere, memory_alone, first_named}
 use Rattle.ee_plan.proofs.planning.plan.Goals as goal

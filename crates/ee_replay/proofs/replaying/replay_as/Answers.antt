@@ -1,5 +1,5 @@
 use Rattle.std.proofs.Common.{◌≡◌, ◌⊎◌, inl, inr, rules}
-use Rattle.ee_image.proofs.Public.{error_passed_on}
+use Rattle.ee_text.proofs.Public.{error_passed_on}
 use Rattle.ee_faults.specs.declared.replay_fault.ReplayFault.TheVariants.{Memory}
 use Rattle.ee_replay.proofs.OneReplayCause.{one_replay_fault, replayed_is_good}
 use Rattle.ee_replay.proofs.Replays.{is_replayed}

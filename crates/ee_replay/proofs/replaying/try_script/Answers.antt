@@ -1,5 +1,5 @@
 use Rattle.std.proofs.Common.{◌≡◌, ◌⊎◌, rules}
-use Rattle.ee_image.proofs.Public.{error_passed_on}
+use Rattle.ee_text.proofs.Public.{error_passed_on}
 use Rattle.ee_faults.specs.declared.replay_fault.ReplayFault.TheVariants.{Script, Memory}
 use Rattle.ee_replay.proofs.OneReplayCause.{one_run_fault, run_is_good, script_is_some}
 use Rattle.ee_replay.proofs.Replays.{is_tried}
