@@ -178,6 +178,17 @@ last_named-further (suc n) above (first ∷ rest) rising some =
     let more = last_named-above n first.0 rest rising.1 in
     omega (arith, rising.0)
 
+-- all of a list are before what is behind its last
+last-at_least : (above : ℕ) (list : List Named) → IsRising above list → above ≤ last_named above list
+last-at_least above [] rising = omega arith
+last-at_least above (first ∷ rest) rising = let more = last-at_least first.0 rest rising.1 in omega (arith, rising.0)
+
+behind_last : (above address : ℕ) (list : List Named) → IsRising above list → last_named above list < address → IsPlace address list (length list)
+behind_last above address [] rising h = refl
+behind_last above address (first ∷ rest) rising h =
+    let low = last-at_least first.0 rest rising.1 in
+    (omega (arith, h), behind_last first.0 address rest rising.1 h)
+
 -- The list says of each address above this one what the words say, and above another one none has a value up to it: then
 -- the living ones of its first few are the next live addresses, and none is live behind them up to the last, or at all
 -- where there are fewer.
@@ -325,6 +336,22 @@ module _ (room : ℕ) where
       let same : place ≡ length list = omega arith in
       let all : length list ≡ room = omega arith in
       rw (lt-ltb above new.0 high) (sym (ap (λ n. take n (with_named new list)) (sym all) ∙ put_behind list new (subst (λ n. IsPlace new.0 list n) same at)))
+
+  -- where there is no room, an address behind the last one is not taken
+  kept_behind : (above : ℕ) (new : Named) (list : List Named) → IsRising above list → length list ≡ room → last_named above list < new.0 → list ≡ take room (noted_above above (Some new) list)
+  kept_behind above new list rising full h =
+      let low = last-at_least above list rising in
+      kept_full above new list (length list) (omega (arith, full)) (omega arith) (behind_last above new.0 list rising h) (omega arith) (omega (arith, full))
+
+  -- a word of which the only address that it can name is not taken
+  pub kept_unnamed : (above ending : ℕ) (named : Option Named) (list : List Named) → IsRising above list → length list ≤ room → ((name : Named) → named ≡ Some name → name.0 ≡ ending) → (ending ≤ above) ⊎ ((length list ≡ room) × (last_named above list < ending)) → list ≡ take room (noted_above above named list)
+  kept_unnamed above ending None list rising few only out = kept_none above None list few refl
+  kept_unnamed above ending (Some new) list rising few only out =
+      let same : new.0 ≡ ending = only new refl in
+      elim out [
+        | inl low ↦ kept_below above new list few (omega (arith, same))
+        | inr last ↦ kept_behind above new list rising last.0 (omega (arith, last.1, same))
+      ]
 
   -- what is gathered rises, and is no more than there is room for
   pub rising_of : (above : ℕ) (words : List Word) (list : List Named) → list ≡ take room (with_each_named above words []) → IsRising above list

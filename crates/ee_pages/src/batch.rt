@@ -4,7 +4,7 @@ ghost use Rattle.ee_codec.specs.Reading.{slot_of};
 ghost use Rattle.ee_codec.specs.Words.{IsAddress};
 ghost use Rattle.ee_pages.specs.Layout.{IsLayout};
 ghost use Rattle.ee_pages.specs.Meaning.{AreLiveThrough, above_of, meaning};
-ghost use Rattle.ee_pages.specs.Nearest.{IsPlace, IsRising, with_each_named, last_named, with_named, noted_above, slot_names};
+ghost use Rattle.ee_pages.specs.Nearest.{IsPlace, IsRising, Named, with_each_named, last_named, with_named, noted_above, slot_names};
 ghost use Rattle.ee_pages.specs.Sets.{set_of, slots_of};
 ghost use Rattle.ee_pages.specs.declared.batch_items.TheConstants.{BATCH};
 
@@ -99,7 +99,32 @@ fn gather_page<F: Flash>(flash: &F, side: Side, page: usize, above: u16, nearest
         (take ((page + 1) * (device.size.words - 4)) (slots_of (set_of side device))) []) }
 {
     for slot in 0..flash.shape().words() - HEADER_WORDS {
-        note(above, named(page_slot(flash, side, page, slot)), nearest);
+        note(above, page_slot(flash, side, page, slot), nearest);
+    }
+}
+
+// Notes what a word says, if it is of an address above this one.
+fn note(above: u16, word: Word, nearest: &mut Batch)
+    requires rising { IsRising above nearest.old.named }
+    requires few { length nearest.old.named ≤ BATCH }
+    ensures { nearest.new.named
+        ≡ take BATCH (noted_above above (slot_names (slot_of word)) nearest.old.named) }
+{
+    // Asked first, since most words are of an address that has no place in a batch.
+    let ending = ending_of(word);
+    if ending <= above || nearest.ends_before(ending) {
+        return;
+    }
+    note_named(above, named(word), nearest);
+}
+
+// The only address of which a word can say something, and 0 if there is none.
+fn ending_of(word: Word) -> u16
+    ensures { (name : Named) → slot_names (slot_of word) ≡ Some name → name.0 ≡ result }
+{
+    match word {
+        Word::Held(number) => (number & 0xffff) as u16,
+        _ => 0,
     }
 }
 
@@ -114,8 +139,8 @@ fn named(word: Word) -> Option<(Address, Option<u32>)>
     }
 }
 
-// Notes what a slot says, if it is of an address above this one.
-fn note(above: u16, named: Option<(Address, Option<u32>)>, nearest: &mut Batch)
+// Notes what is named, if it is an address above this one.
+fn note_named(above: u16, named: Option<(Address, Option<u32>)>, nearest: &mut Batch)
     requires rising { IsRising above nearest.old.named }
     requires few { length nearest.old.named ≤ BATCH }
     ensures { nearest.new.named ≡ take BATCH (noted_above above named nearest.old.named) }

@@ -155,6 +155,17 @@ impl Batch {
         Some(last)
     }
 
+    // Whether there is no room for one more, and the last address is below this number.
+    pub(crate) fn ends_before(&self, number: u16) -> bool
+        ensures full { result ≡ true → length self.now.named ≡ BATCH }
+        ensures last { (above : ℕ) → result ≡ true → last_named above self.now.named < number }
+    {
+        match self.last_if_full() {
+            None => false,
+            Some(last) => last.get() < number,
+        }
+    }
+
     // Keeps those that have a value.
     pub(crate) fn keep_living(&mut self)
         ensures items { self.new.items ≡ living self.old.named }

@@ -1,5 +1,6 @@
-use Rattle.std.proofs.Common.{◌≡◌, ◌+◌, ◌-◌, ◌*◌, ◌<◌, [], take, length, subst, ap, arith}
-use Rattle.ee_pages.specs.Nearest.{with_each_named}
+use Rattle.std.proofs.Common.{◌≡◌, ◌+◌, ◌-◌, ◌*◌, ◌<◌, [], take, length, refl, subst, ap, arith}
+use Rattle.ee_codec.specs.Reading.{slot_of}
+use Rattle.ee_pages.specs.Nearest.{slot_names, with_each_named}
 use Rattle.ee_pages.specs.Sets.{set_of, slots_of}
 use Rattle.ee_flash.specs.Size.{Size}
 use Rattle.ee_pages.proofs.Nearest.{few_of, in_set, one_slot, rising_of}
@@ -27,4 +28,4 @@ loop-slot-preserved g c =
     let few : c.loop-slot.slot < device.size.words - 4 = omega (arith, c.loop-slot-test.true, c.words-slot-end.ensures.value, ap (λ (size : Size). size.words) c.shape.ensures) in
     let within : place < length slots = omega (arith, length-slots c.args.side device formed, in_set c.args.page device.size.pages (device.size.words - 4) c.loop-slot.slot c.requires.page_in_range few) in
     subst (λ n. c.note.new.nearest.named ≡ take BATCH (with_each_named c.args.above (take n slots) [])) more
-    (one_slot BATCH c.args.above slots place c.page_slot.result c.named.result c.loop-slot.nearest.named c.note.new.nearest.named within c.page_slot.ensures c.named.ensures c.loop-slot.invariant c.note.ensures)
+    (one_slot BATCH c.args.above slots place c.page_slot.result (slot_names (slot_of c.page_slot.result)) c.loop-slot.nearest.named c.note.new.nearest.named within c.page_slot.ensures refl c.loop-slot.invariant c.note.ensures)

@@ -66,7 +66,25 @@ fn gather<F: Flash>(flash: &F, side: Side, above: u16, nearest: &mut Batch) {
 // Notes what the slots of a page say, behind those of the pages before.
 fn gather_page<F: Flash>(flash: &F, side: Side, page: usize, above: u16, nearest: &mut Batch) {
     for slot in 0..flash.shape().words() - HEADER_WORDS {
-        note(above, named(page_slot(flash, side, page, slot)), nearest);
+        note(above, page_slot(flash, side, page, slot), nearest);
+    }
+}
+
+// Notes what a word says, if it is of an address above this one.
+fn note(above: u16, word: Word, nearest: &mut Batch) {
+    // Asked first, since most words are of an address that has no place in a batch.
+    let ending = ending_of(word);
+    if ending <= above || nearest.ends_before(ending) {
+        return;
+    }
+    note_named(above, named(word), nearest);
+}
+
+// The only address of which a word can say something, and 0 if there is none.
+fn ending_of(word: Word) -> u16 {
+    match word {
+        Word::Held(number) => (number & 0xffff) as u16,
+        _ => 0,
     }
 }
 
@@ -79,8 +97,8 @@ fn named(word: Word) -> Option<(Address, Option<u32>)> {
     }
 }
 
-// Notes what a slot says, if it is of an address above this one.
-fn note(above: u16, named: Option<(Address, Option<u32>)>, nearest: &mut Batch) {
+// Notes what is named, if it is an address above this one.
+fn note_named(above: u16, named: Option<(Address, Option<u32>)>, nearest: &mut Batch) {
     if let Some((address, said)) = named {
         note_said(above, address, said, nearest);
     }

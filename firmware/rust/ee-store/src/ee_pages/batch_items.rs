@@ -91,6 +91,14 @@ impl Batch {
         Some(last)
     }
 
+    // Whether there is no room for one more, and the last address is below this number.
+    pub(crate) fn ends_before(&self, number: u16) -> bool {
+        match self.last_if_full() {
+            None => false,
+            Some(last) => last.get() < number,
+        }
+    }
+
     // Keeps those that have a value.
     pub(crate) fn keep_living(&mut self) {
         self.len = keep(&mut self.items, &self.lives, self.len);
