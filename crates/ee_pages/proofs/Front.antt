@@ -1,5 +1,5 @@
 -- The slots before the first erased one.
-use Rattle.std.proofs.Common.{◌≡◌, inl, inr, ℕ, ◌+◌, ◌<◌, ◌≤◌, Bool, true, false, cond, List, [], ◌∷◌, length, get_or, refl, arith, suc}
+use Rattle.std.proofs.Common.{◌≡◌, inl, inr, ℕ, ◌+◌, ◌-◌, ◌<◌, ◌≤◌, Bool, true, false, cond, List, [], ◌∷◌, length, get_or, refl, subst, arith, suc}
 use Rattle.std.specs.List.{filter, prefix_len}
 use Rattle.std.proofs.lemmas.Bool.{cases_order, cases_lt}
 use Rattle.std.proofs.lemmas.List.Sums.{prefix_len-le-length, prefix_len_passes, prefix_len_stops}
@@ -18,6 +18,15 @@ module _ {X : Type 0} (p : X → Bool) (d : X) where
   prefix_len_of_all xs each = elim (cases_lt (prefix_len p xs) (length xs)) [
     | inl less ↦ let e = each (prefix_len p xs) less in let f = prefix_len_stops p xs d less in cc
     | inr end ↦ let most = prefix_len-le-length p xs in omega arith
+  ]
+
+  -- a stretch further of elements that pass
+  pub passes_on : (xs : List X) (from more : ℕ) → ((k : ℕ) → k < from → p (get_or xs k d) ≡ true) → ((k : ℕ) → k < more → p (get_or xs (from + k) d) ≡ true) → (k : ℕ) → k < from + more → p (get_or xs k d) ≡ true
+  passes_on xs from more each further k h = elim (cases_lt k from) [
+    | inl less ↦ each k less
+    | inr behind ↦
+        let at : from + (k - from) ≡ k = omega arith in
+        subst (λ n. p (get_or xs n d) ≡ true) at (further (k - from) (omega arith))
   ]
 
   pub none_of : (xs : List X) → ((k : ℕ) → p (get_or xs k d) ≡ false) → length (filter p xs) ≡ 0

@@ -1,15 +1,16 @@
 ghost use Rattle.std.specs.Bool.{MatchBool};
-ghost use Rattle.std.specs.Prelude.{◌≡◌, ◌<◌, ◌≤◌, ◌↔◌, ℕ, ◌-◌, IfErr, IfNone, IfOk, IfSome, IsTrue, None, Some, false, is_ok, true};
+ghost use Rattle.std.specs.Prelude.{◌≡◌, ◌<◌, ◌≤◌, ◌↔◌, ℕ, ◌+◌, ◌*◌, ◌-◌, slice_index_or, IfErr, IfNone, IfOk, IfSome, IsTrue, None, Some, false, is_ok, true};
 ghost use Rattle.ee_codec.specs.Words.{IsGeneration};
 ghost use Rattle.ee_flash.specs.Size.{slot_count};
 ghost use Rattle.ee_pages.specs.Layout.{IsFirstForeign, IsLayout, IsScanFault, IsUnformatted};
 ghost use Rattle.ee_pages.specs.Legal.{IsLegal, is_allowed_at};
+ghost use Rattle.ee_pages.specs.Page.{is_written as written};
 ghost use Rattle.ee_pages.specs.Sets.{front, live_of, set_of, slots_of};
 
-use crate::side::{Side, committed, first_page, set_slot, set_word};
+use crate::side::{Side, committed, first_page, page_slot, set_word};
 use crate::state::{is_blank, is_written};
 use crate::table::is_allowed;
-use ee_flash::{Flash, HEADER_WORDS};
+use ee_flash::{Flash, HEADER_WORDS, Word};
 
 /// Where the live set of a legal image is and how far it is used.
 ///
@@ -114,14 +115,37 @@ fn live_set<F: Flash>(flash: &F) -> Result<(Side, u32), ScanFault>
     }
 }
 
-// How many slots of a set stand before the first erased one.
+// How many slots of a set stand before the first erased one. Page by page, since finding a slot by its
+// number takes a division.
 fn count_front<F: Flash>(flash: &F, side: Side) -> usize
     ensures front { result ≡ front (slots_of (set_of side (F.device flash.now))) }
     ensures within { result ≤ slot_count (F.device flash.now).size }
 {
-    let slots = flash.shape().slots();
+    let shape = flash.shape();
+    let slots = shape.words() - HEADER_WORDS;
+    for page in 0..shape.pages() {
+        let front = front_of_page(flash, side, page);
+        if front < slots {
+            return page * slots + front;
+        }
+    }
+    shape.slots()
+}
+
+// How many slots of a page of a set stand before the first erased one of them.
+fn front_of_page<F: Flash>(flash: &F, side: Side, page: usize) -> usize
+    requires page_in_range { page < (F.device flash.now).size.pages }
+    ensures within { result ≤ (F.device flash.now).size.words - 4 }
+    ensures before { let device = F.device flash.now in (k : ℕ) → k < result
+        → written (slice_index_or (slots_of (set_of side device))
+        (page * (device.size.words - 4) + k) Word.Erased) ≡ true }
+    ensures erased { let device = F.device flash.now in result < device.size.words - 4
+        → written (slice_index_or (slots_of (set_of side device))
+        (page * (device.size.words - 4) + result) Word.Erased) ≡ false }
+{
+    let slots = flash.shape().words() - HEADER_WORDS;
     for slot in 0..slots {
-        if !is_written(set_slot(flash, side, slot)) {
+        if !is_written(page_slot(flash, side, page, slot)) {
             return slot;
         }
     }

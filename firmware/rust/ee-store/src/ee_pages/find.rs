@@ -1,8 +1,8 @@
 // Made by firmware/rust/erase from crates/ee_pages/src/find.rt. Change that file.
-use crate::ee_pages::side::{Side, committed, first_page, set_slot, set_word};
+use crate::ee_pages::side::{Side, committed, first_page, page_slot, set_word};
 use crate::ee_pages::state::{is_blank, is_written};
 use crate::ee_pages::table::is_allowed;
-use crate::ee_flash::{Flash, HEADER_WORDS};
+use crate::ee_flash::{Flash, HEADER_WORDS, Word};
 
 /// Where the live set of a legal image is and how far it is used.
 ///
@@ -94,11 +94,25 @@ fn live_set<F: Flash>(flash: &F) -> Result<(Side, u32), ScanFault> {
     }
 }
 
-// How many slots of a set stand before the first erased one.
+// How many slots of a set stand before the first erased one. Page by page, since finding a slot by its
+// number takes a division.
 fn count_front<F: Flash>(flash: &F, side: Side) -> usize {
-    let slots = flash.shape().slots();
+    let shape = flash.shape();
+    let slots = shape.words() - HEADER_WORDS;
+    for page in 0..shape.pages() {
+        let front = front_of_page(flash, side, page);
+        if front < slots {
+            return page * slots + front;
+        }
+    }
+    shape.slots()
+}
+
+// How many slots of a page of a set stand before the first erased one of them.
+fn front_of_page<F: Flash>(flash: &F, side: Side, page: usize) -> usize {
+    let slots = flash.shape().words() - HEADER_WORDS;
     for slot in 0..slots {
-        if !is_written(set_slot(flash, side, slot)) {
+        if !is_written(page_slot(flash, side, page, slot)) {
             return slot;
         }
     }
