@@ -129,6 +129,10 @@ flat_more counts flats at are within same = record {
   ];
 }
 
+-- none is above the greatest of two rounds
+pub none_more : {A : Type 0} (counts : Counts A) (n : ℕ) → AreRounds counts → count_after counts n ≤ counts.most
+none_more counts n rounds = grind (arith, mod-lt)
+
 -- ---- the counts come round
 
 pub same_count : {A : Type 0} (counts : Counts A) (m n : ℕ) → length counts.later.items ≤ m → length counts.later.items ≤ n

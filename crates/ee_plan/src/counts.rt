@@ -1,10 +1,9 @@
 //! How many addresses are live after each change of a trace that is made many times over.
-ghost use Rattle.std.specs.Prelude.{◌≡◌, ◌+◌, ◌≤◌, ℕ, IfOk, OnOk};
-ghost use Rattle.ee_check.specs.Live.{live_after};
-ghost use Rattle.ee_plan.specs.Places.{AreRoundCounts, AreFlats, AreRounds, count_after, counts_before};
+ghost use Rattle.std.specs.Prelude.{◌≡◌, ◌+◌, ◌≤◌, ℕ, IfOk};
+ghost use Rattle.std.specs.List.{All};
 
+use super::counting::{count, flats, greatest};
 use ee_check::Change;
-use ee_codec::Address;
 use std::alloc::{AllocError, Allocator};
 use std::collections::BTreeSet;
 
@@ -16,9 +15,15 @@ pub(crate) struct Counts<A: Allocator> {
     pub(crate) later: Vec<u64, A>,
     // for how many changes more of a later round as many addresses are live
     flats: Vec<usize, A>,
+    // the greatest of all counts
+    most: u64,
+    ghost first_bounded: { All (λ count. count ≤ most) first.items },
+    ghost later_bounded: { All (λ count. count ≤ most) later.items },
 }
 
 impl<A: Allocator + Copy> Counts<A> {
+    ghost use Rattle.ee_plan.specs.Places.{AreRoundCounts};
+
     /// Makes the trace twice.
     pub(crate) fn of(alloc: A, trace: &[Change]) -> Result<Counts<A>, AllocError>
         ensures { IfOk result (AreRoundCounts trace.now) }
@@ -27,15 +32,19 @@ impl<A: Allocator + Copy> Counts<A> {
         let first = count(alloc, trace, &mut live)?;
         let later = count(alloc, trace, &mut live)?;
         let flats = flats(alloc, &later)?;
+        let most = greatest(&first).max(greatest(&later));
         Ok(Counts {
             first,
             later,
             flats,
+            most,
         })
     }
 }
 
 impl<A: Allocator> Counts<A> {
+    ghost use Rattle.ee_plan.specs.Places.{AreRounds, count_after};
+
     /// How many addresses are live after so many changes in all.
     #[tactic(auto, using(crate::proofs::Counted::one_round_back))]
     pub(crate) fn after(&self, number: u64) -> u64
@@ -65,36 +74,13 @@ impl<A: Allocator> Counts<A> {
             self.flats[(number % length) as usize] as u64
         }
     }
-}
 
-/// How many addresses are live before each change. The changes are made.
-fn count<A: Allocator + Copy>(
-    alloc: A,
-    trace: &[Change],
-    live: &mut BTreeSet<Address, A>,
-) -> Result<Vec<u64, A>, AllocError>
-    ensures counts { IfOk result
-        (λ counts. counts.items ≡ counts_before live.old.keys trace.now) }
-    ensures live { OnOk result (live.new.keys ≡ live_after live.old.keys trace.now) }
-{
-    let mut counts = Vec::new(alloc);
-    for change in trace {
-        counts.push(live.len() as u64)?;
-        change.make(live)?;
+    /// How many addresses are live at most, after whatever change of all rounds.
+    #[tactic(auto, using(crate::proofs::Counted::none_more))]
+    pub(crate) fn most(&self) -> u64
+        requires { AreRounds self.now }
+        ensures { (n : ℕ) → count_after self.now n ≤ result }
+    {
+        self.most
     }
-    Ok(counts)
-}
-
-/// For how many changes behind each one the count stays the same.
-fn flats<A: Allocator + Copy>(alloc: A, counts: &[u64]) -> Result<Vec<usize, A>, AllocError>
-    ensures { IfOk result (λ flats. AreFlats counts.now flats.items) }
-{
-    let mut flats = vec![in alloc; 0; counts.len()]?;
-    for back in 1..counts.len() {
-        let at = counts.len() - 1 - back;
-        if counts[at] == counts[at + 1] {
-            flats[at] = flats[at + 1] + 1;
-        }
-    }
-    Ok(flats)
 }

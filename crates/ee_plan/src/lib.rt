@@ -32,6 +32,7 @@
 //! did (`fewest_moves_last_as_long`).
 #![tactic(auto)]
 
+mod counting;
 mod counts;
 mod demand;
 mod late_store;

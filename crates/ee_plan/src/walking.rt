@@ -110,6 +110,10 @@ pub(crate) fn first_over<A: Allocator>(counts: &Counts<A>, slots: u64, last: u64
     ensures within { IfSome result (λ n. n ≤ last) }
     ensures none { IfNone result ((n : ℕ) → n ≤ last → count_after counts.now n ≤ slots) }
 {
+    // a set that takes the most addresses needs no look at each change
+    if counts.most() <= slots {
+        return None;
+    }
     for number in 0..last + 1 {
         if slots < counts.after(number) {
             return Some(number);

@@ -1,5 +1,5 @@
 use Rattle.ee_plan.specs.Places.{AreFlats}
-use Rattle.ee_plan.proofs.counts.flats.Given as goal
+use Rattle.ee_plan.proofs.counting.flats.Given as goal
 
 -- what is written of each count holds
 abbrev pub invariant-loop-back : goal.invariant-loop-back

@@ -1,7 +1,7 @@
 use Rattle.std.proofs.Common.{◌≡◌, ◌++◌, drop}
 use Rattle.ee_check.specs.Live.{live_after}
 use Rattle.ee_plan.specs.Places.{counts_before}
-use Rattle.ee_plan.proofs.counts.count.Given as goal
+use Rattle.ee_plan.proofs.counting.count.Given as goal
 
 -- the counts so far and those of what is left are all, and what is left leads to the same addresses
 abbrev pub invariant-loop-change : goal.invariant-loop-change

@@ -1,8 +1,8 @@
 use Rattle.std.proofs.Common.{◌≡◌, ◌+◌, ◌-◌, length, get_or, arith, rules}
 use Rattle.std.proofs.lemmas.Grind.{get_or_default_zero}
 use Rattle.ee_plan.proofs.Counted.{flat_more, flat_within, no_flats}
-use Rattle.ee_plan.proofs.counts.flats.Goals as goal
-use Rattle.ee_plan.proofs.counts.flats.Goals.{then-counts-at, else-counts-at}
+use Rattle.ee_plan.proofs.counting.flats.Goals as goal
+use Rattle.ee_plan.proofs.counting.flats.Goals.{then-counts-at, else-counts-at}
 
 pub loop-back-init : goal.loop-back-init
 loop-back-init g c = no_flats c.args.counts.now _ (search rules)
