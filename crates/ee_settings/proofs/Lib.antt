@@ -3,6 +3,7 @@ mod Readings
 mod Addresses
 mod Proper
 mod Stored
+mod Merging
 mod Listings
 mod ExactListings
 mod Outdated

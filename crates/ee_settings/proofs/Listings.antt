@@ -1,11 +1,13 @@
 -- What a store holds, address by address.
-use Rattle.std.proofs.Common.{◌≡◌, ◌∙◌, ◌<◌, ◌≤◌, ◌+◌, ◌-◌, ◌==◌, ℕ, Bool, cond, Option, Some, List, [], ◌∷◌, ◌++◌, length, drop, get_or, refl, sym, ap, arith, nat_cmp, suc, zero}
+use Rattle.std.proofs.Common.{◌≡◌, ◌∙◌, ◌<◌, ◌≤◌, ◌+◌, ◌-◌, ◌==◌, ℕ, Bool, cond, Option, Some, None, List, [], ◌∷◌, ◌++◌, append-nil, length, drop, get_or, refl, sym, ap, inl, inr, arith, nat_cmp, rules, suc, zero}
+use Rattle.std.proofs.lemmas.Bool.{cases_lt}
 use Rattle.std.proofs.Math.Path.{fun_ext}
 use Rattle.std.proofs.lemmas.List.{drop_more}
 use Rattle.std.specs.BTreeMap.{BTreeMap, Updates, get}
 use Rattle.ee_pages.specs.Meaning.{Map}
 use Rattle.ee_settings.proofs.Addresses.{at_is}
-use Rattle.ee_settings.specs.Listing.{listed_of, listed_to, named_from, named_in}
+use Rattle.ee_settings.proofs.Merging.{AreEntriesFrom, IsLowest, first_found, left_above, left_behind, none_below, none_lower}
+use Rattle.ee_settings.specs.Listing.{behind_at, first_address, first_at, lower_of, listed_of, listed_to, named_from, named_in}
 use Rattle.ee_settings.specs.Setting.{Setting}
 use Rattle.ee_settings.specs.declared.listing.Listed.{Listed}
 use Rattle.ee_settings.specs.declared.numbers.Numbers.{Numbers}
@@ -43,3 +45,47 @@ listed_further settings map (suc n) before after named value some so_far found h
     let below : suc n - 1 ≡ n = omega arith in
     let was : before ≡ listed_to settings map n = so_far ∙ ap (listed_to settings map) below in
     rw last (pushed ∙ rw (was, found, holds) (sym (next_listed settings map n)))
+
+-- ---- by what is left of the settings and of the values
+
+-- addresses that have neither a setting nor a value add nothing
+nothing_added : (settings : List Setting) (map : Map) (last next : ℕ) → last ≤ next → ((address : ℕ) → last < address → address ≤ next → named_in settings address ≡ None)
+    → ((address : ℕ) → last < address → address ≤ next → map address ≡ None) → listed_to settings map last ≡ listed_to settings map next
+nothing_added settings map last zero low unnamed free = ap (listed_to settings map) (omega arith)
+nothing_added settings map last (suc n) low unnamed free = elim (cases_lt last (suc n)) [
+  | inl less ↦
+      let here : listed_of (suc n) (named_in settings (suc n)) (map (suc n)) ≡ [] = rw (unnamed (suc n) less (omega arith), free (suc n) less (omega arith)) refl in
+      nothing_added settings map last n (omega (arith, less)) (search (rules, unnamed)) (search (rules, free))
+      ∙ sym (next_listed settings map n ∙ ap (λ (more : List Listed). listed_to settings map n ++ more) here ∙ append-nil (listed_to settings map n))
+  | inr other ↦ ap (listed_to settings map) (omega (arith, low, other))
+]
+
+-- what there is to say of the addresses below one is listed, and from it on these entries are left
+pub record IsListedFrom (settings : List Setting) (map : Map) (listed : List Listed) (names : List (ℕ × (ℕ × Numbers))) (values : List (ℕ × ℕ)) : Type 0 where
+  pub from : ℕ
+  pub within : from ≤ 65535
+  pub so_far : listed ≡ listed_to settings map (from - 1)
+  pub names_left : AreEntriesFrom (named_in settings) from names
+  pub values_left : AreEntriesFrom map from values
+
+module _ (settings : List Setting) (map : Map) (listed : List Listed) (names : List (ℕ × (ℕ × Numbers))) (values : List (ℕ × ℕ)) (so_far : IsListedFrom settings map listed names values) where
+  pub all_listed : lower_of (first_address names) (first_address values) ≡ None → listed ≡ listed_to settings map 65534
+  all_listed none =
+      let ended = none_lower names values none in
+      let unnamed = rw ended.0 at so_far.names_left in
+      let free = rw ended.1 at so_far.values_left in
+      so_far.so_far ∙ nothing_added settings map (so_far.from - 1) 65534 (omega (arith, so_far.within)) (search (rules, unnamed)) (search (rules, free))
+
+  pub one_listed : (address : ℕ) (all : List Listed) → IsLowest address names values → 0 < address → address < 65535
+      → all ≡ listed ++ listed_of address (first_at address names) (first_at address values) → IsListedFrom settings map all (behind_at address names) (behind_at address values)
+  one_listed address all least some low pushed =
+      let from = so_far.from in
+      let above : from ≤ address = search (rules, left_above, least.above) in
+      let below : listed ≡ listed_to settings map (address - 1) =
+      so_far.so_far ∙ nothing_added settings map (from - 1) (address - 1) (omega arith) (search (rules, none_below)) (search (rules, none_below)) in record {
+        from = address + 1;
+        within = omega arith;
+        so_far = listed_further settings map address listed all (first_at address names) (first_at address values) some below (search (rules, first_found)) (search (rules, first_found)) pushed;
+        names_left = search (rules, left_behind);
+        values_left = search (rules, left_behind);
+      }

@@ -1,5 +1,5 @@
 -- What a store holds, address by address, as a schema names it.
-use Rattle.std.specs.Prelude.{◌≡◌, ◌≢◌, ◌⊎◌, ◌+◌, ◌==◌, ℕ, zero, suc, List, [], ◌∷◌, ◌++◌, if◌then◌else◌, Option, Some, None, false, true}
+use Rattle.std.specs.Prelude.{◌≡◌, ◌≢◌, ◌⊎◌, ◌+◌, ◌==◌, ℕ, nat_le, zero, suc, List, [], ◌∷◌, ◌++◌, if◌then◌else◌, Option, Some, None, false, true}
 use Rattle.ee_codec.specs.Words.{IsAddress}
 use Rattle.ee_flash.specs.Device.{Device, IsOff, IsOn}
 use Rattle.ee_pages.specs.Meaning.{Map}
@@ -71,3 +71,30 @@ IsListedSo settings stored listed =
 abbrev pub IsListFault : Device → ListFault → Type 0
 IsListFault device fault.Off = IsOff device
 IsListFault device fault.Memory = IsOn device
+
+-- ---- for the functions within: a map's entries that are left to go over, by rising address
+
+-- the first of them, and what is behind it
+abbrev pub left_of : {T : Type 0} → Option (ℕ × T) → List (ℕ × T) → List (ℕ × T)
+left_of None behind = []
+left_of (Some first) behind = first ∷ behind
+
+abbrev pub first_address : {T : Type 0} → List (ℕ × T) → Option ℕ
+first_address [] = None
+first_address (entry ∷ more) = Some entry.0
+
+-- what the first has, if it is this address's
+abbrev pub first_at : {T : Type 0} → ℕ → List (ℕ × T) → Option T
+first_at address [] = None
+first_at address (entry ∷ more) = if entry.0 == address then Some entry.1 else None
+
+-- what is left without it
+abbrev pub behind_at : {T : Type 0} → ℕ → List (ℕ × T) → List (ℕ × T)
+behind_at address [] = []
+behind_at address (entry ∷ more) = if entry.0 == address then more else entry ∷ more
+
+-- the lower of two addresses, or the one that there is
+abbrev pub lower_of : Option ℕ → Option ℕ → Option ℕ
+lower_of None other = other
+lower_of (Some one) None = Some one
+lower_of (Some one) (Some other) = if nat_le one other then Some one else Some other

@@ -38,6 +38,7 @@ pub mod laws;
 mod listing;
 mod numbers;
 mod reading;
+mod remaining;
 mod schema;
 mod setting;
 mod settings;

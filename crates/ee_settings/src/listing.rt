@@ -8,6 +8,7 @@ ghost use Rattle.ee_settings.specs.Listing.{IsListFault, held_by, listed_in, lis
 use crate::fault::ListFault;
 use crate::numbers::Numbers;
 use crate::reading::Reading;
+use crate::remaining::{Remaining, lower};
 use crate::schema::Schema;
 use crate::setting::Setting;
 use crate::stale::stored_values;
@@ -70,7 +71,8 @@ impl<A: Allocator> Schema<A> {
     }
 }
 
-/// The addresses that have a value in the store or one of these settings. It looks once at each address.
+/// The addresses that have a value in the store or one of these settings. It doesn't look at the
+/// others, which may be most of all 65534: both maps are gone over together, by rising address.
 fn list_on<A: Allocator, B: Allocator + Copy, V: Variables>(
     alloc: B,
     store: &V,
@@ -82,13 +84,14 @@ fn list_on<A: Allocator, B: Allocator + Copy, V: Variables>(
 {
     let stored = stored_values(alloc, store)?;
     let named = named_addresses(alloc, settings)?;
+    let mut values = Remaining::new(&stored);
+    let mut names = Remaining::new(&named);
     let mut listed = Vec::new(alloc);
-    for number in 1..=65534 {
-        let Some(address) = Address::new(number) else {
-            unreachable!("1 to 65534 are addresses");
-        };
-        let name = named.get(&address).copied();
-        let value = stored.get(&address).copied();
+    'listed: while let Some(address) = lower(names.address(), values.address()) {
+        // No address is 0, below the first of which a list says something.
+        prove!(address.get() > 0);
+        let name = names.take(address);
+        let value = values.take(address);
         push_listed(&mut listed, address, name, value)?;
     }
     Ok(listed)

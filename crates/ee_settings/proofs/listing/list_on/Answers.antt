@@ -1,28 +1,34 @@
-use Rattle.std.proofs.Common.{◌≡◌, ◌∙◌, Option, ℕ, ap, arith, rules, sym}
-use Rattle.ee_pages.specs.Meaning.{Map}
+use Rattle.std.proofs.Common.{◌≡◌, None, arith, rules, sym}
 use Rattle.ee_core.specs.State.{state_of}
-use Rattle.ee_settings.proofs.Listings.{listed_further, none_listed}
-use Rattle.ee_settings.specs.Listing.{named_in}
-use Rattle.ee_settings.specs.declared.numbers.Numbers.{Numbers}
+use Rattle.ee_settings.proofs.Listings.{all_listed, none_listed, one_listed}
+use Rattle.ee_settings.proofs.Merging.{IsLowest, left_first, lower_lowest}
+use Rattle.ee_settings.specs.Listing.{first_address, lower_of, named_in}
 use Rattle.ee_settings.proofs.listing.list_on.Goals as goal
 
-pub loop-number-init : goal.loop-number-init
-loop-number-init g c = record {
-  from = omega arith;
-  so_far = rw c.new-listed.ensures.items (sym (none_listed c.args.settings.now (state_of (g.V.Variables.device c.args.store.now)).map));
-}
-
-pub loop-number-preserved : goal.loop-number-preserved
-loop-number-preserved g c =
+pub listed-init : goal.listed-init
+listed-init g c =
     let settings = c.args.settings.now in
-    let map = (state_of (g.V.Variables.device c.args.store.now)).map in
-    let number = c.loop-number.number in
-    let same : c.in-Some.address ≡ number = c.in-Some.ensures.number in
-    let named : c.copied-name.result ≡ named_in settings number =
-    c.copied-name.ensures ∙ c.get.ensures.value ∙ ap (λ (names : ℕ → Option (ℕ × Numbers)). names c.in-Some.address) c.in_ok-named.ensures ∙ ap (named_in settings) same in
-    let value : c.copied-value.result ≡ map number =
-    c.copied-value.ensures ∙ c.get-in-loop-number.ensures.value ∙ ap (λ (values : Map). values c.in-Some.address) c.in_ok-stored.ensures ∙ ap map same in
-    record {
-      from = omega arith;
-      so_far = listed_further settings map number c.loop-number.listed.items c.push_listed.new.listed.items c.copied-name.result c.copied-value.result c.loop-number.invariant.from c.loop-number.invariant.so_far named value (search (rules, same));
+    let map = (state_of (g.V.Variables.device c.args.store.now)).map in record {
+      from = 0;
+      within = omega arith;
+      so_far = rw c.new-listed.ensures.items (sym (none_listed settings map));
+      names_left = left_first (named_in settings) c.in_ok-named.named c.new-names.result c.new-names.ensures.all c.new-names.ensures.ordered c.in_ok-named.ensures;
+      values_left = left_first map c.in_ok-stored.stored c.new-values.result c.new-values.ensures.all c.new-values.ensures.ordered c.in_ok-stored.ensures;
     }
+
+pub listed-smaller : goal.listed-smaller
+listed-smaller g c =
+    let least : IsLowest c.in-Some.address c.listed.names c.listed.values = lower_lowest c.in-Some.address c.listed.names c.listed.values (search rules) in
+    rw (c.take-name.ensures.left, c.take-value.ensures.left) least.shorter
+
+pub listed-preserved : goal.listed-preserved
+listed-preserved g c =
+    let least : IsLowest c.in-Some.address c.listed.names c.listed.values = lower_lowest c.in-Some.address c.listed.names c.listed.values (search rules) in
+    rw (c.take-name.ensures.left, c.take-value.ensures.left)
+    (one_listed c.args.settings.now (state_of (g.V.Variables.device c.args.store.now)).map c.listed.listed.items c.listed.names c.listed.values c.listed.invariant c.in-Some.address c.push_listed.new.listed.items
+    least (omega arith) (omega arith) (rw (sym c.take-name.ensures.found, sym c.take-value.ensures.found) c.in_ok-push_listed.ensures))
+
+pub returns : goal.returns
+returns g c =
+    let none : lower_of (first_address c.listed.names) (first_address c.listed.values) ≡ None = search rules in
+    all_listed c.args.settings.now (state_of (g.V.Variables.device c.args.store.now)).map c.listed.listed.items c.listed.names c.listed.values c.listed.invariant none

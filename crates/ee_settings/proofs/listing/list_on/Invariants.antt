@@ -1,11 +1,11 @@
-use Rattle.std.proofs.Common.{◌≡◌, ◌≤◌, ◌-◌}
+use Rattle.std.proofs.Common.{◌+◌, length}
 use Rattle.ee_core.specs.State.{state_of}
-use Rattle.ee_settings.specs.Listing.{listed_to}
+use Rattle.ee_settings.proofs.Listings.{IsListedFrom}
 use Rattle.ee_settings.proofs.listing.list_on.Given as goal
 
--- what there is to say of the addresses so far
-abbrev pub invariant-loop-number : goal.invariant-loop-number
-invariant-loop-number g l = record {
-  from : 1 ≤ l.number;
-  so_far : l.listed.items ≡ listed_to l.settings (state_of (g.V.Variables.device l.store)).map (l.number - 1);
-}
+-- what there is to say of the addresses so far, and the entries that are left
+abbrev pub invariant-listed : goal.invariant-listed
+invariant-listed g l = IsListedFrom l.settings (state_of (g.V.Variables.device l.store)).map l.listed.items l.names l.values
+
+abbrev pub decreases-listed : goal.decreases-listed
+decreases-listed g l = length l.names + length l.values
