@@ -10,6 +10,7 @@
 //! What the layers above may use: these calls, each with its faults.
 #![tactic(auto)]
 
+mod choosing;
 mod desk;
 pub mod laws;
 mod noting;

@@ -1,7 +1,8 @@
 //! Stores of either kind, with an index or without: how they are opened and closed.
 ghost use Rattle.std.specs.Prelude.{◌≡◌, IfOk, IfErr};
 ghost use Rattle.ee_flash.specs.Device.{Device, IsOn};
-ghost use Rattle.ee_flash.specs.Memory.{device_of};
+ghost use Rattle.ee_flash.specs.Memory.{device_of, memory_of, unused_memory};
+ghost use Rattle.ee_image.specs.Text.{at_rest, image_text};
 ghost use Rattle.ee_core.specs.Finished.{IsStore};
 ghost use Rattle.ee_core.specs.Openings.{OpenFails, Opens};
 ghost use Rattle.ee_index.specs.Index.{IndexedOpenFails};
@@ -79,15 +80,30 @@ impl<F: Flash + Drop, A: Allocator + Copy> Opened<F, A> for IndexedStore<F, A> {
     }
 }
 
-/// The store of the image that a text spells, of either kind, in memory.
-pub(crate) fn open_as<A: Allocator + Copy, S: Opened<MemFlash<A>, A>>(
+/// The device that a text spells, before a store is opened on it.
+pub(crate) fn read_device<A: Allocator + Copy>(
     alloc: A,
     image: &[u8],
-) -> Result<S, ReplayFault>
-    ensures opened { IfOk result (λ store. IsOpened image.now (S.device store)) }
+) -> Result<MemFlash<A>, ReplayFault>
+    ensures spelled { IfOk result (λ flash. image.now ≡ image_text (device_of flash)) }
+    ensures at_rest { IfOk result
+        (λ flash. memory_of flash ≡ unused_memory (at_rest (device_of flash))) }
     ensures fault { IfErr result (IsOpenFault image.now) }
 {
     let flash = read_image(alloc, image)?;
+    Ok(flash)
+}
+
+/// The store of a device that was just read, of either kind.
+pub(crate) fn open_as<A: Allocator + Copy, S: Opened<MemFlash<A>, A>>(
+    alloc: A,
+    flash: MemFlash<A>,
+) -> Result<S, ReplayFault>
+    requires { memory_of flash ≡ unused_memory (at_rest (device_of flash)) }
+    ensures opened { IfOk result
+        (λ store. IsOpened (image_text (device_of flash)) (S.device store)) }
+    ensures fault { IfErr result (IsOpenFault (image_text (device_of flash))) }
+{
     match open_still(alloc, flash) {
         Ok(store) => Ok(store),
         Err(fault) => Err(fault),

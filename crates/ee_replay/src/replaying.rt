@@ -1,11 +1,14 @@
 //! Scripts on images.
 ghost use Rattle.std.specs.Prelude.{◌≡◌, ◌≢◌, ◌⊎◌, ℕ, List, IfOk, IfErr, MatchResult, Some};
+ghost use Rattle.ee_flash.specs.Memory.{device_of, memory_of, unused_memory};
+ghost use Rattle.ee_image.specs.Text.{at_rest, image_text};
 ghost use Rattle.ee_script.specs.Script.{IsFirstBadCommandLine};
 ghost use Rattle.ee_replay.specs.Replaying.{IsReplayFault, IsReplayed, IsRunFault, IsRunOn, IsTried};
 ghost use Rattle.ee_replay.specs.Reading.{IsGiven, IsNotAnswered, IsReaderFault};
 ghost use Rattle.ee_image_store.specs.Opening.{HasStore, IsOpenFault, StaysOn};
 
-use super::opening::{Opened, open_as};
+use super::choosing::pays;
+use super::opening::{Opened, open_as, read_device};
 use super::reporting::{answer_on, answer_reader_on};
 use ee_core::Store;
 use ee_faults::ReplayFault;
@@ -49,7 +52,15 @@ pub fn replay<A: Allocator + Copy>(
         → MatchResult result (λ _. ⊥)
         (λ fault. (fault ≡ cause) ⊎ (fault ≡ ReplayFault.Memory)) }
 {
-    replay_as::<A, Store<MemFlash<A>>>(alloc, image, script)
+    let flash = read_device(alloc, image)?;
+    if !pays(alloc, &flash, script) {
+        return replay_on::<A, Store<MemFlash<A>>>(alloc, flash, script);
+    }
+    match replay_on::<A, IndexedStore<MemFlash<A>, A>>(alloc, flash, script) {
+        // The other store wants no memory for an index.
+        Err(ReplayFault::Memory) => replay_as::<A, Store<MemFlash<A>>>(alloc, image, script),
+        replayed => replayed,
+    }
 }
 
 /// `replay` on a store that keeps an index in memory.
@@ -91,7 +102,27 @@ fn replay_as<A: Allocator + Copy, S: Opened<MemFlash<A>, A>>(
         → MatchResult result (λ _. ⊥)
         (λ fault. (fault ≡ cause) ⊎ (fault ≡ ReplayFault.Memory)) }
 {
-    let store = open_as::<A, S>(alloc, image)?;
+    let flash = read_device(alloc, image)?;
+    replay_on::<A, S>(alloc, flash, script)
+}
+
+/// The same of a device that was just read from an image's text.
+fn replay_on<A: Allocator + Copy, S: Opened<MemFlash<A>, A>>(
+    alloc: A,
+    flash: MemFlash<A>,
+    script: &[u8],
+) -> Result<Replayed<A>, ReplayFault>
+    requires { memory_of flash ≡ unused_memory (at_rest (device_of flash)) }
+    ensures replayed { IfOk result (λ replayed. IsReplayed (image_text (device_of flash))
+        script.now replayed.image.items replayed.report.items) }
+    ensures fault { IfErr result (IsReplayFault (image_text (device_of flash)) script.now) }
+    // No cause is passed over.
+    ensures names { (cause : ReplayFault) → cause ≢ ReplayFault.Memory
+        → IsReplayFault (image_text (device_of flash)) script.now cause
+        → MatchResult result (λ _. ⊥)
+        (λ fault. (fault ≡ cause) ⊎ (fault ≡ ReplayFault.Memory)) }
+{
+    let store = open_as::<A, S>(alloc, flash)?;
     let replayed = run_on(alloc, store, script)?;
     Ok(replayed)
 }
