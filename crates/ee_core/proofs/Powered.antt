@@ -30,7 +30,7 @@ module _ (cuts : ℕ) (left : Option ℕ) (on : Bool) (device : Device) where
       cuts_left_fit = left_fit;
     }
 
-    live_powered : (side : Side) (generation : ℕ) → IsLive device side generation → IsLive (with_power cuts left on device) side generation
+    pub live_powered : (side : Side) (generation : ℕ) → IsLive device side generation → IsLive (with_power cuts left on device) side generation
     live_powered First generation live = record { formed = formed_powered live.formed; live = live.live; allowed = live.allowed }
     live_powered Second generation live = record { formed = formed_powered live.formed; live = live.live; allowed = live.allowed }
 

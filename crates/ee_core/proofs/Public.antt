@@ -13,7 +13,7 @@ pub use Rattle.ee_core.proofs.NotBlank.{length-not_blank}
 pub use Rattle.ee_core.proofs.OpeningFacts.{opening_cut, opens}
 pub use Rattle.ee_core.proofs.PageWears.{Aged, Ages, ages, each_page_wears_every_second_transfer_lem, few_wait, in_either, no_page_wears_more_lem, none_more, one_more, same_side, side_in, stays, wears_at_most}
 pub use Rattle.ee_core.proofs.PendingPages.{length-pending_pages, times_in_set, waits}
-pub use Rattle.ee_core.proofs.Powered.{legal_on, legal_powered, state_in_on, state_in_powered}
+pub use Rattle.ee_core.proofs.Powered.{legal_on, legal_powered, live_powered, state_in_on, state_in_powered}
 pub use Rattle.ee_core.proofs.Running.{changed_by-append, goes, runs_go_on_lem}
 pub use Rattle.ee_core.proofs.SetPages.{page_of_set}
 pub use Rattle.ee_core.proofs.States.{state_is}

@@ -63,6 +63,15 @@ impl<F: Flash + Drop> Store<F> {
         self.flash
     }
 
+    /// The device, as it is, and its layout.
+    pub(crate) fn into_parts(self) -> (F, Layout)
+        ensures device { F.device result.0 ≡ self }
+        ensures store { IsStore self }
+        ensures layout { IsOn self → IsLayout self result.1 }
+    {
+        (self.flash, self.layout)
+    }
+
     /// How many slots of the live set are torn, 0 to its fill: words in whose step power was cut. It
     /// reads each slot once.
     ///

@@ -3,6 +3,7 @@ ghost use Rattle.std.specs.Prelude.{◌≡◌, ◌≢◌, ◌<◌, IfErr, IfOk, 
 ghost use Rattle.ee_codec.specs.Words.{IsAddress};
 ghost use Rattle.ee_flash.specs.Device.{IsOn};
 ghost use Rattle.ee_flash.specs.Size.{slot_count};
+ghost use Rattle.ee_pages.specs.Layout.{IsLayout};
 ghost use Rattle.ee_pages.specs.Meaning.{IsNextLive, above_of, live_in};
 ghost use Rattle.ee_core.specs.Calls.{Cleans, Forgets, Reads, Writes};
 ghost use Rattle.ee_core.specs.Changes.{IsFull, IsSpent};
@@ -102,6 +103,38 @@ impl<F: Flash + Drop, A: Allocator> IndexedStore<F, A> {
         ensures store { IsStore self }
     {
         self.flash
+    }
+
+    /// The device, as it is, and its layout, by which `of_parts` makes the store again.
+    pub fn into_parts(self) -> (F, Layout)
+        ensures device { F.device result.0 ≡ self }
+        ensures store { IsStore self }
+        ensures layout { IsOn self → IsLayout self result.1 }
+    {
+        (self.flash, self.layout)
+    }
+
+    /// The store of this device, of which this is the layout: each used slot is read for the index.
+    ///
+    /// # Errors
+    ///
+    /// The device, as it was: memory ran out.
+    pub fn of_parts(alloc: A, flash: F, layout: Layout) -> Result<IndexedStore<F, A>, F>
+    where
+        A: Copy,
+        requires store { IsStore (F.device flash) }
+        requires layout { IsLayout (F.device flash) layout }
+        ensures made { IfOk result (λ store. store ≡ F.device flash) }
+        ensures memory { IfErr result (λ device. F.device device ≡ F.device flash) }
+    {
+        match read_index(alloc, &flash, &layout) {
+            Ok(index) => Ok(IndexedStore {
+                flash,
+                layout,
+                index,
+            }),
+            Err(_) => Err(flash),
+        }
     }
 
     /// Whether a write or forgetting must be refused since no generation is left for the transfer

@@ -5,7 +5,6 @@ use Rattle.ee_flash.specs.Power.{GoesOn, IsCut}
 use Rattle.ee_flash.specs.Size.{Size}
 use Rattle.ee_flash.specs.declared.fuse.Fuse.{Fuse}
 use Rattle.ee_pages.specs.Meaning.{Change}
-use Rattle.ee_pages.specs.Meaning as meaning
 use Rattle.ee_core.proofs.Public.{runs_go_on_lem}
 use Rattle.ee_core.specs.Changes.{IsCutChange}
 use Rattle.ee_core.specs.Points.{Point}

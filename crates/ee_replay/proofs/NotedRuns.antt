@@ -10,7 +10,6 @@ use Rattle.ee_pages.specs.Meaning as meaning
 use Rattle.ee_core.specs.Changes.{Appends, IsAccepted, IsCutAppend, IsCutChange, IsCutMove, Moves}
 use Rattle.ee_core.specs.State.{State, appended_state, moved_state, state_of}
 use Rattle.std.proofs.lemmas.Bool.{cases_order}
-use Rattle.ee_core.proofs.Public.{state_is}
 use Rattle.ee_check.specs.declared.change.Change.{Change}
 use Rattle.ee_check.specs.declared.change.Change.TheVariants as changes
 use Rattle.ee_check.specs.Certificate.{IsCertificateHeader, IsTight}

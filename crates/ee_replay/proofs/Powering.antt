@@ -1,20 +1,17 @@
 -- What a device's image says stays as power comes on and a cut is armed.
-use Rattle.std.proofs.Common.{◌≡◌, ◌∙◌, ◌≤◌, ℕ, Bool, Some, ap, false, subst, sym, true, rules}
+use Rattle.std.proofs.Common.{◌≡◌, ◌∙◌, ◌≤◌, ℕ, Bool, Some, ap, false, refl, subst, sym, true, rules}
 use Rattle.ee_flash.specs.Device.{Device, IsOn, all_ones}
+use Rattle.ee_pages.specs.Layout.{IsLayout}
 use Rattle.ee_pages.specs.Legal.{IsLegal}
-use Rattle.ee_pages.specs.Sets.{live_of}
+use Rattle.ee_pages.specs.Sets.{fill_of, live_of, set_of, slots_of}
+use Rattle.ee_pages.specs.declared.find.Layout.{Layout}
 use Rattle.ee_pages.specs.declared.side.Side.{Side}
 use Rattle.ee_pages.specs.declared.side.Side.TheVariants.{First, Second}
-use Rattle.ee_core.proofs.Public.{legal_powered, state_in_on, state_in_powered}
+use Rattle.ee_core.proofs.Public.{legal_powered, live_powered, state_in_on, state_in_powered}
 use Rattle.ee_core.specs.Points.{Point, closed_point, with_power_on, open_point}
-use Rattle.ee_core.specs.Finished.{IsFinished, IsMarked, IsStore}
+use Rattle.ee_core.specs.Finished.{IsMarked, IsStore}
 use Rattle.ee_core.specs.State.{state_of}
-use Rattle.ee_core.specs.Openings.{IsCutOpening, Opens}
-use Rattle.ee_index.specs.Index.{IndexedOpenFails}
-use Rattle.ee_index.specs.declared.indexed.IndexedFault.{IndexedFault}
-use Rattle.ee_index.specs.declared.indexed.IndexedFault.TheVariants as indexed
 use Rattle.ee_flash.specs.Memory.{Memory}
-use Rattle.ee_flash.specs.Memory as memory
 use Rattle.ee_flash.specs.declared.fuse.Fuse.{Fuse}
 use Rattle.ee_replay.specs.Serving.{ArmsItsFuse, IsArmed, IsSound, with_cut_to_come}
 
@@ -34,8 +31,22 @@ marked_armed : (device : Device) (side : Side) → IsMarked device side → IsMa
 marked_armed device First marked = record { live = record { valid = marked.live.valid; active = marked.live.active }; old = marked.old }
 marked_armed device Second marked = record { live = record { valid = marked.live.valid; active = marked.live.active }; old = marked.old }
 
-pub finished_armed : (device : Device) → IsStore device → IsOn device → IsFinished (with_cut_to_come device)
-finished_armed device store on = λ side generation live. marked_armed device side (store.finished on side generation live)
+pub store_armed : (device : Device) → IsStore device → IsStore (with_cut_to_come device)
+store_armed device store = record {
+  legal = legal_armed device store.legal;
+  finished = λ on side generation live. marked_armed device side (store.finished on side generation live);
+}
+
+set_armed : (device : Device) (side : Side) → set_of side (with_cut_to_come device) ≡ set_of side device
+set_armed device First = refl
+set_armed device Second = refl
+
+pub layout_armed : (device : Device) (layout : Layout) → IsLayout device layout → IsLayout (with_cut_to_come device) layout
+layout_armed device layout is = record {
+  live = live_powered device.cuts (Some 1) device.on device is.live.formed.cuts_fit few_cuts layout.side layout.generation is.live;
+  fill = is.fill ∙ sym (ap (λ set. fill_of (slots_of set)) (set_armed device layout.side));
+  current = is.current;
+}
 
 -- ---- a device that is armed
 
@@ -46,25 +57,16 @@ now_armed old new fuse line = line.new_is ∙ ap (λ (d : Device). record old { 
 pub arm_legal : (old new : Device) → new ≡ with_cut_to_come old → IsLegal old → IsLegal new
 arm_legal old new is legal = subst IsLegal (sym is) (legal_armed old legal)
 
-pub arm_failed : (old : Point) (new last : Device) (fault : IndexedFault) → fault ≡ indexed.Cut → new ≡ with_cut_to_come old.device → old.serving ≡ true → IsSound old
-    → IndexedOpenFails new fault last → ⊥
-arm_failed old new last fault cut is still sound fails =
-    let finished = finished_armed old.device (sound.store still) (sound.on still) in
-    let failed : IsCutOpening new last = subst (λ (one : IndexedFault). IndexedOpenFails new one last) cut fails in
-    failed.mark_left (subst IsFinished (sym is) finished)
-
 -- where no store was open, the device alone is on the desk
 pub arm_bare : (old : Point) (fuse : Fuse) (kept : Memory) → IsArmed old.device fuse kept → old.serving ≡ false → ArmsItsFuse old fuse (closed_point kept.device)
 arm_bare old fuse kept is none = search rules
 
--- a store that is opened on it takes no step
-pub arm_opens : (old : Point) (fuse : Fuse) (kept : Memory) (last : Device) → IsArmed old.device fuse kept → old.serving ≡ true → IsSound old → Opens kept.device last
+-- a store that was open stays so
+pub arm_open : (old : Point) (fuse : Fuse) (kept : Memory) (last : Device) → IsArmed old.device fuse kept → old.serving ≡ true → IsOn old.device → last ≡ kept.device
     → ArmsItsFuse old fuse (open_point last)
-arm_opens old fuse kept last is still sound opens =
-    let finished = finished_armed old.device (sound.store still) (sound.on still) in
-    let there : last ≡ kept.device = opens.no_step (subst IsFinished (sym is.device_is) finished) in
-    let on : kept.device.on ≡ old.serving = ap (λ (device : Device). device.on) is.device_is ∙ sound.on still ∙ sym still in
-    record { kept = kept; arms = is; new_is = ap open_point there ∙ ap (λ (serving : Bool). record { serving = serving; device = kept.device }) on }
+arm_open old fuse kept last is still on there =
+    let on_now : kept.device.on ≡ old.serving = ap (λ (device : Device). device.on) is.device_is ∙ on ∙ sym still in
+    record { kept = kept; arms = is; new_is = ap open_point there ∙ ap (λ (serving : Bool). record { serving = serving; device = kept.device }) on_now }
 
 -- an open store is on, and no mark is left to set
 pub store_sound : (device : Device) → IsStore device → IsSound (open_point device)

@@ -6,7 +6,6 @@ use Rattle.std.specs.List.{All}
 use Rattle.std.specs.Prelude.{IsSomeAnd, ◌||◌}
 use Rattle.ee_flash.specs.Device.{Device}
 use Rattle.ee_flash.specs.Size.{Size}
-use Rattle.ee_pages.specs.Meaning as meaning
 use Rattle.ee_core.specs.Runs.{Call, Follows, IsRun, IsWholeRun, is_cut}
 use Rattle.ee_core.specs.State.{state_of}
 use Rattle.ee_script.specs.declared.command.Command.{Command}

@@ -1,8 +1,10 @@
 //! A device on the desk, with a store open on it or without: a cut is armed, and power comes back.
 ghost use Rattle.std.specs.Prelude.{◌≡◌, IfOk, true};
 ghost use Rattle.ee_flash.specs.Memory.{device_of, memory_of};
+ghost use Rattle.ee_pages.specs.Layout.{IsLayout};
 ghost use Rattle.ee_pages.specs.Legal.{IsLegal};
 ghost use Rattle.ee_script.specs.declared.command.Command.TheVariants.{Arm, PowerOn};
+ghost use Rattle.ee_core.specs.Finished.{IsStore};
 ghost use Rattle.ee_core.specs.Runs.{Cleaned, DidRead, Forgot, Wrote};
 ghost use Rattle.ee_core.specs.State.{state_of};
 ghost use Rattle.ee_replay.specs.Desk.{CallsAtDesk, IsLegalDesk, IsLegalSo, SaysTheSame, point_of_desk};
@@ -13,6 +15,7 @@ use ee_codec::Address;
 use ee_core::{ForgetFault, Off, Variables, WriteFault, Written};
 use ee_flash::{Flash, Fuse, MemFlash};
 use ee_index::IndexedFault;
+use ee_pages::Layout;
 use ee_script::Answer;
 use std::alloc::{AllocError, Allocator};
 
@@ -109,20 +112,21 @@ impl<S: Opened<MemFlash<A>, A>, A: Allocator + Copy> Desk<S, A> {
         }
     }
 
-    /// The device, with this fuse. A store that was open on it is closed.
-    fn into_armed(self, fuse: Fuse) -> MemFlash<A>
-        requires { IsLegalDesk self }
-        ensures memory { IsArmed (point_of_desk S.device self).device fuse (memory_of result) }
-        ensures device { device_of result ≡ with_cut_to_come (point_of_desk S.device self).device }
-        ensures sound { IsSound (point_of_desk S.device self) }
+    /// The device and the layout of the store that is open.
+    fn into_parts(self) -> (MemFlash<A>, Layout)
+        requires { (point_of_desk S.device self).serving ≡ true }
+        ensures device { device_of result.0 ≡ (point_of_desk S.device self).device }
+        ensures store { IsStore (device_of result.0) }
+        ensures layout { IsLayout (device_of result.0) result.1 }
     {
-        let mut flash = self.into_flash();
-        flash.arm(fuse);
-        flash
+        match self {
+            Desk::Open(store) => store.into_parts(),
+            Desk::Bare(_) | Desk::Gone => unreachable!("a store is open"),
+        }
     }
 
-    /// Arms a cut. A store that is open gives its device back, and is opened again, which takes no
-    /// step. An error says that memory ran out.
+    /// Arms a cut. A store that is open stays so, which takes no step and no look at its words. An error says
+    /// that memory ran out.
     pub(crate) fn arm(self, alloc: A, fuse: Fuse) -> (Desk<S, A>, Result<Answer, AllocError>)
         requires { IsLegalDesk self }
         ensures attends { IfOk result.1 (λ answer. Attends (point_of_desk S.device self)
@@ -130,16 +134,16 @@ impl<S: Opened<MemFlash<A>, A>, A: Allocator + Copy> Desk<S, A> {
         ensures legal { IsLegalDesk result.0 }
         ensures same { SaysTheSame (point_of_desk S.device self).device (point_of_desk S.device result.0).device }
     {
-        let open = self.is_open();
-        let flash = self.into_armed(fuse);
-        if !open {
-            return (Desk::Bare(flash), Ok(Answer::Armed));
+        if !self.is_open() {
+            return (
+                Desk::Bare(armed(self.into_flash(), fuse)),
+                Ok(Answer::Armed),
+            );
         }
-        match S::open_on(alloc, flash) {
+        let (flash, layout) = self.into_parts();
+        match S::of_parts(alloc, armed(flash, fuse), layout) {
             Ok(store) => (Desk::Open(store), Ok(Answer::Armed)),
-            Err((flash, IndexedFault::Memory)) => (Desk::Bare(flash), Err(AllocError)),
-            Err((_, IndexedFault::Scan(_))) => unreachable!("the image is legal"),
-            Err((_, IndexedFault::Cut)) => unreachable!("no mark is left to set"),
+            Err(flash) => (Desk::Bare(flash), Err(AllocError)),
         }
     }
 
@@ -164,4 +168,14 @@ impl<S: Opened<MemFlash<A>, A>, A: Allocator + Copy> Desk<S, A> {
             Err((_, IndexedFault::Scan(_))) => unreachable!("its image is legal"),
         }
     }
+}
+
+/// The device, with this fuse.
+fn armed<A: Allocator>(flash: MemFlash<A>, fuse: Fuse) -> MemFlash<A>
+    ensures memory { IsArmed (device_of flash) fuse (memory_of result) }
+    ensures device { device_of result ≡ with_cut_to_come (device_of flash) }
+{
+    let mut flash = flash;
+    flash.arm(fuse);
+    flash
 }

@@ -3,17 +3,20 @@ ghost use Rattle.std.specs.Prelude.{◌≡◌, IfOk, IfErr};
 ghost use Rattle.ee_flash.specs.Device.{Device, IsOn};
 ghost use Rattle.ee_flash.specs.Memory.{device_of, memory_of, unused_memory};
 ghost use Rattle.ee_image.specs.Text.{at_rest, image_text};
+ghost use Rattle.ee_pages.specs.Layout.{IsLayout};
 ghost use Rattle.ee_core.specs.Finished.{IsStore};
 ghost use Rattle.ee_core.specs.Openings.{OpenFails, Opens};
 ghost use Rattle.ee_index.specs.Index.{IndexedOpenFails};
 ghost use Rattle.ee_image_store.specs.Opening.{IsOpenFault, IsOpened, StaysOn};
 ghost use Rattle.ee_replay.specs.Opening.{IsStillFault};
 
+use ee_core::inner::{parts_of, store_of};
 use ee_core::{OpenFault, Store, Variables, open};
 use ee_faults::ReplayFault;
 use ee_flash::{Flash, MemFlash};
 use ee_image::read_image;
 use ee_index::{IndexedFault, IndexedStore};
+use ee_pages::Layout;
 use std::alloc::Allocator;
 
 /// A store that the commands open on a device, and close.
@@ -29,6 +32,20 @@ pub(crate) trait Opened<F: Flash + Drop, A: Allocator + Copy>: Variables + Drop 
     fn close(self) -> F
         ensures device { F.device result ≡ Self.device self }
         ensures store { IsStore (Self.device self) };
+
+    /// Its device, and the layout of that.
+    fn into_parts(self) -> (F, Layout)
+        requires { IsOn (Self.device self) }
+        ensures device { F.device result.0 ≡ Self.device self }
+        ensures store { IsStore (Self.device self) }
+        ensures layout { IsLayout (Self.device self) result.1 };
+
+    /// The store of a device of which this is the layout. An error, with the device, says that memory ran out.
+    fn of_parts(alloc: A, flash: F, layout: Layout) -> Result<Self, F>
+        requires store { IsStore (F.device flash) }
+        requires layout { IsLayout (F.device flash) layout }
+        ensures made { IfOk result (λ store. Self.device store ≡ F.device flash) }
+        ensures memory { IfErr result (λ device. F.device device ≡ F.device flash) };
 }
 
 /// The same fault of a store that could also want memory.
@@ -60,6 +77,24 @@ impl<F: Flash + Drop, A: Allocator + Copy> Opened<F, A> for Store<F> {
     {
         self.into_flash()
     }
+
+    fn into_parts(self) -> (F, Layout)
+        requires { IsOn self }
+        ensures device { F.device result.0 ≡ self }
+        ensures store { IsStore self }
+        ensures layout { IsLayout self result.1 }
+    {
+        parts_of(self)
+    }
+
+    fn of_parts(_alloc: A, flash: F, layout: Layout) -> Result<Store<F>, F>
+        requires store { IsStore (F.device flash) }
+        requires layout { IsLayout (F.device flash) layout }
+        ensures made { IfOk result (λ store. store ≡ F.device flash) }
+        ensures memory { IfErr result (λ device. F.device device ≡ F.device flash) }
+    {
+        Ok(store_of(flash, layout))
+    }
 }
 
 impl<F: Flash + Drop, A: Allocator + Copy> Opened<F, A> for IndexedStore<F, A> {
@@ -77,6 +112,24 @@ impl<F: Flash + Drop, A: Allocator + Copy> Opened<F, A> for IndexedStore<F, A> {
         ensures store { IsStore self }
     {
         self.into_flash()
+    }
+
+    fn into_parts(self) -> (F, Layout)
+        requires { IsOn self }
+        ensures device { F.device result.0 ≡ self }
+        ensures store { IsStore self }
+        ensures layout { IsLayout self result.1 }
+    {
+        IndexedStore::into_parts(self)
+    }
+
+    fn of_parts(alloc: A, flash: F, layout: Layout) -> Result<IndexedStore<F, A>, F>
+        requires store { IsStore (F.device flash) }
+        requires layout { IsLayout (F.device flash) layout }
+        ensures made { IfOk result (λ store. store ≡ F.device flash) }
+        ensures memory { IfErr result (λ device. F.device device ≡ F.device flash) }
+    {
+        IndexedStore::of_parts(alloc, flash, layout)
     }
 }
 

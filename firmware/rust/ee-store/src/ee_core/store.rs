@@ -30,6 +30,11 @@ impl<F: Flash> Store<F> {
         self.flash
     }
 
+    /// The device, as it is, and its layout.
+    pub(crate) fn into_parts(self) -> (F, Layout) {
+        (self.flash, self.layout)
+    }
+
     /// How many slots of the live set are torn, 0 to its fill: words in whose step power was cut. It
     /// reads each slot once.
     ///
