@@ -3,6 +3,7 @@ mod Dominance
 mod Tight
 mod Bounds
 mod Walks
+mod Tables
 mod Stretches
 mod Flaws
 mod Fields

@@ -3,5 +3,6 @@ pub use Rattle.ee_check.proofs.Bounds.{certificates_bound_schedules_lem, certifi
 pub use Rattle.ee_check.proofs.Dominance.{end_from}
 pub use Rattle.ee_check.proofs.Sizes.{changed-le, remove_key-le}
 pub use Rattle.ee_check.proofs.Stretches.{EachStretch-append, last_place-append}
+pub use Rattle.ee_check.proofs.Tables.{greater, same, smaller}
 pub use Rattle.ee_check.proofs.Texts.{one_first_bad_line_lem as one_bad_line, one_text_lem, texts_are_good_lem}
 pub use Rattle.ee_check.proofs.Walks.{live_after-append, live_after_more, one_made}

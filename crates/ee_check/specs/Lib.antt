@@ -1,4 +1,5 @@
 pub mod Live
+pub mod Table
 pub mod Schedule
 pub mod Start
 pub mod Certificate

@@ -1,6 +1,7 @@
 ghost use Rattle.std.specs.Prelude.{◌≡◌, OnOk, OnErr};
 ghost use Rattle.ee_check.specs.Live.{live_after_one, live_after};
 
+use super::live_table::LiveTable;
 use ee_codec::Address;
 use std::alloc::{AllocError, Allocator};
 use std::collections::BTreeSet;
@@ -37,14 +38,10 @@ impl Change {
 }
 
 /// Makes the changes, one behind the other.
-pub(crate) fn make_all<A: Allocator + Copy>(
-    changes: &[Change],
-    live: &mut BTreeSet<Address, A>,
-) -> Result<(), AllocError>
-    ensures { OnOk result (live.new.keys ≡ live_after live.old.keys changes.now) }
+pub(crate) fn make_all<A: Allocator>(changes: &[Change], live: &mut LiveTable<A>)
+    ensures { live.new ≡ live_after live.old changes.now }
 {
     for change in changes {
-        change.make(live)?;
+        live.make(*change);
     }
-    Ok(())
 }

@@ -105,7 +105,7 @@ fn check_stretches<A: Allocator + Copy, B: Allocator>(
     let mut count = 0;
     for stretch in stretches {
         walk.judge(start, trace, *stretch, count + 1)?;
-        walk.pass(trace, stretch.to)?;
+        walk.pass(trace, stretch.to);
         count += 1;
     }
     Ok(count)

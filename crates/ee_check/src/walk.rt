@@ -1,4 +1,4 @@
-ghost use Rattle.std.specs.Prelude.{◌≡◌, ◌≤◌, OnOk, IfOk, MatchResult, length, slice_range};
+ghost use Rattle.std.specs.Prelude.{◌≡◌, ◌≤◌, IfOk, MatchResult, length, slice_range};
 ghost use Rattle.ee_check.specs.Live.{live_after};
 ghost use Rattle.ee_check.specs.Certificate.{first_place, IsForced};
 ghost use Rattle.ee_check.specs.Fault.{IsFlaw};
@@ -6,10 +6,9 @@ ghost use Rattle.ee_check.specs.Fault.{IsFlaw};
 use super::certificate::Stretch;
 use super::change::{Change, make_all};
 use super::checking::CheckFault;
+use super::live_table::LiveTable;
 use super::start::Start;
-use ee_codec::Address;
 use std::alloc::{AllocError, Allocator};
-use std::collections::BTreeSet;
 use std::marker::Model;
 
 /// A walk through a trace, from the end of one stretch to the end of the next.
@@ -19,7 +18,7 @@ pub(crate) struct Walk<A: Allocator> {
     after: u64,
     // how many slots are used at least by a store that made no more transfers than it had to
     used: u64,
-    live: BTreeSet<Address, A>,
+    live: LiveTable<A>,
 }
 
 impl<A: Allocator> Model for Walk<A> {
@@ -27,7 +26,7 @@ impl<A: Allocator> Model for Walk<A> {
 
     ghost Value = { Walked };
 
-    ghost view = { λ w. record { place = record { after = w.after; used = w.used }; live = w.live.keys } };
+    ghost view = { λ w. record { place = record { after = w.after; used = w.used }; live = w.live } };
 }
 
 impl<A: Allocator + Copy> Walk<A> {
@@ -39,7 +38,7 @@ impl<A: Allocator + Copy> Walk<A> {
         Ok(Walk {
             after: 0,
             used: start.fill(),
-            live: start.live_in(alloc)?,
+            live: start.table_in(alloc)?,
         })
     }
 
@@ -68,16 +67,15 @@ impl<A: Allocator + Copy> Walk<A> {
     }
 
     /// Makes the changes up to this one.
-    pub(crate) fn pass(&mut self, trace: &[Change], to: u64) -> Result<(), AllocError>
+    pub(crate) fn pass(&mut self, trace: &[Change], to: u64)
         requires behind { self.old.place.after ≤ to }
         requires within { to ≤ length trace.now }
-        ensures live { OnOk result (self.new.live
-            ≡ live_after self.old.live (slice_range trace.now self.old.place.after to)) }
-        ensures place { OnOk result (self.new.place ≡ record { after = to; used = length self.new.live }) }
+        ensures live { self.new.live
+            ≡ live_after self.old.live (slice_range trace.now self.old.place.after to) }
+        ensures place { self.new.place ≡ record { after = to; used = length self.new.live } }
     {
-        make_all(&trace[self.after as usize..to as usize], &mut self.live)?;
+        make_all(&trace[self.after as usize..to as usize], &mut self.live);
         self.after = to;
-        self.used = self.live.len() as u64;
-        Ok(())
+        self.used = self.live.len();
     }
 }

@@ -22,7 +22,7 @@ use Rattle.ee_core.specs.State.{state_in, state_of}
 use Rattle.ee_core.proofs.Public.{meaning-zero, few_within, few_slots, state_is}
 use Rattle.ee_check.specs.Start.{IsStart}
 use Rattle.ee_plan.specs.Start.{AreLive, with_addresses}
-use Rattle.ee_plan.proofs.LiveLists.{smaller}
+use Rattle.ee_check.proofs.Public.{smaller}
 
 -- these are the addresses up to this one that have a value, ascending
 pub record AreLiveTo (map : Map) (above : ℕ) (live : List ℕ) : Type 0 where

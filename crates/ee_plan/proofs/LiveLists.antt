@@ -5,7 +5,7 @@ use Rattle.std.proofs.lemmas.Grind.{common_steps}
 use Rattle.std.proofs.lemmas.List.Elements.{All-from_recursion, All-contains, All-cons, All-head, All-nil, All-tail, All-weaker, Contains-append_right, recursion_from_All}
 use Rattle.std.proofs.lemmas.Map.Keys.{sorted_head, sorted_tail}
 use Rattle.std.proofs.lemmas.Map.Views.{All-insert_key, All-remove_key}
-use Rattle.std.specs.declared.cmp.Ordering.TheVariants.{Less, Equal, Greater}
+use Rattle.std.specs.declared.cmp.Ordering.TheVariants.{Less}
 use Rattle.std.specs.List.{All, AllByRecursion, Contains}
 use Rattle.std.specs.List.Sorted.{IsStrictlySortedBy}
 use Rattle.std.specs.Ordering.{nat_cmp}
@@ -19,18 +19,10 @@ use Rattle.ee_pages.specs.Meaning as meaning
 use Rattle.ee_pages.proofs.Public.{gap_to, live_to-next, live_to-zero}
 use Rattle.ee_check.specs.declared.change.Change.TheVariants.{Forget, Write}
 use Rattle.ee_check.specs.Live.{live_after_one}
+use Rattle.ee_check.proofs.Public.{greater, same, smaller}
 use Rattle.ee_plan.specs.Start.{AreLive}
 
 -- ---- numbers in ascending order
-
-pub smaller : (a b : ℕ) → a < b → nat_cmp a b ≡ Less
-smaller a b h = grind (arith, common_steps)
-
-pub same : (a b : ℕ) → a ≡ b → nat_cmp a b ≡ Equal
-same a b h = grind (arith, common_steps)
-
-pub greater : (a b : ℕ) → b < a → nat_cmp a b ≡ Greater
-greater a b h = grind (arith, common_steps)
 
 -- a removal passes any other number
 pub not_at : (k x : ℕ) → (k ≡ x → ⊥) → is_at (nat_cmp k) x ≡ false

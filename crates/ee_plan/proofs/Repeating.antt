@@ -11,7 +11,8 @@ use Rattle.std.specs.Set.{remove_key}
 use Rattle.ee_check.specs.declared.change.Change.{Change}
 use Rattle.ee_check.specs.declared.change.Change.TheVariants.{Forget, Write}
 use Rattle.ee_check.specs.Live.{live_after_one, live_after}
-use Rattle.ee_plan.proofs.LiveLists.{smaller, same, greater, not_at, from_less, insert_sorted, remove_sorted}
+use Rattle.ee_check.proofs.Public.{greater, same, smaller}
+use Rattle.ee_plan.proofs.LiveLists.{not_at, from_less, insert_sorted, remove_sorted}
 
 -- ---- which addresses a list has
 

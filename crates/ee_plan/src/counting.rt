@@ -4,25 +4,23 @@ ghost use Rattle.std.specs.List.{All, Contains};
 ghost use Rattle.ee_check.specs.Live.{live_after};
 ghost use Rattle.ee_plan.specs.Places.{AreFlats, counts_before};
 
-use ee_check::Change;
-use ee_codec::Address;
+use ee_check::{Change, LiveTable};
 use std::alloc::{AllocError, Allocator};
-use std::collections::BTreeSet;
 
 /// How many addresses are live before each change. The changes are made.
 pub(crate) fn count<A: Allocator + Copy>(
     alloc: A,
     trace: &[Change],
-    live: &mut BTreeSet<Address, A>,
+    live: &mut LiveTable<A>,
 ) -> Result<Vec<u64, A>, AllocError>
     ensures counts { IfOk result
-        (λ counts. counts.items ≡ counts_before live.old.keys trace.now) }
-    ensures live { OnOk result (live.new.keys ≡ live_after live.old.keys trace.now) }
+        (λ counts. counts.items ≡ counts_before live.old trace.now) }
+    ensures live { OnOk result (live.new ≡ live_after live.old trace.now) }
 {
     let mut counts = Vec::new(alloc);
     for change in trace {
-        counts.push(live.len() as u64)?;
-        change.make(live)?;
+        counts.push(live.len())?;
+        live.make(*change);
     }
     Ok(counts)
 }

@@ -3,9 +3,8 @@ ghost use Rattle.std.specs.Prelude.{◌≡◌, ◌+◌, ◌≤◌, ℕ, IfOk};
 ghost use Rattle.std.specs.List.{All};
 
 use super::counting::{count, flats, greatest};
-use ee_check::Change;
+use ee_check::{Change, LiveTable};
 use std::alloc::{AllocError, Allocator};
-use std::collections::BTreeSet;
 
 /// How many addresses are live before each change of the first round, and of each later one. The second
 /// round leaves the addresses that it found, and so does each after it.
@@ -28,7 +27,7 @@ impl<A: Allocator + Copy> Counts<A> {
     pub(crate) fn of(alloc: A, trace: &[Change]) -> Result<Counts<A>, AllocError>
         ensures { IfOk result (AreRoundCounts trace.now) }
     {
-        let mut live = BTreeSet::new(alloc);
+        let mut live = LiveTable::new(alloc)?;
         let first = count(alloc, trace, &mut live)?;
         let later = count(alloc, trace, &mut live)?;
         let flats = flats(alloc, &later)?;

@@ -4,10 +4,8 @@ ghost use Rattle.ee_check.specs.Start.{IsStart};
 ghost use Rattle.ee_plan.specs.LateStore.{Makes, IsChangeRefused, store_after_transfer};
 
 use super::planned::PlanFault;
-use ee_check::{Change, Start, Stretch};
-use ee_codec::Address;
+use ee_check::{Change, LiveTable, Start, Stretch};
 use std::alloc::{AllocError, Allocator};
-use std::collections::BTreeSet;
 use std::marker::Model;
 
 /// A store that transfers exactly when each slot is used, on its way through a trace. It has no flash: it
@@ -17,7 +15,7 @@ pub(crate) struct LateStore<A: Allocator> {
     slots: u64,
     // how many slots are used
     fill: u64,
-    live: BTreeSet<Address, A>,
+    live: LiveTable<A>,
     // how many were used where the stretch that goes on began
     from: u64,
     // the stretches that have ended
@@ -29,7 +27,7 @@ impl<A: Allocator> Model for LateStore<A> {
 
     ghost Value = { LateStore };
 
-    ghost view = { λ s. record { now = record { slots = s.slots; fill = s.fill; live = s.live.keys }; from = s.from; stretches = s.stretches.items } };
+    ghost view = { λ s. record { now = record { slots = s.slots; fill = s.fill; live = s.live }; from = s.from; stretches = s.stretches.items } };
 }
 
 impl<A: Allocator + Copy> LateStore<A> {
@@ -41,7 +39,7 @@ impl<A: Allocator + Copy> LateStore<A> {
         Ok(LateStore {
             slots: start.slots(),
             fill: start.fill(),
-            live: start.live_in(alloc)?,
+            live: start.table_in(alloc)?,
             from: start.fill(),
             stretches: Vec::new(alloc),
         })
@@ -53,8 +51,8 @@ impl<A: Allocator + Copy> LateStore<A> {
         ensures fits { OnOk result (length self.new.now.live ≤ self.old.now.slots) }
         ensures err { IfErr result (λ fault. IsChangeRefused self.old change number fault) }
     {
-        change.make(&mut self.live)?;
-        if self.slots < self.live.len() as u64 {
+        self.live.make(change);
+        if self.slots < self.live.len() {
             return Err(PlanFault::NotFitting(number));
         }
         if self.fill < self.slots {
@@ -73,7 +71,7 @@ impl<A: Allocator + Copy> LateStore<A> {
             to: number,
             from: self.from,
         })?;
-        self.from = self.live.len() as u64;
+        self.from = self.live.len();
         self.fill = self.from;
         Ok(())
     }

@@ -4,4 +4,4 @@ use Rattle.ee_check.proofs.change.make_all.Given as goal
 
 -- the changes so far are made
 abbrev pub invariant-loop-change : goal.invariant-loop-change
-invariant-loop-change g l = l.live.keys ≡ live_after l.fn.live.keys (take l.change-index l.changes)
+invariant-loop-change g l = l.live ≡ live_after l.fn.live (take l.change-index l.changes)
