@@ -20,7 +20,7 @@ later_some (Some old) None = refl
 later_some None (Some new) = refl
 later_some (Some old) (Some new) = refl
 
-said_by_some : (slots : List Word) (address : ℕ) → is_some (latest_in slots address) ≡ list_any (speaks_of address) slots
+pub said_by_some : (slots : List Word) (address : ℕ) → is_some (latest_in slots address) ≡ list_any (speaks_of address) slots
 said_by_some [] address = refl
 said_by_some (slot ∷ slots) address =
     later_some (says slot address) (latest_in slots address) ∙ ap (λ b. is_some (says slot address) || b) (said_by_some slots address)
@@ -29,7 +29,7 @@ not_none : (said : Option (Option ℕ)) → is_some said ≡ true → said ≢ N
 not_none None some = absurd (cc some)
 not_none (Some said) some = λ none. cc none
 
-is_none : (said : Option (Option ℕ)) → is_some said ≡ false → said ≡ None
+pub is_none : (said : Option (Option ℕ)) → is_some said ≡ false → said ≡ None
 is_none None none = refl
 is_none (Some said) none = absurd (cc none)
 
@@ -39,14 +39,14 @@ some_of (Some said) some = refl
 
 -- ---- the slots about the last one of a kind
 
-record IsParted (such : Word → Bool) (slots : List Word) : Type 0 where
-  before : List Word
-  at : Word
-  behind : List Word
-  slots_are : slots ≡ before ++ at ∷ behind
-  count : length before + 1 ≡ up_to_last such slots
-  of_kind : such at ≡ true
-  none_behind : list_any such behind ≡ false
+pub record IsParted (such : Word → Bool) (slots : List Word) : Type 0 where
+  pub before : List Word
+  pub at : Word
+  pub behind : List Word
+  pub slots_are : slots ≡ before ++ at ∷ behind
+  pub count : length before + 1 ≡ up_to_last such slots
+  pub of_kind : such at ≡ true
+  pub none_behind : list_any such behind ≡ false
 
 or_left : (a b : Bool) → b ≡ false → (a || b) ≡ true → a ≡ true
 or_left true b none some = refl
@@ -60,7 +60,7 @@ or_none : (a b : Bool) → (a || b) ≡ false → b ≡ false
 or_none true b none = absurd (cc none)
 or_none false b none = none
 
-parted : (such : Word → Bool) (slots : List Word) → list_any such slots ≡ true → IsParted such slots
+pub parted : (such : Word → Bool) (slots : List Word) → list_any such slots ≡ true → IsParted such slots
 parted such [] some = absurd (cc some)
 parted such (first ∷ slots) some = elim (cases_Bool (list_any such slots)) [
   | inl more ↦
@@ -91,10 +91,10 @@ parted such (first ∷ slots) some = elim (cases_Bool (list_any such slots)) [
       }
 ]
 
-up_or_none : (such : Word → Bool) (slots : List Word) → 0 < up_to_last such slots → list_any such slots ≡ true
+pub up_or_none : (such : Word → Bool) (slots : List Word) → 0 < up_to_last such slots → list_any such slots ≡ true
 up_or_none such slots some = search (rules, cases_Bool, no_last)
 
-last_within : (such : Word → Bool) (slots : List Word) → up_to_last such slots ≤ length slots
+pub last_within : (such : Word → Bool) (slots : List Word) → up_to_last such slots ≤ length slots
 last_within such slots = elim (cases_Bool (list_any such slots)) [
   | inl some ↦
       let parts = parted such slots some in

@@ -1,17 +1,21 @@
 -- What is told of an image, a number, a slot or an address further.
-use Rattle.std.proofs.Common.{◌≡◌, ◌∙◌, ◌+◌, ◌<◌, ◌≤◌, ℕ, zero, suc, Bool, true, false, not, cond, None, List, [], ◌∷◌, ◌++◌, length, get_or, take, refl, sym, ap, arith, add-one, rules}
+use Rattle.std.proofs.Common.{◌≡◌, ◌∙◌, ◌+◌, ◌<◌, ◌≤◌, ℕ, zero, suc, Bool, true, false, not, cond, None, List, [], ◌∷◌, ◌++◌, length, get_or, take, drop, refl, sym, ap, arith, add-one, rules}
 use Rattle.std.proofs.lemmas.Grind.{common_steps}
 use Rattle.std.specs.Prelude.{◌||◌}
 use Rattle.std.specs.List.{filter, list_any}
-use Rattle.std.proofs.lemmas.List.{append-nil, length-take-le, take_more}
+use Rattle.std.proofs.lemmas.List.{append-nil, get_or-drop, length-take-le, take-append-drop, take_more}
 use Rattle.std.proofs.lemmas.List.Folds.{list_any-append}
+use Rattle.ee_flash.specs.Device.{Device}
+use Rattle.ee_flash.specs.Size.{slot_count}
 use Rattle.ee_flash.specs.declared.word.Word.{Word}
 use Rattle.ee_flash.specs.declared.word.Word.TheVariants.{Erased, Held, Torn}
+use Rattle.ee_pages.specs.Layout.{IsLayout}
 use Rattle.ee_pages.specs.Meaning.{Map, later, latest_in, live_in, live_to, meaning, value_said}
-use Rattle.ee_pages.specs.Page.{is_torn}
-use Rattle.ee_pages.specs.Sets.{fill_of, torn_of}
-use Rattle.ee_pages.proofs.Public.{later-none, live_to-suc, live_to-zero, live_within_fill}
-use Rattle.ee_part.specs.Inspecting.{doubt_line, doubt_lines, each_below, is_before, speaks_of, up_to_last}
+use Rattle.ee_pages.specs.Page.{is_torn, is_written}
+use Rattle.ee_pages.specs.Sets.{fill_of, front, torn_of}
+use Rattle.ee_pages.specs.declared.find.Layout.{Layout}
+use Rattle.ee_pages.proofs.Public.{fill-front, later-none, length-slots, live_to-suc, live_to-zero, live_within_fill, slots_behind}
+use Rattle.ee_part.specs.Inspecting.{AreSpoken, doubt_line, doubt_lines, each_below, is_before, live_slots, speaks_of, up_to_last}
 
 -- four parts of a text, one behind another
 pub four_parts : (old a b given c d first second third fourth : List ℕ) → first ≡ old ++ a → second ≡ first ++ given → given ≡ b → third ≡ second ++ c
@@ -92,24 +96,59 @@ last_more : (such : Word → Bool) (slots : List Word) (n : ℕ) (slot : Word) (
 last_more such slots n slot true last within here of_kind so_far = last_there such slots n slot within here of_kind
 last_more such slots n slot false last within here of_kind so_far = last_same such slots n slot within here last of_kind so_far
 
--- ---- the last slot that speaks of each address
+pub fill_within : (slots : List Word) → fill_of slots ≤ length slots
+fill_within [] = omega arith
+fill_within (Erased ∷ slots) = let rest = fill_within slots in omega (arith, rest)
+fill_within (Held number ∷ slots) = let rest = fill_within slots in omega (arith, rest)
+fill_within (Torn ∷ slots) = let rest = fill_within slots in omega (arith, rest)
 
--- what a table says of the addresses: the last slot that speaks of each
-abbrev pub AreSpoken : List Word → List ℕ → Type 0
-AreSpoken slots spoken = (address : ℕ) → address < 65535 → get_or spoken address 0 ≡ up_to_last (speaks_of address) slots
+-- no slot is of a kind that erased ones are not of, where all are erased
+none_behind : (such : Word → Bool) (slots : List Word) → such Erased ≡ false → ((k : ℕ) → is_written (get_or slots k Erased) ≡ false)
+    → list_any such slots ≡ false
+none_behind such [] not_erased each = refl
+none_behind such (Erased ∷ slots) not_erased each = rw not_erased (none_behind such slots not_erased (λ k. each (suc k)))
+none_behind such (Held number ∷ slots) not_erased each = absurd (cc (each 0))
+none_behind such (Torn ∷ slots) not_erased each = absurd (cc (each 0))
+
+module _ (device : Device) (layout : Layout) (found : IsLayout device layout) where
+  fill_is_front : layout.fill ≡ front (live_slots device layout)
+  fill_is_front = found.fill ∙ sym (fill-front layout.side device layout.generation found.live.formed found.live.allowed)
+
+  pub slot_in_range : (slot : ℕ) → slot < layout.fill → slot < slot_count device.size
+  slot_in_range slot below =
+      let few = fill_within (live_slots device layout) in
+      omega (arith, found.fill, few, length-slots layout.side device found.live.formed)
+
+  -- the last slot of such a kind, where all that are used were seen
+  pub last_in_fill : (such : Word → Bool) (seen : ℕ) → such Erased ≡ false → seen ≡ layout.fill
+      → up_to_last such (take seen (live_slots device layout)) ≡ up_to_last such (live_slots device layout)
+  last_in_fill such seen not_erased all =
+      let slots = live_slots device layout in
+      let none = none_behind such (drop seen slots) not_erased (λ k.
+      ap is_written (get_or-drop seen slots k Erased)
+      ∙ slots_behind layout.side device layout.generation found.live.formed found.live.allowed (seen + k)
+      (omega (arith, all, fill_is_front))) in
+      sym (last_before such (take seen slots) (drop seen slots) none) ∙ ap (up_to_last such) (take-append-drop seen slots)
+
+-- ---- the last slot that speaks of each address
 
 -- one slot more
 pub spoken_more : (slots : List Word) (n : ℕ) (slot : Word) (old new : List ℕ) → n < length slots → slot ≡ get_or slots n Erased
+    → length new ≡ 65535
     → ((address : ℕ) → address < 65535 → get_or new address 0 ≡ cond (speaks_of address slot) (n + 1) (get_or old address 0))
     → AreSpoken (take n slots) old → AreSpoken (take (n + 1) slots) new
-spoken_more slots n slot old new within here noted so_far address below =
-    noted address below
-    ∙ last_more (speaks_of address) slots n slot (speaks_of address slot) (get_or old address 0) within here refl (so_far address below)
+spoken_more slots n slot old new within here long noted so_far = record {
+  long = long;
+  each = λ address below.
+      noted address below
+      ∙ last_more (speaks_of address) slots n slot (speaks_of address slot) (get_or old address 0) within here refl
+      (so_far.each address below);
+}
 
 -- the lines of the addresses in doubt, by the table
-pub told_doubts : (slots : List Word) (spoken : List ℕ) (torn : ℕ) → length spoken ≡ 65535 → torn ≡ up_to_last is_torn slots → AreSpoken slots spoken
+pub told_doubts : (slots : List Word) (spoken : List ℕ) (torn : ℕ) → torn ≡ up_to_last is_torn slots → AreSpoken slots spoken
     → each_below (length spoken) (λ address. doubt_line (is_before (get_or spoken address 0) torn) address) ≡ doubt_lines slots
-told_doubts slots spoken torn long last each = search (rules, told_alike)
+told_doubts slots spoken torn last table = search (rules, told_alike)
 
 -- ---- the used slots are those that give an address its value, those that are torn, and others
 
@@ -131,12 +170,6 @@ whole_count (Torn ∷ slots) = let rest = whole_count slots in omega (arith, res
 live_alike : (map other : Map) (n : ℕ) → ((address : ℕ) → map address ≡ other address) → live_to map n ≡ live_to other n
 live_alike map other zero same = live_to-zero map ∙ sym (live_to-zero other)
 live_alike map other (suc n) same = search (rules, live_to-suc, (live_alike map other n same))
-
-pub fill_within : (slots : List Word) → fill_of slots ≤ length slots
-fill_within [] = omega arith
-fill_within (Erased ∷ slots) = let rest = fill_within slots in omega (arith, rest)
-fill_within (Held number ∷ slots) = let rest = fill_within slots in omega (arith, rest)
-fill_within (Torn ∷ slots) = let rest = fill_within slots in omega (arith, rest)
 
 pub live_and_torn : (slots : List Word) → live_in (meaning slots) + torn_of slots ≤ fill_of slots
 live_and_torn slots =

@@ -4,4 +4,5 @@ mod HexCauses
 mod Hexes
 mod Inspections
 mod Doubts
+mod Counting
 mod ScanWords

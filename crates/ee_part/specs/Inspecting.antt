@@ -1,6 +1,6 @@
 -- What `inspect` tells of an image: what a scan finds, how the live set is used, which words are torn, and of which
 -- addresses the latest change may be lost.
-use Rattle.std.specs.Prelude.{◌≡◌, ◌+◌, ◌-◌, ◌&&◌, ℕ, zero, suc, nat_le, nat_lt, if◌then◌else◌, is_some, Bool, List, [], ◌∷◌, ◌++◌, Option, Some, None, Result, Ok, Err, MatchResult, codes, decimal}
+use Rattle.std.specs.Prelude.{◌≡◌, ◌<◌, ◌+◌, ◌-◌, ◌&&◌, ℕ, zero, suc, nat_le, nat_lt, if◌then◌else◌, is_some, Bool, List, [], ◌∷◌, ◌++◌, length, slice_index_or, Option, Some, None, Result, Ok, Err, MatchResult, codes, decimal}
 use Rattle.std.specs.List.{list_any}
 use Rattle.ee_text.specs.Field.{joined_fields}
 use Rattle.ee_text.specs.Line.{line_of}
@@ -111,6 +111,11 @@ up_to_last such (slot ∷ slots) = if list_any such (slot ∷ slots) then suc (u
 -- the slot says that the address has a value, or that it has none
 abbrev pub speaks_of : ℕ → Word → Bool
 speaks_of address slot = is_some (says slot address)
+
+-- the table tells for each number below 65535 how many slots there are up to the last one that speaks of it as an address
+pub record AreSpoken (slots : List Word) (spoken : List ℕ) : Type 0 where
+  pub long : length spoken ≡ 65535
+  pub each : (address : ℕ) → address < 65535 → slice_index_or spoken address 0 ≡ up_to_last (speaks_of address) slots
 
 -- the last slot that speaks of an address stands before the last torn one, which may have been another change of it
 abbrev pub is_before : ℕ → ℕ → Bool

@@ -1,18 +1,19 @@
 //! The command that tells what an image shows.
-ghost use Rattle.std.specs.Prelude.{◌≡◌, ◌≢◌, ◌<◌, ◌⊎◌, ◌++◌, ◌==◌, ℕ, false, if◌then◌else◌, codes, length, slice_index_or, Ok, Err, Some, None, IfOk, IfErr, IfSome, OnOk, MatchOption, MatchResult};
+ghost use Rattle.std.specs.Prelude.{◌≡◌, ◌≢◌, ◌<◌, ◌≤◌, ◌⊎◌, ◌++◌, ◌==◌, ℕ, false, true, if◌then◌else◌, codes, is_some, length, slice_index_or, Ok, Err, Some, None, IfOk, IfErr, IfSome, OnOk, MatchOption, MatchResult};
 ghost use Rattle.ee_text.specs.Line.{line_of};
-ghost use Rattle.ee_flash.specs.Size.{page_count};
+ghost use Rattle.ee_flash.specs.Size.{page_count, slot_count};
 ghost use Rattle.ee_pages.specs.Layout.{IsLayout};
+ghost use Rattle.ee_pages.specs.Meaning.{live_in, meaning, says, value_said};
 ghost use Rattle.ee_pages.specs.Page.{is_torn as torn};
 ghost use Rattle.ee_image_store.specs.FileFaults.{IsReadingFault};
-ghost use Rattle.ee_part.specs.Inspecting.{AreFindings, IsInspected, doubt_line, doubt_lines, each_below, found_lines, is_before, live_slots, parts_text, place_name, scan_words, set_number, set_text, slots_text, speaks_of, torn_line, torn_lines, up_to_last, usage_in};
+ghost use Rattle.ee_part.specs.Inspecting.{AreFindings, AreSpoken, IsInspected, doubt_line, doubt_lines, each_below, found_lines, is_before, live_slots, parts_text, place_name, scan_words, set_number, set_text, slots_text, speaks_of, torn_line, torn_lines, up_to_last, usage_in};
 
 use crate::image::read_part;
 use ee_codec::{Slot, read_slot};
 use ee_core::count_pending;
 use ee_faults::Fault;
 use ee_flash::{Flash, HEADER_WORDS, Word};
-use ee_pages::{Layout, ScanFault, Side, first_page, live_count, scan, slot_word, torn_slots};
+use ee_pages::{Layout, ScanFault, Side, first_page, scan, slot_word, torn_slots};
 use ee_text::push_number_behind;
 use std::alloc::{AllocError, Allocator};
 
@@ -65,10 +66,11 @@ fn push_live<A: Allocator + Copy, F: Flash>(
     ensures { OnOk result
         (out.new.items ≡ out.old.items ++ found_lines (F.device flash.now) (Ok layout.now)) }
 {
+    let spoken = last_spoken(alloc, flash, layout)?;
     out.extend_from_slice(b"scan ok\n")?;
-    push_set(usage_of(flash, layout), out)?;
+    push_set(usage_of(flash, layout, spoken.as_slice()), out)?;
     push_torn(flash, Some(layout.side), out)?;
-    push_doubts(alloc, flash, layout, out)?;
+    push_doubts(flash, layout, spoken.as_slice(), out)?;
     Ok(())
 }
 
@@ -124,13 +126,14 @@ struct Usage {
     torn: usize,
 }
 
-/// How the live set is used.
-fn usage_of<F: Flash>(flash: &F, layout: &Layout) -> Usage
-    requires { IsLayout (F.device flash.now) layout.now }
+/// How the live set is used, by the last slot that speaks of each address.
+fn usage_of<F: Flash>(flash: &F, layout: &Layout, spoken: &[usize]) -> Usage
+    requires layout { IsLayout (F.device flash.now) layout.now }
+    requires spoken { AreSpoken (live_slots (F.device flash.now) layout.now) spoken.now }
     ensures { result ≡ usage_in (F.device flash.now) layout.now }
 {
     let fill = layout.fill;
-    let live = live_count(flash, layout);
+    let live = count_live(flash, layout, spoken);
     let torn = torn_slots(flash, layout);
     Usage {
         set: number_of(layout.side),
@@ -142,6 +145,40 @@ fn usage_of<F: Flash>(flash: &F, layout: &Layout) -> Usage
         superseded: fill - live - torn,
         torn,
     }
+}
+
+/// How many addresses have a value, by the last slot that speaks of each.
+fn count_live<F: Flash>(flash: &F, layout: &Layout, spoken: &[usize]) -> usize
+    requires layout { IsLayout (F.device flash.now) layout.now }
+    requires spoken { AreSpoken (live_slots (F.device flash.now) layout.now) spoken.now }
+    ensures { result ≡ live_in (meaning (live_slots (F.device flash.now) layout.now)) }
+{
+    let mut count = 0;
+    'addresses: for address in 1..spoken.len() {
+        if has_value(flash, layout, spoken[address]) {
+            count += 1;
+        }
+    }
+    count
+}
+
+/// Whether an address has a value, by how many slots there are up to the last one that speaks of it, 0 if
+/// none does.
+fn has_value<F: Flash>(flash: &F, layout: &Layout, spoken: usize) -> bool
+    requires layout { IsLayout (F.device flash.now) layout.now }
+    requires spoken_in_range { spoken ≤ slot_count (F.device flash.now).size }
+    ensures { let slots = live_slots (F.device flash.now) layout.now in (address : ℕ)
+        → spoken ≡ up_to_last (speaks_of address) slots → result ≡ is_some (meaning slots address) }
+{
+    spoken > 0 && gives_value(slot_word(flash, layout, spoken - 1))
+}
+
+/// Whether a slot gives the address of which it speaks a value.
+fn gives_value(word: Word) -> bool
+    ensures { (address : ℕ) → speaks_of address word ≡ true
+        → result ≡ is_some (value_said (says word address)) }
+{
+    matches!(read_slot(word), Slot::Element { .. })
 }
 
 /// Which of the two sets it is.
@@ -269,20 +306,20 @@ fn name_of<F: Flash>(flash: &F, live: Option<Side>, page: usize, at: usize) -> &
     }
 }
 
-/// Writes the lines of the addresses that are in doubt. After an error there may be a part of them.
-fn push_doubts<A: Allocator + Copy, F: Flash>(
-    alloc: A,
+/// Writes the lines of the addresses that are in doubt, by the last slot that speaks of each. After an
+/// error there may be a part of them.
+fn push_doubts<A: Allocator, F: Flash>(
     flash: &F,
     layout: &Layout,
+    spoken: &[usize],
     out: &mut Vec<u8, A>,
 ) -> Result<(), AllocError>
-    requires { IsLayout (F.device flash.now) layout.now }
+    requires layout { IsLayout (F.device flash.now) layout.now }
+    requires spoken { AreSpoken (live_slots (F.device flash.now) layout.now) spoken.now }
     ensures { OnOk result (out.new.items
         ≡ out.old.items ++ doubt_lines (live_slots (F.device flash.now) layout.now)) }
 {
-    let torn = last_torn(flash, layout);
-    let spoken = last_spoken(alloc, flash, layout)?;
-    push_doubted(spoken.as_slice(), torn, out)?;
+    push_doubted(spoken, last_torn(flash, layout), out)?;
     Ok(())
 }
 
@@ -291,8 +328,9 @@ fn last_torn<F: Flash>(flash: &F, layout: &Layout) -> usize
     requires { IsLayout (F.device flash.now) layout.now }
     ensures { result ≡ up_to_last torn (live_slots (F.device flash.now) layout.now) }
 {
+    // The slots behind the fill are erased.
     let mut last = 0;
-    'slots: for slot in 0..flash.shape().slots() {
+    'slots: for slot in 0..layout.fill {
         if is_torn(slot_word(flash, layout, slot)) {
             last = slot + 1;
         }
@@ -308,13 +346,12 @@ fn last_spoken<A: Allocator, F: Flash>(
     layout: &Layout,
 ) -> Result<Vec<usize, A>, AllocError>
     requires { IsLayout (F.device flash.now) layout.now }
-    ensures long { IfOk result (λ spoken. length spoken.items ≡ 65535) }
-    ensures each { let slots = live_slots (F.device flash.now) layout.now in
-        IfOk result (λ spoken. (address : ℕ) → address < 65535
-        → slice_index_or spoken.items address 0 ≡ up_to_last (speaks_of address) slots) }
+    ensures { let slots = live_slots (F.device flash.now) layout.now in
+        IfOk result (λ spoken. AreSpoken slots spoken.items) }
 {
+    // The slots behind the fill are erased.
     let mut spoken = zeroes(alloc, 65535)?;
-    'slots: for slot in 0..flash.shape().slots() {
+    'slots: for slot in 0..layout.fill {
         note(&mut spoken, slot_word(flash, layout, slot), slot + 1);
     }
     Ok(spoken)

@@ -1,10 +1,12 @@
-use Rattle.std.proofs.Common.{◌∙◌, ◌<◌, ◌≤◌, length, ap, arith}
-use Rattle.std.proofs.lemmas.List.{take_all}
-use Rattle.ee_flash.specs.Size.{slot_count}
+use Rattle.std.proofs.Common.{◌∙◌, ◌<◌, length, arith, refl}
 use Rattle.ee_pages.proofs.Public.{length-slots}
-use Rattle.ee_part.specs.Inspecting.{live_slots, speaks_of, up_to_last}
-use Rattle.ee_part.proofs.Inspections.{spoken_more}
+use Rattle.ee_part.specs.Inspecting.{live_slots, speaks_of}
+use Rattle.ee_part.proofs.Inspections.{last_in_fill, slot_in_range, spoken_more}
 use Rattle.ee_part.proofs.inspecting.last_spoken.Goals as goal
+
+pub slot_word-requires-clause-slot_in_range : goal.slot_word-requires-clause-slot_in_range
+slot_word-requires-clause-slot_in_range g c =
+    slot_in_range (g.F.Flash.device c.args.flash.now) c.args.layout.now c.requires c.slots.slot c.slots-test.true
 
 pub slots-preserved : goal.slots-preserved
 slots-preserved g c =
@@ -12,18 +14,14 @@ slots-preserved g c =
     let slots = live_slots device c.args.layout.now in
     let long = length-slots c.args.layout.now.side device c.requires.live.formed in
     let within : c.slots.slot < length slots =
-    omega (arith, long, ap slot_count c.shape.ensures, c.slots-slot-end.ensures.value, c.slots-test.true) in
-    record {
-      long = c.note.ensures.long;
-      each = spoken_more slots c.slots.slot c.slot_word.result c.slots.spoken.items c.note.new.spoken.items within c.slot_word.ensures
-          c.note.ensures.each c.slots.invariant.each;
-    }
+    omega (arith, long, slot_in_range device c.args.layout.now c.requires c.slots.slot c.slots-test.true) in
+    spoken_more slots c.slots.slot c.slot_word.result c.slots.spoken.items c.note.new.spoken.items within c.slot_word.ensures
+    c.note.ensures.long c.note.ensures.each c.slots.invariant
 
-pub returns-clause-each : goal.returns-clause-each
-returns-clause-each g c =
-    let device = g.F.Flash.device c.args.flash.now in
-    let slots = live_slots device c.args.layout.now in
-    let long = length-slots c.args.layout.now.side device c.requires.live.formed in
-    let all : length slots ≤ c.slots.slot =
-    omega (arith, long, ap slot_count c.shape.ensures, c.slots-slot-end.ensures.value, c.slots-test.false) in
-    λ address below. c.slots.invariant.each address below ∙ ap (up_to_last (speaks_of address)) (take_all c.slots.slot slots all)
+pub returns : goal.returns
+returns g c = record {
+  long = c.slots.invariant.long;
+  each = λ address below.
+      c.slots.invariant.each address below
+      ∙ last_in_fill (g.F.Flash.device c.args.flash.now) c.args.layout.now c.requires (speaks_of address) c.slots.slot refl (omega arith);
+}
