@@ -1,4 +1,5 @@
 mod Digits
+mod Decoding
 mod Lines
 mod Rows
 mod Taken

@@ -1,24 +1,25 @@
 -- The lines of an image: none has a line feed in it, and no two are alike.
-use Rattle.std.proofs.Common.{◌≡◌, ◌≢◌, ℕ, ◌<◌, ◌^◌, List, [], ◌∷◌, ◌++◌, refl, sym, ap, ◌∙◌, arith, codes, map}
+use Rattle.std.proofs.Common.{◌≡◌, ◌≢◌, ℕ, ◌<◌, ◌^◌, List, [], ◌∷◌, ◌++◌, refl, sym, ap, ◌∙◌, arith, append_assoc, codes, map}
 use Rattle.std.specs.Fmt.{decimal}
 use Rattle.std.specs.List.{AllByRecursion}
 use Rattle.std.proofs.lemmas.Fmt.{decimal_injective}
-use Rattle.ee_text.specs.Field.{IsField}
-use Rattle.ee_text.specs.Line.{IsLine, line_of}
+use Rattle.std.proofs.lemmas.List.{append-nil}
+use Rattle.ee_text.specs.Field.{IsField, joined_fields, space}
+use Rattle.ee_text.specs.Line.{IsLine, line_feed, line_of}
 use Rattle.ee_text.proofs.Public.{Lacks-joined, joined_injective, IsField-decimal, IsLine-decimal}
 use Rattle.ee_text.proofs.Public as feeds
 use Rattle.ee_flash.specs.Size.{Size, size_of}
 use Rattle.ee_flash.specs.declared.word.Word.{Word}
 use Rattle.ee_image.specs.Text.{word_text, page_text, size_text, IsPage, IsNumbered}
-use Rattle.ee_image.specs.Fault.{BeginsWithSize, NoSize, NoPage}
-use Rattle.ee_image.specs.Reading.{IsOtherLine}
+use Rattle.ee_image.specs.Fault.{BeginsWithSize, NoSize}
+use Rattle.ee_image.specs.Reading.{spaced_words}
 use Rattle.ee_image.proofs.Digits.{Lacks-words, no_line_feed, no_space, words_injective}
 
 wear_fits : (words wear : ℕ) (page : List Word) → IsPage words wear page → wear < 2 ^ 64
 wear_fits words wear page proper = omega (arith, proper.wear_fits)
 
 -- the fields of a page's line
-pub page_fields : (words wear : ℕ) (page : List Word) → IsPage words wear page → AllByRecursion IsField (decimal wear ∷ map word_text page)
+page_fields : (words wear : ℕ) (page : List Word) → IsPage words wear page → AllByRecursion IsField (decimal wear ∷ map word_text page)
 page_fields words wear page proper = (IsField-decimal wear (wear_fits words wear page proper), Lacks-words 32 no_space page)
 
 pub page_is_line : (words wear : ℕ) (page : List Word) → IsPage words wear page → IsLine (page_text wear page)
@@ -62,7 +63,14 @@ pub other_size : (text line rest : List ℕ) → text ≡ line_of line ++ rest �
 other_size text line rest parts is_line other size more begins =
     other size begins.numbered (feeds.first_line line (size_text size) rest more is_line (size_is_line size begins.numbered) (sym parts ∙ begins.text_is)).0
 
--- a line that is no page's
-pub other_page : (words : ℕ) (text line rest : List ℕ) → text ≡ line_of line ++ rest → IsLine line → IsOtherLine words line → NoPage words text
-other_page words text line rest parts is_line other wear page more proper e =
-    other wear page proper (feeds.first_line line (page_text wear page) rest more is_line (page_is_line words wear page proper) (sym parts ∙ e)).0
+-- ---- the parts of a page's line
+
+joined-spaced : (field : List ℕ) (words : List Word) → joined_fields (field ∷ map word_text words) ≡ field ++ spaced_words words
+joined-spaced field [] = sym (append-nil field)
+joined-spaced field (word ∷ words) = ap (λ l. field ++ space ∷ l) (joined-spaced (word_text word) words)
+
+pub line_parts : (wear : ℕ) (page : List Word) (rest : List ℕ) → line_of (page_text wear page) ++ rest ≡ decimal wear ++ (spaced_words page ++ (line_feed ∷ rest))
+line_parts wear page rest =
+    append_assoc (page_text wear page) (line_feed ∷ []) rest
+    ∙ ap (λ l. l ++ (line_feed ∷ rest)) (joined-spaced (decimal wear) page)
+    ∙ append_assoc (decimal wear) (spaced_words page) (line_feed ∷ rest)

@@ -1,106 +1,139 @@
 -- Words and pages, read one after another.
-use Rattle.std.proofs.Common.{◌≡◌, ℕ, ◌+◌, ◌<◌, List, [], ◌∷◌, ◌++◌, length, map, refl, sym, ap, ◌∙◌, arith, append_assoc, length-append, subst}
+use Rattle.std.proofs.Common.{◌≡◌, ◌≢◌, ℕ, ◌+◌, ◌<◌, ◌^◌, List, [], ◌∷◌, ◌++◌, length, take, drop, ◌-◌, refl, sym, ap, ◌∙◌, arith, append_assoc, length-append, length-drop, subst, Option, Some, None, IfNone, IfSome, Bor}
 use Rattle.std.specs.Fmt.{decimal}
-use Rattle.std.specs.List.{All, AllByRecursion, flat_map}
-use Rattle.ee_text.specs.Field.{IsField, joined_fields}
-use Rattle.ee_text.specs.Line.{IsLine, line_of}
-use Rattle.std.proofs.lemmas.List.{append-nil, map-append}
-use Rattle.std.proofs.lemmas.List.Elements.{All-head, All-nil, All-push, All-tail}
+use Rattle.std.specs.List.{All, flat_map}
+use Rattle.std.proofs.Math.Seq.{drop-append_seam}
+use Rattle.std.proofs.lemmas.List.{append-nil, take_all}
+use Rattle.std.proofs.lemmas.List.Elements.{All-head, All-push, All-tail}
 use Rattle.std.proofs.lemmas.Grind.{flat_map-append}
+use Rattle.ee_text.specs.Field.{IsField, space}
+use Rattle.ee_text.specs.Line.{line_feed, line_of}
+use Rattle.ee_text.proofs.Public.{IsField-decimal, first_place, no_place}
 use Rattle.ee_flash.specs.Device.{IsBelowAllOnes}
 use Rattle.ee_flash.specs.declared.word.Word.{Word}
-use Rattle.ee_image.specs.Text.{word_text, page_text, page_lines, IsPage, ArePages}
-use Rattle.ee_image.specs.Reading.{ArePagesRead, AreWordsRead, IsLineFault, IsOtherLine, IsPageFault, IsNextPage, IsWordsFault, NoWords}
+use Rattle.ee_image.specs.Text.{word_text, page_text, page_lines, ArePages}
+use Rattle.ee_image.specs.Fault.{NoPage}
+use Rattle.ee_image.specs.Reading.{ArePagesRead, AreWordsRead, IsNextPage, IsPageFault, IsWordsFault, NoWords, spaced_words}
 use Rattle.ee_image.specs.declared.reading.PageFault.{PageFault}
 use Rattle.ee_image.specs.declared.reading.PageFault.TheVariants.{Bad, NoMemory}
-use Rattle.ee_image.proofs.Lines.{other_page, page_fields}
+use Rattle.ee_image.proofs.Digits.{one_word}
+use Rattle.ee_image.proofs.Lines.{line_parts}
 use Rattle.ee_image.proofs.Fronts.{ArePages-push, page_lines-push}
 
 -- ---- words
 
-pub no_words_yet : (fields : List (List ℕ)) (cells : List Word) → AreWordsRead 0 fields fields cells cells
-no_words_yet fields cells = record { words = []; as_long = refl; below_all_ones = All-nil IsBelowAllOnes; fields = refl; cells = sym (append-nil cells) }
-
-pub one_word_more : (n : ℕ) (before rest after : List (List ℕ)) (old cells new : List Word) (field : List ℕ) (word : Word) → AreWordsRead n before rest old cells → rest ≡ field ∷ after
-    → IsBelowAllOnes word × (field ≡ word_text word) → new ≡ cells ++ word ∷ [] → AreWordsRead (n + 1) before after old new
-one_word_more n before rest after old cells new field word read first is pushed =
-    let texts : map word_text (read.words ++ word ∷ []) ++ after ≡ map word_text read.words ++ (word_text word ∷ after) =
-    ap (λ l. l ++ after) (map-append word_text read.words (word ∷ [])) ∙ append_assoc (map word_text read.words) (word_text word ∷ []) after in
+pub one_word_more : (n : ℕ) (text rest behind : List ℕ) (old cells new : List Word) (word : Word) → AreWordsRead n text rest old cells
+    → IsBelowAllOnes word × (rest ≡ (space ∷ word_text word) ++ behind) → new ≡ cells ++ word ∷ [] → AreWordsRead (n + 1) text behind old new
+one_word_more n text rest behind old cells new word read first pushed =
+    let spelled : spaced_words (read.words ++ word ∷ []) ++ behind ≡ spaced_words read.words ++ ((space ∷ word_text word) ++ behind) =
+    ap (λ l. l ++ behind) (flat_map-append (λ w. space ∷ word_text w) read.words (word ∷ []) ∙ ap (λ l. spaced_words read.words ++ l) (append-nil (space ∷ word_text word)))
+    ∙ append_assoc (spaced_words read.words) (space ∷ word_text word) behind in
     record {
       words = read.words ++ word ∷ [];
       as_long = omega (arith, length-append read.words (word ∷ []), read.as_long);
-      below_all_ones = All-push IsBelowAllOnes read.words word read.below_all_ones is.0;
-      fields = read.fields ∙ ap (λ l. map word_text read.words ++ l) (first ∙ ap (λ f. f ∷ after) is.1) ∙ sym texts;
+      below_all_ones = All-push IsBelowAllOnes read.words word read.below_all_ones first.0;
+      text_is = read.text_is ∙ ap (λ l. spaced_words read.words ++ l) first.1 ∙ sym spelled;
       cells = pushed ∙ ap (λ l. l ++ word ∷ []) read.cells ∙ append_assoc old read.words (word ∷ []);
     }
 
--- what stands behind the first of a row of words
-pub record BeginsWithWord (rest : List (List ℕ)) : Type 0 where
+-- of two rows of words the first are the same
+behind_first : (word other : Word) (words others : List Word) (x y : List ℕ) → All IsBelowAllOnes (word ∷ words) → All IsBelowAllOnes (other ∷ others)
+    → spaced_words (word ∷ words) ++ x ≡ spaced_words (other ∷ others) ++ y → spaced_words words ++ x ≡ spaced_words others ++ y
+behind_first word other words others x y below under e =
+    (one_word word other (spaced_words words ++ x) (spaced_words others ++ y) (All-head IsBelowAllOnes word words below) (All-head IsBelowAllOnes other others under)
+    (sym (append_assoc (word_text word) (spaced_words words) x) ∙ ap (drop 1) e ∙ append_assoc (word_text other) (spaced_words others) y)).1
+
+-- a text that begins with a word
+pub record BeginsWithWord (text : List ℕ) : Type 0 where
   pub word : Word
-  pub more : List (List ℕ)
+  pub behind : List ℕ
   pub below_all_ones : IsBelowAllOnes word
-  pub rest_is : rest ≡ word_text word ∷ more
+  pub text_is : text ≡ (space ∷ word_text word) ++ behind
 
-pub no_first : (rest : List (List ℕ)) → BeginsWithWord rest → rest ≡ [] → ⊥
-no_first rest begins empty =
-    let first : ◌≡◌ {A = List (List ℕ)} [] (word_text begins.word ∷ begins.more) = sym empty ∙ begins.rest_is in
-    cc first
-
-behind_words : (words others : List Word) (rest more : List (List ℕ)) → All IsBelowAllOnes others → length words < length others
-    → map word_text words ++ rest ≡ map word_text others ++ more → BeginsWithWord rest
-behind_words words [] rest more below shorter e = absurd (omega arith)
-behind_words [] (other ∷ others) rest more below shorter e = record { word = other; more = map word_text others ++ more; below_all_ones = All-head IsBelowAllOnes other others below; rest_is = e }
-behind_words (word ∷ words) (other ∷ others) rest more below shorter e =
-    let tails : map word_text words ++ rest ≡ map word_text others ++ more = cc in
-    behind_words words others rest more (All-tail IsBelowAllOnes other others below) (omega arith) tails
+-- a row of words goes on where a shorter one stops
+goes_on : (words others : List Word) (x y : List ℕ) → All IsBelowAllOnes words → All IsBelowAllOnes others → length words < length others
+    → spaced_words words ++ x ≡ spaced_words others ++ y → BeginsWithWord x
+goes_on words [] x y below under shorter e = absurd (omega arith)
+goes_on [] (other ∷ others) x y below under shorter e = record {
+  word = other;
+  behind = spaced_words others ++ y;
+  below_all_ones = All-head IsBelowAllOnes other others under;
+  text_is = e ∙ ap (λ l. space ∷ l) (append_assoc (word_text other) (spaced_words others) y);
+}
+goes_on (word ∷ words) (other ∷ others) x y below under shorter e =
+    goes_on words others x y (All-tail IsBelowAllOnes word words below) (All-tail IsBelowAllOnes other others under) (omega arith) (behind_first word other words others x y below under e)
 
 -- words that break off are not so many
-pub too_few_words : (count n : ℕ) (before rest : List (List ℕ)) (old new : List Word) → AreWordsRead n before rest old new → n < count → (BeginsWithWord rest → ⊥) → NoWords count before
-too_few_words count n before rest old new read early none words more many below spelled =
-    none (behind_words read.words words rest more below (omega (arith, read.as_long)) (sym read.fields ∙ spelled))
+pub too_few_words : (count n : ℕ) (text rest : List ℕ) (old new : List Word) → AreWordsRead n text rest old new → n < count → (BeginsWithWord rest → ⊥) → NoWords count text
+too_few_words count n text rest old new read early none words more many below spelled =
+    none (goes_on read.words words rest more read.below_all_ones below (omega (arith, read.as_long)) (sym read.text_is ∙ spelled))
 
--- of two rows of words of one length neither goes on
-nothing_behind : (words others : List Word) (after : List (List ℕ)) → length words ≡ length others → map word_text words ++ after ≡ map word_text others → after ≡ []
-nothing_behind [] [] after same e = e
-nothing_behind [] (other ∷ others) after same e = absurd (omega arith)
-nothing_behind (word ∷ words) [] after same e = absurd (omega arith)
-nothing_behind (word ∷ words) (other ∷ others) after same e =
-    let tails : map word_text words ++ after ≡ map word_text others = cc in
-    nothing_behind words others after (omega arith) tails
+-- behind as many words stands the same
+same_behind : (words others : List Word) (x y : List ℕ) → All IsBelowAllOnes words → All IsBelowAllOnes others → length words ≡ length others
+    → spaced_words words ++ x ≡ spaced_words others ++ y → x ≡ y
+same_behind [] [] x y below under same e = e
+same_behind [] (other ∷ others) x y below under same e = absurd (omega arith)
+same_behind (word ∷ words) [] x y below under same e = absurd (omega arith)
+same_behind (word ∷ words) (other ∷ others) x y below under same e =
+    same_behind words others x y (All-tail IsBelowAllOnes word words below) (All-tail IsBelowAllOnes other others under) (omega arith) (behind_first word other words others x y below under e)
 
 -- ---- the line of a page
 
--- what is to be shown of a line that is no page's
-pub other_line : (words : ℕ) (line : List ℕ) (row : List (List ℕ)) → ((first : List ℕ) (others : List (List ℕ)) → AllByRecursion IsField (first ∷ others) → line ≡ joined_fields (first ∷ others) → row ≡ first ∷ others)
-    → ((wear : ℕ) (page : List Word) → IsPage words wear page → row ≡ decimal wear ∷ map word_text page → ⊥) → IsOtherLine words line
-other_line words line row only none wear page proper e = none wear page proper (only (decimal wear) (map word_text page) (page_fields words wear page proper) e)
+-- what stands in front of the first space is the wear, where a wear and a space stand at the front
+pub cut_behind_wear : (text field : List ℕ) (rest : Option (Bor (List ℕ))) (wear : ℕ) (behind : List ℕ) → IsField field
+    → IfNone rest (text ≡ field) → IfSome rest (λ tail. text ≡ field ++ space ∷ tail.now) → wear < 2 ^ 64 → text ≡ decimal wear ++ space ∷ behind → field ≡ decimal wear
+cut_behind_wear text field None wear behind lacks last more fits e = absurd (no_place 32 text (decimal wear) behind (subst IsField (sym last) lacks) e)
+cut_behind_wear text field (Some tail) wear behind lacks last more fits e =
+    (first_place 32 field (decimal wear) tail.now behind lacks (IsField-decimal wear fits) (sym more ∙ e)).0
 
--- what stands behind the wear, where the line is a page's
-abbrev pub BehindWear : ℕ → List (List ℕ) → List (List ℕ) → Type 0
-BehindWear words row rest = (wear : ℕ) (page : List Word) → IsPage words wear page → row ≡ decimal wear ∷ map word_text page → rest ≡ map word_text page
+-- what stands behind a front, as a slice takes it
+pub behind_front : (text front rest : List ℕ) → text ≡ front ++ rest → take (length text - length front) (drop (length front) text) ≡ rest
+behind_front text front rest e =
+    take_all (length text - length front) (drop (length front) text) (omega (arith, length-drop (length front) text))
+    ∙ ap (drop (length front)) e ∙ drop-append_seam front rest
+
+pub page_read : (words wear : ℕ) (text rest after behind : List ℕ) (old new : List Word) → wear < 2 ^ 64 → text ≡ decimal wear ++ rest → AreWordsRead words rest after old new
+    → after ≡ line_feed ∷ behind → IsNextPage words wear text behind old new
+page_read words wear text rest after behind old new fits begins read ends = record {
+  page = read.words;
+  proper = record { wear_fits = omega arith; as_long = read.as_long; below_all_ones = read.below_all_ones };
+  text_is = begins ∙ ap (λ l. decimal wear ++ l) (read.text_is ∙ ap (λ l. spaced_words read.words ++ l) ends) ∙ sym (line_parts wear read.words behind);
+  cells = read.cells;
+}
+
+-- the words at the front of a text, and the line feed behind them
+pub record WordsStand (words : ℕ) (text : List ℕ) : Type 0 where
+  pub page : List Word
+  pub rest : List ℕ
+  pub as_long : length page ≡ words
+  pub below_all_ones : All IsBelowAllOnes page
+  pub text_is : text ≡ spaced_words page ++ (line_feed ∷ rest)
+
+-- no page stands there, where no words stand behind any wear
+pub no_page : (words : ℕ) (text : List ℕ) → 0 < words
+    → ((wear : ℕ) (behind : List ℕ) → wear < 2 ^ 64 → text ≡ decimal wear ++ space ∷ behind → WordsStand words (space ∷ behind) → ⊥) → NoPage words text
+no_page words text some none wear [] rest proper e = absurd (omega (arith, proper.as_long))
+no_page words text some none wear (word ∷ page) rest proper e =
+    none wear ((word_text word ++ spaced_words page) ++ (line_feed ∷ rest)) (omega (arith, proper.wear_fits)) (e ∙ line_parts wear (word ∷ page) rest)
+    record { page = word ∷ page; rest = rest; as_long = proper.as_long; below_all_ones = proper.below_all_ones; text_is = refl }
+
+-- what stands behind the wear, where the text begins with one
+abbrev pub IsBehindWear : List ℕ → List ℕ → Type 0
+IsBehindWear text rest = (wear : ℕ) (behind : List ℕ) → wear < 2 ^ 64 → text ≡ decimal wear ++ space ∷ behind → rest ≡ space ∷ behind
 
 -- what was wrong with the words is wrong with the line
-pub words_wrong : (words : ℕ) (line : List ℕ) (row rest : List (List ℕ)) (fault : PageFault)
-    → ((first : List ℕ) (others : List (List ℕ)) → AllByRecursion IsField (first ∷ others) → line ≡ joined_fields (first ∷ others) → row ≡ first ∷ others)
-    → BehindWear words row rest → IsWordsFault words rest fault → IsLineFault words line fault
-words_wrong words line row rest Bad only behind none =
-    other_line words line row only (λ wear page proper e.
-    none page [] proper.as_long proper.below_all_ones (behind wear page proper e ∙ sym (append-nil (map word_text page))))
-words_wrong words line row rest NoMemory only behind none = tt
+pub words_wrong : (words : ℕ) (text rest : List ℕ) (fault : PageFault) → 0 < words → IsBehindWear text rest → IsWordsFault words rest fault → IsPageFault words text fault
+words_wrong words text rest Bad some is none =
+    no_page words text some (λ wear behind fits e stand. none stand.page (line_feed ∷ stand.rest) stand.as_long stand.below_all_ones (is wear behind fits e ∙ stand.text_is))
+words_wrong words text rest NoMemory some is none = tt
 
--- a field behind the words
-pub too_many_words : (words : ℕ) (line : List ℕ) (row rest after : List (List ℕ)) (old new : List Word)
-    → ((first : List ℕ) (others : List (List ℕ)) → AllByRecursion IsField (first ∷ others) → line ≡ joined_fields (first ∷ others) → row ≡ first ∷ others)
-    → BehindWear words row rest → AreWordsRead words rest after old new → (after ≡ [] → ⊥) → IsOtherLine words line
-too_many_words words line row rest after old new only behind read more =
-    other_line words line row only (λ wear page proper e.
-    more (nothing_behind read.words page after (omega (arith, read.as_long, proper.as_long)) (sym read.fields ∙ behind wear page proper e)))
-
--- ---- the line at the front of a text
-
-pub page_wrong : (words : ℕ) (text line rest : List ℕ) (fault : PageFault) → text ≡ line_of line ++ rest → IsLine line → IsLineFault words line fault → IsPageFault words text fault
-page_wrong words text line rest Bad parts is_line other = other_page words text line rest parts is_line other
-page_wrong words text line rest NoMemory parts is_line other = tt
+-- no line feed stands behind them
+pub goes_on_wrong : (words : ℕ) (text rest after : List ℕ) (old new : List Word) → 0 < words → IsBehindWear text rest → AreWordsRead words rest after old new
+    → ((behind : List ℕ) → after ≢ line_feed ∷ behind) → NoPage words text
+goes_on_wrong words text rest after old new some is read other =
+    no_page words text some (λ wear behind fits e stand.
+    other stand.rest (same_behind read.words stand.page after (line_feed ∷ stand.rest) read.below_all_ones stand.below_all_ones (omega (arith, read.as_long, stand.as_long))
+    (sym read.text_is ∙ is wear behind fits e ∙ stand.text_is)))
 
 -- ---- the pages
 

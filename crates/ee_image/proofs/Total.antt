@@ -1,10 +1,9 @@
 -- Every text is a device's or has a fault: each part of it can be told by comparing it with what could stand there.
-use Rattle.std.proofs.Common.{◌≡◌, ◌≢◌, ◌⊎◌, ℕ, zero, suc, ◌+◌, ◌<◌, ◌≤◌, ◌^◌, List, [], ◌∷◌, ◌++◌, length, map, refl, sym, ap, ◌∙◌, arith, inl, inr, decimal, append_assoc, length-append}
+use Rattle.std.proofs.Common.{◌≡◌, ◌≢◌, ◌⊎◌, ℕ, zero, suc, ◌+◌, ◌<◌, ◌≤◌, ◌^◌, List, [], ◌∷◌, ◌++◌, length, refl, sym, ap, ◌∙◌, arith, inl, inr, decimal, append_assoc, length-append}
 use Rattle.std.specs.List.{All, flat_map}
 use Rattle.std.proofs.lemmas.Bool.{cases_lt}
-use Rattle.std.proofs.lemmas.List.{append-nil}
 use Rattle.std.proofs.lemmas.List.Elements.{All-cons, All-head, All-nil, All-tail}
-use Rattle.ee_text.specs.Field.{joined_fields, space}
+use Rattle.ee_text.specs.Field.{space}
 use Rattle.ee_text.specs.Line.{line_feed, line_of}
 use Rattle.ee_text.proofs.Public.{begins_and, begins_so, some_below}
 use Rattle.ee_flash.specs.Device.{Device, IsBelowAllOnes, IsFormed, all_ones}
@@ -15,22 +14,14 @@ use Rattle.ee_flash.specs.declared.word.Word.TheVariants.{Erased, Held, Torn}
 use Rattle.ee_flash.proofs.Public.{below-held}
 use Rattle.ee_image.specs.Text.{ArePages, IsPage, image_text, page_lines, page_text, size_text, word_text}
 use Rattle.ee_image.specs.Fault.{BeginsWithSize, IsBadPage, IsImageTextFault, NoPage, NoSize, longest}
-use Rattle.ee_image.specs.Reading.{ArePagesRead}
+use Rattle.ee_image.specs.Reading.{ArePagesRead, spaced_words}
 use Rattle.ee_image.specs.declared.fault.ImageFault.{ImageFault}
 use Rattle.ee_image.specs.declared.fault.ImageFault.TheVariants.{TooLong, BadLine, BadShape}
 use Rattle.ee_image.proofs.Answered.{device_read}
 use Rattle.ee_image.proofs.Fronts.{ArePages-push, page_lines-push}
+use Rattle.ee_image.proofs.Lines.{line_parts}
 
 -- ---- words
-
--- each behind a space
-abbrev spaced : List Word → List ℕ
-spaced [] = []
-spaced (word ∷ words) = space ∷ (word_text word ++ spaced words)
-
-joined-spaced : (field : List ℕ) (words : List Word) → joined_fields (field ∷ map word_text words) ≡ field ++ spaced words
-joined-spaced field [] = sym (append-nil field)
-joined-spaced field (word ∷ words) = ap (λ l. field ++ space ∷ l) (joined-spaced (word_text word) words)
 
 -- so many words stand at the front of the text, and a line feed behind them
 record WordsStand (count : ℕ) (text : List ℕ) : Type 0 where
@@ -38,7 +29,7 @@ record WordsStand (count : ℕ) (text : List ℕ) : Type 0 where
   as_long : length words ≡ count
   below_all_ones : All IsBelowAllOnes words
   rest : List ℕ
-  text_is : text ≡ spaced words ++ (line_feed ∷ rest)
+  text_is : text ≡ spaced_words words ++ (line_feed ∷ rest)
 
 -- this one is the first of them
 abbrev IsFirst : ℕ → List ℕ → Word → Type 0
@@ -53,14 +44,14 @@ word_more more text word below first =
       below_all_ones = All-cons IsBelowAllOnes word stand.words below stand.below_all_ones;
       rest = stand.rest;
       text_is = first.1 ∙ ap (λ l. (space ∷ word_text word) ++ l) stand.text_is
-          ∙ ap (λ l. space ∷ l) (sym (append_assoc (word_text word) (spaced stand.words) (line_feed ∷ stand.rest)));
+          ∙ ap (λ l. space ∷ l) (sym (append_assoc (word_text word) (spaced_words stand.words) (line_feed ∷ stand.rest)));
     }
 
-first_word : (more : ℕ) (text rest : List ℕ) (words : List Word) → length words ≡ suc more → All IsBelowAllOnes words → text ≡ spaced words ++ (line_feed ∷ rest)
+first_word : (more : ℕ) (text rest : List ℕ) (words : List Word) → length words ≡ suc more → All IsBelowAllOnes words → text ≡ spaced_words words ++ (line_feed ∷ rest)
     → (word : Word) × IsBelowAllOnes word × IsFirst more text word
 first_word more text rest [] long below text_is = absurd (omega arith)
 first_word more text rest (word ∷ words) long below text_is =
-    let stand : WordsStand more (spaced words ++ (line_feed ∷ rest)) = record {
+    let stand : WordsStand more (spaced_words words ++ (line_feed ∷ rest)) = record {
       words = words;
       as_long = omega arith;
       below_all_ones = All-tail IsBelowAllOnes word words below;
@@ -69,7 +60,7 @@ first_word more text rest (word ∷ words) long below text_is =
     } in (
       word,
       All-head IsBelowAllOnes word words below,
-      (spaced words ++ (line_feed ∷ rest), text_is ∙ ap (λ l. space ∷ l) (append_assoc (word_text word) (spaced words) (line_feed ∷ rest)), stand),
+      (spaced_words words ++ (line_feed ∷ rest), text_is ∙ ap (λ l. space ∷ l) (append_assoc (word_text word) (spaced_words words) (line_feed ∷ rest)), stand),
     )
 
 no_word : (more : ℕ) (text : List ℕ) → ¬ IsFirst more text Erased → ¬ IsFirst more text Torn
@@ -78,7 +69,7 @@ no_word more text not_erased not_torn none Erased below first = not_erased first
 no_word more text not_erased not_torn none Torn below first = not_torn first
 no_word more text not_erased not_torn none (Held value) below first = none value (below value refl) first
 
-nothing_spaced : (words : List Word) → length words ≡ 0 → spaced words ≡ []
+nothing_spaced : (words : List Word) → length words ≡ 0 → spaced_words words ≡ []
 nothing_spaced [] none = refl
 nothing_spaced (word ∷ words) none = absurd (omega arith)
 
@@ -106,12 +97,6 @@ told_words (suc more) text =
 
 -- ---- the line of a page
 
-line_parts : (wear : ℕ) (page : List Word) (rest : List ℕ) → line_of (page_text wear page) ++ rest ≡ decimal wear ++ (spaced page ++ (line_feed ∷ rest))
-line_parts wear page rest =
-    append_assoc (page_text wear page) (line_feed ∷ []) rest
-    ∙ ap (λ l. l ++ (line_feed ∷ rest)) (joined-spaced (decimal wear) page)
-    ∙ append_assoc (decimal wear) (spaced page) (line_feed ∷ rest)
-
 record PageStands (words : ℕ) (text : List ℕ) : Type 0 where
   wear : ℕ
   page : List Word
@@ -136,14 +121,14 @@ page_stands words text wear less has =
 
 has_wear : (words : ℕ) (text : List ℕ) (wear : ℕ) (page : List Word) (rest : List ℕ) → IsPage words wear page → text ≡ line_of (page_text wear page) ++ rest → HasWear words text wear
 has_wear words text wear page rest proper text_is =
-    let stand : WordsStand words (spaced page ++ (line_feed ∷ rest)) = record {
+    let stand : WordsStand words (spaced_words page ++ (line_feed ∷ rest)) = record {
       words = page;
       as_long = proper.as_long;
       below_all_ones = proper.below_all_ones;
       rest = rest;
       text_is = refl;
     } in
-    (spaced page ++ (line_feed ∷ rest), text_is ∙ line_parts wear page rest, stand)
+    (spaced_words page ++ (line_feed ∷ rest), text_is ∙ line_parts wear page rest, stand)
 
 told_page : (words : ℕ) (text : List ℕ) → PageStands words text ⊎ NoPage words text
 told_page words text =

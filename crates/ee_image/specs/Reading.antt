@@ -1,6 +1,7 @@
 -- What the parts of the reader and of the writer give.
-use Rattle.std.specs.Prelude.{◌≡◌, ◌≢◌, ℕ, List, ◌++◌, length, map}
+use Rattle.std.specs.Prelude.{◌≡◌, ◌≢◌, ℕ, ◌-◌, ◌&&◌, nat_le, if◌then◌else◌, List, ◌∷◌, ◌++◌, length}
 use Rattle.std.specs.List.{All, flat_map}
+use Rattle.ee_text.specs.Field.{space}
 use Rattle.ee_text.specs.Line.{line_of}
 use Rattle.ee_flash.specs.Size.{Size}
 use Rattle.ee_flash.specs.Device.{IsBelowAllOnes}
@@ -12,36 +13,32 @@ use Rattle.ee_image.specs.declared.fault.ImageFault.TheVariants.{TooLong, BadLin
 use Rattle.ee_image.specs.declared.reading.PageFault.{PageFault}
 use Rattle.ee_image.specs.declared.reading.PageFault.TheVariants.{Bad, NoMemory}
 
--- the first fields were so many words, which came behind the cells
-pub record AreWordsRead (count : ℕ) (before after : List (List ℕ)) (old new : List Word) : Type 0 where
+-- what a byte is worth as a digit of 0123456789abcdef, and 255 where it is none
+unfoldable pub digit_worth : ℕ → ℕ
+digit_worth byte =
+    if nat_le 48 byte && nat_le byte 57 then byte - 48
+    else if nat_le 97 byte && nat_le byte 102 then byte - 87
+    else 255
+
+-- words in a row, each behind a space
+abbrev pub spaced_words : List Word → List ℕ
+spaced_words words = flat_map (λ word. space ∷ word_text word) words
+
+-- at the front of the text stood so many words, which came behind the cells, and the rest comes behind them
+pub record AreWordsRead (count : ℕ) (text rest : List ℕ) (old new : List Word) : Type 0 where
   pub words : List Word
   pub as_long : length words ≡ count
   pub below_all_ones : All IsBelowAllOnes words
-  pub fields : before ≡ map word_text words ++ after
+  pub text_is : text ≡ spaced_words words ++ rest
   pub cells : new ≡ old ++ words
 
--- the fields don't begin with so many words
-abbrev pub NoWords : ℕ → List (List ℕ) → Type 0
-NoWords count fields = (words : List Word) (more : List (List ℕ)) → length words ≡ count → All IsBelowAllOnes words → fields ≢ map word_text words ++ more
+-- the text doesn't begin with so many words
+abbrev pub NoWords : ℕ → List ℕ → Type 0
+NoWords count text = (words : List Word) (rest : List ℕ) → length words ≡ count → All IsBelowAllOnes words → text ≢ spaced_words words ++ rest
 
-abbrev pub IsWordsFault : ℕ → List (List ℕ) → PageFault → Type 0
-IsWordsFault count fields Bad = NoWords count fields
-IsWordsFault count fields NoMemory = Unit {0}
-
--- a line was a page's, whose words came behind the cells
-pub record IsPageRead (words wear : ℕ) (line : List ℕ) (old new : List Word) : Type 0 where
-  pub page : List Word
-  pub proper : IsPage words wear page
-  pub line_is : line ≡ page_text wear page
-  pub cells : new ≡ old ++ page
-
--- the line is no page's
-abbrev pub IsOtherLine : ℕ → List ℕ → Type 0
-IsOtherLine words line = (wear : ℕ) (page : List Word) → IsPage words wear page → line ≢ page_text wear page
-
-abbrev pub IsLineFault : ℕ → List ℕ → PageFault → Type 0
-IsLineFault words line Bad = IsOtherLine words line
-IsLineFault words line NoMemory = Unit {0}
+abbrev pub IsWordsFault : ℕ → List ℕ → PageFault → Type 0
+IsWordsFault count text Bad = NoWords count text
+IsWordsFault count text NoMemory = Unit {0}
 
 -- at the front of the text stood a page's line, and the rest comes behind it
 pub record IsNextPage (words wear : ℕ) (text rest : List ℕ) (old new : List Word) : Type 0 where

@@ -1,17 +1,18 @@
 //! Reading the text of an image.
-ghost use Rattle.std.specs.Prelude.{◌≡◌, ◌⊎◌, ℕ, ◌<◌, ◌^◌, Some, List, [], ◌∷◌, SomeIff, IfSome, IfNone, IfOk, IfErr, MatchResult, decimal};
+ghost use Rattle.std.specs.Prelude.{◌≡◌, ◌⊎◌, ℕ, ◌<◌, ◌^◌, Some, List, [], ◌∷◌, ◌++◌, SomeIff, IfSome, IfNone, IfOk, IfErr, IsSomeAnd, MatchResult, decimal};
+ghost use Rattle.ee_text.specs.Field.{space};
 ghost use Rattle.ee_text.specs.Fields.{fields_left};
 ghost use Rattle.ee_flash.specs.Size.{Size, IsWithinLimits, page_count, size_of};
-ghost use Rattle.ee_flash.specs.Device.{Device, IsFormed};
+ghost use Rattle.ee_flash.specs.Device.{Device, IsBelowAllOnes, IsFormed};
 ghost use Rattle.ee_flash.specs.Memory.{device_of, memory_of, unused_memory};
-ghost use Rattle.ee_image.specs.Text.{size_text, image_text, at_rest, IsNumbered};
+ghost use Rattle.ee_image.specs.Text.{size_text, image_text, at_rest, word_text, IsNumbered};
 ghost use Rattle.ee_image.specs.Fault.{BeginsWithSize, NoSize, IsImageFault, IsImageTextFault};
-ghost use Rattle.ee_image.specs.Reading.{AreWordsRead, IsWordsFault, IsPageRead, IsLineFault, IsNextPage, IsPageFault, ArePagesRead, IsPagesFault};
+ghost use Rattle.ee_image.specs.Reading.{AreWordsRead, IsWordsFault, IsNextPage, IsPageFault, ArePagesRead, IsPagesFault};
 
 use crate::ImageFault;
-use crate::word::read_word;
+use crate::word::leading_word;
 use ee_flash::{MemFlash, Shape, Word};
-use ee_text::{Fields, next_line, number};
+use ee_text::{Fields, next_field, next_line, number};
 use std::alloc::Allocator;
 
 /// The most bytes that a text may have.
@@ -160,60 +161,66 @@ fn next_page<'a, A: Allocator>(
     words: usize,
     cells: &mut Vec<Word, A>,
 ) -> Result<(u64, &'a [u8]), PageFault>
+    requires { 0 < words }
     ensures found { IfOk result (λ read.
         IsNextPage words read.0 text.now read.1.now cells.old.items cells.new.items) }
     ensures fault { IfErr result (IsPageFault words text.now) }
 {
-    let Some((line, rest)) = next_line(text) else {
+    let Some((wear, rest)) = leading_wear(text) else {
         return Err(PageFault::Bad);
     };
-    let wear = read_page(line, words, cells)?;
-    Ok((wear, rest))
-}
-
-/// The wear that a page's line says. Its words go to the end of `cells`; after an error there may
-/// be a part of them.
-fn read_page<A: Allocator>(
-    line: &[u8],
-    words: usize,
-    cells: &mut Vec<Word, A>,
-) -> Result<u64, PageFault>
-    ensures found { IfOk result
-        (λ wear. IsPageRead words wear line.now cells.old.items cells.new.items) }
-    ensures fault { IfErr result (IsLineFault words line.now) }
-{
-    let mut fields = Fields::of(line);
-    let Some(wear) = next_number(&mut fields) else {
-        return Err(PageFault::Bad);
-    };
-    read_words(&mut fields, words, cells)?;
-    if fields.next().is_some() {
-        return Err(PageFault::Bad);
+    match read_words(rest, words, cells)? {
+        [b'\n', behind @ ..] => Ok((wear, behind)),
+        _ => Err(PageFault::Bad),
     }
-    Ok(wear)
 }
 
-/// Reads so many fields as words. They go to the end of `cells`; after an error there may be a part
-/// of them.
-fn read_words<A: Allocator>(
-    fields: &mut Fields<'_>,
+/// The wear at the front of a page's line, up to its first space, and what stands behind it.
+fn leading_wear(text: &[u8]) -> Option<(u64, &[u8])>
+    ensures found { IfSome result (λ parts. (parts.0 < 2 ^ 64)
+        × (text.now ≡ decimal parts.0 ++ parts.1.now)) }
+    ensures only { (wear : ℕ) (behind : List ℕ) → wear < 2 ^ 64
+        → text.now ≡ decimal wear ++ space ∷ behind
+        → IsSomeAnd result (λ parts. (parts.0 ≡ wear) × (parts.1.now ≡ space ∷ behind)) }
+{
+    let (field, _) = next_field(text);
+    Some((number(field)?, &text[field.len()..]))
+}
+
+/// Reads so many words, each behind one space, and gives what stands behind them. They go to the end
+/// of `cells`; after an error there may be a part of them.
+fn read_words<'a, A: Allocator>(
+    text: &'a [u8],
     count: usize,
     cells: &mut Vec<Word, A>,
-) -> Result<(), PageFault>
-    ensures found { IfOk result (λ _. AreWordsRead count
-        (fields_left fields.old) (fields_left fields.new) cells.old.items cells.new.items) }
-    ensures fault { IfErr result (IsWordsFault count (fields_left fields.old)) }
+) -> Result<&'a [u8], PageFault>
+    ensures found { IfOk result (λ rest.
+        AreWordsRead count text.now rest.now cells.old.items cells.new.items) }
+    ensures fault { IfErr result (IsWordsFault count text.now) }
 {
+    let mut rest = text;
     for _ in 0..count {
-        let Some(field) = fields.next() else {
-            return Err(PageFault::Bad);
-        };
-        let Some(word) = read_word(field) else {
+        let Some((word, behind)) = next_word(rest) else {
             return Err(PageFault::Bad);
         };
         if cells.push(word).is_err() {
             return Err(PageFault::NoMemory);
         }
+        rest = behind;
     }
-    Ok(())
+    Ok(rest)
+}
+
+/// The word behind the space at the front, and what stands behind it.
+fn next_word(text: &[u8]) -> Option<(Word, &[u8])>
+    ensures found { IfSome result (λ parts. IsBelowAllOnes parts.0
+        × (text.now ≡ (space ∷ word_text parts.0) ++ parts.1.now)) }
+    ensures only { (word : Word) (behind : List ℕ) → IsBelowAllOnes word
+        → text.now ≡ (space ∷ word_text word) ++ behind
+        → IsSomeAnd result (λ parts. (parts.0 ≡ word) × (parts.1.now ≡ behind)) }
+{
+    match text {
+        [b' ', field @ ..] => leading_word(field),
+        _ => None,
+    }
 }

@@ -1,25 +1,29 @@
-use Rattle.std.proofs.Common.{rules, ◌≡◌, Some, arith, ap, sym, ◌∙◌}
-use Rattle.ee_image.specs.Text.{digits}
-use Rattle.ee_image.proofs.Digits.{not_refused, read_back}
-use Rattle.ee_image.proofs.word.read_digits.Goals.{then-value-via-then-value, then-value-via-else-value+then-ne}
+use Rattle.std.proofs.Common.{◌≡◌, Some, arith, ap, sym, ◌∙◌, inl, inr}
+use Rattle.ee_image.proofs.Digits.{digits_injective}
+use Rattle.ee_image.proofs.Decoding.{all_digits, none_read, one_more_read, seen_as_digits}
 use Rattle.ee_image.proofs.word.read_digits.Goals as goal
 
-pub returns-in_err-ok-clause-only : goal.returns-in_err-ok-clause-only
-returns-in_err-ok-clause-only c = λ value below spelled.
-    absurd (not_refused c.args.field.now value c.from_hex.result c.ok.result spelled c.from_hex.ensures c.ok.ensures.variant c.in_err-ok.was)
+pub loop-byte-init : goal.loop-byte-init
+loop-byte-init c = none_read c.args.text.now
 
--- what the eight bytes are worth is the number that was spelled
-pub returns-then-value-clause-only : goal.returns-then-value-clause-only
-returns-then-value-clause-only c = λ value below spelled.
-    let same : c.from_be_bytes-value.result ≡ value =
-    read_back c.args.field.now value c.from_be_bytes-value.result c.from_hex.result c.ok.result c.in_ok-ok.field-0 (omega arith) spelled c.from_hex.ensures c.ok.ensures.value c.in_ok-ok.was c.from_be_bytes-value.ensures in
-    elim c.then-value.branch [
-      | then-value-via-then-value w ↦ absurd (omega arith)
-      | then-value-via-else-value+then-ne w ↦
-          let written : w.as_slice.result.now ≡ c.args.field.now = w.as_slice.ensures ∙ w.digits_of.ensures ∙ ap digits same ∙ sym spelled in
-          search rules
-    ]
+pub loop-byte-preserved : goal.loop-byte-preserved
+loop-byte-preserved c =
+    rw c.from.ensures (one_more_read c.args.text.now c.loop-byte.byte-index c.loop-byte.value c.loop-byte.seen c.value_of-digit.result
+    (omega arith) c.told-text (c.fits-text c.loop-byte.byte-index) c.value_of-digit.ensures c.loop-byte.invariant)
+
+pub returns-then-seen-gt15-clause-only : goal.returns-then-seen-gt15-clause-only
+returns-then-seen-gt15-clause-only c = λ n less spelled.
+    let seen = seen_as_digits c.args.text.now c.loop-byte.byte-index c.loop-byte.value c.loop-byte.seen n c.loop-byte.invariant spelled in
+    let own = all_digits c.args.text.now c.loop-byte.byte-index c.loop-byte.value c.loop-byte.seen c.told-text (omega arith) c.loop-byte.invariant seen in
+    let same : c.loop-byte.value ≡ n = digits_injective c.loop-byte.value n (omega arith) (omega arith) (sym own ∙ spelled) in
+    elim c.then-seen-gt15.either [ inl many ↦ absurd (omega arith) | inr greatest ↦ absurd (omega arith) ]
+
+pub returns-clause-found : goal.returns-clause-found
+returns-clause-found c =
+    let spelled = all_digits c.args.text.now c.loop-byte.byte-index c.loop-byte.value c.loop-byte.seen c.told-text (omega arith) c.loop-byte.invariant (omega arith) in
+    (omega arith, spelled)
 
 pub returns-clause-only : goal.returns-clause-only
-returns-clause-only c = λ value below spelled.
-    ap Some (read_back c.args.field.now value c.from_be_bytes-value.result c.from_hex.result c.ok.result c.in_ok-ok.field-0 (omega arith) spelled c.from_hex.ensures c.ok.ensures.value c.in_ok-ok.was c.from_be_bytes-value.ensures)
+returns-clause-only c = λ n less spelled.
+    let own = all_digits c.args.text.now c.loop-byte.byte-index c.loop-byte.value c.loop-byte.seen c.told-text (omega arith) c.loop-byte.invariant (omega arith) in
+    ap Some (digits_injective c.loop-byte.value n (omega arith) (omega arith) (sym own ∙ spelled))
