@@ -4,5 +4,6 @@ mod Places
 mod Judging
 mod Written
 mod Answered
+mod Digits
 mod Parsing
 pub mod Public

@@ -1,9 +1,10 @@
 -- What the reader of a line finds.
-use Rattle.std.proofs.Common.{◌≡◌, ◌≢◌, ℕ, suc, ◌+◌, ◌-◌, ◌/◌, ◌<◌, List, [], ◌∷◌, ◌++◌, length, length-append, get_or, refl, sym, ap, ◌∙◌, subst, arith, Option, Some, None, Result, Ok, Err, rules}
+use Rattle.std.proofs.Common.{◌≡◌, ◌≢◌, ℕ, suc, ◌+◌, ◌-◌, ◌/◌, ◌%◌, ◌<◌, List, [], ◌∷◌, ◌++◌, length, length-append, get_or, take, refl, sym, ap, ◌∙◌, subst, arith, Option, Some, None, Result, Ok, Err, rules}
 use Rattle.std.specs.Option.{option_and_then}
 use Rattle.std.proofs.lemmas.Bool.{ne_eqb}
-use Rattle.std.proofs.lemmas.List.{get_or_at, nil_from_length}
+use Rattle.std.proofs.lemmas.List.{get_or_at, nil_from_length, take_at}
 use Rattle.std.proofs.lemmas.Option.{none-some}
+use Rattle.hex.specs.Hex.{decode_of}
 use Rattle.hex.proofs.HexLemmas.{decode_of-ok}
 use Rattle.ee_text.specs.Line.{IsLine, line_of}
 use Rattle.ee_hex.specs.Record.{Record, bare}
@@ -12,7 +13,7 @@ use Rattle.ee_hex.specs.declared.reading.Met.{Met}
 use Rattle.ee_hex.specs.Reading.{RecordStep, Stops, Ends, Goes, after_record, bytes_in, cells_at_end, judged, lines_in, record_in, record_of, step_of_record}
 use Rattle.ee_hex.proofs.Lines.{closed-more, lines_in-line}
 use Rattle.ee_hex.proofs.Judging.{judged-line, judged-rest}
-use Rattle.ee_hex.proofs.Records.{digits_of, too_long}
+use Rattle.ee_hex.proofs.Records.{bytes_in-digits, digits_of, too_long}
 
 -- ---- the end of a line
 
@@ -50,6 +51,20 @@ no_colon line digits first line_is other = ap bytes_in line_is ∙ (rw (ne_eqb f
 -- so many digits are more bytes than a record has
 pub long_digits : (line digits bytes : List ℕ) (first : ℕ) → line ≡ first ∷ digits → 260 < length digits / 2 → bytes_in line ≡ Some bytes → 260 < length bytes
 long_digits line digits bytes first line_is long found = search (rules, decode_of-ok, digits_of)
+
+pub digits_found : (line digits bytes behind : List ℕ) (first count : ℕ) → line ≡ first ∷ digits → first ≡ 58 → decode_of digits ≡ Ok bytes → length bytes ≡ count → bytes_in line ≡ Some (take count (bytes ++ behind))
+digits_found line digits bytes behind first count line_is colon found long =
+    bytes_in-digits line digits bytes (line_is ∙ ap (λ b. b ∷ digits) colon) found ∙ ap Some (sym (take_at bytes behind count long))
+
+-- an odd number of digits, or others than digits, are none
+pub odd_digits : (line digits bytes : List ℕ) (first : ℕ) → line ≡ first ∷ digits → length digits % 2 ≢ 0 → bytes_in line ≡ Some bytes → 260 < length bytes
+odd_digits line digits bytes first line_is odd found = search (rules, decode_of-ok, digits_of)
+
+pub bad_digits : (line digits bytes : List ℕ) (first : ℕ) → line ≡ first ∷ digits → ((others : List ℕ) → decode_of digits ≢ Ok others) → bytes_in line ≡ Some bytes → 260 < length bytes
+bad_digits line digits bytes first line_is bad found =
+    let own = digits_of line bytes found in
+    let same : own.digits ≡ digits = cc in
+    absurd (bad bytes (ap decode_of (sym same) ∙ own.digits_are))
 
 pub no_colon_long : (line digits : List ℕ) (first : ℕ) → line ≡ first ∷ digits → first ≢ 58 → (bytes : List ℕ) → bytes_in line ≡ Some bytes → 260 < length bytes
 no_colon_long line digits first line_is other bytes some = absurd (none-some bytes (sym (no_colon line digits first line_is other) ∙ some))

@@ -206,13 +206,13 @@ bytes_told base bytes pairs cells keeps as_long are =
 -- ---- bytes one after another, from a place on
 
 -- what all bytes come to, from what the bytes that are left do: one more was put
-pub byte_put : (base same place i byte : ℕ) (bytes : List ℕ) (cells mid : List (Option ℕ)) (total : Option (List (Option ℕ))) → put_all base (numbered_bytes (place + i) (drop i bytes)) cells ≡ total → i < length bytes
-    → byte ≡ get_or bytes i 0 → put same (place + i) byte cells ≡ Some mid → same ≡ base → put_all base (numbered_bytes (place + (i + 1)) (drop (i + 1) bytes)) mid ≡ total
-byte_put base same place i byte bytes cells mid total left less byte_is one same_is = search (rules, byte_is, drop_more)
+pub byte_put : (base same place here i byte : ℕ) (bytes : List ℕ) (cells mid : List (Option ℕ)) (total : Option (List (Option ℕ))) → put_all base (numbered_bytes (place + i) (drop i bytes)) cells ≡ total → i < length bytes
+    → byte ≡ get_or bytes i 0 → put same here byte cells ≡ Some mid → here ≡ place + i → same ≡ base → put_all base (numbered_bytes (place + (i + 1)) (drop (i + 1) bytes)) mid ≡ total
+byte_put base same place here i byte bytes cells mid total left less byte_is one here_is same_is = search (rules, byte_is, drop_more)
 
-pub byte_refused : (base same place i byte : ℕ) (bytes : List ℕ) (cells : List (Option ℕ)) (total : Option (List (Option ℕ))) → put_all base (numbered_bytes (place + i) (drop i bytes)) cells ≡ total → i < length bytes
-    → byte ≡ get_or bytes i 0 → put same (place + i) byte cells ≡ None → same ≡ base → total ≡ None
-byte_refused base same place i byte bytes cells total left less byte_is one same_is = search (rules, byte_is, drop_more)
+pub byte_refused : (base same place here i byte : ℕ) (bytes : List ℕ) (cells : List (Option ℕ)) (total : Option (List (Option ℕ))) → put_all base (numbered_bytes (place + i) (drop i bytes)) cells ≡ total → i < length bytes
+    → byte ≡ get_or bytes i 0 → put same here byte cells ≡ None → here ≡ place + i → same ≡ base → total ≡ None
+byte_refused base same place here i byte bytes cells total left less byte_is one here_is same_is = search (rules, byte_is, drop_more)
 
 pub bytes_put : (base place i : ℕ) (bytes : List ℕ) (cells : List (Option ℕ)) (total : Option (List (Option ℕ))) → put_all base (numbered_bytes (place + i) (drop i bytes)) cells ≡ total → length bytes ≤ i → total ≡ Some cells
 bytes_put base place i bytes cells total left all = sym left ∙ ap (λ l. put_all base (numbered_bytes (place + i) l) cells) (drop_all i bytes all)

@@ -1,14 +1,15 @@
 -- A text that is written reads back.
-use Rattle.std.proofs.Common.{◌≡◌, ◌≢◌, ℕ, zero, suc, ◌+◌, ◌-◌, ◌*◌, ◌/◌, ◌%◌, ◌<◌, ◌≤◌, List, [], ◌∷◌, ◌++◌, length, get_or, take, drop, refl, sym, ap, ◌∙◌, subst, arith, append_assoc, inl, inr, Option, Some, None, rules}
+use Rattle.std.proofs.Common.{◌≡◌, ◌≢◌, ℕ, zero, suc, ◌+◌, ◌-◌, ◌*◌, ◌/◌, ◌%◌, ◌<◌, ◌≤◌, List, [], ◌∷◌, ◌++◌, length, get_or, set, take, drop, refl, sym, ap, ◌∙◌, subst, arith, inl, inr, Option, Some, None, rules}
 use Rattle.std.proofs.lemmas.Grind.{common_steps}
 use Rattle.std.specs.Prelude.{IfSome}
 use Rattle.std.specs.List.{AllByRecursion, flat_map, sum}
 use Rattle.std.proofs.lemmas.Bool.{ne_eqb, eq-eqb, cases_eq, cases_lt, le-leb}
-use Rattle.std.proofs.lemmas.List.{append-nil, nil_from_length, take_more, length-take, length-take-le, length-drop, take-append-drop, get_or-take, get_or-drop, get_or_past}
+use Rattle.std.proofs.lemmas.List.{append-nil, nil_from_length, take_more, take_more_set, length-take, length-take-le, length-drop, take-append-drop, get_or-take, get_or-drop, get_or_past}
 use Rattle.std.proofs.lemmas.List.Concat.{flat_map-append}
 use Rattle.std.proofs.lemmas.List.Sums.{sum_by-append}
 use Rattle.hex.specs.Hex.{IsBytes, encode_upper, encode_with, upper_digits}
 use Rattle.hex.proofs.HexLemmas.{decode_of-encode_upper}
+use Rattle.hex.proofs.Pairs.{take-two_writes}
 use Rattle.ee_text.specs.Field.{Lacks}
 use Rattle.ee_text.proofs.Public.{Lacks-parts, Lacks-cons, lacks_at}
 use Rattle.ee_hex.specs.Record.{Record, AreLinesOf, IsLineOf, IsRecord, SpellsRecord, bare, check_byte, front_bytes, record_bytes}
@@ -276,29 +277,32 @@ unfolding encode_with
 encode_with-append t [] ys = refl
 encode_with-append t (x ∷ xs) ys = ap (λ l. get_or t (x / 16) 0 ∷ get_or t (x % 16) 0 ∷ l) (encode_with-append t xs ys)
 
--- one byte more
-pub digits_more : (xs : List ℕ) (i : ℕ) (old now mid new : List ℕ) (high low : ℕ) → i < length xs → now ≡ old ++ encode_upper (take i xs) → mid ≡ now ++ high ∷ [] → new ≡ mid ++ low ∷ []
-    → high ≡ get_or upper_digits (get_or xs i 0 / 16) 0 → low ≡ get_or upper_digits (get_or xs i 0 % 16) 0 → new ≡ old ++ encode_upper (take (i + 1) xs)
+-- the digits of one byte more
+pub digits_more : (bytes old line : List ℕ) (from at i high low : ℕ) → i < length bytes → at + 1 < length line → at ≡ from + 2 * i → take at line ≡ take from old ++ encode_upper (take i bytes)
+    → high ≡ get_or upper_digits (get_or bytes i 0 / 16) 0 → low ≡ get_or upper_digits (get_or bytes i 0 % 16) 0
+    → take (at + 2) (set (set line at high) (at + 1) low) ≡ take from old ++ encode_upper (take (i + 1) bytes)
 unfolding encode_with
-digits_more xs i old now mid new high low less so_far first second high_is low_is = grind (arith, common_steps, encode_with-append, take_more)
+digits_more bytes old line from at i high low less fits at_is so_far high_is low_is = grind (arith, common_steps, encode_with-append, take_more, take-two_writes)
 
-pub nothing_written : (old : List ℕ) → old ≡ old ++ encode_upper []
+pub no_digits : (front : List ℕ) → front ≡ front ++ encode_upper []
 unfolding encode_with
-nothing_written old = sym (append-nil old)
+no_digits front = sym (append-nil front)
 
 -- a whole line
-pub line_written : (r : Record) (front old colon_out front_out data_out check_out new : List ℕ) (check : ℕ) → front_bytes r ≡ front ++ r.bytes → colon_out ≡ old ++ 58 ∷ []
-    → front_out ≡ colon_out ++ encode_upper front → data_out ≡ front_out ++ encode_upper r.bytes → check_out ≡ data_out ++ encode_upper (check ∷ []) → new ≡ check_out ++ 10 ∷ []
-    → check ≡ check_byte (sum front + sum r.bytes) → new ≡ old ++ record_line r
+pub line_written : (r : Record) (front start one two three old new : List ℕ) (check : ℕ) → front_bytes r ≡ front ++ r.bytes → check ≡ check_byte (sum front + sum r.bytes) → length front ≡ 4 → 9 + 2 * length r.bytes + 2 < length three
+    → take 1 start ≡ 58 ∷ [] → take (1 + 2 * length front) one ≡ take 1 start ++ encode_upper front → take (9 + 2 * length r.bytes) two ≡ take 9 one ++ encode_upper r.bytes
+    → take (9 + 2 * length r.bytes + 2) three ≡ take (9 + 2 * length r.bytes) two ++ encode_upper (check ∷ [])
+    → new ≡ old ++ take (9 + 2 * length r.bytes + 3) (set three (9 + 2 * length r.bytes + 2) 10) → new ≡ old ++ record_line r
 unfolding record_bytes
-line_written r front old colon_out front_out data_out check_out new check whole a b c d e check_is =
+line_written r front start one two three old new check whole check_is four fits a b c d new_is =
     let total : sum (front_bytes r) ≡ sum front + sum r.bytes = ap sum whole ∙ sum_by-append (λ x. x) front r.bytes in
     let last : check ≡ check_byte (sum (front_bytes r)) = check_is ∙ ap check_byte (sym total) in
     let bytes : record_bytes r ≡ (front ++ r.bytes) ++ check ∷ [] = ap (λ l. l ++ check_byte (sum (front_bytes r)) ∷ []) whole ∙ ap (λ k. (front ++ r.bytes) ++ k ∷ []) (sym last) in
     let digits : encode_upper (record_bytes r) ≡ (encode_upper front ++ encode_upper r.bytes) ++ encode_upper (check ∷ []) =
     ap encode_upper bytes ∙ encode_with-append upper_digits (front ++ r.bytes) (check ∷ []) ∙ ap (λ l. l ++ encode_upper (check ∷ [])) (encode_with-append upper_digits front r.bytes) in
-    let written : check_out ≡ (old ++ 58 ∷ []) ++ ((encode_upper front ++ encode_upper r.bytes) ++ encode_upper (check ∷ [])) =
-    d ∙ ap (λ l. l ++ encode_upper (check ∷ [])) (c ∙ ap (λ l. l ++ encode_upper r.bytes) (b ∙ ap (λ l. l ++ encode_upper front) a) ∙ append_assoc (old ++ 58 ∷ []) (encode_upper front) (encode_upper r.bytes))
-    ∙ append_assoc (old ++ 58 ∷ []) (encode_upper front ++ encode_upper r.bytes) (encode_upper (check ∷ [])) in
-    e ∙ ap (λ l. l ++ 10 ∷ []) (written ∙ ap (λ l. (old ++ 58 ∷ []) ++ l) (sym digits) ∙ append_assoc old (58 ∷ []) (encode_upper (record_bytes r)))
-    ∙ append_assoc old (58 ∷ encode_upper (record_bytes r)) (10 ∷ [])
+    let end : 9 + 2 * length r.bytes + 3 ≡ 9 + 2 * length r.bytes + 2 + 1 = omega arith in
+    let closed : take (9 + 2 * length r.bytes + 3) (set three (9 + 2 * length r.bytes + 2) 10) ≡ take (9 + 2 * length r.bytes + 2) three ++ 10 ∷ [] =
+    ap (λ n. take n (set three (9 + 2 * length r.bytes + 2) 10)) end ∙ take_more_set three (9 + 2 * length r.bytes + 2) 10 fits in
+    let written : take (9 + 2 * length r.bytes + 2) three ≡ 58 ∷ encode_upper (record_bytes r) =
+    d ∙ ap (λ l. l ++ encode_upper (check ∷ [])) (c ∙ ap (λ l. l ++ encode_upper r.bytes) (ap (λ n. take (1 + 2 * n) one) (sym four) ∙ b ∙ ap (λ l. l ++ encode_upper front) a)) ∙ ap (λ l. 58 ∷ l) (sym digits) in
+    new_is ∙ ap (λ l. old ++ l) (closed ∙ ap (λ l. l ++ 10 ∷ []) written)

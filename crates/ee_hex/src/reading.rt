@@ -58,10 +58,11 @@ fn read_lines<A: Allocator>(text: &[u8], part: &mut Part<A>) -> Result<(), u64>
         ≡ Ok part.new.cells.items) }
     ensures bad { IfErr result (λ n. judged part.old.base 1 part.old.upper part.old.cells.items (lines_in text.now) ≡ Err n) }
 {
+    let mut buffer = [0; MOST_BYTES];
     let mut rest = text;
     let mut number = 1;
     while let Some((line, behind)) = next_line(rest) {
-        match part.meet(line) {
+        match part.meet(line, &mut buffer) {
             Met::Taken => {}
             Met::End => {
                 if behind.is_empty() {
@@ -113,15 +114,15 @@ impl<A: Allocator> Part<A> {
         })
     }
 
-    /// Takes what a line says. After a bad line some of its bytes may have been taken.
+    /// Takes what a line says, by way of the buffer. After a bad line some of its bytes may have been
+    /// taken.
     #[tactic(auto, using(crate::proofs::Parsing::no_bytes, crate::proofs::Parsing::no_row, crate::proofs::Parsing::one_row))]
-    fn meet(&mut self, line: &[u8]) -> Met
+    fn meet(&mut self, line: &[u8], buffer: &mut [u8; MOST_BYTES]) -> Met
         ensures base { self.new.base ≡ self.old.base }
         ensures step { Meets result self.old.cells.items self.new.upper self.new.cells.items
             (step_of_record self.old.base self.old.upper self.old.cells.items (record_in line.now)) }
     {
-        let mut buffer = [0; MOST_BYTES];
-        let Some(count) = bytes_of_line(without_return(line), &mut buffer) else {
+        let Some(count) = bytes_of_line(without_return(line), buffer) else {
             return Met::Bad;
         };
         match row_of(&buffer[..count]) {
@@ -161,6 +162,12 @@ impl<A: Allocator> Part<A> {
         ensures taken { OnTrue result (put_all self.old.base (numbered_bytes place bytes.now) self.old.cells.items ≡ Some self.new.cells.items) }
         ensures refused { OnFalse result (put_all self.old.base (numbered_bytes place bytes.now) self.old.cells.items ≡ None) }
     {
+        if place >= self.base {
+            let first = (place - self.base) as usize;
+            if first + bytes.len() <= self.cells.len() {
+                return self.put_inside(first, bytes);
+            }
+        }
         for (at, byte) in bytes.iter().enumerate() {
             if !self.put(place + at as u64, *byte) {
                 return false;
@@ -169,8 +176,25 @@ impl<A: Allocator> Part<A> {
         true
     }
 
+    /// The same of bytes whose places are all in the part, the first at `first` of them.
+    #[tactic(auto, using(crate::proofs::Places::putting))]
+    fn put_inside(&mut self, first: usize, bytes: &[u8]) -> bool
+        requires { first + length bytes.now ≤ length self.old.cells.items }
+        ensures base { self.new.base ≡ self.old.base }
+        ensures upper { self.new.upper ≡ self.old.upper }
+        ensures taken { OnTrue result (put_all self.old.base (numbered_bytes (self.old.base + first) bytes.now) self.old.cells.items ≡ Some self.new.cells.items) }
+        ensures refused { OnFalse result (put_all self.old.base (numbered_bytes (self.old.base + first) bytes.now) self.old.cells.items ≡ None) }
+    {
+        for (at, byte) in bytes.iter().enumerate() {
+            if !self.put_at(first + at, *byte) {
+                return false;
+            }
+        }
+        true
+    }
+
     /// Brings a byte to its place, if that is in the part, and says whether it had none or the same.
-    #[tactic(auto, using(crate::proofs::Places::put_below, crate::proofs::Places::put_above, crate::proofs::Places::put_new, crate::proofs::Places::put_taken, crate::proofs::Places::put_not_taken))]
+    #[tactic(auto, using(crate::proofs::Places::put_below, crate::proofs::Places::put_above))]
     fn put(&mut self, place: u64, byte: u8) -> bool
         ensures base { self.new.base ≡ self.old.base }
         ensures upper { self.new.upper ≡ self.old.upper }
@@ -184,6 +208,19 @@ impl<A: Allocator> Part<A> {
         if at >= self.cells.len() {
             return true;
         }
+        self.put_at(at, byte)
+    }
+
+    /// Brings a byte to place `at` of the part, and says whether it had none or the same.
+    #[tactic(auto, using(crate::proofs::Places::put_new, crate::proofs::Places::put_taken, crate::proofs::Places::put_not_taken))]
+    fn put_at(&mut self, at: usize, byte: u8) -> bool
+        requires { at < length self.old.cells.items }
+        ensures base { self.new.base ≡ self.old.base }
+        ensures upper { self.new.upper ≡ self.old.upper }
+        ensures as_long { length self.new.cells.items ≡ length self.old.cells.items }
+        ensures taken { OnTrue result (put self.old.base (self.old.base + at) byte self.old.cells.items ≡ Some self.new.cells.items) }
+        ensures refused { OnFalse result (put self.old.base (self.old.base + at) byte self.old.cells.items ≡ None) }
+    {
         match self.cell(at) {
             Some(given) => given == byte,
             None => {
@@ -205,11 +242,19 @@ impl<A: Allocator> Part<A> {
     fn to_bytes(&self, alloc: A) -> Result<Vec<u8, A>, AllocError>
         ensures { IfOk result (λ bytes. bytes.items ≡ bytes_of self.now.cells.items) }
     {
-        let mut bytes = Vec::with_capacity(alloc, self.cells.len())?;
-        for cell in &self.cells {
-            bytes.push(cell.unwrap_or(ERASED))?;
-        }
+        let mut bytes = vec![in alloc; ERASED; self.cells.len()]?;
+        fill(bytes.as_mut_slice(), &self.cells);
         Ok(bytes)
+    }
+}
+
+/// Fills the bytes with what the places were given.
+fn fill(bytes: &mut [u8], cells: &[Option<u8>])
+    requires { length bytes.old ≡ length cells.now }
+    ensures { bytes.new ≡ bytes_of cells.now }
+{
+    for at in 0..cells.len() {
+        bytes[at] = cells[at].unwrap_or(ERASED);
     }
 }
 

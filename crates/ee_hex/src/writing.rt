@@ -1,5 +1,5 @@
 //! Writing a text.
-ghost use Rattle.std.specs.Prelude.{◌≡◌, ◌≤◌, ◌<◌, ◌+◌, ◌^◌, ◌/◌, ◌%◌, ◌++◌, ◌∷◌, [], length, IfOk, OnOk};
+ghost use Rattle.std.specs.Prelude.{◌≡◌, ◌≤◌, ◌<◌, ◌+◌, ◌^◌, ◌*◌, ◌/◌, ◌%◌, ◌++◌, ◌∷◌, [], length, take, IfOk, OnOk};
 ghost use Rattle.std.specs.List.{flat_map, sum};
 ghost use Rattle.hex.specs.Hex.{encode_upper};
 ghost use Rattle.ee_hex.specs.Record.{check_byte};
@@ -10,6 +10,10 @@ use std::alloc::{AllocError, Allocator};
 
 /// The most data bytes of a record that is written.
 const ROW: usize = 16;
+
+/// The most characters of a line that is written, with the line feed: the colon, two digits for each
+/// byte of a row and for five more.
+const MOST_CHARACTERS: usize = 44;
 
 /// The digits, by their value.
 const DIGITS: &[u8; 16] = b"0123456789ABCDEF";
@@ -57,8 +61,8 @@ fn row_size(place: u64, count: usize) -> usize
     ROW.min(before_next).min(count)
 }
 
-/// Writes the upper half of the places that follow, if it isn't the one that was told last. After an
-/// error there may be a part of it.
+/// Writes the upper half of the places that follow, if it isn't the one that was told last, or
+/// nothing after an error.
 fn push_upper<A: Allocator>(
     out: &mut Vec<u8, A>,
     told: Option<u16>,
@@ -73,24 +77,25 @@ fn push_upper<A: Allocator>(
     push_record(out, 0, LINEAR, &[(half / 256) as u8, (half % 256) as u8])
 }
 
-/// Writes a record. After an error there may be a part of it.
+/// Writes a record, or nothing after an error.
 fn push_record<A: Allocator>(
     out: &mut Vec<u8, A>,
     address: u16,
     kind: u8,
     bytes: &[u8],
 ) -> Result<(), AllocError>
-    requires { length bytes.now < 256 }
+    requires { length bytes.now ≤ 16 }
     ensures { OnOk result (out.new.items ≡ out.old.items
         ++ record_line record { address = address; kind = kind; bytes = bytes.now }) }
 {
     let front = front_of(address, kind, bytes.len());
-    out.push(b':')?;
-    push_bytes(out, &front)?;
-    push_bytes(out, bytes)?;
-    push_bytes(out, &[check_of(&front, bytes)])?;
-    out.push(b'\n')?;
-    Ok(())
+    let end = 9 + 2 * bytes.len();
+    let mut line = [b':'; MOST_CHARACTERS];
+    put_digits(&mut line, 1, &front);
+    put_digits(&mut line, 9, bytes);
+    put_digits(&mut line, end, &[check_of(&front, bytes)]);
+    line[end + 2] = b'\n';
+    out.extend_from_slice(&line[..end + 3])
 }
 
 /// The bytes of a record before its data.
@@ -113,13 +118,16 @@ fn check_of(front: &[u8], bytes: &[u8]) -> u8
     sum_of(front).wrapping_add(sum_of(bytes)).wrapping_neg()
 }
 
-/// Writes bytes as digits. After an error there may be a part of them.
-fn push_bytes<A: Allocator>(out: &mut Vec<u8, A>, bytes: &[u8]) -> Result<(), AllocError>
-    ensures { OnOk result (out.new.items ≡ out.old.items ++ encode_upper bytes.now) }
+/// Brings the digits of bytes into a line from a place on. What stands before them stays.
+#[tactic(auto, using(crate::proofs::Written::digits_more, crate::proofs::Written::no_digits))]
+fn put_digits(line: &mut [u8; MOST_CHARACTERS], from: usize, bytes: &[u8])
+    requires { from + 2 * length bytes.now ≤ 44 }
+    ensures { take (from + 2 * length bytes.now) line.new ≡ take from line.old ++ encode_upper bytes.now }
 {
+    let mut at = from;
     for byte in bytes {
-        out.push(DIGITS[usize::from(*byte / 16)])?;
-        out.push(DIGITS[usize::from(*byte % 16)])?;
+        line[at] = DIGITS[usize::from(*byte / 16)];
+        line[at + 1] = DIGITS[usize::from(*byte % 16)];
+        at += 2;
     }
-    Ok(())
 }
