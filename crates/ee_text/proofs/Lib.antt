@@ -1,5 +1,6 @@
 mod Deciding
 mod Digits
+mod Eights
 mod FirstPlace
 mod Joining
 mod Lacking

@@ -18,6 +18,7 @@
 
 mod cuts;
 mod fields;
+mod front_digits;
 pub mod laws;
 mod lines;
 mod numbers;

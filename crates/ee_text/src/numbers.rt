@@ -6,11 +6,9 @@ ghost use Rattle.ee_text.specs.Line.{IsLonger};
 ghost use Rattle.ee_text.specs.Number.{IsWorth, StartsWithNoDigit};
 ghost use Rattle.std.specs.Str.Parse.{AllDigits, digits_value};
 
+use crate::front_digits::leading_digits;
 use itoa::Buffer;
 use std::alloc::{AllocError, Allocator};
-
-/// 64 bits hold what so many digits are worth.
-const MOST_DIGITS: usize = 19;
 
 /// The number that the field writes. None where it writes no number, or one above `u64::MAX`.
 #[tactic(auto, using(crate::proofs::Digits::only, crate::proofs::Digits::not_empty))]
@@ -37,6 +35,7 @@ pub fn number_up_to(field: &[u8], greatest: u64) -> Option<u64>
 
 /// The number that stands at the front of a text, up to the first byte that is no digit, and what
 /// stands behind it. None where no number stands there, or one above `greatest`.
+#[inline(always)]
 pub fn leading_number(text: &[u8], greatest: u32) -> Option<(u32, &[u8])>
     // What is read is written there, and no digit follows.
     ensures found { IfSome result (λ parts. (parts.0 ≤ greatest)
@@ -95,38 +94,8 @@ fn value_of_digits(digits: &[u8]) -> Option<u64>
     Some(value)
 }
 
-// What the digits at the front of a text are worth, and how many they are. None where they are so
-// many that 64 bits may not hold what they are worth.
-fn leading_digits(text: &[u8]) -> Option<(u64, usize)>
-    ensures found { IfSome result (λ parts. IsWorth text.now parts.1 parts.0
-        × StartsWithNoDigit (drop parts.1 text.now)) }
-    ensures too_many { IfNone result ((value : ℕ) × IsWorth text.now 19 value) }
-{
-    let (value, count) = few_digits(&text[..text.len().min(MOST_DIGITS)]);
-    if count == MOST_DIGITS {
-        return None;
-    }
-    Some((value, count))
-}
-
-// The same of a text so short that no digit has to be tried for an overflow.
-fn few_digits(text: &[u8]) -> (u64, usize)
-    requires { length text.now ≤ 19 }
-    ensures worth { IsWorth text.now result.1 result.0 }
-    ensures all { StartsWithNoDigit (drop result.1 text.now) }
-{
-    let mut value: u64 = 0;
-    for (count, byte) in text.iter().enumerate() {
-        let digit = match *byte {
-            b'0'..=b'9' => *byte - b'0',
-            _ => return (value, count),
-        };
-        value = value * 10 + u64::from(digit);
-    }
-    (value, text.len())
-}
-
 // Whether there are digits, with no zero in front of others.
+#[inline(always)]
 fn is_plain(digits: &[u8]) -> bool
     ensures plain { OnTrue result ((0 < length digits.now)
         × (slice_index digits.now 0 ≡ 48 → length digits.now ≡ 1)) }

@@ -1,6 +1,6 @@
 use Rattle.std.proofs.Common.{◌≡◌, ◌-◌, arith, get_or}
 use Rattle.ee_text.proofs.Leading.{room_for_one, worth_more}
-use Rattle.ee_text.proofs.numbers.few_digits.Goals as goal
+use Rattle.ee_text.proofs.front_digits.few_digits.Goals as goal
 
 pub overflow_mul-value : goal.overflow_mul-value
 overflow_mul-value c = omega (arith, room_for_one c.args.text.now c.loop-count.count c.loop-count.value c.loop-count.invariant (omega arith))

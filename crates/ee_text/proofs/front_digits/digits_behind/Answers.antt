@@ -2,7 +2,7 @@ use Rattle.std.proofs.Common.{◌<◌, arith, drop, subst, take}
 use Rattle.std.proofs.lemmas.List.{length-take}
 use Rattle.ee_text.specs.Number.{IsWorth, StartsWithNoDigit}
 use Rattle.ee_text.proofs.Leading.{ends_in_front, front_is, worth_in_front}
-use Rattle.ee_text.proofs.numbers.leading_digits.Goals as goal
+use Rattle.ee_text.proofs.front_digits.digits_behind.Goals as goal
 
 pub returns-clause-found : goal.returns-clause-found
 returns-clause-found c =
