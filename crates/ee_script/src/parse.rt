@@ -30,6 +30,7 @@ pub fn read_command(line: &[u8]) -> Option<Command>
 
 /// The command whose line stands at the front of a text, and what stands behind the line. None where
 /// no good line stands there.
+#[inline(always)]
 pub fn next_command(text: &[u8]) -> Option<(Command, &[u8])>
     ensures found { IfSome result (λ parts. IsCommand parts.0
         × (text.now ≡ line_of (command_text parts.0) ++ parts.1.now)) }
@@ -43,6 +44,7 @@ pub fn next_command(text: &[u8]) -> Option<(Command, &[u8])>
 
 /// The command that is spelled at the front of a text, and what stands behind it: a number that ends
 /// it goes up to the first byte that is no digit.
+#[inline(always)]
 fn leading_command(text: &[u8]) -> Option<(Command, &[u8])>
     ensures found { IfSome result (λ parts. IsCommand parts.0
         × (text.now ≡ command_text parts.0 ++ parts.1.now)) }
@@ -68,6 +70,7 @@ fn leading_command(text: &[u8]) -> Option<(Command, &[u8])>
 }
 
 /// The write of the address and the value at the front of a text.
+#[inline(always)]
 fn leading_write(text: &[u8]) -> Option<(Command, &[u8])>
     ensures found { IfSome result (λ parts. IsCommand parts.0
         × (codes "w " ++ text.now ≡ command_text parts.0 ++ parts.1.now)) }
@@ -85,6 +88,7 @@ fn leading_write(text: &[u8]) -> Option<(Command, &[u8])>
 }
 
 /// The address at the front of a text.
+#[inline(always)]
 fn leading_address(text: &[u8]) -> Option<(Address, &[u8])>
     ensures found { IfSome result (λ parts. IsAddress parts.0
         × (text.now ≡ decimal parts.0 ++ parts.1.now)) }
