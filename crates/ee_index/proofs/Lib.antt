@@ -1,3 +1,6 @@
+mod Tables
+mod Entries
+mod Counted
 mod Numbering
 mod Indexing
 mod IndexedStores

@@ -1,4 +1,4 @@
-ghost use Rattle.std.specs.Prelude.{◌≡◌, ◌<◌, ◌⊎◌, ℕ, IfOk, OnErr, OnOk, None, Some, is_some, true};
+ghost use Rattle.std.specs.Prelude.{◌≡◌, ◌<◌, ◌+◌, ◌^◌, ◌⊎◌, ℕ, IfOk, OnErr, OnOk, None, Some, is_some, true};
 ghost use Rattle.ee_codec.specs.Words.{IsAddress};
 ghost use Rattle.ee_flash.specs.Device.{IsOn};
 ghost use Rattle.ee_flash.specs.Size.{slot_count};
@@ -12,7 +12,8 @@ ghost use Rattle.ee_pages.specs.Meaning.{Put as MapPut, map_after};
 ghost use Rattle.ee_core.specs.Parts.{ForgetsHeld, meant};
 ghost use Rattle.ee_core.specs.State.{state_of};
 
-use crate::index::{Index, IndexCursor, renumber};
+use crate::index::Index;
+use crate::index_reading::IndexCursor;
 use ee_codec::Address;
 use ee_core::inner::{Change, append_change, move_change};
 use ee_flash::{Cut, Flash};
@@ -26,13 +27,13 @@ pub(crate) fn enter_slot<A: Allocator + Copy>(
     address: Address,
     number: usize,
 ) -> Result<(), AllocError>
-    ensures entered { OnOk result ((named : ℕ) → slot_for index.new.entries named
-        ≡ map_after (MapPut address number) (slot_for index.old.entries) named) }
-    ensures absent { OnErr result (slot_for index.old.entries address ≡ None) }
-    ensures err { OnErr result (index.new.entries ≡ index.old.entries) }
+    requires { number + 1 < 2 ^ 32 }
+    ensures entered { OnOk result ((named : ℕ) → slot_for index.new named
+        ≡ map_after (MapPut address number) (slot_for index.old) named) }
+    ensures absent { OnErr result (slot_for index.old address ≡ None) }
+    ensures err { OnErr result (index.new ≡ index.old) }
 {
-    index.insert(address, number)?;
-    Ok(())
+    index.insert(address, number)
 }
 
 /// Makes room in an index for the slot of an address, and gives the address if it is new there. An
@@ -42,13 +43,13 @@ pub(crate) fn make_room<A: Allocator + Copy>(
     address: Address,
 ) -> Result<Option<Address>, AllocError>
     ensures room { IfOk result (λ hidden. (named : ℕ)
-        → shown_index hidden (slot_for index.new.entries) named ≡ slot_for index.old.entries named) }
-    ensures there { OnOk result (is_some (slot_for index.new.entries address) ≡ true) }
+        → shown_index hidden (slot_for index.new) named ≡ slot_for index.old named) }
+    ensures there { OnOk result (is_some (slot_for index.new address) ≡ true) }
     ensures hidden { IfOk result (λ hidden. (hidden ≡ None) ⊎ (hidden ≡ Some address)) }
-    ensures absent { OnErr result (slot_for index.old.entries address ≡ None) }
-    ensures err { OnErr result (index.new.entries ≡ index.old.entries) }
+    ensures absent { OnErr result (slot_for index.old address ≡ None) }
+    ensures err { OnErr result (index.new ≡ index.old) }
 {
-    if index.contains_key(&address) {
+    if index.contains(address) {
         return Ok(None);
     }
     // The transfer gives it its slot.
@@ -70,7 +71,7 @@ pub(crate) fn append_indexed<F: Flash, A: Allocator>(
     requires forgets { ForgetsHeld (state_of (F.device flash.old)).map change }
     requires free { layout.old.fill < slot_count (F.device flash.old).size }
     requires ready { let slots = slots_of (set_of layout.old.side (F.device flash.old)) in
-        IsReadyFor slots (meant change) layout.old.fill (slot_for index.old.entries) }
+        IsReadyFor slots (meant change) layout.old.fill (slot_for index.old) }
     ensures appended { OnOk result
         (Appends (F.device flash.old) (meant change) (F.device flash.new)) }
     ensures cut { OnErr result
@@ -78,7 +79,7 @@ pub(crate) fn append_indexed<F: Flash, A: Allocator>(
     ensures store { IsStore (F.device flash.new) }
     ensures layout { IsOn (F.device flash.new) → IsLayout (F.device flash.new) layout.new }
     ensures index { let slots = slots_of (set_of layout.new.side (F.device flash.new)) in
-        IsOn (F.device flash.new) → IsIndex slots (slot_for index.new.entries) }
+        IsOn (F.device flash.new) → IsIndex slots (slot_for index.new) }
 {
     append_change(flash, layout, change)?;
     leave(index, &change);
@@ -100,8 +101,8 @@ pub(crate) fn move_indexed<F: Flash, A: Allocator>(
     requires proceeds { Proceeds (F.device flash.old) (meant change) }
     requires all_used { layout.old.fill ≡ slot_count (F.device flash.old).size }
     requires index { let slots = slots_of (set_of layout.old.side (F.device flash.old)) in
-        IsIndex slots (shown_index hidden (slot_for index.old.entries)) }
-    requires there { HasPut (meant change) (slot_for index.old.entries) }
+        IsIndex slots (shown_index hidden (slot_for index.old)) }
+    requires there { HasPut (meant change) (slot_for index.old) }
     requires hidden { (hidden ≡ None) ⊎ (hidden ≡ Some (address_of (meant change))) }
     ensures moved { OnOk result
         (Moves (F.device flash.old) (meant change) (F.device flash.new)) }
@@ -110,25 +111,25 @@ pub(crate) fn move_indexed<F: Flash, A: Allocator>(
     ensures store { IsStore (F.device flash.new) }
     ensures layout { IsOn (F.device flash.new) → IsLayout (F.device flash.new) layout.new }
     ensures index { let slots = slots_of (set_of layout.new.side (F.device flash.new)) in
-        IsOn (F.device flash.new) → IsIndex slots (slot_for index.new.entries) }
+        IsOn (F.device flash.new) → IsIndex slots (slot_for index.new) }
 {
-    let mut cursor = IndexCursor::new(index, hidden);
+    let mut cursor = IndexCursor::new(index, None, hidden);
     move_change(flash, layout, change, &mut cursor)?;
     let first = leave(index, &change);
-    renumber(index, first);
+    index.renumber(first);
     Ok(())
 }
 
 // Takes an address that is forgotten from an index, and gives the one that is put.
 fn leave<A: Allocator>(index: &mut Index<A>, change: &Change) -> Option<Address>
     ensures first { result ≡ put_of (meant change.now) }
-    ensures left { (address : ℕ) → slot_for index.new.entries address
-        ≡ without_forgotten (meant change.now) (slot_for index.old.entries) address }
+    ensures left { (address : ℕ) → slot_for index.new address
+        ≡ without_forgotten (meant change.now) (slot_for index.old) address }
 {
     match *change {
         Change::Put { address, .. } => Some(address),
         Change::Forget { address, .. } => {
-            index.remove(&address);
+            index.remove(address);
             None
         }
     }

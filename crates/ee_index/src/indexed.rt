@@ -1,5 +1,5 @@
 ghost use Rattle.std.specs.Bool.{MatchBool};
-ghost use Rattle.std.specs.Prelude.{◌≡◌, ◌≢◌, ◌<◌, IfErr, IfOk, IfSome, OnErr, OnOk};
+ghost use Rattle.std.specs.Prelude.{◌≡◌, ◌≢◌, ◌<◌, IfErr, IfOk, IfSome, OnErr, OnOk, []};
 ghost use Rattle.ee_codec.specs.Words.{IsAddress};
 ghost use Rattle.ee_flash.specs.Device.{IsOn};
 ghost use Rattle.ee_flash.specs.Size.{slot_count};
@@ -11,9 +11,11 @@ ghost use Rattle.ee_core.specs.Finished.{IsStore};
 ghost use Rattle.ee_core.specs.Openings.{Opens};
 ghost use Rattle.ee_core.specs.State.{capacity, state_of};
 ghost use Rattle.ee_index.specs.Index.{IndexedOpenFails};
+ghost use Rattle.ee_index.specs.Kept.{IsKeptBeside};
 
-use crate::index::{Index, batch_indexed, next_indexed, read_index, value_in};
+use crate::index::Index;
 use crate::index_changing::{append_indexed, enter_slot, make_room, move_indexed};
+use crate::index_reading::{batch_indexed, next_indexed, read_index, value_in};
 use ee_codec::Address;
 use ee_core::inner::{Change, GREATEST_GENERATION, clean, finish};
 use ee_core::{ForgetFault, Off, Variables, WriteFault, Written, count_pending};
@@ -57,7 +59,16 @@ impl<F: Flash + Drop, A: Allocator> Model for IndexedStore<F, A> {
 
     ghost invariant = { λ store. IsStore (F.device store.flash)
         × (IsOn (F.device store.flash)
-        → IsKept (F.device store.flash) store.layout store.index.entries) };
+        → IsKept (F.device store.flash) store.layout store.index) };
+}
+
+/// What a store with an index keeps in memory beside its device.
+///
+/// Source: ours.
+#[derive(Drop)]
+pub struct Kept<A: Allocator = Global> {
+    layout: Layout,
+    index: Index<A>,
 }
 
 impl<F: Flash + Drop, A: Allocator> IndexedStore<F, A> {
@@ -77,24 +88,28 @@ impl<F: Flash + Drop, A: Allocator> IndexedStore<F, A> {
         ensures failed { IfErr result
             (λ failed. IndexedOpenFails (F.device flash) failed.1 (F.device failed.0)) }
     {
-        let mut flash = flash;
-        let layout = match scan(&flash) {
-            Ok(layout) => layout,
-            Err(fault) => return Err((flash, IndexedFault::Scan(fault))),
-        };
-        // The index is made before the first step, so want of memory leaves the device as it was.
-        let index = match read_index(alloc, &flash, &layout) {
-            Ok(index) => index,
-            Err(_) => return Err((flash, IndexedFault::Memory)),
-        };
-        match finish(&mut flash, &layout) {
-            Ok(()) => Ok(IndexedStore {
-                flash,
-                layout,
-                index,
-            }),
-            Err(Cut) => Err((flash, IndexedFault::Cut)),
-        }
+        open_with(Index::new(alloc), flash)
+    }
+
+    /// `open` in the memory of what another store kept, so that as many addresses in the same places
+    /// want none.
+    ///
+    /// Source: ours.
+    ///
+    /// # Errors
+    ///
+    /// The device and the first `IndexedFault` that applies.
+    pub fn open_in(kept: Kept<A>, flash: F) -> Result<IndexedStore<F, A>, (F, IndexedFault)>
+    where
+        A: Copy,
+        requires { IsOn (F.device flash) }
+        ensures opened { IfOk result (Opens (F.device flash)) }
+        ensures failed { IfErr result
+            (λ failed. IndexedOpenFails (F.device flash) failed.1 (F.device failed.0)) }
+    {
+        let mut index = kept.index;
+        index.clear();
+        open_with(index, flash)
     }
 
     /// The device, as it is.
@@ -105,35 +120,31 @@ impl<F: Flash + Drop, A: Allocator> IndexedStore<F, A> {
         self.flash
     }
 
-    /// The device, as it is, and its layout, by which `of_parts` makes the store again.
-    pub fn into_parts(self) -> (F, Layout)
+    /// The device, as it is, and what was kept beside it, with which `of_parts` makes the store again.
+    pub fn into_parts(self) -> (F, Kept<A>)
         ensures device { F.device result.0 ≡ self }
         ensures store { IsStore self }
-        ensures layout { IsOn self → IsLayout self result.1 }
+        ensures kept { IsOn self → IsKeptBeside self result.1 }
     {
-        (self.flash, self.layout)
+        let Self {
+            flash,
+            layout,
+            index,
+        } = self;
+        (flash, Kept { layout, index })
     }
 
-    /// The store of this device, of which this is the layout: each used slot is read for the index.
-    ///
-    /// # Errors
-    ///
-    /// The device, as it was: memory ran out.
-    pub fn of_parts(alloc: A, flash: F, layout: Layout) -> Result<IndexedStore<F, A>, F>
-    where
-        A: Copy,
+    /// The store of a device, and of what is kept beside it: no look at the flash.
+    pub fn of_parts(flash: F, kept: Kept<A>) -> IndexedStore<F, A>
         requires store { IsStore (F.device flash) }
-        requires layout { IsLayout (F.device flash) layout }
-        ensures made { IfOk result (λ store. store ≡ F.device flash) }
-        ensures memory { IfErr result (λ device. F.device device ≡ F.device flash) }
+        requires kept { IsKeptBeside (F.device flash) kept }
+        ensures { result ≡ F.device flash }
     {
-        match read_index(alloc, &flash, &layout) {
-            Ok(index) => Ok(IndexedStore {
-                flash,
-                layout,
-                index,
-            }),
-            Err(_) => Err(flash),
+        let Kept { layout, index } = kept;
+        IndexedStore {
+            flash,
+            layout,
+            index,
         }
     }
 
@@ -154,7 +165,7 @@ impl<F: Flash + Drop, A: Allocator> IndexedStore<F, A> {
         ensures { MatchBool result (IsFull (capacity self.now) (state_of self.now) address)
             (¬ IsFull (capacity self.now) (state_of self.now) address) }
     {
-        self.index.len() == self.flash.shape().slots() && !self.index.contains_key(&address)
+        self.index.len() == self.flash.shape().slots() && !self.index.contains(address)
     }
 
     /// The value of an address, by the index.
@@ -162,10 +173,41 @@ impl<F: Flash + Drop, A: Allocator> IndexedStore<F, A> {
         requires { IsOn self.now }
         ensures { result ≡ (state_of self.now).map address }
     {
-        match self.index.get(&address) {
+        match self.index.get(address) {
             None => None,
-            Some(number) => Some(value_in(&self.flash, &self.layout, *number)),
+            Some(number) => Some(value_in(&self.flash, &self.layout, number)),
         }
+    }
+}
+
+// Opens the store of a device, with an index that has no address.
+fn open_with<F: Flash + Drop, A: Allocator + Copy>(
+    index: Index<A>,
+    flash: F,
+) -> Result<IndexedStore<F, A>, (F, IndexedFault)>
+    requires on { IsOn (F.device flash) }
+    requires empty { index ≡ [] }
+    ensures opened { IfOk result (Opens (F.device flash)) }
+    ensures failed { IfErr result
+        (λ failed. IndexedOpenFails (F.device flash) failed.1 (F.device failed.0)) }
+{
+    let mut flash = flash;
+    let mut index = index;
+    let layout = match scan(&flash) {
+        Ok(layout) => layout,
+        Err(fault) => return Err((flash, IndexedFault::Scan(fault))),
+    };
+    // The index is made before the first step, so want of memory leaves the device as it was.
+    let Ok(()) = read_index(&mut index, &flash, &layout) else {
+        return Err((flash, IndexedFault::Memory));
+    };
+    match finish(&mut flash, &layout) {
+        Ok(()) => Ok(IndexedStore {
+            flash,
+            layout,
+            index,
+        }),
+        Err(Cut) => Err((flash, IndexedFault::Cut)),
     }
 }
 

@@ -16,6 +16,8 @@
 
 mod index;
 mod index_changing;
+mod index_reading;
 mod indexed;
+mod table;
 
-pub use indexed::{IndexedFault, IndexedStore};
+pub use indexed::{IndexedFault, IndexedStore, Kept};

@@ -13,7 +13,9 @@ use Rattle.ee_core.specs.Finished.{IsMarked, IsStore}
 use Rattle.ee_core.specs.State.{state_of}
 use Rattle.ee_flash.specs.Memory.{Memory}
 use Rattle.ee_flash.specs.declared.fuse.Fuse.{Fuse}
-use Rattle.ee_replay.specs.Serving.{ArmsItsFuse, IsArmed, IsSound, with_cut_to_come}
+use Rattle.ee_index.specs.Kept.{IsKeptBeside}
+use Rattle.ee_index.specs.declared.indexed.Kept.{Kept}
+use Rattle.ee_replay.specs.Serving.{ArmsDevice, ArmsItsFuse, IsArmed, IsSound, with_cut_to_come}
 
 pub state_armed : (device : Device) → state_of (with_cut_to_come device) ≡ state_of device
 state_armed device = state_in_powered device.cuts (Some 1) device.on device (live_of device)
@@ -31,7 +33,7 @@ marked_armed : (device : Device) (side : Side) → IsMarked device side → IsMa
 marked_armed device First marked = record { live = record { valid = marked.live.valid; active = marked.live.active }; old = marked.old }
 marked_armed device Second marked = record { live = record { valid = marked.live.valid; active = marked.live.active }; old = marked.old }
 
-pub store_armed : (device : Device) → IsStore device → IsStore (with_cut_to_come device)
+store_armed : (device : Device) → IsStore device → IsStore (with_cut_to_come device)
 store_armed device store = record {
   legal = legal_armed device store.legal;
   finished = λ on side generation live. marked_armed device side (store.finished on side generation live);
@@ -41,14 +43,32 @@ set_armed : (device : Device) (side : Side) → set_of side (with_cut_to_come de
 set_armed device First = refl
 set_armed device Second = refl
 
-pub layout_armed : (device : Device) (layout : Layout) → IsLayout device layout → IsLayout (with_cut_to_come device) layout
+layout_armed : (device : Device) (layout : Layout) → IsLayout device layout → IsLayout (with_cut_to_come device) layout
 layout_armed device layout is = record {
   live = live_powered device.cuts (Some 1) device.on device is.live.formed.cuts_fit few_cuts layout.side layout.generation is.live;
   fill = is.fill ∙ sym (ap (λ set. fill_of (slots_of set)) (set_armed device layout.side));
   current = is.current;
 }
 
+kept_armed : {A : Type 0} (device : Device) (kept : Kept A) → IsKeptBeside device kept → IsKeptBeside (with_cut_to_come device) kept
+kept_armed device kept is = record {
+  found = layout_armed device kept.layout is.found;
+  indexes = rw (set_armed device kept.layout.side) is.indexes;
+}
+
 -- ---- a device that is armed
+
+pub armed_is : (old new : Device) (fuse : Fuse) → ArmsDevice old fuse new → new ≡ with_cut_to_come old
+armed_is old new fuse armed = armed.new_is ∙ armed.arms.device_is
+
+pub store_with_fuse : (old new : Device) (fuse : Fuse) → ArmsDevice old fuse new → IsStore old → IsStore new
+store_with_fuse old new fuse armed store = subst IsStore (sym (armed_is old new fuse armed)) (store_armed old store)
+
+pub layout_with_fuse : (layout : Layout) (old new : Device) (fuse : Fuse) → ArmsDevice old fuse new → IsLayout old layout → IsLayout new layout
+layout_with_fuse layout old new fuse armed is = subst (λ device. IsLayout device layout) (sym (armed_is old new fuse armed)) (layout_armed old layout is)
+
+pub kept_with_fuse : {A : Type 0} (kept : Kept A) (old new : Device) (fuse : Fuse) → ArmsDevice old fuse new → IsKeptBeside old kept → IsKeptBeside new kept
+kept_with_fuse kept old new fuse armed is = subst (λ device. IsKeptBeside device kept) (sym (armed_is old new fuse armed)) (kept_armed old kept is)
 
 -- what a line that arms a cut makes of a point
 pub now_armed : (old new : Point) (fuse : Fuse) → ArmsItsFuse old fuse new → new ≡ record old { device = with_cut_to_come old.device }
@@ -71,3 +91,7 @@ arm_open old fuse kept last is still on there =
 -- an open store is on, and no mark is left to set
 pub store_sound : (device : Device) → IsStore device → IsSound (open_point device)
 store_sound device store = record { legal = store.legal; on = λ on. on; store = λ on. store }
+
+-- a device alone on the desk, with a legal image
+pub bare_sound : (device : Device) → IsLegal device → IsSound (closed_point device)
+bare_sound device legal = record { legal = legal; on = λ on. absurd (cc on); store = λ on. absurd (cc on) }

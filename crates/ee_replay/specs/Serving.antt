@@ -87,6 +87,12 @@ pub record IsArmed (old : Device) (fuse : Fuse) (kept : Memory) : Type 0 where
   pub device_is : kept.device ≡ with_cut_to_come old
   pub has_fuse : HasFuse fuse kept
 
+-- a device in memory became that one by this fuse
+pub record ArmsDevice (old : Device) (fuse : Fuse) (new : Device) : Type 0 where
+  pub kept : Memory
+  pub arms : IsArmed old fuse kept
+  pub new_is : new ≡ kept.device
+
 -- An open store makes the call of the command, and none is open once power is cut in it; where none is open, the answer is
 -- `off`, and nothing is done.
 abbrev pub Asks : Bool → Device → Command → Answer → Point → Type 0

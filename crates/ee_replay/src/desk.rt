@@ -1,21 +1,21 @@
 //! A device on the desk, with a store open on it or without: a cut is armed, and power comes back.
-ghost use Rattle.std.specs.Prelude.{◌≡◌, IfOk, true};
-ghost use Rattle.ee_flash.specs.Memory.{device_of, memory_of};
-ghost use Rattle.ee_pages.specs.Layout.{IsLayout};
+ghost use Rattle.std.specs.Prelude.{◌≡◌, IfErr, IfOk, true};
+ghost use Rattle.ee_flash.specs.Memory.{device_of};
 ghost use Rattle.ee_pages.specs.Legal.{IsLegal};
-ghost use Rattle.ee_script.specs.declared.command.Command.TheVariants.{Arm, PowerOn};
-ghost use Rattle.ee_core.specs.Finished.{IsStore};
+ghost use Rattle.ee_script.specs.declared.command.Command.TheVariants.{PowerOn};
+ghost use Rattle.ee_core.specs.Openings.{Opens};
+ghost use Rattle.ee_core.specs.Points.{open_point, with_power_on};
 ghost use Rattle.ee_core.specs.Runs.{Cleaned, DidRead, Forgot, Wrote};
 ghost use Rattle.ee_core.specs.State.{state_of};
+ghost use Rattle.ee_index.specs.Index.{IndexedOpenFails};
 ghost use Rattle.ee_replay.specs.Desk.{CallsAtDesk, IsLegalDesk, IsLegalSo, SaysTheSame, point_of_desk};
-ghost use Rattle.ee_replay.specs.Serving.{Attends, IsArmed, IsSound, with_cut_to_come};
+ghost use Rattle.ee_replay.specs.Serving.{ArmsItsFuse, Attends, IsSound};
 
-use super::opening::Opened;
+use super::opening::{Arming, Opened};
 use ee_codec::Address;
 use ee_core::{ForgetFault, Off, Variables, WriteFault, Written};
 use ee_flash::{Flash, Fuse, MemFlash};
 use ee_index::IndexedFault;
-use ee_pages::Layout;
 use ee_script::Answer;
 use std::alloc::{AllocError, Allocator};
 
@@ -112,38 +112,48 @@ impl<S: Opened<MemFlash<A>, A>, A: Allocator + Copy> Desk<S, A> {
         }
     }
 
-    /// The device and the layout of the store that is open.
-    fn into_parts(self) -> (MemFlash<A>, Layout)
+    /// The store that is open.
+    fn into_open(self) -> S
         requires { (point_of_desk S.device self).serving ≡ true }
-        ensures device { device_of result.0 ≡ (point_of_desk S.device self).device }
-        ensures store { IsStore (device_of result.0) }
-        ensures layout { IsLayout (device_of result.0) result.1 }
+        ensures { open_point (S.device result) ≡ point_of_desk S.device self }
     {
         match self {
-            Desk::Open(store) => store.into_parts(),
+            Desk::Open(store) => store,
             Desk::Bare(_) | Desk::Gone => unreachable!("a store is open"),
         }
     }
 
-    /// Arms a cut. A store that is open stays so, which takes no step and no look at its words. An error says
-    /// that memory ran out.
-    pub(crate) fn arm(self, alloc: A, fuse: Fuse) -> (Desk<S, A>, Result<Answer, AllocError>)
+    /// Arms a cut. A store that is open stays so, with all that it keeps in memory.
+    pub(crate) fn arm(self, fuse: Fuse) -> Desk<S, A>
         requires { IsLegalDesk self }
-        ensures attends { IfOk result.1 (λ answer. Attends (point_of_desk S.device self)
-            (Arm fuse) answer (point_of_desk S.device result.0)) }
-        ensures legal { IsLegalDesk result.0 }
-        ensures same { SaysTheSame (point_of_desk S.device self).device (point_of_desk S.device result.0).device }
+        ensures arms { ArmsItsFuse (point_of_desk S.device self) fuse
+            (point_of_desk S.device result) }
+        ensures legal { IsLegalDesk result }
+        ensures same { SaysTheSame (point_of_desk S.device self).device (point_of_desk S.device result).device }
     {
         if !self.is_open() {
-            return (
-                Desk::Bare(armed(self.into_flash(), fuse)),
-                Ok(Answer::Armed),
-            );
+            return Desk::Bare(self.into_flash().armed(fuse));
         }
-        let (flash, layout) = self.into_parts();
-        match S::of_parts(alloc, armed(flash, fuse), layout) {
-            Ok(store) => (Desk::Open(store), Ok(Answer::Armed)),
-            Err(flash) => (Desk::Bare(flash), Err(AllocError)),
+        Desk::Open(self.into_open().with_fuse(fuse))
+    }
+
+    /// Turns power on and opens the store, in the memory of one that was open before.
+    fn open(self, alloc: A) -> Result<S, (MemFlash<A>, IndexedFault)>
+        requires { IsLegalDesk self }
+        ensures opened { let old = (point_of_desk S.device self).device in IfOk result
+            (λ store. Opens (with_power_on old) (S.device store)) }
+        ensures failed { let old = (point_of_desk S.device self).device in IfErr result
+            (λ failed. IndexedOpenFails (with_power_on old) failed.1 (device_of failed.0)) }
+        ensures sound { IsSound (point_of_desk S.device self) }
+    {
+        match self {
+            Desk::Open(store) => store.reopen(alloc),
+            Desk::Bare(flash) => {
+                let mut flash = flash;
+                flash.power_on();
+                S::open_on(alloc, flash)
+            }
+            Desk::Gone => unreachable!("it is there"),
         }
     }
 
@@ -159,23 +169,11 @@ impl<S: Opened<MemFlash<A>, A>, A: Allocator + Copy> Desk<S, A> {
         if self.is_open() {
             return (self, Ok(Answer::Opened));
         }
-        let mut flash = self.into_flash();
-        flash.power_on();
-        match S::open_on(alloc, flash) {
+        match self.open(alloc) {
             Ok(store) => (Desk::Open(store), Ok(Answer::Opened)),
             Err((flash, IndexedFault::Cut)) => (Desk::Bare(flash), Ok(Answer::Cut)),
             Err((flash, IndexedFault::Memory)) => (Desk::Bare(flash), Err(AllocError)),
             Err((_, IndexedFault::Scan(_))) => unreachable!("its image is legal"),
         }
     }
-}
-
-/// The device, with this fuse.
-fn armed<A: Allocator>(flash: MemFlash<A>, fuse: Fuse) -> MemFlash<A>
-    ensures memory { IsArmed (device_of flash) fuse (memory_of result) }
-    ensures device { device_of result ≡ with_cut_to_come (device_of flash) }
-{
-    let mut flash = flash;
-    flash.arm(fuse);
-    flash
 }

@@ -3,24 +3,41 @@ ghost use Rattle.std.specs.Prelude.{◌≡◌, IfOk, IfErr};
 ghost use Rattle.ee_flash.specs.Device.{Device, IsOn};
 ghost use Rattle.ee_flash.specs.Memory.{device_of, memory_of, unused_memory};
 ghost use Rattle.ee_image.specs.Text.{at_rest, image_text};
-ghost use Rattle.ee_pages.specs.Layout.{IsLayout};
 ghost use Rattle.ee_core.specs.Finished.{IsStore};
 ghost use Rattle.ee_core.specs.Openings.{OpenFails, Opens};
+ghost use Rattle.ee_core.specs.Points.{with_power_on};
 ghost use Rattle.ee_index.specs.Index.{IndexedOpenFails};
 ghost use Rattle.ee_image_store.specs.Opening.{IsOpenFault, IsOpened, StaysOn};
 ghost use Rattle.ee_replay.specs.Opening.{IsStillFault};
+ghost use Rattle.ee_replay.specs.Serving.{ArmsDevice};
 
 use ee_core::inner::{parts_of, store_of};
 use ee_core::{OpenFault, Store, Variables, open};
 use ee_faults::ReplayFault;
-use ee_flash::{Flash, MemFlash};
+use ee_flash::{Flash, Fuse, MemFlash};
 use ee_image::read_image;
 use ee_index::{IndexedFault, IndexedStore};
-use ee_pages::Layout;
 use std::alloc::Allocator;
 
+/// A device on which a cut can be armed.
+pub(crate) trait Arming: Flash + Drop + Sized {
+    /// The device, with this fuse.
+    fn armed(self, fuse: Fuse) -> Self
+        ensures { ArmsDevice (Self.device self) fuse (Self.device result) };
+}
+
+impl<A: Allocator> Arming for MemFlash<A> {
+    fn armed(self, fuse: Fuse) -> MemFlash<A>
+        ensures { ArmsDevice (device_of self) fuse (device_of result) }
+    {
+        let mut flash = self;
+        flash.arm(fuse);
+        flash
+    }
+}
+
 /// A store that the commands open on a device, and close.
-pub(crate) trait Opened<F: Flash + Drop, A: Allocator + Copy>: Variables + Drop + Sized {
+pub(crate) trait Opened<F: Arming, A: Allocator + Copy>: Variables + Drop + Sized {
     /// Opens the store of a device that is on.
     fn open_on(alloc: A, flash: F) -> Result<Self, (F, IndexedFault)>
         requires { IsOn (F.device flash) }
@@ -28,24 +45,23 @@ pub(crate) trait Opened<F: Flash + Drop, A: Allocator + Copy>: Variables + Drop 
         ensures failed { IfErr result
             (λ failed. IndexedOpenFails (F.device flash) failed.1 (F.device failed.0)) };
 
+    /// Turns power on and opens the store of its device again, in the memory that this one had.
+    fn reopen(self, alloc: A) -> Result<Self, (F, IndexedFault)>
+        ensures opened { IfOk result
+            (λ store. Opens (with_power_on (Self.device self)) (Self.device store)) }
+        ensures failed { IfErr result (λ failed.
+            IndexedOpenFails (with_power_on (Self.device self)) failed.1 (F.device failed.0)) }
+        ensures store { IsStore (Self.device self) };
+
+    /// Arms a cut, which takes no step and no memory.
+    fn with_fuse(self, fuse: Fuse) -> Self
+        requires { IsOn (Self.device self) }
+        ensures { ArmsDevice (Self.device self) fuse (Self.device result) };
+
     /// Its device.
     fn close(self) -> F
         ensures device { F.device result ≡ Self.device self }
         ensures store { IsStore (Self.device self) };
-
-    /// Its device, and the layout of that.
-    fn into_parts(self) -> (F, Layout)
-        requires { IsOn (Self.device self) }
-        ensures device { F.device result.0 ≡ Self.device self }
-        ensures store { IsStore (Self.device self) }
-        ensures layout { IsLayout (Self.device self) result.1 };
-
-    /// The store of a device of which this is the layout. An error, with the device, says that memory ran out.
-    fn of_parts(alloc: A, flash: F, layout: Layout) -> Result<Self, F>
-        requires store { IsStore (F.device flash) }
-        requires layout { IsLayout (F.device flash) layout }
-        ensures made { IfOk result (λ store. Self.device store ≡ F.device flash) }
-        ensures memory { IfErr result (λ device. F.device device ≡ F.device flash) };
 }
 
 /// The same fault of a store that could also want memory.
@@ -58,7 +74,7 @@ fn fault_of_open(fault: OpenFault) -> IndexedFault
     }
 }
 
-impl<F: Flash + Drop, A: Allocator + Copy> Opened<F, A> for Store<F> {
+impl<F: Arming, A: Allocator + Copy> Opened<F, A> for Store<F> {
     fn open_on(_alloc: A, flash: F) -> Result<Store<F>, (F, IndexedFault)>
         requires { IsOn (F.device flash) }
         ensures opened { IfOk result (Opens (F.device flash)) }
@@ -71,33 +87,37 @@ impl<F: Flash + Drop, A: Allocator + Copy> Opened<F, A> for Store<F> {
         }
     }
 
+    fn reopen(self, _alloc: A) -> Result<Store<F>, (F, IndexedFault)>
+        ensures opened { IfOk result (Opens (with_power_on self)) }
+        ensures failed { IfErr result
+            (λ failed. IndexedOpenFails (with_power_on self) failed.1 (F.device failed.0)) }
+        ensures store { IsStore self }
+    {
+        let mut flash = self.into_flash();
+        flash.power_on();
+        match open(flash) {
+            Ok(store) => Ok(store),
+            Err((flash, fault)) => Err((flash, fault_of_open(fault))),
+        }
+    }
+
+    fn with_fuse(self, fuse: Fuse) -> Store<F>
+        requires { IsOn self }
+        ensures { ArmsDevice self fuse result }
+    {
+        let (flash, layout) = parts_of(self);
+        store_of(flash.armed(fuse), layout)
+    }
+
     fn close(self) -> F
         ensures device { F.device result ≡ self }
         ensures store { IsStore self }
     {
         self.into_flash()
     }
-
-    fn into_parts(self) -> (F, Layout)
-        requires { IsOn self }
-        ensures device { F.device result.0 ≡ self }
-        ensures store { IsStore self }
-        ensures layout { IsLayout self result.1 }
-    {
-        parts_of(self)
-    }
-
-    fn of_parts(_alloc: A, flash: F, layout: Layout) -> Result<Store<F>, F>
-        requires store { IsStore (F.device flash) }
-        requires layout { IsLayout (F.device flash) layout }
-        ensures made { IfOk result (λ store. store ≡ F.device flash) }
-        ensures memory { IfErr result (λ device. F.device device ≡ F.device flash) }
-    {
-        Ok(store_of(flash, layout))
-    }
 }
 
-impl<F: Flash + Drop, A: Allocator + Copy> Opened<F, A> for IndexedStore<F, A> {
+impl<F: Arming, A: Allocator + Copy> Opened<F, A> for IndexedStore<F, A> {
     fn open_on(alloc: A, flash: F) -> Result<IndexedStore<F, A>, (F, IndexedFault)>
         requires { IsOn (F.device flash) }
         ensures opened { IfOk result (Opens (F.device flash)) }
@@ -107,29 +127,30 @@ impl<F: Flash + Drop, A: Allocator + Copy> Opened<F, A> for IndexedStore<F, A> {
         IndexedStore::open(alloc, flash)
     }
 
+    fn reopen(self, _alloc: A) -> Result<IndexedStore<F, A>, (F, IndexedFault)>
+        ensures opened { IfOk result (Opens (with_power_on self)) }
+        ensures failed { IfErr result
+            (λ failed. IndexedOpenFails (with_power_on self) failed.1 (F.device failed.0)) }
+        ensures store { IsStore self }
+    {
+        let (mut flash, kept) = self.into_parts();
+        flash.power_on();
+        IndexedStore::open_in(kept, flash)
+    }
+
+    fn with_fuse(self, fuse: Fuse) -> IndexedStore<F, A>
+        requires { IsOn self }
+        ensures { ArmsDevice self fuse result }
+    {
+        let (flash, kept) = self.into_parts();
+        IndexedStore::of_parts(flash.armed(fuse), kept)
+    }
+
     fn close(self) -> F
         ensures device { F.device result ≡ self }
         ensures store { IsStore self }
     {
         self.into_flash()
-    }
-
-    fn into_parts(self) -> (F, Layout)
-        requires { IsOn self }
-        ensures device { F.device result.0 ≡ self }
-        ensures store { IsStore self }
-        ensures layout { IsLayout self result.1 }
-    {
-        IndexedStore::into_parts(self)
-    }
-
-    fn of_parts(alloc: A, flash: F, layout: Layout) -> Result<IndexedStore<F, A>, F>
-        requires store { IsStore (F.device flash) }
-        requires layout { IsLayout (F.device flash) layout }
-        ensures made { IfOk result (λ store. store ≡ F.device flash) }
-        ensures memory { IfErr result (λ device. F.device device ≡ F.device flash) }
-    {
-        IndexedStore::of_parts(alloc, flash, layout)
     }
 }
 
@@ -164,7 +185,7 @@ pub(crate) fn open_as<A: Allocator + Copy, S: Opened<MemFlash<A>, A>>(
 }
 
 /// Opens the store of a device whose power is never cut. `Open` says why it has none.
-fn open_still<F: Flash + Drop, A: Allocator + Copy, S: Opened<F, A>>(
+fn open_still<F: Arming, A: Allocator + Copy, S: Opened<F, A>>(
     alloc: A,
     flash: F,
 ) -> Result<S, ReplayFault>

@@ -116,16 +116,15 @@ impl<S: Opened<MemFlash<A>, A>, A: Allocator + Copy> Server<S, A> {
         }
     }
 
-    /// Arms a cut. An error says that memory ran out.
-    fn arm(&mut self, fuse: Fuse) -> Result<Answer, AllocError>
-        ensures { IfOk result (λ answer. Records
+    /// Arms a cut.
+    fn arm(&mut self, fuse: Fuse) -> Answer
+        ensures { Records
             (with_notes (point_of_desk S.device self.old.desk) self.old.notes) (Arm fuse)
-            answer (with_notes (point_of_desk S.device self.new.desk) self.new.notes)) }
+            result (with_notes (point_of_desk S.device self.new.desk) self.new.notes) }
     {
         let desk = replace(&mut self.desk, Desk::Gone);
-        let (desk, answer) = desk.arm(self.alloc, fuse);
-        self.desk = desk;
-        answer
+        self.desk = desk.arm(fuse);
+        Answer::Armed
     }
 
     /// Turns power on and opens the store. An error says that memory ran out.
@@ -157,7 +156,7 @@ impl<S: Opened<MemFlash<A>, A>, A: Allocator + Copy> Serve for Server<S, A> {
             Command::Forget { address } => self.forget(address),
             Command::Read { address } => Ok(self.read(address)),
             Command::Clean => Ok(self.clean()),
-            Command::Arm { fuse } => self.arm(fuse),
+            Command::Arm { fuse } => Ok(self.arm(fuse)),
             Command::PowerOn => self.power_on(),
         }
     }

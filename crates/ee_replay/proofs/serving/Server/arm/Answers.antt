@@ -4,14 +4,14 @@ use Rattle.ee_replay.proofs.LegalAlone.{legal_so, legal_there}
 use Rattle.ee_replay.proofs.NotedRuns.{counted_same}
 use Rattle.ee_replay.proofs.serving.Server.arm.Goals as goal
 
-pub arm-desk-requires : goal.arm-desk-requires
-arm-desk-requires g c = rw c.replace-desk.ensures.value (legal_there _ c.args.self.now.legal)
+pub arm-requires : goal.arm-requires
+arm-requires g c = rw c.replace-desk.ensures.value (legal_there _ c.args.self.now.legal)
 
 pub invariant_of-self-clause-legal : goal.invariant_of-self-clause-legal
-invariant_of-self-clause-legal g c = legal_so _ c.arm-desk.ensures.legal
+invariant_of-self-clause-legal g c = legal_so _ c.arm.ensures.legal
 
 pub invariant_of-self-clause-counted : goal.invariant_of-self-clause-counted
 invariant_of-self-clause-counted g c =
     let device = g.S.Variables.device in
-    counted_same (point_of_desk device c.args.self.now.desk).device (point_of_desk device c.arm-desk.result.0).device c.args.self.now.notes c.args.self.now.notes
-    (subst (λ desk. SaysTheSame (point_of_desk device desk).device (point_of_desk device c.arm-desk.result.0).device) c.replace-desk.ensures.value c.arm-desk.ensures.same) refl c.args.self.now.counted
+    counted_same (point_of_desk device c.args.self.now.desk).device (point_of_desk device c.arm.result).device c.args.self.now.notes c.args.self.now.notes
+    (subst (λ desk. SaysTheSame (point_of_desk device desk).device (point_of_desk device c.arm.result).device) c.replace-desk.ensures.value c.arm.ensures.same) refl c.args.self.now.counted

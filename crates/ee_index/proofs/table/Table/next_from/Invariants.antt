@@ -1,0 +1,5 @@
+use Rattle.ee_index.proofs.Tables.{IsNoneBefore}
+use Rattle.ee_index.proofs.table.Table.next_from.Given as goal
+
+abbrev pub invariant-rows : goal.invariant-rows
+invariant-rows g l = IsNoneBefore l.self-inside.rows.items l.start l.row l.place

@@ -1,0 +1,56 @@
+-- The table of an index: the slot of each address by row and place.
+use Rattle.std.specs.Prelude.{◌≡◌, ◌<◌, ◌≤◌, ℕ, zero, suc, ◌+◌, ◌-◌, ◌/◌, ◌%◌, ◌==◌, if◌then◌else◌, is_some, true, Option, Some, None, List, [], ◌∷◌, length, slice_index_or}
+use Rattle.ee_codec.specs.Words.{IsAddress}
+use Rattle.ee_pages.specs.Meaning.{Map, live_in}
+
+-- what a number of the table says: 0 that there is no slot, and n + 1 the slot n
+abbrev pub slot_told : ℕ → Option ℕ
+slot_told number = if number == 0 then None else Some (number - 1)
+
+-- The slot that the table has for an address: a row has the numbers of 256 addresses. A row or a number that is not there
+-- says that there is none.
+abbrev pub slot_in : List (List ℕ) → Map
+slot_in rows address = slot_told (slice_index_or (slice_index_or rows (address / 256) []) (address % 256) 0)
+
+-- an address has its place in the table
+abbrev pub HasPlace : List (List ℕ) → ℕ → Type 0
+HasPlace rows address = address % 256 < length (slice_index_or rows (address / 256) [])
+
+-- only a proper address has a slot
+abbrev pub HasProperAddresses : Map → Type 0
+HasProperAddresses slots = (address : ℕ) → is_some (slots address) ≡ true → IsAddress address
+
+-- the slots are those of so many proper addresses
+pub record AreCounted (slots : Map) (count : ℕ) : Type 0 where
+  pub proper : HasProperAddresses slots
+  pub counted : count ≡ live_in slots
+
+-- ---- in order
+
+-- an address with its slot, if it has one, and the entries behind it
+abbrev pub with_entry : ℕ → Option ℕ → List (ℕ × ℕ) → List (ℕ × ℕ)
+with_entry address None more = more
+with_entry address (Some slot) more = (address, slot) ∷ more
+
+-- those of so many addresses, from this one on, that have a slot, each with it
+unfoldable pub entries_from : Map → ℕ → ℕ → List (ℕ × ℕ)
+entries_from slots address zero = []
+entries_from slots address (suc count) = with_entry address (slots address) (entries_from slots (address + 1) count)
+
+-- the proper addresses that have a slot, each with it
+abbrev pub entries_in : Map → List (ℕ × ℕ)
+entries_in slots = entries_from slots 0 65535
+
+-- the first address from this one on that has a slot, with the slot, or that there is none
+abbrev pub IsNextFrom : Map → ℕ → Option (ℕ × ℕ) → Type 0
+IsNextFrom slots start None = (address : ℕ) → start ≤ address → slots address ≡ None
+IsNextFrom slots start (Some found) =
+    (start ≤ found.0) × (slots found.0 ≡ Some found.1)
+    × ((address : ℕ) → start ≤ address → address < found.0 → slots address ≡ None)
+
+-- the same in a row, for the places of its addresses
+abbrev pub IsNextPlace : List ℕ → ℕ → Option (ℕ × ℕ) → Type 0
+IsNextPlace row start None = (place : ℕ) → start ≤ place → place < 256 → slice_index_or row place 0 ≡ 0
+IsNextPlace row start (Some found) =
+    (start ≤ found.0) × (found.0 < 256) × (slot_told (slice_index_or row found.0 0) ≡ Some found.1)
+    × ((place : ℕ) → start ≤ place → place < found.0 → slice_index_or row place 0 ≡ 0)
