@@ -5,6 +5,7 @@ ghost use Rattle.ee_flash.specs.Size.{page_count};
 
 use ee_codec::{Address, Slot, read_slot};
 use ee_flash::{Flash, HEADER_WORDS, MemFlash};
+use ee_text::leading_number;
 use std::alloc::{AllocError, Allocator};
 
 /// In fewer slots than this a value is found as soon as in an index.
@@ -20,6 +21,15 @@ const LONG_SCRIPT: usize = 4096;
 
 const BYTES_FOR_A_SLOT: usize = 64;
 
+/// An index that is made at each opening pays where a cut comes behind so many steps, most times,
+const MANY_STEPS: u32 = 48;
+
+/// and so many bytes of lines stand between two of them,
+const MANY_BYTES: usize = 512;
+
+/// as far as the front of the script says.
+const FRONT: usize = 32768;
+
 /// How much of a device is in use.
 #[derive(Clone, Copy)]
 struct InUse {
@@ -29,17 +39,43 @@ struct InUse {
     addresses: usize,
 }
 
-/// Whether an index saves a script more time than it takes to make. It is made at each opening, so a script that
-/// cuts power does without.
+/// Whether an index saves a script more time than it takes to make.
 pub(crate) fn pays<A: Allocator + Copy>(alloc: A, flash: &MemFlash<A>, script: &[u8]) -> bool {
-    if flash.shape().slots() < FEW_SLOTS || script.contains(&b'x') {
+    if flash.shape().slots() < FEW_SLOTS {
         return false;
+    }
+    if script.contains(&b'x') {
+        return cuts_late(&script[..script.len().min(FRONT)]);
     }
     let Ok(in_use) = survey(alloc, flash) else {
         return false;
     };
     let is_long = script.len() > LONG_SCRIPT && in_use.slots < script.len() / BYTES_FOR_A_SLOT;
     is_long || in_use.addresses > MANY_ADDRESSES
+}
+
+/// Whether most cuts of a script come behind many steps, and there are not many of them.
+fn cuts_late(script: &[u8]) -> bool {
+    let mut early: usize = 0;
+    let mut late: usize = 0;
+    for line in script.split(|byte| *byte == b'x').skip(1) {
+        if comes_late(line) {
+            late = late.saturating_add(1);
+        } else {
+            early = early.saturating_add(1);
+        }
+    }
+    late > early && late.saturating_add(early) <= script.len() / MANY_BYTES
+}
+
+/// Whether the cut comes behind many steps that a line says, of which this stands behind its `x`.
+fn comes_late(line: &[u8]) -> bool {
+    match line {
+        [b' ', steps @ ..] => {
+            leading_number(steps, u32::MAX).is_none_or(|(steps, _)| steps >= MANY_STEPS)
+        }
+        _ => false,
+    }
 }
 
 /// Looks once at each slot of a device.
