@@ -1,3 +1,4 @@
+mod Marking
 mod Tables
 mod Entries
 mod Counted

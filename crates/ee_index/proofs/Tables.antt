@@ -1,10 +1,13 @@
 -- What a table of slots says behind each of its changes.
-use Rattle.std.proofs.Common.{◌≡◌, inl, inr, ℕ, zero, suc, ◌+◌, ◌-◌, ◌*◌, ◌/◌, ◌%◌, ◌<◌, ◌≤◌, Some, None, is_some, List, [], ◌∷◌, ◌++◌, length, take, get_or, refl, sym, ap, ◌∙◌, arith}
+use Rattle.std.proofs.Common.{◌≡◌, ◌≢◌, ◌⊎◌, inl, inr, ℕ, zero, suc, ◌+◌, ◌-◌, ◌*◌, ◌/◌, ◌%◌, ◌<◌, ◌≤◌, Some, None, is_some, Bool, cond, true, false, List, [], ◌∷◌, ◌++◌, length, take, get_or, set, refl, sym, ap, ◌∙◌, arith}
 use Rattle.std.specs.Prelude.{replicate}
-use Rattle.std.proofs.lemmas.Bool.{cases_lt}
+use Rattle.std.proofs.lemmas.Bool.{cases_eq, cases_lt}
+use Rattle.std.proofs.lemmas.Grind.{common_steps, get_or-set_at}
 use Rattle.ee_codec.specs.Words.{IsAddress}
-use Rattle.ee_index.specs.Table.{HasProperAddresses, IsNextFrom, IsNextPlace, slot_in, slot_told}
-use Rattle.std.proofs.lemmas.List.{get_or-append_right, get_or_append_left, get_or_past, take_all}
+use Rattle.ee_pages.specs.Meaning.{Forget, Put, map_after}
+use Rattle.ee_index.specs.Marks.{IsNextMark, has_mark}
+use Rattle.ee_index.specs.Table.{AreMarked, AreRowsMarked, HasProperAddresses, IsNextFrom, IsNextPlace, slot_in, slot_told}
+use Rattle.std.proofs.lemmas.List.{get_or-append_right, get_or-set_other, get_or_append_left, get_or_default, get_or_past, take_all}
 
 -- an empty row at the end says as much as none
 empty_alone : (row : List ℕ) (place : ℕ) → row ≡ [] → get_or (row ∷ []) place [] ≡ []
@@ -37,6 +40,90 @@ filled row longer n count place counted short is = elim (cases_lt place count) [
   where
     whole : longer ≡ row ++ replicate (n - count) 0
     whole = is ∙ ap (λ (numbers : List ℕ). numbers ++ replicate (n - count) 0) (take_all n row (omega (arith, counted, short)))
+
+-- zeros behind its numbers leave the places of a row marked
+pub still_marked : (marks row longer : List ℕ) (n count : ℕ) (is_filled : Bool) → length row ≡ count → count ≤ n → longer ≡ cond is_filled (take n row ++ replicate (n - count) 0) row → AreMarked marks row → AreMarked marks longer
+still_marked marks row longer n count true counted short is are place none = filled row longer n count place counted short is ∙ are place none
+still_marked marks row longer n count false counted short is are place none = ap (λ (numbers : List ℕ). get_or numbers place 0) is ∙ are place none
+
+-- ---- a number is changed
+
+told_next : (slot : ℕ) → slot_told (slot + 1) ≡ Some slot
+told_next slot = grind (arith, common_steps)
+
+-- an address that has a slot has its place
+pub place_held : (rows : List (List ℕ)) (address : ℕ) → is_some (slot_in rows address) ≡ true → address % 256 < length (get_or rows (address / 256) [])
+place_held rows address held = elim (cases_lt (address % 256) (length (get_or rows (address / 256) []))) [
+  | inl within ↦ within
+  | inr past ↦ absurd (cc (held, ap (λ number. is_some (slot_told number)) (get_or_past (get_or rows (address / 256) []) (address % 256) 0 past)))
+]
+
+pub row_held : (rows : List (List ℕ)) (address : ℕ) → address % 256 < length (get_or rows (address / 256) []) → address / 256 < length rows
+row_held rows address place = elim (cases_lt (address / 256) (length rows)) [
+  | inl within ↦ within
+  | inr past ↦ absurd (let e = ap (λ (row : List ℕ). length row) (get_or_past rows (address / 256) [] past) in omega (arith, place, e))
+]
+
+-- a row says something else of one address
+module _ (rows : List (List ℕ)) (address value : ℕ) (new : List ℕ) (long : address % 256 < length (get_or rows (address / 256) []))
+    (each : (place : ℕ) → get_or new place 0 ≡ get_or (set (get_or rows (address / 256) []) (address % 256) value) place 0) where
+  changed_there : (named : ℕ) → address ≡ named → slot_in (set rows (address / 256) new) named ≡ slot_told value
+  changed_there named same =
+      ap (λ (row : List ℕ). slot_told (get_or row (named % 256) 0)) (get_or-set_at rows (address / 256) (named / 256) new [] (omega (arith, same)) (row_held rows address long))
+      ∙ ap slot_told (each (named % 256) ∙ get_or-set_at (get_or rows (address / 256) []) (address % 256) (named % 256) value 0 (omega (arith, same)) long)
+
+  changed_elsewhere : (named : ℕ) → address ≢ named → slot_in (set rows (address / 256) new) named ≡ slot_in rows named
+  changed_elsewhere named apart = elim (cases_eq (named / 256) (address / 256)) [
+    | inl here ↦
+        ap (λ (row : List ℕ). slot_told (get_or row (named % 256) 0)) (get_or-set_at rows (address / 256) (named / 256) new [] here (row_held rows address long))
+        ∙ ap slot_told (each (named % 256) ∙ get_or-set_other (get_or rows (address / 256) []) (address % 256) (named % 256) value 0 (λ e. apart (omega (arith, here, e))))
+        ∙ ap (λ at. slot_told (get_or (get_or rows at []) (named % 256) 0)) (sym here)
+    | inr further ↦ ap (λ (row : List ℕ). slot_told (get_or row (named % 256) 0)) (get_or-set_other rows (address / 256) (named / 256) new [] further)
+  ]
+
+-- the changes of a table, by those of a row
+module _ (rows before : List (List ℕ)) (address number : ℕ) (row new : List ℕ) (rows_are : rows ≡ before) (number_is : number ≡ address) (row_is : row ≡ get_or rows (number / 256) row)
+    (long : address % 256 < length (get_or before (address / 256) [])) where
+  row_before : row ≡ get_or before (address / 256) []
+  row_before = row_is ∙ (rw (rows_are, number_is) refl) ∙ get_or_default before (address / 256) row [] (row_held before address long)
+
+  each_before : (value : ℕ) → ((place : ℕ) → get_or new place 0 ≡ get_or (set row (number % 256) value) place 0) → (place : ℕ) → get_or new place 0 ≡ get_or (set (get_or before (address / 256) []) (address % 256) value) place 0
+  each_before value is place = is place ∙ ap (λ (row : List ℕ). get_or (set row (number % 256) value) place 0) row_before ∙ ap (λ at. get_or (set (get_or before (address / 256) []) (at % 256) value) place 0) number_is
+
+  pub put_seen : (slot : ℕ) → new ≡ set row (number % 256) (slot + 1) → (named : ℕ) → slot_in (set rows (number / 256) new) named ≡ map_after (Put address slot) (slot_in before) named
+  put_seen slot is named =
+      let each = each_before (slot + 1) (λ place. ap (λ (row : List ℕ). get_or row place 0) is) in
+      rw (rows_are, number_is) (elim (cases_eq address named) [
+        | inl same ↦ let there = changed_there before address (slot + 1) new long each named same ∙ told_next slot in grind (arith, common_steps, same, there)
+        | inr apart ↦ let other = changed_elsewhere before address (slot + 1) new long each named apart in grind (arith, common_steps, apart, other)
+      ])
+
+  pub clear_seen : ((place : ℕ) → get_or new place 0 ≡ get_or (set row (number % 256) 0) place 0) → (named : ℕ) → slot_in (set rows (number / 256) new) named ≡ map_after (Forget address) (slot_in before) named
+  clear_seen is named =
+      let each = each_before 0 is in
+      rw (rows_are, number_is) (elim (cases_eq address named) [
+        | inl same ↦ let there = changed_there before address 0 new long each named same in grind (arith, common_steps, same, there)
+        | inr apart ↦ let other = changed_elsewhere before address 0 new long each named apart in grind (arith, common_steps, apart, other)
+      ])
+
+-- a row says the same with more or less memory
+pub row_same : (rows : List (List ℕ)) (at : ℕ) (old new : List ℕ) → at < length rows → old ≡ get_or rows at old → ((place : ℕ) → get_or new place 0 ≡ get_or old place 0)
+    → (row place : ℕ) → get_or (get_or (set rows at new) row []) place 0 ≡ get_or (get_or rows row []) place 0
+row_same rows at old new within old_is each row place = elim (cases_eq row at) [
+  | inl here ↦
+      ap (λ (row : List ℕ). get_or row place 0) (get_or-set_at rows at row new [] here within)
+      ∙ each place
+      ∙ ap (λ (row : List ℕ). get_or row place 0) (old_is ∙ get_or_default rows at old [] within)
+      ∙ ap (λ at. get_or (get_or rows at []) place 0) (sym here)
+  | inr other ↦ ap (λ (row : List ℕ). get_or row place 0) (get_or-set_other rows at row new [] other)
+]
+
+-- a row in which no address has a slot any more
+pub rows_left : (marks after : List ℕ) (rows : List (List ℕ)) (at : ℕ) (new : List ℕ) → AreRowsMarked marks rows → at < length rows → new ≡ [] → ((other : ℕ) → at ≢ other → has_mark after other ≡ has_mark marks other) → AreRowsMarked after (set rows at new)
+rows_left marks after rows at new are within empty others row place none = elim (cases_eq at row) [
+  | inl here ↦ ap (λ (row : List ℕ). get_or row place 0) (get_or-set_at rows at row new [] (sym here) within ∙ empty)
+  | inr other ↦ ap (λ (row : List ℕ). get_or row place 0) (get_or-set_other rows at row new [] (λ e. other (sym e))) ∙ are row place (sym (others row other) ∙ none)
+]
 
 -- ---- the next address
 
@@ -78,12 +165,31 @@ module _ (rows : List (List ℕ)) (start row place : ℕ) (so_far : IsNoneBefore
     ];
   }
 
-  -- no row is left
-  pub none_left : length rows ≤ row → IsNextFrom (slot_in rows) start None
-  none_left past address high = elim (cases_lt address (row * 256 + place)) [
-    | inl before ↦ so_far.none address high before
-    | inr behind ↦ ap (λ (numbers : List ℕ). slot_told (get_or numbers (address % 256) 0)) (get_or_past rows (address / 256) [] (omega (arith, past, behind)))
-  ]
+  module _ (marks : List ℕ) (are : AreRowsMarked marks rows) where
+    unmarked : (address : ℕ) → has_mark marks (address / 256) ≡ false → slot_in rows address ≡ None
+    unmarked address none = ap slot_told (are (address / 256) (address % 256) none)
+
+    -- no row is left
+    pub none_left : IsNextMark marks row None → IsNextFrom (slot_in rows) start None
+    none_left none address high = elim (cases_lt address (row * 256 + place)) [
+      | inl before ↦ so_far.none address high before
+      | inr behind ↦ unmarked address (none (address / 256) (omega (arith, behind)))
+    ]
+
+    -- the next row is a further one
+    pub none_to_row : (further : ℕ) → IsNextMark marks row (Some further) → further ≢ row → IsNoneBefore rows start further 0
+    none_to_row further next apart = record {
+      within = omega arith;
+      low = let low = so_far.low in let within = so_far.within in let up = next.0 in omega (arith, low, within, up, apart);
+      none = λ address high low. elim (cases_lt address (row * 256 + place)) [
+        | inl before ↦ so_far.none address high before
+        | inr behind ↦ unmarked address (next.3 (address / 256) (omega (arith, behind)) (omega (arith, low)))
+      ];
+    }
+
+    pub none_to_place : (further from : ℕ) → IsNextMark marks row (Some further) → ((further ≡ row) × (from ≡ place)) ⊎ ((further ≢ row) × (from ≡ 0)) → IsNoneBefore rows start further from
+    none_to_place further from next (inl same) = rw (same.0, same.1) so_far
+    none_to_place further from next (inr apart) = rw apart.1 (none_to_row further next apart.0)
 
   module _ (at slot : ℕ) (found : IsNextPlace (get_or rows row []) place (Some (at, slot))) where
     slot_found : slot_in rows (row * 256 + at) ≡ Some slot

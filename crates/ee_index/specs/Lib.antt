@@ -1,3 +1,4 @@
 pub mod Index
 pub mod Kept
+pub mod Marks
 pub mod Table

@@ -1,6 +1,7 @@
 -- The table of an index: the slot of each address by row and place.
-use Rattle.std.specs.Prelude.{◌≡◌, ◌<◌, ◌≤◌, ℕ, zero, suc, ◌+◌, ◌-◌, ◌/◌, ◌%◌, ◌==◌, if◌then◌else◌, is_some, true, Option, Some, None, List, [], ◌∷◌, length, slice_index_or}
+use Rattle.std.specs.Prelude.{◌≡◌, ◌<◌, ◌≤◌, ℕ, zero, suc, ◌+◌, ◌-◌, ◌/◌, ◌%◌, ◌==◌, if◌then◌else◌, is_some, true, false, Option, Some, None, List, [], ◌∷◌, slice_index_or}
 use Rattle.ee_codec.specs.Words.{IsAddress}
+use Rattle.ee_index.specs.Marks.{has_mark}
 use Rattle.ee_pages.specs.Meaning.{Map, live_in}
 
 -- what a number of the table says: 0 that there is no slot, and n + 1 the slot n
@@ -12,9 +13,14 @@ slot_told number = if number == 0 then None else Some (number - 1)
 abbrev pub slot_in : List (List ℕ) → Map
 slot_in rows address = slot_told (slice_index_or (slice_index_or rows (address / 256) []) (address % 256) 0)
 
--- an address has its place in the table
-abbrev pub HasPlace : List (List ℕ) → ℕ → Type 0
-HasPlace rows address = address % 256 < length (slice_index_or rows (address / 256) [])
+-- a place of a row whose number says a slot is marked
+abbrev pub AreMarked : List ℕ → List ℕ → Type 0
+AreMarked marks row = (place : ℕ) → has_mark marks place ≡ false → slice_index_or row place 0 ≡ 0
+
+-- a row of which a number says a slot is marked
+abbrev pub AreRowsMarked : List ℕ → List (List ℕ) → Type 0
+AreRowsMarked marks rows =
+    (row place : ℕ) → has_mark marks row ≡ false → slice_index_or (slice_index_or rows row []) place 0 ≡ 0
 
 -- only a proper address has a slot
 abbrev pub HasProperAddresses : Map → Type 0

@@ -1,11 +1,11 @@
 //! The index: the slot in which each live address stands, and how many are live.
-ghost use Rattle.std.specs.Prelude.{◌≡◌, ◌<◌, ◌≤◌, ◌+◌, ◌^◌, ℕ, IfErr, IfOk, IfSome, OnErr, OnOk, ◌==◌, if◌then◌else◌, false, [], ◌∷◌, None, is_some, length};
+ghost use Rattle.std.specs.Prelude.{◌≡◌, ◌<◌, ◌≤◌, ◌+◌, ◌^◌, ℕ, IfErr, IfOk, IfSome, OnErr, OnOk, ◌==◌, if◌then◌else◌, false, true, [], ◌∷◌, None, is_some, length};
 ghost use Rattle.std.specs.List.Sorted.{IsStrictlySortedBy};
 ghost use Rattle.std.specs.Map.{keys_of};
 ghost use Rattle.std.specs.Ordering.{nat_cmp};
 ghost use Rattle.ee_pages.specs.Meaning.{Forget, Put, above_of, map_after};
 ghost use Rattle.ee_index.specs.Index.{behind_first, entries_left, is_first, numbered_slots, slot_for};
-ghost use Rattle.ee_index.specs.Table.{HasPlace, HasProperAddresses, entries_in, slot_in};
+ghost use Rattle.ee_index.specs.Table.{HasProperAddresses, entries_in, slot_in};
 
 use crate::table::Table;
 use ee_codec::Address;
@@ -79,14 +79,15 @@ impl<A: Allocator> Index<A> {
             self.table.put(address, slot);
             return Ok(());
         }
-        self.table.make_place(address)?;
-        self.table.put(address, slot);
+        self.table.enter(address, slot)?;
         self.count += 1;
         Ok(())
     }
 
     /// Takes an address from the index, if it is there.
     pub(crate) fn remove(&mut self, address: Address)
+    where
+        A: Copy,
         ensures { (named : ℕ) → slot_for self.new named
             ≡ map_after (Forget address) (slot_for self.old) named }
     {
@@ -96,12 +97,21 @@ impl<A: Allocator> Index<A> {
         }
     }
 
-    /// Takes all addresses from the index. The room that they had stays.
+    /// Takes all addresses from the index. The room that they had stays, until it is released.
     pub(crate) fn clear(&mut self)
         ensures { self.new ≡ [] }
     {
         self.table.clear_all();
         self.count = 0;
+    }
+
+    /// Gives back the room of addresses that are no longer there.
+    pub(crate) fn release(&mut self)
+    where
+        A: Copy,
+        ensures { self.new ≡ self.old }
+    {
+        self.table.release();
     }
 
     /// The first live address from `place` on, with its slot, and the place behind it.
@@ -166,7 +176,7 @@ fn count_first(first: Option<Address>) -> usize
     }
 }
 
-// Gives an address, which has a place in the table, its slot: `first` has the first slot, and each
+// Gives an address, which has a slot, its new one: `first` has the first slot, and each
 // other takes the next number.
 fn number_entry<A: Allocator>(
     table: &mut Table<A>,
@@ -174,7 +184,7 @@ fn number_entry<A: Allocator>(
     first: &Option<Address>,
     address: Address,
 )
-    requires place { HasPlace table.old address }
+    requires held { is_some (slot_in table.old address) ≡ true }
     requires few { next.old + 1 < 2 ^ 32 }
     ensures put { let slot = if is_first first.now address then 0 else next.old in
         (named : ℕ) → slot_in table.new named

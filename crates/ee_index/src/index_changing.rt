@@ -59,7 +59,7 @@ pub(crate) fn make_room<A: Allocator + Copy>(
 
 /// Makes a change to which no refusal applies in the first free slot. In the index an address that is
 /// put has that slot already. The layout and the index follow, and that takes no memory.
-pub(crate) fn append_indexed<F: Flash, A: Allocator>(
+pub(crate) fn append_indexed<F: Flash, A: Allocator + Copy>(
     flash: &mut F,
     layout: &mut Layout,
     index: &mut Index<A>,
@@ -89,7 +89,7 @@ pub(crate) fn append_indexed<F: Flash, A: Allocator>(
 /// Makes a change to which no refusal applies with a transfer that goes over the live addresses by
 /// the index, where no slot is free. An address that is put is in the index, and hidden if it has no
 /// value yet. The layout and the index follow, and that takes no memory.
-pub(crate) fn move_indexed<F: Flash, A: Allocator>(
+pub(crate) fn move_indexed<F: Flash, A: Allocator + Copy>(
     flash: &mut F,
     layout: &mut Layout,
     index: &mut Index<A>,
@@ -121,7 +121,7 @@ pub(crate) fn move_indexed<F: Flash, A: Allocator>(
 }
 
 // Takes an address that is forgotten from an index, and gives the one that is put.
-fn leave<A: Allocator>(index: &mut Index<A>, change: &Change) -> Option<Address>
+fn leave<A: Allocator + Copy>(index: &mut Index<A>, change: &Change) -> Option<Address>
     ensures first { result ≡ put_of (meant change.now) }
     ensures left { (address : ℕ) → slot_for index.new address
         ≡ without_forgotten (meant change.now) (slot_for index.old) address }

@@ -109,7 +109,9 @@ impl<F: Flash + Drop, A: Allocator> IndexedStore<F, A> {
     {
         let mut index = kept.index;
         index.clear();
-        open_with(index, flash)
+        let mut store = open_with(index, flash)?;
+        store.index.release();
+        Ok(store)
     }
 
     /// The device, as it is.

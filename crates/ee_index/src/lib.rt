@@ -18,6 +18,7 @@ mod index;
 mod index_changing;
 mod index_reading;
 mod indexed;
+mod marks;
 mod table;
 
 pub use indexed::{IndexedFault, IndexedStore, Kept};

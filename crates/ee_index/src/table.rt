@@ -1,36 +1,48 @@
 //! The slots of addresses, by row and place: a look takes two steps, and so does a change.
-ghost use Rattle.std.specs.Prelude.{◌≡◌, ◌<◌, ◌≤◌, ◌+◌, ◌^◌, ℕ, [], None, OnOk, Some, length, set, slice_index_or, true};
+ghost use Rattle.std.specs.Prelude.{◌≡◌, ◌<◌, ◌≤◌, ◌+◌, ◌^◌, ℕ, [], None, OnErr, OnOk, Some, is_some, length, set, slice_index_or, true};
 ghost use Rattle.ee_codec.specs.Words.{IsAddress};
 ghost use Rattle.ee_pages.specs.Meaning.{Forget, Put, map_after};
-ghost use Rattle.ee_index.specs.Table.{HasPlace, HasProperAddresses, IsNextFrom, IsNextPlace, slot_in, slot_told};
+ghost use Rattle.ee_index.specs.Table.{HasProperAddresses, IsNextFrom, IsNextPlace, slot_in, slot_told};
 
+use crate::marks::Marks;
 use ee_codec::Address;
 use std::alloc::{AllocError, Allocator};
 use std::marker::Model;
-use std::simd::prelude::*;
 
 /// How many addresses have their place in one row.
 const ROW: usize = 256;
 
-/// So many numbers are looked at at once, since few addresses of a row may have a slot.
-const LANES: usize = 8;
-
 /// The slots of 256 addresses, as numbers: 0 says that there is none, and n + 1 the slot n.
 #[derive(Drop)]
 struct Row<A: Allocator> {
-    // none, until an address of the row is entered
+    // none, while no address of the row has a slot
     numbers: Vec<u32, A>,
+    // the places of those that have one
+    marks: Marks,
 }
 
 impl<A: Allocator> Model for Row<A> {
     ghost use Rattle.std.specs.Prelude.{List, ℕ};
+    ghost use Rattle.ee_index.specs.Table.{AreMarked};
 
     ghost Value = { List ℕ };
 
     ghost view = { λ row. row.numbers.items };
+
+    ghost invariant = { λ row. AreMarked row.marks row.numbers.items };
 }
 
 impl<A: Allocator> Row<A> {
+    // No address has a slot. It takes no memory.
+    fn new(alloc: A) -> Row<A>
+        ensures { result ≡ [] }
+    {
+        Row {
+            numbers: Vec::new(alloc),
+            marks: Marks::new(),
+        }
+    }
+
     fn slot_at(&self, place: usize) -> Option<usize>
         ensures { result ≡ slot_told (slice_index_or self.now place 0) }
     {
@@ -52,56 +64,74 @@ impl<A: Allocator> Row<A> {
         Ok(())
     }
 
+    // Gives an address, which may have none, a slot.
+    fn enter(&mut self, place: usize, number: u32)
+        requires long { place < length self.old }
+        requires place { place < 256 }
+        ensures { self.new ≡ set self.old place number }
+    {
+        self.numbers[place] = number;
+        self.marks.set(place);
+    }
+
+    // Gives an address that has a slot another.
     fn put(&mut self, place: usize, number: u32)
-        requires { place < length self.old }
+        requires { is_some (slot_told (slice_index_or self.old place 0)) ≡ true }
         ensures { self.new ≡ set self.old place number }
     {
         self.numbers[place] = number;
     }
 
-    // Takes its slot from each address of the row.
-    fn clear(&mut self)
+    // Takes its slot from an address that has one, and says whether no address has one any more.
+    fn clear(&mut self, place: usize) -> bool
+    where
+        A: Copy,
+        requires held { is_some (slot_told (slice_index_or self.old place 0)) ≡ true }
+        requires place { place < 256 }
+        ensures cleared { (other : ℕ) → slice_index_or self.new other 0
+            ≡ slice_index_or (set self.old place 0) other 0 }
+        ensures none { result ≡ true → self.new ≡ [] }
+    {
+        self.numbers[place] = 0;
+        self.marks.clear(place);
+        self.release();
+        self.numbers.is_empty()
+    }
+
+    // Takes its slot from each address of the row. The memory stays.
+    fn clear_all(&mut self)
         ensures { (place : ℕ) → slice_index_or self.new place 0 ≡ 0 }
     {
         self.numbers.fill(0);
+        self.marks = Marks::new();
+    }
+
+    // Gives the memory back where no address of the row has a slot.
+    fn release(&mut self)
+    where
+        A: Copy,
+        ensures { (place : ℕ) → slice_index_or self.new place 0
+            ≡ slice_index_or self.old place 0 }
+    {
+        if !self.numbers.is_empty() && self.marks.next_from(0).is_none() {
+            let alloc = *self.numbers.allocator();
+            self.numbers = Vec::new(alloc);
+        }
     }
 
     // The first place from `start` on whose address has a slot, with the slot.
     fn next_from(&self, start: usize) -> Option<(usize, usize)>
         ensures { IsNextPlace self.now start result }
     {
-        'places: for place in pass_empty(&self.numbers, start)..self.numbers.len().min(ROW) {
-            let number = self.numbers[place];
-            if number != 0 {
-                return Some((place, number as usize - 1));
+        let mut from = start;
+        'places: while let Some(place) = self.marks.next_from(from) {
+            if let Some(slot) = self.slot_at(place) {
+                return Some((place, slot));
             }
+            from = place + 1;
         }
         None
     }
-}
-
-// A place from `start` on, before which no number from there on says a slot.
-fn pass_empty(numbers: &[u32], start: usize) -> usize
-    ensures behind { start ≤ result }
-    ensures empty { (place : ℕ) → start ≤ place → place < result
-        → slice_index_or numbers.now place 0 ≡ 0 }
-{
-    let mut at = start;
-    'lanes: while numbers.len().saturating_sub(at) >= LANES && are_empty(numbers, at) {
-        at += LANES;
-    }
-    at
-}
-
-// Whether the eight numbers from a place on are all 0.
-#[inline(always)]
-fn are_empty(numbers: &[u32], at: usize) -> bool
-    requires { at + 8 ≤ length numbers.now }
-    ensures { result ≡ true → (place : ℕ) → at ≤ place → place < at + 8
-        → slice_index_or numbers.now place 0 ≡ 0 }
-{
-    let lanes = u32x8::from_slice(&numbers[at..]);
-    lanes.simd_gt(u32x8::splat(0)).to_bitmask() == 0
 }
 
 /// The slot of each address that has one.
@@ -109,14 +139,19 @@ fn are_empty(numbers: &[u32], at: usize) -> bool
 pub(crate) struct Table<A: Allocator> {
     // as many as the greatest address asks
     rows: Vec<Row<A>, A>,
+    // the rows in which an address has a slot
+    marks: Marks,
 }
 
 impl<A: Allocator> Model for Table<A> {
     ghost use Rattle.std.specs.Prelude.{List, ℕ};
+    ghost use Rattle.ee_index.specs.Table.{AreRowsMarked};
 
     ghost Value = { List (List ℕ) };
 
     ghost view = { λ table. table.rows.items };
+
+    ghost invariant = { λ table. AreRowsMarked table.marks table.rows.items };
 }
 
 impl<A: Allocator> Table<A> {
@@ -126,6 +161,7 @@ impl<A: Allocator> Table<A> {
     {
         Table {
             rows: Vec::new(alloc),
+            marks: Marks::new(),
         }
     }
 
@@ -140,22 +176,29 @@ impl<A: Allocator> Table<A> {
         }
     }
 
-    /// Makes a place for an address. The slots stay as they are, where memory is refused too.
-    pub(crate) fn make_place(&mut self, address: Address) -> Result<(), AllocError>
+    /// Gives an address, which may have none, a slot. An `Err` leaves the slots as they were.
+    pub(crate) fn enter(&mut self, address: Address, slot: usize) -> Result<(), AllocError>
     where
         A: Copy,
+        requires few { slot + 1 < 2 ^ 32 }
         ensures proper { IsAddress address }
-        ensures place { OnOk result (HasPlace self.new address) }
-        ensures same { (named : ℕ) → slot_in self.new named ≡ slot_in self.old named }
+        ensures entered { OnOk result ((named : ℕ) → slot_in self.new named
+            ≡ map_after (Put address slot) (slot_in self.old) named) }
+        ensures same { OnErr result ((named : ℕ) → slot_in self.new named
+            ≡ slot_in self.old named) }
     {
-        let row = address.get() as usize / ROW;
+        let number = address.get() as usize;
+        let row = number / ROW;
         grow(&mut self.rows, row)?;
-        self.rows[row].fill()
+        self.rows[row].fill()?;
+        self.rows[row].enter(number % ROW, slot as u32 + 1);
+        self.marks.set(row);
+        Ok(())
     }
 
-    /// Gives an address, which has a place, a slot.
+    /// Gives an address that has a slot another.
     pub(crate) fn put(&mut self, address: Address, slot: usize)
-        requires place { HasPlace self.old address }
+        requires held { is_some (slot_in self.old address) ≡ true }
         requires few { slot + 1 < 2 ^ 32 }
         ensures { (named : ℕ) → slot_in self.new named
             ≡ map_after (Put address slot) (slot_in self.old) named }
@@ -164,22 +207,40 @@ impl<A: Allocator> Table<A> {
         self.rows[number / ROW].put(number % ROW, slot as u32 + 1);
     }
 
-    /// Takes the slot from an address, which has a place.
+    /// Takes the slot from an address that has one. The memory of a row in which none has one any
+    /// more is given back.
     pub(crate) fn clear(&mut self, address: Address)
-        requires place { HasPlace self.old address }
+    where
+        A: Copy,
+        requires held { is_some (slot_in self.old address) ≡ true }
         ensures { (named : ℕ) → slot_in self.new named
             ≡ map_after (Forget address) (slot_in self.old) named }
     {
         let number = address.get() as usize;
-        self.rows[number / ROW].put(number % ROW, 0);
+        let row = number / ROW;
+        if self.rows[row].clear(number % ROW) {
+            self.marks.clear(row);
+        }
     }
 
-    /// Takes the slot from each address. The places stay.
+    /// Takes the slot from each address. The memory stays, for slots that come again.
     pub(crate) fn clear_all(&mut self)
         ensures { (named : ℕ) → slot_in self.new named ≡ None }
     {
         'rows: for row in 0..self.rows.len() {
-            self.rows[row].clear();
+            self.rows[row].clear_all();
+        }
+        self.marks = Marks::new();
+    }
+
+    /// Gives back the memory of the rows in which no address has a slot.
+    pub(crate) fn release(&mut self)
+    where
+        A: Copy,
+        ensures { (named : ℕ) → slot_in self.new named ≡ slot_in self.old named }
+    {
+        'rows: for row in 0..self.rows.len() {
+            self.rows[row].release();
         }
     }
 
@@ -188,14 +249,27 @@ impl<A: Allocator> Table<A> {
         requires proper { HasProperAddresses (slot_in self.now) }
         ensures next { IsNextFrom (slot_in self.now) start result }
     {
+        let mut row = start / ROW;
         let mut place = start % ROW;
-        'rows: for row in start / ROW..self.rows.len() {
-            if let Some((at, slot)) = self.rows[row].next_from(place) {
-                return entry_of(row * ROW + at, slot);
+        'rows: while let Some(marked) = self.marks.next_from(row) {
+            let from = if marked == row { place } else { 0 };
+            if let Some((at, slot)) = self.next_in(marked, from) {
+                return entry_of(marked * ROW + at, slot);
             }
+            row = marked + 1;
             place = 0;
         }
         None
+    }
+
+    // The first place of a row from `start` on whose address has a slot, with the slot.
+    fn next_in(&self, row: usize, start: usize) -> Option<(usize, usize)>
+        ensures { IsNextPlace (slice_index_or self.now row []) start result }
+    {
+        match self.rows.get(row) {
+            None => None,
+            Some(row) => row.next_from(start),
+        }
     }
 }
 
@@ -219,8 +293,7 @@ fn grow<A: Allocator + Copy>(rows: &mut Vec<Row<A>, A>, row: usize) -> Result<()
 {
     let alloc = *rows.allocator();
     'rows: while rows.len() <= row {
-        let numbers = Vec::new(alloc);
-        rows.push(Row { numbers })?;
+        rows.push(Row::new(alloc))?;
     }
     Ok(())
 }

@@ -1,29 +1,27 @@
-use Rattle.std.proofs.Common.{rules, arith, ◌≡◌, List, ℕ, Some, get_or, subst, sym, ◌∙◌, []}
-use Rattle.std.proofs.lemmas.List.{get_or_default}
-use Rattle.ee_index.specs.Table.{HasProperAddresses, IsNextPlace, slot_in}
-use Rattle.ee_index.proofs.Tables.{proper_found}
+use Rattle.std.proofs.Common.{inl, inr, sym}
+use Rattle.ee_index.proofs.Tables.{is_found, none_further, none_to_place, proper_found}
 use Rattle.ee_index.proofs.table.Table.next_from.Goals as goal
-
-pub overflow_mul-row : goal.overflow_mul-row
-overflow_mul-row g c =
-    let rows = c.self.inside.rows.items in
-    let row : c.index.result.now ≡ get_or rows c.rows.row [] = c.index.ensures ∙ get_or_default rows c.rows.row c.index.result.now [] (search rules) in
-    let found = subst (λ (numbers : List ℕ). IsNextPlace numbers c.rows.place (Some (c.in-Some.at, c.in-Some.slot))) row c.in-Some.ensures in
-    let proper = subst (λ (rows : List (List ℕ)). HasProperAddresses (slot_in rows)) (sym c.self.view_is) c.requires.proper in
-    omega (arith, (proper_found rows c.args.start c.rows.row c.rows.place c.rows.invariant c.in-Some.at c.in-Some.slot found proper).1)
-
-pub overflow_add-row : goal.overflow_add-row
-overflow_add-row g c =
-    let rows = c.self.inside.rows.items in
-    let row : c.index.result.now ≡ get_or rows c.rows.row [] = c.index.ensures ∙ get_or_default rows c.rows.row c.index.result.now [] (search rules) in
-    let found = subst (λ (numbers : List ℕ). IsNextPlace numbers c.rows.place (Some (c.in-Some.at, c.in-Some.slot))) row c.in-Some.ensures in
-    let proper = subst (λ (rows : List (List ℕ)). HasProperAddresses (slot_in rows)) (sym c.self.view_is) c.requires.proper in
-    omega (arith, (proper_found rows c.args.start c.rows.row c.rows.place c.rows.invariant c.in-Some.at c.in-Some.slot found proper).1)
+use Rattle.ee_index.proofs.table.Table.next_from.Goals.{then-marked-row, else-marked-row}
 
 pub entry_of-requires : goal.entry_of-requires
 entry_of-requires g c =
     let rows = c.self.inside.rows.items in
-    let row : c.index.result.now ≡ get_or rows c.rows.row [] = c.index.ensures ∙ get_or_default rows c.rows.row c.index.result.now [] (search rules) in
-    let found = subst (λ (numbers : List ℕ). IsNextPlace numbers c.rows.place (Some (c.in-Some.at, c.in-Some.slot))) row c.in-Some.ensures in
-    let proper = subst (λ (rows : List (List ℕ)). HasProperAddresses (slot_in rows)) (sym c.self.view_is) c.requires.proper in
-    proper_found rows c.args.start c.rows.row c.rows.place c.rows.invariant c.in-Some.at c.in-Some.slot found proper
+    let so_far = none_to_place rows c.args.start c.rows.row c.rows.place c.rows.invariant c.self.inside.marks c.self.invariant c.in-Some.marked c.if-marked-row.from c.in-Some.ensures
+    (elim c.if-marked-row.branch [ then-marked-row w ↦ inl (w.if-marked-row.true, w.from-is) | else-marked-row w ↦ inr (w.if-marked-row.false, w.from-is) ]) in
+    proper_found rows c.args.start c.in-Some.marked c.if-marked-row.from so_far c.in-Some-next_in.at c.in-Some-next_in.slot (rw c.self.view_is c.in-Some-next_in.ensures) (rw c.self.view_is c.requires.proper)
+
+pub returns-in-Some-next_in : goal.returns-in-Some-next_in
+returns-in-Some-next_in g c =
+    let rows = c.self.inside.rows.items in
+    let so_far = none_to_place rows c.args.start c.rows.row c.rows.place c.rows.invariant c.self.inside.marks c.self.invariant c.in-Some.marked c.if-marked-row.from c.in-Some.ensures
+    (elim c.if-marked-row.branch [ then-marked-row w ↦ inl (w.if-marked-row.true, w.from-is) | else-marked-row w ↦ inr (w.if-marked-row.false, w.from-is) ]) in
+    let found = is_found rows c.args.start c.in-Some.marked c.if-marked-row.from so_far c.in-Some-next_in.at c.in-Some-next_in.slot (rw c.self.view_is c.in-Some-next_in.ensures) in record {
+      next = rw (c.entry_of.ensures, sym c.self.view_is) found;
+    }
+
+pub rows-preserved : goal.rows-preserved
+rows-preserved g c =
+    let rows = c.self.inside.rows.items in
+    let so_far = none_to_place rows c.args.start c.rows.row c.rows.place c.rows.invariant c.self.inside.marks c.self.invariant c.in-Some.marked c.if-marked-row.from c.in-Some.ensures
+    (elim c.if-marked-row.branch [ then-marked-row w ↦ inl (w.if-marked-row.true, w.from-is) | else-marked-row w ↦ inr (w.if-marked-row.false, w.from-is) ]) in
+    none_further rows c.args.start c.in-Some.marked c.if-marked-row.from so_far (rw c.self.view_is c.in_default-next_in.ensures)
