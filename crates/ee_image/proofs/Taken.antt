@@ -1,14 +1,14 @@
 -- Words and pages, read one after another.
-use Rattle.std.proofs.Common.{◌≡◌, ◌≢◌, ℕ, ◌+◌, ◌<◌, ◌^◌, List, [], ◌∷◌, ◌++◌, length, take, drop, ◌-◌, refl, sym, ap, ◌∙◌, arith, append_assoc, length-append, length-drop, subst, Option, Some, None, IfNone, IfSome, Bor}
+use Rattle.std.proofs.Common.{◌≡◌, ◌≢◌, ℕ, suc, ◌+◌, ◌<◌, ◌^◌, List, [], ◌∷◌, ◌++◌, length, take, drop, ◌-◌, min, refl, sym, ap, ◌∙◌, arith, append_assoc, length-append, length-drop, subst, take-append-drop, Option, Some, None, IfNone, IfSome, Bor}
 use Rattle.std.specs.Fmt.{decimal}
 use Rattle.std.specs.List.{All, flat_map}
-use Rattle.std.proofs.Math.Seq.{drop-append_seam}
+use Rattle.std.proofs.Math.Seq.{drop-append_seam, take-append-add}
 use Rattle.std.proofs.lemmas.List.{append-nil, take_all}
 use Rattle.std.proofs.lemmas.List.Elements.{All-head, All-push, All-tail}
 use Rattle.std.proofs.lemmas.Grind.{flat_map-append}
 use Rattle.ee_text.specs.Field.{IsField, space}
 use Rattle.ee_text.specs.Line.{line_feed, line_of}
-use Rattle.ee_text.proofs.Public.{IsField-decimal, first_place, no_place}
+use Rattle.ee_text.proofs.Public.{IsField-decimal, first_place, length-decimal-u64, no_place}
 use Rattle.ee_flash.specs.Device.{IsBelowAllOnes}
 use Rattle.ee_flash.specs.declared.word.Word.{Word}
 use Rattle.ee_image.specs.Text.{word_text, page_text, page_lines, ArePages}
@@ -79,18 +79,41 @@ same_behind (word ∷ words) (other ∷ others) x y below under same e =
 
 -- ---- the line of a page
 
--- what stands in front of the first space is the wear, where a wear and a space stand at the front
-pub cut_behind_wear : (text field : List ℕ) (rest : Option (Bor (List ℕ))) (wear : ℕ) (behind : List ℕ) → IsField field
-    → IfNone rest (text ≡ field) → IfSome rest (λ tail. text ≡ field ++ space ∷ tail.now) → wear < 2 ^ 64 → text ≡ decimal wear ++ space ∷ behind → field ≡ decimal wear
-cut_behind_wear text field None wear behind lacks last more fits e = absurd (no_place 32 text (decimal wear) behind (subst IsField (sym last) lacks) e)
-cut_behind_wear text field (Some tail) wear behind lacks last more fits e =
-    (first_place 32 field (decimal wear) tail.now behind lacks (IsField-decimal wear fits) (sym more ∙ e)).0
+-- a wear and a space at the front of a text are at the front of its first 21 bytes
+wear_in_front : (n : ℕ) (text : List ℕ) (wear : ℕ) (behind : List ℕ) → n ≡ min (length text) 21 → wear < 2 ^ 64 → text ≡ decimal wear ++ space ∷ behind
+    → take n text ≡ decimal wear ++ space ∷ take (n - length (decimal wear) - 1) behind
+wear_in_front n text wear behind most fits e =
+    let long = ap length e in
+    let inner : n ≡ length (decimal wear) + suc (n - length (decimal wear) - 1) = omega (arith, length-decimal-u64 wear fits, length-append (decimal wear) (space ∷ behind)) in
+    ap (take n) e ∙ ap (λ k. take k (decimal wear ++ space ∷ behind)) inner ∙ take-append-add (decimal wear) (space ∷ behind) (suc (n - length (decimal wear) - 1))
+
+-- what stands in front of their first space is the wear, where a wear and a space stand at the front
+pub cut_behind_wear : (n : ℕ) (text field : List ℕ) (rest : Option (Bor (List ℕ))) (wear : ℕ) (behind : List ℕ) → n ≡ min (length text) 21 → IsField field
+    → IfNone rest (take n text ≡ field) → IfSome rest (λ tail. take n text ≡ field ++ space ∷ tail.now) → wear < 2 ^ 64 → text ≡ decimal wear ++ space ∷ behind → field ≡ decimal wear
+cut_behind_wear n text field None wear behind most lacks last more fits e =
+    absurd (no_place 32 (take n text) (decimal wear) (take (n - length (decimal wear) - 1) behind) (subst IsField (sym last) lacks) (wear_in_front n text wear behind most fits e))
+cut_behind_wear n text field (Some tail) wear behind most lacks last more fits e =
+    (first_place 32 field (decimal wear) tail.now (take (n - length (decimal wear) - 1) behind) lacks (IsField-decimal wear fits) (sym more ∙ wear_in_front n text wear behind most fits e)).0
 
 -- what stands behind a front, as a slice takes it
 pub behind_front : (text front rest : List ℕ) → text ≡ front ++ rest → take (length text - length front) (drop (length front) text) ≡ rest
 behind_front text front rest e =
     take_all (length text - length front) (drop (length front) text) (omega (arith, length-drop (length front) text))
     ∙ ap (drop (length front)) e ∙ drop-append_seam front rest
+
+-- a field at the front of a text, and all that stands behind it
+pub record StandsAtFront (text field : List ℕ) : Type 0 where
+  pub behind : List ℕ
+  pub text_is : text ≡ field ++ behind
+
+-- the field that is cut from a text's first bytes stands at the front of the text
+pub field_at_front : (n : ℕ) (text field : List ℕ) (rest : Option (Bor (List ℕ))) → IfNone rest (take n text ≡ field) → IfSome rest (λ tail. take n text ≡ field ++ space ∷ tail.now)
+    → StandsAtFront text field
+field_at_front n text field None last more = record { behind = drop n text; text_is = sym (take-append-drop n text) ∙ ap (λ l. l ++ drop n text) last }
+field_at_front n text field (Some tail) last more = record {
+  behind = space ∷ tail.now ++ drop n text;
+  text_is = sym (take-append-drop n text) ∙ ap (λ l. l ++ drop n text) more ∙ append_assoc field (space ∷ tail.now) (drop n text);
+}
 
 pub page_read : (words wear : ℕ) (text rest after behind : List ℕ) (old new : List Word) → wear < 2 ^ 64 → text ≡ decimal wear ++ rest → AreWordsRead words rest after old new
     → after ≡ line_feed ∷ behind → IsNextPage words wear text behind old new

@@ -18,6 +18,10 @@ use std::alloc::Allocator;
 /// The most bytes that a text may have.
 const LONGEST: usize = 4_194_304;
 
+/// The most bytes that a wear and the space behind it have: 2^64 - 1 is written with twenty digits. The
+/// space is looked for in no more, so that a wrong line is refused before all that is left is gone through.
+const MOST_WEAR_BYTES: usize = 21;
+
 /// The device that a text spells. It is on, with no cuts, no steps and no fuse.
 ///
 /// # Errors
@@ -183,7 +187,8 @@ fn leading_wear(text: &[u8]) -> Option<(u64, &[u8])>
         → text.now ≡ decimal wear ++ space ∷ behind
         → IsSomeAnd result (λ parts. (parts.0 ≡ wear) × (parts.1.now ≡ space ∷ behind)) }
 {
-    let (field, _) = next_field(text);
+    let front = &text[..text.len().min(MOST_WEAR_BYTES)];
+    let (field, _) = next_field(front);
     Some((number(field)?, &text[field.len()..]))
 }
 
