@@ -18,8 +18,8 @@ use std::alloc::Allocator;
 /// The most bytes that a text may have.
 const LONGEST: usize = 4_194_304;
 
-/// The most bytes that a wear and the space behind it have: 2^64 - 1 is written with twenty digits. The
-/// space is looked for in no more, so that a wrong line is refused before all that is left is gone through.
+/// The most bytes that a wear and the space behind it have, since 2^64 - 1 has twenty digits. The
+/// space is looked for in no more: what is no page's line is refused before the work grows with it.
 const MOST_WEAR_BYTES: usize = 21;
 
 /// The device that a text spells. It is on, with no cuts, no steps and no fuse.
