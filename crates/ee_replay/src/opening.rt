@@ -9,7 +9,7 @@ ghost use Rattle.ee_core.specs.Points.{with_power_on};
 ghost use Rattle.ee_index.specs.Index.{IndexedOpenFails};
 ghost use Rattle.ee_image_store.specs.Opening.{IsOpenFault, IsOpened, StaysOn};
 ghost use Rattle.ee_replay.specs.Opening.{IsStillFault};
-ghost use Rattle.ee_replay.specs.Serving.{ArmsDevice};
+ghost use Rattle.ee_replay.specs.Serving.{ArmsDevice, IsArmed};
 
 use ee_core::inner::{parts_of, store_of};
 use ee_core::{OpenFault, Store, Variables, open};
@@ -28,7 +28,9 @@ pub(crate) trait Arming: Flash + Drop + Sized {
 
 impl<A: Allocator> Arming for MemFlash<A> {
     fn armed(self, fuse: Fuse) -> MemFlash<A>
-        ensures { ArmsDevice (device_of self) fuse (device_of result) }
+        // The fuse that stands in memory is this one, with its step and its tear.
+        ensures memory { IsArmed (device_of self) fuse (memory_of result) }
+        ensures device { ArmsDevice (device_of self) fuse (device_of result) }
     {
         let mut flash = self;
         flash.arm(fuse);
