@@ -1,10 +1,13 @@
-//! Which kind of store answers a script sooner. Both give the same answers and leave the same image.
+//! Which kind of store answers a script sooner. Both meet the clauses of `replay`. That they give the same answers and
+//! leave the same image is only tested where a script cuts power: no clause says in how many steps a cut comes, so such a
+//! script may be answered in more than one way.
 ghost use Rattle.std.specs.Prelude.{◌<◌};
 ghost use Rattle.ee_flash.specs.Memory.{device_of};
 ghost use Rattle.ee_flash.specs.Size.{page_count};
 
 use ee_codec::{Address, Slot, read_slot};
 use ee_flash::{Flash, HEADER_WORDS, MemFlash};
+use ee_pages::scan;
 use ee_text::leading_number;
 use std::alloc::{AllocError, Allocator};
 
@@ -27,7 +30,7 @@ const MANY_STEPS: u32 = 48;
 /// and so many bytes of lines stand between two of them,
 const MANY_BYTES: usize = 512;
 
-/// as far as the front of the script says.
+/// as far as the front of the script says: no more of it is looked at before its first line is answered.
 const FRONT: usize = 32768;
 
 /// How much of a device is in use.
@@ -44,8 +47,13 @@ pub(crate) fn pays<A: Allocator + Copy>(alloc: A, flash: &MemFlash<A>, script: &
     if flash.shape().slots() < FEW_SLOTS {
         return false;
     }
-    if script.contains(&b'x') {
-        return cuts_late(&script[..script.len().min(FRONT)]);
+    let front = &script[..script.len().min(FRONT)];
+    if front.contains(&b'x') {
+        return cuts_late(front);
+    }
+    // Where no store is opened there is no script to answer.
+    if scan(flash).is_err() {
+        return false;
     }
     let Ok(in_use) = survey(alloc, flash) else {
         return false;
