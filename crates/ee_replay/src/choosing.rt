@@ -30,8 +30,9 @@ const MANY_STEPS: u32 = 48;
 /// and so many bytes of lines stand between two of them,
 const MANY_BYTES: usize = 512;
 
-/// as far as the front of the script says: no more of it is looked at before its first line is answered.
-const FRONT: usize = 32768;
+/// as far as so many bytes at the front of the script say, or at its back: no more of it is looked at before its first
+/// line is answered.
+const PART: usize = 32768;
 
 /// How much of a device is in use.
 #[derive(Clone, Copy)]
@@ -47,9 +48,13 @@ pub(crate) fn pays<A: Allocator + Copy>(alloc: A, flash: &MemFlash<A>, script: &
     if flash.shape().slots() < FEW_SLOTS {
         return false;
     }
-    let front = &script[..script.len().min(FRONT)];
+    let front = &script[..script.len().min(PART)];
     if front.contains(&b'x') {
         return cuts_late(front);
+    }
+    let back = &script[script.len().saturating_sub(PART)..];
+    if back.contains(&b'x') {
+        return cuts_late(back);
     }
     // Where no store is opened there is no script to answer.
     if scan(flash).is_err() {

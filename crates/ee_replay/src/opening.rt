@@ -175,7 +175,7 @@ pub(crate) fn open_as<A: Allocator + Copy, S: Opened<MemFlash<A>, A>>(
     alloc: A,
     flash: MemFlash<A>,
 ) -> Result<S, ReplayFault>
-    requires { memory_of flash ≡ unused_memory (at_rest (device_of flash)) }
+    requires { device_of flash ≡ at_rest (device_of flash) }
     ensures opened { IfOk result
         (λ store. IsOpened (image_text (device_of flash)) (S.device store)) }
     ensures fault { IfErr result (IsOpenFault (image_text (device_of flash))) }
@@ -183,6 +183,23 @@ pub(crate) fn open_as<A: Allocator + Copy, S: Opened<MemFlash<A>, A>>(
     match open_still(alloc, flash) {
         Ok(store) => Ok(store),
         Err(fault) => Err(fault),
+    }
+}
+
+/// The same, which gives the device back as it was where no such store is opened.
+pub(crate) fn open_or_give_back<A: Allocator + Copy, S: Opened<MemFlash<A>, A>>(
+    alloc: A,
+    flash: MemFlash<A>,
+) -> Result<S, MemFlash<A>>
+    requires { device_of flash ≡ at_rest (device_of flash) }
+    ensures opened { IfOk result
+        (λ store. IsOpened (image_text (device_of flash)) (S.device store)) }
+    ensures device { IfErr result (λ back. device_of back ≡ device_of flash) }
+{
+    match S::open_on(alloc, flash) {
+        Ok(store) => Ok(store),
+        Err((_, IndexedFault::Cut)) => unreachable!("power is never cut"),
+        Err((flash, _)) => Err(flash),
     }
 }
 

@@ -1,6 +1,6 @@
 //! Scripts on images.
 ghost use Rattle.std.specs.Prelude.{◌≡◌, ◌≢◌, ◌⊎◌, ℕ, List, IfOk, IfErr, MatchResult, Some};
-ghost use Rattle.ee_flash.specs.Memory.{device_of, memory_of, unused_memory};
+ghost use Rattle.ee_flash.specs.Memory.{device_of};
 ghost use Rattle.ee_image.specs.Text.{at_rest, image_text};
 ghost use Rattle.ee_script.specs.Script.{IsFirstBadCommandLine};
 ghost use Rattle.ee_replay.specs.Replaying.{IsReplayFault, IsReplayed, IsRunFault, IsRunOn, IsTried};
@@ -8,7 +8,7 @@ ghost use Rattle.ee_replay.specs.Reading.{IsGiven, IsNotAnswered, IsReaderFault}
 ghost use Rattle.ee_image_store.specs.Opening.{HasStore, IsOpenFault, StaysOn};
 
 use super::choosing::pays;
-use super::opening::{Opened, open_as, read_device};
+use super::opening::{Opened, open_as, open_or_give_back, read_device};
 use super::reporting::{answer_on, answer_reader_on};
 use ee_core::Store;
 use ee_faults::ReplayFault;
@@ -56,10 +56,15 @@ pub fn replay<A: Allocator + Copy>(
     if !pays(alloc, &flash, script) {
         return replay_on::<A, Store<MemFlash<A>>>(alloc, flash, script);
     }
-    match replay_on::<A, IndexedStore<MemFlash<A>, A>>(alloc, flash, script) {
-        // The other store wants no memory for an index.
-        Err(ReplayFault::Memory) => replay_as::<A, Store<MemFlash<A>>>(alloc, image, script),
-        replayed => replayed,
+    // A store without an index wants no memory for one. Where the index is refused at the opening it gets the same
+    // device; a device on which lines were answered is gone, and the image is read again.
+    match open_or_give_back::<A, IndexedStore<MemFlash<A>, A>>(alloc, flash) {
+        Ok(store) => match run_on(alloc, store, script) {
+            Ok(replayed) => Ok(replayed),
+            Err(ReplayFault::Memory) => replay_as::<A, Store<MemFlash<A>>>(alloc, image, script),
+            Err(fault) => Err(fault),
+        },
+        Err(flash) => replay_on::<A, Store<MemFlash<A>>>(alloc, flash, script),
     }
 }
 
@@ -112,7 +117,7 @@ fn replay_on<A: Allocator + Copy, S: Opened<MemFlash<A>, A>>(
     flash: MemFlash<A>,
     script: &[u8],
 ) -> Result<Replayed<A>, ReplayFault>
-    requires { memory_of flash ≡ unused_memory (at_rest (device_of flash)) }
+    requires { device_of flash ≡ at_rest (device_of flash) }
     ensures replayed { IfOk result (λ replayed. IsReplayed (image_text (device_of flash))
         script.now replayed.image.items replayed.report.items) }
     ensures fault { IfErr result (IsReplayFault (image_text (device_of flash)) script.now) }

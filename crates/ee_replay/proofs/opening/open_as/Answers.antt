@@ -1,5 +1,5 @@
-use Rattle.std.proofs.Common.{ap, refl}
-use Rattle.ee_flash.specs.Memory.{Memory, device_of}
+use Rattle.std.proofs.Common.{refl}
+use Rattle.ee_flash.specs.Memory.{device_of}
 use Rattle.ee_image.specs.Text.{image_text}
 use Rattle.ee_image_store.proofs.Public.{formed_of, is_opened}
 use Rattle.ee_replay.proofs.Openings.{still_fault}
@@ -11,4 +11,4 @@ returns-in-Err-clause-fault g c =
 
 pub returns-in-Ok-clause-opened : goal.returns-in-Ok-clause-opened
 returns-in-Ok-clause-opened g c =
-    is_opened (image_text (device_of c.args.flash)) (device_of c.args.flash) _ (ap (λ (memory : Memory). memory.device) c.requires) refl c.in-Ok.ensures.opened
+    is_opened (image_text (device_of c.args.flash)) (device_of c.args.flash) _ c.requires refl c.in-Ok.ensures.opened
