@@ -4,8 +4,9 @@ use crate::tests::images::{
     CERTIFICATE, CLEANED, FORMATTED, ONE_MOVE, REPORT, SCRIPT, TIDIED, TWO_MOVES, VOLUME,
 };
 use crate::tests::trial::with_each_refusal;
-use crate::tests::{same, shape};
+use crate::tests::{given, same, shape};
 use ee_faults::{Fault, File, ReplayFault, fault_line};
+use ee_image::read_image;
 use ee_pages::ScanFault;
 use ee_shell::{
     Language, Replayed, apply_values, check_script, clean_image, export_hex, export_image,
@@ -13,7 +14,8 @@ use ee_shell::{
     plan_script, replay, replay_indexed, replay_reader, set_setting, size_parts, stale_text,
     states_text, tidy_image, try_script, wear_text,
 };
-use std::alloc::Allocator;
+use std::alloc::{Allocator, Global};
+use std::cell::Cell;
 use std::test::Fail;
 
 // Whether these bytes were given, or none for want of memory.
@@ -78,6 +80,67 @@ fn an_index_takes_memory(rt: HostRuntime) {
     let moves = moves_twice(replay_indexed(&indexed, FORMATTED, SCRIPT));
     same(&rt, moves, Some(true));
     same(&rt, plain.left() > indexed.left(), true);
+}
+
+// A script for which an index pays: many lines, few variables and several moves, with a line in the midst and power on
+// near the end.
+fn long_script(alloc: Global, line: &[u8]) -> Result<Vec<u8>, Fail> {
+    let mut script = Vec::new(alloc);
+    for round in 0..200u32 {
+        if round == 100 {
+            script.extend_from_slice(line)?;
+        }
+        if round == 180 {
+            script.extend_from_slice(b"p\n")?;
+        }
+        let lines = format!(in alloc; "w 1 {round}\nw 2 {round}\nr 1\nf 2\nr 2\n")?;
+        script.extend_from_slice(lines.as_bytes())?;
+    }
+    Ok(script)
+}
+
+// Whether this was replayed.
+fn replays<A: Allocator>(
+    given: Result<Replayed<A>, ReplayFault>,
+    wanted: &Replayed,
+) -> Option<bool> {
+    match given {
+        Ok(replayed) => Some(
+            replayed.report.as_slice() == wanted.report.as_slice()
+                && replayed.image.as_slice() == wanted.image.as_slice(),
+        ),
+        Err(ReplayFault::Memory) => None,
+        Err(_) => Some(false),
+    }
+}
+
+/// Where `replay` makes an index it answers as a store without one does, also where a request is refused, but for those
+/// of reading the image: it goes on without an index then.
+#[test]
+fn an_index_that_pays(rt: HostRuntime) -> Result<(), Fail> {
+    // With a value, so that an opening has an index to make.
+    let seven = given(try_script(rt.alloc(), shape(1, 260)?, b"w 300 7\n"))?;
+    let image = seven.image.as_slice();
+    let reading = Refusing::new(rt.alloc(), u64::MAX);
+    given(read_image(&reading, image))?;
+    for line in [b"r 1\n".as_slice(), b"x 200 t\n"] {
+        let script = long_script(rt.alloc(), line)?;
+        let script = script.as_slice();
+        let mut reader = script;
+        let wanted = given(replay_reader(rt.alloc(), image, &mut reader))?;
+        let indexed = replays(replay_indexed(rt.alloc(), image, script), &wanted);
+        same(&rt, indexed, Some(true));
+        let wants = Cell::new(0u64);
+        with_each_refusal(&rt, rt.alloc(), 5, |alloc| {
+            let answer = replays(replay(alloc, image, script), &wanted);
+            if answer.is_none() {
+                wants.set(wants.get().saturating_add(1));
+            }
+            answer
+        });
+        same(&rt, wants.get(), u64::MAX - reading.left());
+    }
+    Ok(())
 }
 
 // Whether the fault is that the image is not formatted.
