@@ -53,15 +53,15 @@ no_keys = tt
 
 -- ---- the entries of so many addresses
 
-from_none : (slots : Map) (low : ℕ) → entries_from slots low 0 ≡ []
+pub from_none : (slots : Map) (low : ℕ) → entries_from slots low 0 ≡ []
 unfolding entries_from
 from_none slots low = refl
 
-from_one : (slots : Map) (low count : ℕ) → entries_from slots low (suc count) ≡ with_entry low (slots low) (entries_from slots (low + 1) count)
+pub from_one : (slots : Map) (low count : ℕ) → entries_from slots low (suc count) ≡ with_entry low (slots low) (entries_from slots (low + 1) count)
 unfolding entries_from
 from_one slots low count = refl
 
-below_none : (slots : Map) (low count address : ℕ) → address < low → slot_for (entries_from slots low count) address ≡ None
+pub below_none : (slots : Map) (low count address : ℕ) → address < low → slot_for (entries_from slots low count) address ≡ None
 below_none slots low zero address h = ap (λ (entries : List (ℕ × ℕ)). slot_for entries address) (from_none slots low)
 below_none slots low (suc count) address h =
     ap (λ (entries : List (ℕ × ℕ)). slot_for entries address) (from_one slots low count)

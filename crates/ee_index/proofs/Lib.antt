@@ -3,6 +3,8 @@ mod Tables
 mod Entries
 mod Counted
 mod Numbering
+mod NumberedRows
+mod Renumbering
 mod Indexing
 mod IndexedStores
 mod IndexReaders

@@ -6,7 +6,7 @@ use Rattle.std.proofs.lemmas.Bool.{cases_eq, cases_lt}
 use Rattle.std.proofs.lemmas.List.{get_or-set_other, get_or_past}
 use Rattle.std.proofs.lemmas.Grind.{get_or-set_at}
 use Rattle.std.proofs.lemmas.Nat.Bits.{bit_at-lt, bit_at-zero, bit_at_and, bit_at_clear_other, bit_at_clear_same, bit_at_mask_below, bit_at_mask_inside, bit_at_set_other, bit_at_set_same}
-use Rattle.ee_index.specs.Marks.{IsLowestBit, IsNextMark, IsWordFrom, has_mark}
+use Rattle.ee_index.specs.Marks.{IsLowestBit, IsNextMark, IsNoneIn, IsWordFrom, has_mark}
 
 -- ---- a bit is set or cleared
 
@@ -38,6 +38,10 @@ module _ (words : List ℕ) (number value : ℕ) (within : number / 64 < length 
     pub cleared_elsewhere : value ≡ bit_and (get_or words (number / 64) 0) (bit_not w64 (1 * 2 ^ (number % 64) % 2 ^ 64)) → has_mark (set words (number / 64) value) other ≡ has_mark words other
     cleared_elsewhere is = elsewhere (λ here. ap (λ word. bit_at word (other % 64)) is ∙ bit_at_clear_other w64 (get_or words (number / 64) 0) (number % 64) (omega arith) (other % 64) (omega arith) (λ e. apart (omega (arith, here, e))))
 
+-- a number of the set and one that is not
+pub marked_apart : (words : List ℕ) (number other : ℕ) → has_mark words number ≡ true → has_mark words other ≡ false → number ≢ other
+marked_apart words number other marked none same = absurd (cc (marked, none, ap (λ number. has_mark words number) same))
+
 -- ---- the next number
 
 -- the bit of a number of this word
@@ -47,12 +51,8 @@ mark_is words number at place within is =
     let bit : number % 64 ≡ place = omega (arith, within, is) in
     rw (word, bit) refl
 
--- none from the first one on before this word
-abbrev pub NoneBefore : List ℕ → ℕ → ℕ → Type 0
-NoneBefore words start at = (number : ℕ) → start ≤ number → number < at * 64 → has_mark words number ≡ false
-
 -- behind the last word there is none
-pub none_at_all : (words : List ℕ) (start at : ℕ) → length words ≡ 4 → 4 ≤ at → NoneBefore words start at → IsNextMark words start None
+pub none_at_all : (words : List ℕ) (start at : ℕ) → length words ≡ 4 → 4 ≤ at → IsNoneIn words start (at * 64) → IsNextMark words start None
 none_at_all words start at long past none number high = elim (cases_lt number (at * 64)) [
   | inl within ↦ none number high within
   | inr behind ↦
@@ -61,13 +61,13 @@ none_at_all words start at long past none number high = elim (cases_lt number (a
 ]
 
 -- one word further
-module _ (words : List ℕ) (start at word : ℕ) (from : IsWordFrom words at start word) (none : NoneBefore words start at) where
+module _ (words : List ℕ) (start at word : ℕ) (from : IsWordFrom words at start word) (none : IsNoneIn words start (at * 64)) where
   word_mark : (number : ℕ) → start ≤ number → at * 64 ≤ number → number < (at + 1) * 64 → has_mark words number ≡ (bit_at word (number - at * 64) == 1)
   word_mark number high here low =
       mark_is words number at (number - at * 64) (omega (arith, here, low)) (omega (arith, here, low))
       ∙ ap (λ bit. bit == 1) (sym ((from (number - at * 64) (omega (arith, here, low))).1 (omega (arith, high, here))))
 
-  pub none_further : IsLowestBit word None → NoneBefore words start (at + 1)
+  pub none_further : IsLowestBit word None → IsNoneIn words start ((at + 1) * 64)
   none_further empty number high low = elim (cases_lt number (at * 64)) [
     | inl before ↦ none number high before
     | inr here ↦ word_mark number high here low ∙ ap (λ bit. bit == 1) (empty (number - at * 64))

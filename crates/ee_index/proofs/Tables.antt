@@ -6,7 +6,7 @@ use Rattle.std.proofs.lemmas.Grind.{common_steps, get_or-set_at}
 use Rattle.ee_codec.specs.Words.{IsAddress}
 use Rattle.ee_pages.specs.Meaning.{Forget, Put, map_after}
 use Rattle.ee_index.specs.Marks.{IsNextMark, has_mark}
-use Rattle.ee_index.specs.Table.{AreMarked, AreRowsMarked, HasProperAddresses, IsNextFrom, IsNextPlace, slot_in, slot_told}
+use Rattle.ee_index.specs.Table.{AreMarked, AreRowsMarked, HasProperAddresses, IsNextFrom, IsNextPlace, slot_in, slot_told, slots_of_row}
 use Rattle.std.proofs.lemmas.List.{get_or-append_right, get_or-set_other, get_or_append_left, get_or_default, get_or_past, take_all}
 
 -- an empty row at the end says as much as none
@@ -47,6 +47,17 @@ still_marked marks row longer n count true counted short is are place none = fil
 still_marked marks row longer n count false counted short is are place none = ap (λ (numbers : List ℕ). get_or numbers place 0) is ∙ are place none
 
 -- ---- a number is changed
+
+-- a number that says no slot
+told_none : (number : ℕ) → slot_told number ≡ None → number ≡ 0
+told_none number none = grind (arith, common_steps, none)
+
+pub none_told : (row : List ℕ) (place : ℕ) → get_or row place 0 ≡ 0 → slots_of_row row place ≡ None
+none_told row place is = ap slot_told is
+
+-- it says none still
+pub still_none : (row new : List ℕ) (place : ℕ) → slots_of_row new place ≡ slots_of_row row place → get_or row place 0 ≡ 0 → get_or new place 0 ≡ 0
+still_none row new place same is = told_none (get_or new place 0) (same ∙ none_told row place is)
 
 told_next : (slot : ℕ) → slot_told (slot + 1) ≡ Some slot
 told_next slot = grind (arith, common_steps)
@@ -139,7 +150,7 @@ row_of address row place within e = omega (arith, within, e)
 place_of : (address row place : ℕ) → place < 256 → address ≡ row * 256 + place → address % 256 ≡ place
 place_of address row place within e = omega (arith, within, e)
 
-slot_at : (rows : List (List ℕ)) (address row place : ℕ) → place < 256 → address ≡ row * 256 + place → slot_in rows address ≡ slot_told (get_or (get_or rows row []) place 0)
+pub slot_at : (rows : List (List ℕ)) (address row place : ℕ) → place < 256 → address ≡ row * 256 + place → slot_in rows address ≡ slot_told (get_or (get_or rows row []) place 0)
 slot_at rows address row place within e = rw (row_of address row place within e, place_of address row place within e) refl
 
 in_row : (address row place : ℕ) → row * 256 + place ≤ address → address < (row + 1) * 256 → (at : ℕ) × (at < 256) × (place ≤ at) × (address ≡ row * 256 + at)

@@ -6,12 +6,15 @@ use Rattle.std.specs.Int.{bit_at}
 abbrev pub has_mark : List ℕ → ℕ → Bool
 has_mark words number = bit_at (slice_index_or words (number / 64) 0) (number % 64) == 1
 
+-- the set has no number from the first of these on and below the second
+abbrev pub IsNoneIn : List ℕ → ℕ → ℕ → Type 0
+IsNoneIn words start end = (number : ℕ) → start ≤ number → number < end → has_mark words number ≡ false
+
 -- the first number of the set from this one on, or that there is none
 abbrev pub IsNextMark : List ℕ → ℕ → Option ℕ → Type 0
 IsNextMark words start None = (number : ℕ) → start ≤ number → has_mark words number ≡ false
 IsNextMark words start (Some found) =
-    (start ≤ found) × (found < 256) × (has_mark words found ≡ true)
-    × ((number : ℕ) → start ≤ number → number < found → has_mark words number ≡ false)
+    (start ≤ found) × (found < 256) × (has_mark words found ≡ true) × IsNoneIn words start found
 
 -- the place of the lowest bit of a word that is 1, or that there is none
 abbrev pub IsLowestBit : ℕ → Option ℕ → Type 0

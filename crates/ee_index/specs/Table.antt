@@ -13,6 +13,10 @@ slot_told number = if number == 0 then None else Some (number - 1)
 abbrev pub slot_in : List (List ℕ) → Map
 slot_in rows address = slot_told (slice_index_or (slice_index_or rows (address / 256) []) (address % 256) 0)
 
+-- the slots that a row has for the places of its addresses
+abbrev pub slots_of_row : List ℕ → Map
+slots_of_row row place = slot_told (slice_index_or row place 0)
+
 -- a place of a row whose number says a slot is marked
 abbrev pub AreMarked : List ℕ → List ℕ → Type 0
 AreMarked marks row = (place : ℕ) → has_mark marks place ≡ false → slice_index_or row place 0 ≡ 0

@@ -148,53 +148,6 @@ impl<A: Allocator> Index<A> {
             ≡ slot_for (numbered_slots first (behind_first first) self.old) address }
         ensures ordered { IsStrictlySortedBy nat_cmp (keys_of self.old) }
     {
-        renumber_table(&mut self.table, first);
+        self.table.renumber(first);
     }
-}
-
-// Numbers the addresses that have a slot in the table.
-fn renumber_table<A: Allocator>(table: &mut Table<A>, first: Option<Address>)
-    requires proper { HasProperAddresses (slot_in table.old) }
-    ensures numbered { (address : ℕ) → slot_in table.new address ≡ slot_for
-        (numbered_slots first (behind_first first) (entries_in (slot_in table.old))) address }
-{
-    let mut next = count_first(first);
-    let mut place = 0;
-    'addresses: while let Some(found) = table.next_from(place) {
-        number_entry(table, &mut next, &first, found.0);
-        place = found.0.get() as usize + 1;
-    }
-}
-
-// How many slots `first` takes.
-fn count_first(first: Option<Address>) -> usize
-    ensures { result ≡ behind_first first }
-{
-    match first {
-        None => 0,
-        Some(_) => 1,
-    }
-}
-
-// Gives an address, which has a slot, its new one: `first` has the first slot, and each
-// other takes the next number.
-fn number_entry<A: Allocator>(
-    table: &mut Table<A>,
-    next: &mut usize,
-    first: &Option<Address>,
-    address: Address,
-)
-    requires held { is_some (slot_in table.old address) ≡ true }
-    requires few { next.old + 1 < 2 ^ 32 }
-    ensures put { let slot = if is_first first.now address then 0 else next.old in
-        (named : ℕ) → slot_in table.new named
-        ≡ map_after (Put address slot) (slot_in table.old) named }
-    ensures next { next.new ≡ (if is_first first.now address then next.old else next.old + 1) }
-{
-    if *first == Some(address) {
-        table.put(address, 0);
-        return;
-    }
-    table.put(address, *next);
-    *next += 1;
 }

@@ -161,6 +161,7 @@ impl<'a, A: Allocator> LiveCursor for IndexCursor<'a, A> {
     ghost goes_over = { λ cursor slots. IsLeft slots cursor.hidden cursor.after
         (entries_left cursor.place cursor.index.now) };
 
+    #[inline(always)]
     fn next<F: Flash>(&mut self, flash: &F, layout: &Layout) -> Option<(Address, u32)> {
         let Some((address, number)) = next_shown(self.index, &mut self.place, self.hidden) else {
             return None;

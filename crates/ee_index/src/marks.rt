@@ -1,14 +1,17 @@
 //! Sets of numbers below 256, in which the next number is found by a few words.
-ghost use Rattle.std.specs.Prelude.{◌≡◌, ◌≢◌, ◌<◌, ◌≤◌, ◌/◌, ℕ, false, true};
-ghost use Rattle.ee_index.specs.Marks.{IsLowestBit, IsNextMark, IsWordFrom, has_mark};
+ghost use Rattle.std.specs.Prelude.{◌≡◌, ◌≢◌, ◌<◌, ◌≤◌, ◌+◌, ◌*◌, ◌/◌, ℕ, IfSome, None, Some, false, true};
+ghost use Rattle.ee_index.specs.Marks.{IsLowestBit, IsNextMark, IsNoneIn, IsWordFrom, has_mark};
 
 use std::marker::Model;
 
 /// How many numbers have their bits in one word.
-const WORD: usize = 64;
+pub(crate) const WORD: usize = 64;
 
 /// How many words there are.
 const WORDS: usize = 4;
+
+/// How many numbers there are.
+const NUMBERS: usize = WORDS * WORD;
 
 /// A set of numbers below 256.
 #[derive(Drop)]
@@ -59,12 +62,32 @@ impl Marks {
         ensures { IsNextMark self.now start result }
     {
         let words = &self.words;
-        'words: for at in start / WORD..WORDS {
+        if start >= NUMBERS {
+            return None;
+        }
+        if let Some(number) = self.next_near(start) {
+            return Some(number);
+        }
+        'words: for at in start / WORD + 1..WORDS {
             if let Some(place) = lowest_bit(word_from(words, at, start)) {
                 return Some(at * WORD + place);
             }
         }
         None
+    }
+
+    /// The first number of the set from `start` on, if it has its bit in the same word.
+    #[inline(always)]
+    pub(crate) fn next_near(&self, start: usize) -> Option<usize>
+        requires { start < 256 }
+        ensures next { IfSome result (λ found. IsNextMark self.now start (Some found)) }
+        ensures none { result ≡ None → IsNoneIn self.now start ((start / 64 + 1) * 64) }
+    {
+        let at = start / WORD;
+        match lowest_bit(word_from(&self.words, at, start)) {
+            None => None,
+            Some(place) => Some(at * WORD + place),
+        }
     }
 }
 

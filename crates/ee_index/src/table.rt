@@ -1,10 +1,13 @@
 //! The slots of addresses, by row and place: a look takes two steps, and so does a change.
-ghost use Rattle.std.specs.Prelude.{◌≡◌, ◌<◌, ◌≤◌, ◌+◌, ◌^◌, ℕ, [], None, OnErr, OnOk, Some, is_some, length, set, slice_index_or, true};
+ghost use Rattle.std.specs.Option.{option_map};
+ghost use Rattle.std.specs.Prelude.{◌≡◌, ◌≢◌, ◌<◌, ◌≤◌, ◌+◌, ◌*◌, ◌/◌, ◌^◌, ℕ, if◌then◌else◌, [], IfSome, None, OnErr, OnOk, Some, is_some, length, set, slice_index_or, true};
 ghost use Rattle.ee_codec.specs.Words.{IsAddress};
 ghost use Rattle.ee_pages.specs.Meaning.{Forget, Put, map_after};
-ghost use Rattle.ee_index.specs.Table.{HasProperAddresses, IsNextFrom, IsNextPlace, slot_in, slot_told};
+ghost use Rattle.ee_index.specs.Numbering.{numbered_from, one_if_other, others_below};
+ghost use Rattle.ee_index.specs.Table.{AreMarked, AreRowsMarked, HasProperAddresses, IsNextFrom, IsNextPlace, slot_in, slot_told, slots_of_row};
+ghost use Rattle.ee_index.specs.Index.{behind_first, is_first};
 
-use crate::marks::Marks;
+use crate::marks::{Marks, WORD};
 use ee_codec::Address;
 use std::alloc::{AllocError, Allocator};
 use std::marker::Model;
@@ -98,11 +101,22 @@ impl<A: Allocator> Row<A> {
         self.numbers.is_empty()
     }
 
+    // Numbers the addresses that have a slot anew: `first` has the first slot, and each other takes the
+    // next one.
+    fn renumber(&mut self, first: Option<usize>, next: &mut usize)
+        requires few { next.old + 256 < 2 ^ 32 }
+        ensures numbered { (place : ℕ) → place < 256 → slots_of_row self.new place
+            ≡ numbered_from first next.old (slots_of_row self.old) place }
+        ensures next { next.new ≡ next.old + others_below first (slots_of_row self.old) 256 }
+    {
+        number_places(&mut self.numbers, &self.marks, first, next);
+    }
+
     // Takes its slot from each address of the row. The memory stays.
     fn clear_all(&mut self)
         ensures { (place : ℕ) → slice_index_or self.new place 0 ≡ 0 }
     {
-        self.numbers.fill(0);
+        clear_places(&mut self.numbers, &self.marks);
         self.marks = Marks::new();
     }
 
@@ -132,6 +146,80 @@ impl<A: Allocator> Row<A> {
         }
         None
     }
+
+    // The same, if it is found at once: mostly it stands near by.
+    #[inline(always)]
+    fn next_near(&self, start: usize) -> Option<(usize, usize)>
+        requires { start < 256 }
+        ensures { IfSome result (λ found. IsNextPlace self.now start (Some found)) }
+    {
+        let place = self.marks.next_near(start)?;
+        let slot = self.slot_at(place)?;
+        Some((place, slot))
+    }
+}
+
+// Takes its slot from each place of a row. Places none of which is marked are passed over.
+fn clear_places(numbers: &mut [u32], marks: &Marks)
+    requires { AreMarked marks.now numbers.old }
+    ensures { (place : ℕ) → slice_index_or numbers.new place 0 ≡ 0 }
+{
+    let mut from = 0;
+    'words: while let Some(place) = marks.next_from(from) {
+        from = clear_word(numbers, place / WORD);
+    }
+}
+
+// Takes their slots from the places that have their marks in one word, and gives the place behind them.
+fn clear_word(numbers: &mut [u32], word: usize) -> usize
+    requires { word < 4 }
+    ensures cleared { (place : ℕ) → place / 64 ≡ word → slice_index_or numbers.new place 0 ≡ 0 }
+    ensures others { (place : ℕ) → place / 64 ≢ word
+        → slice_index_or numbers.new place 0 ≡ slice_index_or numbers.old place 0 }
+    ensures behind { result ≡ (word + 1) * 64 }
+{
+    let start = word * WORD;
+    let end = start + WORD;
+    'places: for place in start..end.min(numbers.len()) {
+        numbers[place] = 0;
+    }
+    end
+}
+
+// Numbers the places of a row that are marked, where their addresses have a slot.
+fn number_places(numbers: &mut [u32], marks: &Marks, first: Option<usize>, next: &mut usize)
+    requires marked { AreMarked marks.now numbers.old }
+    requires few { next.old + 256 < 2 ^ 32 }
+    ensures marked { AreMarked marks.now numbers.new }
+    ensures numbered { (place : ℕ) → place < 256 → slots_of_row numbers.new place
+        ≡ numbered_from first next.old (slots_of_row numbers.old) place }
+    ensures next { next.new ≡ next.old + others_below first (slots_of_row numbers.old) 256 }
+{
+    let mut from = 0;
+    'places: while let Some(place) = marks.next_from(from) {
+        number_place(numbers, place, first, next);
+        from = place + 1;
+    }
+}
+
+// Gives the address of a place its new slot, if it has one.
+fn number_place(numbers: &mut [u32], place: usize, first: Option<usize>, next: &mut usize)
+    requires few { next.old + 1 < 2 ^ 32 }
+    ensures here { slots_of_row numbers.new place ≡ option_map
+        (λ slot. if is_first first place then 0 else next.old) (slots_of_row numbers.old place) }
+    ensures others { (other : ℕ) → place ≢ other → slots_of_row numbers.new other
+        ≡ slots_of_row numbers.old other }
+    ensures next { next.new ≡ next.old + one_if_other first (slots_of_row numbers.old) place }
+{
+    if place >= numbers.len() || numbers[place] == 0 {
+        return;
+    }
+    if first == Some(place) {
+        numbers[place] = 1;
+        return;
+    }
+    numbers[place] = *next as u32 + 1;
+    *next += 1;
 }
 
 /// The slot of each address that has one.
@@ -233,6 +321,15 @@ impl<A: Allocator> Table<A> {
         self.marks = Marks::new();
     }
 
+    /// Numbers the addresses that have a slot anew, by rising address: `first`, if there is one, has the
+    /// first slot, and the others have those behind it.
+    pub(crate) fn renumber(&mut self, first: Option<Address>)
+        ensures { (address : ℕ) → slot_in self.new address
+            ≡ numbered_from first (behind_first first) (slot_in self.old) address }
+    {
+        number_rows(&mut self.rows, &self.marks, first);
+    }
+
     /// Gives back the memory of the rows in which no address has a slot.
     pub(crate) fn release(&mut self)
     where
@@ -245,7 +342,20 @@ impl<A: Allocator> Table<A> {
     }
 
     /// The first address from `start` on that has a slot, with the slot.
+    #[inline(always)]
     pub(crate) fn next_from(&self, start: usize) -> Option<(Address, usize)>
+        requires proper { HasProperAddresses (slot_in self.now) }
+        ensures next { IsNextFrom (slot_in self.now) start result }
+    {
+        let row = start / ROW;
+        if let Some((place, slot)) = self.near_in(row, start % ROW) {
+            return entry_of(row * ROW + place, slot);
+        }
+        self.next_further(start)
+    }
+
+    // The same, where it is not near by.
+    fn next_further(&self, start: usize) -> Option<(Address, usize)>
         requires proper { HasProperAddresses (slot_in self.now) }
         ensures next { IsNextFrom (slot_in self.now) start result }
     {
@@ -260,6 +370,20 @@ impl<A: Allocator> Table<A> {
             place = 0;
         }
         None
+    }
+
+    // The first place of a row from `start` on whose address has a slot, with the slot, if it is found
+    // at once.
+    #[inline(always)]
+    fn near_in(&self, row: usize, start: usize) -> Option<(usize, usize)>
+        requires { start < 256 }
+        ensures { IfSome result
+            (λ found. IsNextPlace (slice_index_or self.now row []) start (Some found)) }
+    {
+        match self.rows.get(row) {
+            None => None,
+            Some(row) => row.next_near(start),
+        }
     }
 
     // The first place of a row from `start` on whose address has a slot, with the slot.
@@ -282,6 +406,49 @@ fn entry_of(number: usize, slot: usize) -> Option<(Address, usize)>
         None => None,
         Some(address) => Some((address, slot)),
     }
+}
+
+// Numbers the addresses of the rows that are marked.
+fn number_rows<A: Allocator>(rows: &mut [Row<A>], marks: &Marks, first: Option<Address>)
+    requires marked { AreRowsMarked marks.now rows.old }
+    ensures marked { AreRowsMarked marks.now rows.new }
+    ensures numbered { (address : ℕ) → slot_in rows.new address
+        ≡ numbered_from first (behind_first first) (slot_in rows.old) address }
+{
+    let mut next = count_first(first);
+    let mut from = 0;
+    'rows: while let Some(row) = marks.next_from(from) {
+        let place = place_in(row, &first);
+        if row < rows.len() {
+            rows[row].renumber(place, &mut next);
+        }
+        from = row + 1;
+    }
+}
+
+// How many slots `first` takes.
+fn count_first(first: Option<Address>) -> usize
+    ensures { result ≡ behind_first first }
+{
+    match first {
+        None => 0,
+        Some(_) => 1,
+    }
+}
+
+// The place of `first` in a row, if it has its place there.
+fn place_in(row: usize, first: &Option<Address>) -> Option<usize>
+    ensures { (place : ℕ) → place < 256 → is_first result place
+        ≡ is_first first.now (row * 256 + place) }
+{
+    let Some(address) = first else {
+        return None;
+    };
+    let number = address.get() as usize;
+    if number / ROW != row {
+        return None;
+    }
+    Some(number % ROW)
 }
 
 // Makes rows, which are empty, up to this one.
