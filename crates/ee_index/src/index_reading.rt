@@ -180,11 +180,11 @@ fn next_shown<A: Allocator>(
     ensures { IsNextShown hidden (entries_left place.old index.now) result
         (entries_left place.new index.now) }
 {
-    let Some(entry) = index.take_entry(place) else {
+    let Some((address, slot)) = index.take_entry(place) else {
         return None;
     };
-    if hidden == Some(entry.0) {
+    if hidden == Some(address) {
         return index.take_entry(place);
     }
-    Some(entry)
+    Some((address, slot))
 }

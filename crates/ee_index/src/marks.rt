@@ -5,7 +5,7 @@ ghost use Rattle.ee_index.specs.Marks.{IsLowestBit, IsNextMark, IsNoneIn, IsWord
 use std::marker::Model;
 
 /// How many numbers have their bits in one word.
-pub(crate) const WORD: usize = 64;
+const WORD: usize = 64;
 
 /// How many words there are.
 const WORDS: usize = 4;

@@ -1,13 +1,13 @@
 //! The slots of addresses, by row and place: a look takes two steps, and so does a change.
 ghost use Rattle.std.specs.Option.{option_map};
-ghost use Rattle.std.specs.Prelude.{◌≡◌, ◌≢◌, ◌<◌, ◌≤◌, ◌+◌, ◌*◌, ◌/◌, ◌^◌, ℕ, if◌then◌else◌, [], IfSome, None, OnErr, OnOk, Some, is_some, length, set, slice_index_or, true};
+ghost use Rattle.std.specs.Prelude.{◌≡◌, ◌≢◌, ◌<◌, ◌≤◌, ◌+◌, ◌*◌, ◌^◌, ℕ, if◌then◌else◌, [], IfSome, None, OnErr, OnOk, Some, is_some, length, set, slice_index_or, true};
 ghost use Rattle.ee_codec.specs.Words.{IsAddress};
 ghost use Rattle.ee_pages.specs.Meaning.{Forget, Put, map_after};
 ghost use Rattle.ee_index.specs.Numbering.{numbered_from, one_if_other, others_below};
 ghost use Rattle.ee_index.specs.Table.{AreMarked, AreRowsMarked, HasProperAddresses, IsNextFrom, IsNextPlace, slot_in, slot_told, slots_of_row};
 ghost use Rattle.ee_index.specs.Index.{behind_first, is_first};
 
-use crate::marks::{Marks, WORD};
+use crate::marks::Marks;
 use ee_codec::Address;
 use std::alloc::{AllocError, Allocator};
 use std::marker::Model;
@@ -159,31 +159,27 @@ impl<A: Allocator> Row<A> {
     }
 }
 
-// Takes its slot from each place of a row. Places none of which is marked are passed over.
+// Takes its slot from each place of a row: of most rows a few are marked, and the others are not touched.
 fn clear_places(numbers: &mut [u32], marks: &Marks)
     requires { AreMarked marks.now numbers.old }
     ensures { (place : ℕ) → slice_index_or numbers.new place 0 ≡ 0 }
 {
     let mut from = 0;
-    'words: while let Some(place) = marks.next_from(from) {
-        from = clear_word(numbers, place / WORD);
+    'places: while let Some(place) = marks.next_from(from) {
+        clear_place(numbers, place);
+        from = place + 1;
     }
 }
 
-// Takes their slots from the places that have their marks in one word, and gives the place behind them.
-fn clear_word(numbers: &mut [u32], word: usize) -> usize
-    requires { word < 4 }
-    ensures cleared { (place : ℕ) → place / 64 ≡ word → slice_index_or numbers.new place 0 ≡ 0 }
-    ensures others { (place : ℕ) → place / 64 ≢ word
-        → slice_index_or numbers.new place 0 ≡ slice_index_or numbers.old place 0 }
-    ensures behind { result ≡ (word + 1) * 64 }
+// Takes its slot from a place, if it is there.
+fn clear_place(numbers: &mut [u32], place: usize)
+    ensures cleared { slice_index_or numbers.new place 0 ≡ 0 }
+    ensures others { (other : ℕ) → place ≢ other
+        → slice_index_or numbers.new other 0 ≡ slice_index_or numbers.old other 0 }
 {
-    let start = word * WORD;
-    let end = start + WORD;
-    'places: for place in start..end.min(numbers.len()) {
+    if place < numbers.len() {
         numbers[place] = 0;
     }
-    end
 }
 
 // Numbers the places of a row that are marked, where their addresses have a slot.
