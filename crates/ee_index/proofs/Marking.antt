@@ -1,12 +1,12 @@
 -- What the words of a set of numbers say behind each of its changes, and the next number by them.
-use Rattle.std.proofs.Common.{◌≡◌, ◌≢◌, inl, inr, ℕ, ◌+◌, ◌-◌, ◌*◌, ◌/◌, ◌%◌, ◌^◌, ◌<◌, ◌≤◌, ◌==◌, true, false, Some, None, List, length, get_or, set, bit_and, w64, refl, sym, ap, ◌∙◌, arith}
+use Rattle.std.proofs.Common.{◌≡◌, ◌≢◌, inl, inr, ℕ, ◌+◌, ◌-◌, ◌*◌, ◌/◌, ◌%◌, ◌^◌, ◌<◌, ◌≤◌, ◌==◌, true, false, Option, Some, None, List, length, get_or, set, bit_and, w64, refl, sym, ap, ◌∙◌, arith}
 use Rattle.std.specs.Int.{bit_at, bit_not}
 use Rattle.std.specs.Int.RustNames.{bit_or}
 use Rattle.std.proofs.lemmas.Bool.{cases_eq, cases_lt}
 use Rattle.std.proofs.lemmas.List.{get_or-set_other, get_or_past}
 use Rattle.std.proofs.lemmas.Grind.{get_or-set_at}
 use Rattle.std.proofs.lemmas.Nat.Bits.{bit_at-lt, bit_at-zero, bit_at_and, bit_at_clear_other, bit_at_clear_same, bit_at_mask_below, bit_at_mask_inside, bit_at_set_other, bit_at_set_same}
-use Rattle.ee_index.specs.Marks.{IsLowestBit, IsNextMark, IsNoneIn, IsWordFrom, has_mark}
+use Rattle.ee_index.specs.Marks.{IsLowestBit, IsNextMark, IsNoneIn, IsWithoutBit, IsWordFrom, LeavesFrom, has_mark}
 
 -- ---- a bit is set or cleared
 
@@ -86,6 +86,57 @@ module _ (words : List ℕ) (start at word : ℕ) (from : IsWordFrom words at st
         λ number up below. elim (cases_lt number (at * 64)) [
           | inl before ↦ none number up before
           | inr here ↦ word_mark number up here (omega (arith, inside, below)) ∙ ap (λ bit. bit == 1) (lowest.2 (number - at * 64) (omega (arith, here, below)))
+        ],
+      )
+
+-- ---- what goes over them
+
+-- a whole word
+pub whole_word : (words : List ℕ) (start at word : ℕ) → start ≤ at * 64 → word ≡ get_or words at 0 → IsWordFrom words at start word
+whole_word words start at word up is place within = (λ before. absurd (omega (arith, up, before)), λ behind. ap (λ word. bit_at word place) is)
+
+-- the word without its lowest bit
+module _ (words : List ℕ) (at from bits left place : ℕ) (word : IsWordFrom words at from bits) (lowest : IsLowestBit bits (Some place)) (without : IsWithoutBit bits place left) where
+  is_behind : from ≤ at * 64 + place
+  is_behind = elim (cases_lt (at * 64 + place) from) [
+    | inl before ↦ let zero = (word place lowest.0).0 before in let one = lowest.1 in absurd (omega (arith, zero, one))
+    | inr behind ↦ behind
+  ]
+
+  pub word_left : IsWordFrom words at (at * 64 + place + 1) left
+  word_left other within = (
+    λ before. elim (cases_eq place other) [
+      | inl same ↦ ap (λ place. bit_at left place) (sym same) ∙ without.0
+      | inr apart ↦ without.1 other within apart ∙ lowest.2 other (omega (arith, before, apart))
+    ],
+    λ behind. without.1 other within (λ same. omega (arith, behind, same)) ∙ (word other within).1 (let up = is_behind in omega (arith, behind, up)),
+  )
+
+  pub leaves_behind : LeavesFrom words (at * 64 + place + 1) at left
+  leaves_behind = let within = lowest.0 in record { low = omega arith; high = omega (arith, within); left = word_left }
+
+module _ (words : List ℕ) (from at bits : ℕ) (leaves : LeavesFrom words from at bits) where
+  not_before : IsNoneIn words from (at * 64)
+  not_before number high below = let low = leaves.low in absurd (omega (arith, high, below, low))
+
+  pub takes_next : (place : ℕ) → at < 4 → IsLowestBit bits (Some place) → IsNextMark words from (Some (at * 64 + place))
+  takes_next place within lowest = found_here words from at bits leaves.left not_before place within lowest
+
+  -- none is left of the word
+  pub next_behind : IsLowestBit bits None → (result : Option ℕ) → IsNextMark words ((at + 1) * 64) result → IsNextMark words from result
+  next_behind none None next = λ number high. elim (cases_lt number ((at + 1) * 64)) [
+    | inl here ↦ none_further words from at bits leaves.left not_before none number high here
+    | inr behind ↦ next number behind
+  ]
+  next_behind none (Some found) next =
+      let up = next.0 in
+      let high = leaves.high in (
+        omega (arith, up, high),
+        next.1,
+        next.2,
+        λ number low below. elim (cases_lt number ((at + 1) * 64)) [
+          | inl here ↦ none_further words from at bits leaves.left not_before none number low here
+          | inr behind ↦ next.3 number behind below
         ],
       )
 

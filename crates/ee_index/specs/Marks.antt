@@ -1,5 +1,5 @@
 -- A set of numbers below 256, as the bits of four words.
-use Rattle.std.specs.Prelude.{◌≡◌, ◌<◌, ◌≤◌, ℕ, ◌+◌, ◌*◌, ◌/◌, ◌%◌, ◌==◌, Bool, true, false, Option, Some, None, List, slice_index_or}
+use Rattle.std.specs.Prelude.{◌≡◌, ◌≢◌, ◌<◌, ◌≤◌, ℕ, ◌+◌, ◌*◌, ◌/◌, ◌%◌, ◌==◌, Bool, true, false, Option, Some, None, List, slice_index_or}
 use Rattle.std.specs.Int.{bit_at}
 
 -- whether a number is in the set
@@ -28,3 +28,14 @@ IsWordFrom words at start word =
     (place : ℕ) → place < 64
     → (at * 64 + place < start → bit_at word place ≡ 0)
     × (start ≤ at * 64 + place → bit_at word place ≡ bit_at (slice_index_or words at 0) place)
+
+-- a word without the bit of this place
+abbrev pub IsWithoutBit : ℕ → ℕ → ℕ → Type 0
+IsWithoutBit word found left =
+    (bit_at left found ≡ 0) × ((place : ℕ) → place < 64 → found ≢ place → bit_at left place ≡ bit_at word place)
+
+-- what goes over the numbers of a set, from this one on, and stands at this word: what it has left of the word
+pub record LeavesFrom (words : List ℕ) (from at bits : ℕ) : Type 0 where
+  pub low : at * 64 ≤ from
+  pub high : from ≤ (at + 1) * 64
+  pub left : IsWordFrom words at from bits

@@ -1,6 +1,6 @@
 //! Sets of numbers below 256, in which the next number is found by a few words.
-ghost use Rattle.std.specs.Prelude.{◌≡◌, ◌≢◌, ◌<◌, ◌≤◌, ◌+◌, ◌*◌, ◌/◌, ℕ, IfSome, None, Some, false, true};
-ghost use Rattle.ee_index.specs.Marks.{IsLowestBit, IsNextMark, IsNoneIn, IsWordFrom, has_mark};
+ghost use Rattle.std.specs.Prelude.{◌≡◌, ◌≢◌, ◌<◌, ◌≤◌, ◌+◌, ◌*◌, ◌/◌, ℕ, IfSome, None, OnSome, Some, false, true};
+ghost use Rattle.ee_index.specs.Marks.{IsLowestBit, IsNextMark, IsNoneIn, IsWithoutBit, IsWordFrom, LeavesFrom, has_mark};
 
 use std::marker::Model;
 
@@ -87,6 +87,84 @@ impl Marks {
         match lowest_bit(word_from(&self.words, at, start)) {
             None => None,
             Some(place) => Some(at * WORD + place),
+        }
+    }
+}
+
+/// Goes over the numbers of a set, by rising number.
+#[derive(Drop)]
+pub(crate) struct MarkCursor {
+    /// The numbers from this one on are left.
+    from: usize,
+    /// The word where it stands.
+    at: usize,
+    /// The numbers of this word that are left, as bits.
+    bits: u64,
+    ghost within: { at < 4 },
+}
+
+impl MarkCursor {
+    /// Before the first number of a set.
+    pub(crate) fn new(marks: &Marks) -> MarkCursor
+        ensures from { result.from ≡ 0 }
+        ensures leaves { LeavesFrom marks.now result.from result.at result.bits }
+    {
+        MarkCursor {
+            from: 0,
+            at: 0,
+            bits: marks.words[0],
+        }
+    }
+
+    /// The next number of the set that it goes over.
+    #[inline(always)]
+    pub(crate) fn next(&mut self, marks: &Marks) -> Option<usize>
+        requires leaves { LeavesFrom marks.now self.old.from self.old.at self.old.bits }
+        ensures next { IsNextMark marks.now self.old.from result }
+        ensures behind { IfSome result (λ found. self.new.from ≡ found + 1) }
+        ensures leaves { OnSome result
+            (LeavesFrom marks.now self.new.from self.new.at self.new.bits) }
+    {
+        let Some(place) = take_lowest(&mut self.bits) else {
+            return self.next_word(marks);
+        };
+        let number = self.at * WORD + place;
+        self.from = number + 1;
+        Some(number)
+    }
+
+    // The first number of the words behind the one where it stands.
+    fn next_word(&mut self, marks: &Marks) -> Option<usize>
+        ensures next { IsNextMark marks.now ((self.old.at + 1) * 64) result }
+        ensures behind { IfSome result (λ found. self.new.from ≡ found + 1) }
+        ensures leaves { OnSome result
+            (LeavesFrom marks.now self.new.from self.new.at self.new.bits) }
+    {
+        'words: for at in self.at + 1..WORDS {
+            let mut bits = marks.words[at];
+            if let Some(place) = take_lowest(&mut bits) {
+                let number = at * WORD + place;
+                self.from = number + 1;
+                self.at = at;
+                self.bits = bits;
+                return Some(number);
+            }
+        }
+        None
+    }
+}
+
+// Takes the lowest bit that is 1 out of a word.
+#[inline(always)]
+fn take_lowest(bits: &mut u64) -> Option<usize>
+    ensures lowest { IsLowestBit bits.old result }
+    ensures left { IfSome result (λ found. IsWithoutBit bits.old found bits.new) }
+{
+    match lowest_bit(*bits) {
+        None => None,
+        Some(place) => {
+            *bits &= !(1 << place);
+            Some(place)
         }
     }
 }

@@ -7,7 +7,7 @@ ghost use Rattle.ee_index.specs.Numbering.{numbered_from, one_if_other, others_b
 ghost use Rattle.ee_index.specs.Table.{AreMarked, AreRowsMarked, HasProperAddresses, IsNextFrom, IsNextPlace, slot_in, slot_told, slots_of_row};
 ghost use Rattle.ee_index.specs.Index.{behind_first, is_first};
 
-use crate::marks::Marks;
+use crate::marks::{MarkCursor, Marks};
 use ee_codec::Address;
 use std::alloc::{AllocError, Allocator};
 use std::marker::Model;
@@ -164,10 +164,9 @@ fn clear_places(numbers: &mut [u32], marks: &Marks)
     requires { AreMarked marks.now numbers.old }
     ensures { (place : ℕ) → slice_index_or numbers.new place 0 ≡ 0 }
 {
-    let mut from = 0;
-    'places: while let Some(place) = marks.next_from(from) {
+    let mut marked = MarkCursor::new(marks);
+    'places: while let Some(place) = marked.next(marks) {
         clear_place(numbers, place);
-        from = place + 1;
     }
 }
 
@@ -191,10 +190,9 @@ fn number_places(numbers: &mut [u32], marks: &Marks, first: Option<usize>, next:
         ≡ numbered_from first next.old (slots_of_row numbers.old) place }
     ensures next { next.new ≡ next.old + others_below first (slots_of_row numbers.old) 256 }
 {
-    let mut from = 0;
-    'places: while let Some(place) = marks.next_from(from) {
+    let mut marked = MarkCursor::new(marks);
+    'places: while let Some(place) = marked.next(marks) {
         number_place(numbers, place, first, next);
-        from = place + 1;
     }
 }
 
