@@ -1,5 +1,6 @@
 //! The words of a page, as its line spells them.
-ghost use Rattle.std.specs.Prelude.{◌≡◌, ◌∷◌, ◌++◌, ◌<◌, ℕ, List, Some, IfSome, IsSomeAnd, OnOk, OnErr};
+ghost use Rattle.hex.specs.Hex.{lower_digits};
+ghost use Rattle.std.specs.Prelude.{◌/◌, ◌%◌, slice_index, ◌≡◌, ◌∷◌, ◌++◌, ◌<◌, ℕ, List, Some, IfSome, IsSomeAnd, OnOk, OnErr};
 ghost use Rattle.ee_text.specs.Field.{space};
 ghost use Rattle.ee_flash.specs.Device.{IsBelowAllOnes, all_ones};
 ghost use Rattle.ee_flash.specs.declared.word.Word.{Word};
@@ -8,7 +9,6 @@ ghost use Rattle.ee_image.specs.Text.{digits, word_text};
 ghost use Rattle.ee_image.specs.Reading.{digit_worth};
 
 use ee_flash::Word;
-use hex::encode_to_slice;
 use std::alloc::{AllocError, Allocator};
 
 /// What each byte is worth as a digit, in lower case alone: 255 where it is none.
@@ -31,6 +31,19 @@ const VALUES: [u8; 256] = [
     255, 255, 255, 255, 255, 255, 255, 255, 255, 255, 255, 255, 255, 255, 255, 255, // 0xe0
     255, 255, 255, 255, 255, 255, 255, 255, 255, 255, 255, 255, 255, 255, 255, 255, // 0xf0
 ];
+
+/// The two digits of each byte, one byte behind another.
+#[rattlefmt::skip]
+const PAIRS: &[u8; 512] = b"\
+    000102030405060708090a0b0c0d0e0f101112131415161718191a1b1c1d1e1f\
+    202122232425262728292a2b2c2d2e2f303132333435363738393a3b3c3d3e3f\
+    404142434445464748494a4b4c4d4e4f505152535455565758595a5b5c5d5e5f\
+    606162636465666768696a6b6c6d6e6f707172737475767778797a7b7c7d7e7f\
+    808182838485868788898a8b8c8d8e8f909192939495969798999a9b9c9d9e9f\
+    a0a1a2a3a4a5a6a7a8a9aaabacadaeafb0b1b2b3b4b5b6b7b8b9babbbcbdbebf\
+    c0c1c2c3c4c5c6c7c8c9cacbcccdcecfd0d1d2d3d4d5d6d7d8d9dadbdcdddedf\
+    e0e1e2e3e4e5e6e7e8e9eaebecedeeeff0f1f2f3f4f5f6f7f8f9fafbfcfdfeff\
+";
 
 /// The word at the front of a text, and what stands behind it.
 pub(crate) fn leading_word(text: &[u8]) -> Option<(Word, &[u8])>
@@ -103,9 +116,40 @@ fn value_of(byte: u8) -> u8
 fn spaced_digits(value: u64) -> [u8; 17]
     ensures { result ≡ space ∷ digits value }
 {
-    let mut text = [b' '; 17];
-    match encode_to_slice(value.to_be_bytes(), &mut text[1..]) {
-        Ok(()) => text,
-        Err(_) => unreachable!("sixteen digits are two for each of eight bytes"),
-    }
+    let [a, b, c, d, e, f, g, h] = value.to_be_bytes();
+    [
+        b' ',
+        first_digit(a),
+        last_digit(a),
+        first_digit(b),
+        last_digit(b),
+        first_digit(c),
+        last_digit(c),
+        first_digit(d),
+        last_digit(d),
+        first_digit(e),
+        last_digit(e),
+        first_digit(f),
+        last_digit(f),
+        first_digit(g),
+        last_digit(g),
+        first_digit(h),
+        last_digit(h),
+    ]
+}
+
+// The digit of a byte's high four bits.
+#[inline(always)]
+fn first_digit(byte: u8) -> u8
+    ensures { result ≡ slice_index lower_digits (byte / 16) }
+{
+    PAIRS[2 * byte as usize]
+}
+
+// The digit of a byte's low four bits.
+#[inline(always)]
+fn last_digit(byte: u8) -> u8
+    ensures { result ≡ slice_index lower_digits (byte % 16) }
+{
+    PAIRS[2 * byte as usize + 1]
 }
