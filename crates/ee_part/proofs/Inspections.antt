@@ -1,5 +1,6 @@
 -- What is told of an image, a number, a slot or an address further.
-use Rattle.std.proofs.Common.{◌≡◌, ◌∙◌, ◌+◌, ◌<◌, ◌≤◌, ℕ, zero, suc, Bool, true, false, not, cond, None, List, [], ◌∷◌, ◌++◌, length, get_or, take, drop, refl, sym, ap, arith, add-one, rules}
+use Rattle.std.proofs.Common.{nat_lt, inl, inr, ◌≡◌, ◌∙◌, ◌+◌, ◌<◌, ◌≤◌, ℕ, zero, suc, Bool, true, false, not, cond, None, List, [], ◌∷◌, ◌++◌, length, get_or, take, drop, refl, sym, ap, arith, add-one, rules}
+use Rattle.std.proofs.lemmas.Bool.{cases_Bool, le-ltb}
 use Rattle.std.proofs.lemmas.Grind.{common_steps}
 use Rattle.std.specs.Prelude.{◌||◌}
 use Rattle.std.specs.List.{filter, list_any}
@@ -41,6 +42,24 @@ pub told_alike : (n : ℕ) (text other : ℕ → List ℕ) → ((k : ℕ) → k 
 unfolding each_below
 told_alike zero text other same = refl
 told_alike (suc n) text other same = search (rules, (told_alike n text other (λ k h. same k (omega arith))))
+
+-- nothing is told where no number has a text
+nothing_told : (n : ℕ) (text : ℕ → List ℕ) → ((k : ℕ) → text k ≡ []) → each_below n text ≡ []
+unfolding each_below
+nothing_told zero text none = refl
+nothing_told (suc n) text none = rw (nothing_told n text none) (none n)
+
+not_doubted : (spoken address : ℕ) → doubt_line (is_before spoken 0) address ≡ []
+not_doubted spoken address =
+    let none : nat_lt spoken 0 ≡ false = le-ltb spoken 0 (omega arith) in
+    elim (cases_Bool (nat_lt 0 spoken)) [
+      | inl some ↦ rw (some, none) refl
+      | inr before ↦ rw before refl
+    ]
+
+-- no address is in doubt where no slot is torn
+pub none_doubted : (spoken : List ℕ) (torn : ℕ) (old : List ℕ) → torn ≡ 0 → old ≡ old ++ each_below (length spoken) (λ address. doubt_line (is_before (get_or spoken address 0) torn) address)
+none_doubted spoken torn old is = rw is (rw (nothing_told (length spoken) (λ address. doubt_line (is_before (get_or spoken address 0) 0) address) (λ address. not_doubted (get_or spoken address 0) address)) (sym (append-nil old)))
 
 -- ---- the last slot of a kind
 

@@ -403,6 +403,10 @@ fn push_doubted<A: Allocator>(
     ensures { OnOk result (out.new.items ≡ out.old.items ++ each_below (length spoken.now)
         (λ address. doubt_line (is_before (slice_index_or spoken.now address 0) torn) address)) }
 {
+    // Nothing stands before a torn slot that is not there.
+    if torn == 0 {
+        return Ok(());
+    }
     'addresses: for address in 0..spoken.len() {
         push_if_doubted(address, spoken[address], torn, out)?;
     }

@@ -1,4 +1,4 @@
-use Rattle.ee_part.proofs.Inspections.{told_more, told_none}
+use Rattle.ee_part.proofs.Inspections.{none_doubted, told_more, told_none}
 use Rattle.ee_part.proofs.inspecting.push_doubted.Goals as goal
 
 pub addresses-init : goal.addresses-init
@@ -8,3 +8,6 @@ pub addresses-preserved : goal.addresses-preserved
 addresses-preserved g c =
     told_more c.addresses.address _ c.args.out.now.items c.addresses.out.items c.push_if_doubted.new.out.items
     c.addresses.invariant c.in_ok-push_if_doubted.ensures
+
+pub returns-then-torn-eq0 : goal.returns-then-torn-eq0
+returns-then-torn-eq0 g c = none_doubted c.args.spoken.now c.args.torn c.args.out.now.items c.if-torn-eq0.true
