@@ -1,18 +1,17 @@
--- What sixteen digits are worth, as the reader takes them one after another.
-use Rattle.std.proofs.Common.{◌≡◌, ℕ, zero, suc, ◌+◌, ◌*◌, ◌/◌, ◌%◌, ◌^◌, ◌<◌, ◌≤◌, ◌==◌, ◌&&◌, Bool, true, nat_lt, if◌then◌else◌, bit_or, List, [], ◌∷◌, length, get_or, take, refl, sym, ap, ◌∙◌, subst, arith, inl, inr}
-use Rattle.std.specs.Int.{byte_at, bytes_high_first, to_be_bytes, w64}
-use Rattle.std.specs.List.{All, AllByRecursion, fold}
-use Rattle.std.proofs.Math.Nat.{div-div-eq-div-mul, pow-le-pow_right, pow-suc}
-use Rattle.std.proofs.lemmas.Bool.{and_parts, cases_eq, eqb-true, lt-ltb, ltb-true}
-use Rattle.std.proofs.lemmas.Grind.{or_after_shift, pow_more}
-use Rattle.std.proofs.lemmas.List.{take_all, take_more}
-use Rattle.std.proofs.lemmas.List.Elements.{All-from_recursion, All-get_or, All-more, All-nil, recursion_from_All}
-use Rattle.std.proofs.lemmas.List.Sums.{fold_push}
-use Rattle.std.proofs.lemmas.Nat.{le_or_l, le_or_r, or_lt}
+-- What sixteen digits are worth, as the reader takes them and the writer gives them: all at once.
+use Rattle.std.proofs.Common.{◌≡◌, ℕ, zero, suc, ◌+◌, ◌*◌, ◌/◌, ◌%◌, ◌^◌, ◌<◌, ◌==◌, ◌&&◌, Bool, true, cond, ltb, nat_lt, if◌then◌else◌, List, [], ◌∷◌, length, get_or, map, replicate, refl, sym, ap, ap₂, ◌∙◌, subst, arith, inl, inr, Fits, w8}
+use Rattle.std.specs.Int.{byte_at, bytes_high_first, from_be_bytes, w64}
+use Rattle.std.specs.List.{All, AllByRecursion}
+use Rattle.std.specs.Simd.Lanes.{Each1, mask_l, sel_l, top, zip2}
+use Rattle.std.proofs.lemmas.Bool.{and_parts, cases_eq, cases_lt, eqb-true, le-ltb, lt-ltb, ltb-true}
+use Rattle.std.proofs.lemmas.List.{length-map}
+use Rattle.std.proofs.lemmas.List.Elements.{All-from_recursion, recursion_from_All}
+use Rattle.std.proofs.lemmas.Nat.{be_bytes_8}
+use Rattle.std.proofs.lemmas.Simd.{splat_is_map, tops_compared, zip2_of_maps}
 use Rattle.hex.specs.Hex.{encode_with, lower_digits}
 use Rattle.ee_image.specs.Text.{digits}
-use Rattle.ee_image.specs.Reading.{digit_worth}
-use Rattle.ee_image.proofs.Digits.{byte_below}
+use Rattle.ee_image.specs.Reading.{bytes_of_pairs, digit_worth, halves_of_bytes}
+use Rattle.ee_image.proofs.Digits.{byte_below, digits_injective}
 
 -- ---- digits
 
@@ -60,44 +59,83 @@ digit_read n less =
     let same : digit_worth (get_or lower_digits n 0) ≡ n = eqb-true (digit_worth (get_or lower_digits n 0)) n told.1 in
     (ltb-true _ _ told.0, omega arith)
 
--- ---- digits in a row
+-- ---- lanes
 
--- what was read is worth so much with one digit more
-abbrev more : ℕ → ℕ → ℕ
-more value byte = value * 16 + digit_worth byte
+-- a choice by a comparison with one number, of lanes that are computed from the same
+selected : {V X : Type 0} (p : V → Bool) (g h : V → X) (vs : List V) → sel_l (map p vs) (map g vs) (map h vs) ≡ map (λ v. cond (p v) (g v) (h v)) vs
+selected p g h [] = refl
+selected p g h (v ∷ vs) = ap (λ l. cond (p v) (g v) (h v) ∷ l) (selected p g h vs)
 
--- two digits are worth a byte
-behind_bytes : (n value : ℕ) (text : List ℕ) → length text ≡ 2 * n → AllByRecursion IsDigit text → fold more value text / 256 ^ n ≡ value
-behind_bytes zero value [] long are = omega arith
-behind_bytes zero value (a ∷ text) long are = absurd (omega arith)
-behind_bytes (suc n) value [] long are = absurd (omega arith)
-behind_bytes (suc n) value (a ∷ []) long are = absurd (omega arith)
-behind_bytes (suc n) value (a ∷ b ∷ text) long are =
-    let all = fold more (more (more value a) b) text in
-    let rest : all / 256 ^ n ≡ more (more value a) b = behind_bytes n (more (more value a) b) text (omega arith) are.1.1 in
-    ap (λ m. all / m) (pow-suc 256 n) ∙ sym (div-div-eq-div-mul all (256 ^ n) 256) ∙ ap (λ m. m / 256) rest ∙ omega arith
+pub select_of_maps : {V X : Type 0} (p : V → Bool) (g h : V → X) (vs : List V) {ms : List Bool} {xs ys : List X} → ms ≡ map p vs → xs ≡ map g vs → ys ≡ map h vs
+    → sel_l ms xs ys ≡ map (λ v. cond (p v) (g v) (h v)) vs
+select_of_maps p g h vs chosen first second = rw (chosen, first, second) (selected p g h vs)
 
-byte_at-is : (n value : ℕ) → byte_at n value ≡ value / 256 ^ n % 256
-byte_at-is zero value = omega arith
-byte_at-is (suc n) value = refl
+-- a comparison of them with one number
+pub compared_with : (t : ℕ → ℕ → Bool) (g : ℕ → ℕ) (vs : List ℕ) (n y : ℕ) {xs : List ℕ} → length vs ≡ n → xs ≡ map g vs
+    → map (top 7) (zip2 (λ a b. cond (t a b) 255 0) xs (replicate n y)) ≡ map (λ v. t (g v) y) vs
+compared_with t g vs n y {xs} long is = tops_compared w8 t xs (replicate n y) ∙ zip2_of_maps t g (λ _. y) vs is (splat_is_map vs n y long)
 
--- digits are those of what they are worth
-bytes_written : (n value : ℕ) (text : List ℕ) → length text ≡ 2 * n → AllByRecursion IsDigit text → encode_with lower_digits (bytes_high_first n (fold more value text)) ≡ text
+-- two functions that are alike below a bound
+pub map_below : (bound : ℕ) (f g : ℕ → ℕ) → ((n : ℕ) → n < bound → f n ≡ g n) → (ns : List ℕ) → AllByRecursion (λ n. n < bound) ns → map f ns ≡ map g ns
+map_below bound f g same [] below = refl
+map_below bound f g same (n ∷ ns) below = ap₂ (λ x xs. x ∷ xs) (same n below.0) (map_below bound f g same ns below.1)
+
+pub map_alike : (f g : ℕ → ℕ) → ((n : ℕ) → f n ≡ g n) → (ns : List ℕ) → map f ns ≡ map g ns
+map_alike f g same [] = refl
+map_alike f g same (n ∷ ns) = ap₂ (λ x xs. x ∷ xs) (same n) (map_alike f g same ns)
+
+-- each element of a row of bytes is below 256
+pub bytes_fit : (bytes : List ℕ) → ((k : ℕ) → get_or bytes k 0 < 256) → AllByRecursion (λ byte. byte < 256) bytes
+bytes_fit [] fits = tt
+bytes_fit (byte ∷ bytes) fits = (fits 0, bytes_fit bytes (λ k. fits (suc k)))
+
+pub lanes_fit : (lanes : List ℕ) → Each1 (Fits w8) lanes → AllByRecursion (λ byte. byte < 256) lanes
+lanes_fit [] fits = tt
+lanes_fit (lane ∷ lanes) fits = (fits.0.fits, lanes_fit lanes fits.1)
+
+-- ---- sixteen of them
+
+-- the bytes of digits, and the digits of bytes
+pub pairs_written : (n : ℕ) (text : List ℕ) → length text ≡ 2 * n → AllByRecursion IsDigit text → encode_with lower_digits (bytes_of_pairs (map digit_worth text)) ≡ text
 unfolding encode_with
-bytes_written zero value [] long are = refl
-bytes_written zero value (a ∷ text) long are = absurd (omega arith)
-bytes_written (suc n) value [] long are = absurd (omega arith)
-bytes_written (suc n) value (a ∷ []) long are = absurd (omega arith)
-bytes_written (suc n) value (a ∷ b ∷ text) long are =
-    let all = fold more (more (more value a) b) text in
-    let byte : byte_at n all ≡ digit_worth a * 16 + digit_worth b =
-    byte_at-is n all ∙ ap (λ m. m % 256) (behind_bytes n (more (more value a) b) text (omega arith) are.1.1) ∙ omega arith in
-    let high : byte_at n all / 16 ≡ digit_worth a = omega arith in
-    let low : byte_at n all % 16 ≡ digit_worth b = omega arith in
-    let first : get_or lower_digits (byte_at n all / 16) 0 ≡ a = ap (λ d. get_or lower_digits d 0) high ∙ digit_written a are.0 in
-    let second : get_or lower_digits (byte_at n all % 16) 0 ≡ b = ap (λ d. get_or lower_digits d 0) low ∙ digit_written b are.1.0 in
-    let rest = bytes_written n (more (more value a) b) text (omega arith) are.1.1 in
+pairs_written zero [] long are = refl
+pairs_written zero (a ∷ text) long are = absurd (omega arith)
+pairs_written (suc n) [] long are = absurd (omega arith)
+pairs_written (suc n) (a ∷ []) long are = absurd (omega arith)
+pairs_written (suc n) (a ∷ b ∷ text) long are =
+    let byte = (digit_worth a * 16 % 256 + digit_worth b) % 256 in
+    let high : byte / 16 ≡ digit_worth a = omega (arith, are.0.1, are.1.0.1) in
+    let low : byte % 16 ≡ digit_worth b = omega (arith, are.0.1, are.1.0.1) in
+    let first : get_or lower_digits (byte / 16) 0 ≡ a = ap (λ d. get_or lower_digits d 0) high ∙ digit_written a are.0 in
+    let second : get_or lower_digits (byte % 16) 0 ≡ b = ap (λ d. get_or lower_digits d 0) low ∙ digit_written b are.1.0 in
+    let rest = pairs_written n text (omega arith) are.1.1 in
     cc
+
+pub halves_written : (bytes : List ℕ) → map (λ half. get_or lower_digits half 0) (halves_of_bytes bytes) ≡ encode_with lower_digits bytes
+unfolding encode_with
+halves_written [] = refl
+halves_written (byte ∷ bytes) = ap (λ l. get_or lower_digits (byte / 16) 0 ∷ get_or lower_digits (byte % 16) 0 ∷ l) (halves_written bytes)
+
+pub halves_below : (bytes : List ℕ) → AllByRecursion (λ byte. byte < 256) bytes → AllByRecursion (λ half. half < 16) (halves_of_bytes bytes)
+halves_below [] below = tt
+halves_below (byte ∷ bytes) below = (omega (arith, below.0), (omega arith, halves_below bytes below.1))
+
+pub length-halves : (bytes : List ℕ) → length (halves_of_bytes bytes) ≡ 2 * length bytes
+length-halves [] = refl
+length-halves (byte ∷ bytes) = omega (arith, length-halves bytes)
+
+length-pairs : (n : ℕ) (ns : List ℕ) → length ns ≡ 2 * n → length (bytes_of_pairs ns) ≡ n
+length-pairs zero [] long = refl
+length-pairs zero (a ∷ ns) long = absurd (omega arith)
+length-pairs (suc n) [] long = absurd (omega arith)
+length-pairs (suc n) (a ∷ []) long = absurd (omega arith)
+length-pairs (suc n) (a ∷ b ∷ ns) long = omega (arith, length-pairs n ns (omega arith))
+
+pairs_below : (ns : List ℕ) (i : ℕ) → get_or (bytes_of_pairs ns) i 0 < 256
+pairs_below [] i = omega arith
+pairs_below (a ∷ []) i = omega arith
+pairs_below (a ∷ b ∷ ns) zero = omega arith
+pairs_below (a ∷ b ∷ ns) (suc i) = pairs_below ns i
 
 -- what is written is digits
 bytes_are_digits : (n value : ℕ) → AllByRecursion IsDigit (encode_with lower_digits (bytes_high_first n value))
@@ -107,46 +145,52 @@ bytes_are_digits (suc n) value =
     let byte = byte_below n value in
     (digit_read (byte_at n value / 16) (omega arith), (digit_read (byte_at n value % 16) (omega arith), bytes_are_digits n value))
 
--- ---- what the loop has read
+-- a byte is a digit where it is worth as much
+digits_from_worths : (text : List ℕ) → AllByRecursion (λ byte. byte < 256) text → AllByRecursion (λ worth. worth < 16) (map digit_worth text) → AllByRecursion IsDigit text
+digits_from_worths [] fits below = tt
+digits_from_worths (byte ∷ text) fits below = ((fits.0, below.0), digits_from_worths text fits.1 below.1)
 
--- so many bytes of the text were read; what was seen stays below 16 as long as they are digits, and then they are worth this
-pub record AreRead (text : List ℕ) (count value seen : ℕ) : Type 0 where
-  pub told : All IsDigit text → seen < 16
-  pub are_digits : seen < 16 → All IsDigit (take count text)
-  pub worth : seen < 16 → value ≡ fold more 0 (take count text)
-  pub fits : seen < 16 → value < 16 ^ count
+worths_of_digits : (text : List ℕ) → AllByRecursion IsDigit text → AllByRecursion (λ worth. worth < 16) (map digit_worth text)
+worths_of_digits [] are = tt
+worths_of_digits (byte ∷ text) are = (are.0.1, worths_of_digits text are.1)
 
-pub none_read : (text : List ℕ) → AreRead text 0 0 0
-none_read text = record { told = λ all. omega arith; are_digits = λ less. All-nil IsDigit; worth = λ less. refl; fits = λ less. omega arith }
+-- what is made of sixteen bytes, whatever they are
+pub record AreRead (text worths : List ℕ) (value : ℕ) : Type 0 where
+  pub long : length text ≡ 16
+  pub fits : AllByRecursion (λ byte. byte < 256) text
+  pub told : worths ≡ map digit_worth text
+  pub made : value ≡ from_be_bytes w64 (bytes_of_pairs worths)
 
-pub one_more_read : (text : List ℕ) (count value seen digit : ℕ) → count < length text → length text ≡ 16 → get_or text count 0 < 256 → digit ≡ digit_worth (get_or text count 0)
-    → AreRead text count value seen → AreRead text (count + 1) (bit_or (value * 16 % 18446744073709551616) digit) (bit_or seen digit)
-one_more_read text count value seen digit within long byte is read =
-    let before : bit_or seen digit < 16 → seen < 16 = λ less. (let h = le_or_l seen digit in omega arith) in
-    let here : bit_or seen digit < 16 → digit < 16 = λ less. (let h = le_or_r seen digit in omega arith) in
-    let room : 16 ^ count ≤ 16 ^ 15 = pow-le-pow_right {n = 16} (omega arith) {i = count} {j = 15} (omega arith) in
-    let grown : bit_or seen digit < 16 → bit_or (value * 16 % 18446744073709551616) digit ≡ value * 16 + digit =
-    λ less. or_after_shift value 16 18446744073709551616 digit refl (here less) (let h = read.fits (before less) in omega arith) in
-    record {
-      told = λ all. (let last = All-get_or IsDigit text count 0 within all in or_lt 4 seen digit (read.told all) (omega arith));
-      are_digits = λ less. All-more IsDigit text count 0 within (read.are_digits (before less)) (byte, (let h = here less in omega arith));
-      worth = λ less.
-          grown less ∙ ap (λ d. value * 16 + d) is ∙ ap (λ v. more v (get_or text count 0)) (read.worth (before less))
-          ∙ sym (ap (fold more 0) (take_more text count 0 within) ∙ fold_push more 0 (take count text) (get_or text count 0));
-      fits = λ less. (let h = read.fits (before less) in let k = here less in omega (arith, grown less, pow_more 16 count));
-    }
-
--- sixteen digits that were read are those of what they are worth
-pub all_digits : (text : List ℕ) (count value seen : ℕ) → length text ≡ 16 → 16 ≤ count → AreRead text count value seen → seen < 16 → text ≡ digits value
+-- digits are those of what they are worth
+pub all_digits : {text worths : List ℕ} {value : ℕ} → AreRead text worths value → All (λ worth. worth < 16) worths → text ≡ digits value
 unfolding digits
-all_digits text count value seen long all read less =
-    let whole : take count text ≡ text = take_all count text (omega arith) in
-    let are = recursion_from_All IsDigit text (subst (All IsDigit) whole (read.are_digits less)) in
-    let worth : value ≡ fold more 0 text = read.worth less ∙ ap (fold more 0) whole in
-    sym (ap (λ v. encode_with lower_digits (to_be_bytes w64 v)) worth ∙ bytes_written 8 0 text long are)
+all_digits {text} {worths} {value} read below =
+    let pairs = bytes_of_pairs worths in
+    let are = digits_from_worths text read.fits (recursion_from_All _ _ (subst (All (λ worth. worth < 16)) read.told below)) in
+    let count : length worths ≡ 2 * 8 = ap length read.told ∙ length-map text digit_worth ∙ read.long in
+    let written = be_bytes_8 pairs value (length-pairs 8 worths count) (pairs_below worths) read.made in
+    sym (ap (encode_with lower_digits) (written ∙ ap bytes_of_pairs read.told) ∙ pairs_written 8 text read.long are)
 
--- and those of a number are all seen as such
-pub seen_as_digits : (text : List ℕ) (count value seen n : ℕ) → AreRead text count value seen → text ≡ digits n → seen < 16
+-- and those of a number are told as digits
+pub worths_below : {text worths : List ℕ} {value : ℕ} → AreRead text worths value → (n : ℕ) → text ≡ digits n → All (λ worth. worth < 16) worths
 unfolding digits
-seen_as_digits text count value seen n read spelled =
-    read.told (subst (All IsDigit) (sym spelled) (All-from_recursion IsDigit (digits n) (bytes_are_digits 8 n)))
+worths_below {text} {worths} {value} read n told =
+    let are = subst (AllByRecursion IsDigit) (sym told) (bytes_are_digits 8 n) in
+    subst (All (λ worth. worth < 16)) (sym read.told) (All-from_recursion _ _ (worths_of_digits text are))
+
+-- and no others
+pub only_number : {text worths : List ℕ} {value : ℕ} → AreRead text worths value → (n : ℕ) → All (λ worth. worth < 16) worths → value < 2 ^ 64 → n < 2 ^ 64 → text ≡ digits n → value ≡ n
+only_number {text} {worths} {value} read n below fits suits told = digits_injective value n fits suits (sym (all_digits read below) ∙ told)
+
+-- no bit of a mask is set where no lane is above 15
+pub mask_of_none : (worths : List ℕ) → AllByRecursion (λ worth. worth < 16) worths → mask_l (map (λ worth. ltb 15 worth) worths) ≡ 0
+mask_of_none [] below = refl
+mask_of_none (worth ∷ worths) below = rw (le-ltb 15 worth (omega (arith, below.0))) (omega (arith, mask_of_none worths below.1))
+
+pub none_of_mask : (worths : List ℕ) → mask_l (map (λ worth. ltb 15 worth) worths) ≡ 0 → AllByRecursion (λ worth. worth < 16) worths
+none_of_mask [] empty = tt
+none_of_mask (worth ∷ worths) empty =
+    elim (cases_lt worth 16) [
+      | inl less ↦ (less, none_of_mask worths (omega (arith, empty)))
+      | inr more ↦ absurd (omega (arith, empty, (let bit : ℕ = 1 in ap (λ t. cond t bit 0) (lt-ltb 15 worth (omega arith)))))
+    ]

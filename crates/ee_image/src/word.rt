@@ -1,49 +1,17 @@
 //! The words of a page, as its line spells them.
 ghost use Rattle.hex.specs.Hex.{lower_digits};
-ghost use Rattle.std.specs.Prelude.{◌/◌, ◌%◌, slice_index, ◌≡◌, ◌∷◌, ◌++◌, ◌<◌, ℕ, List, Some, IfSome, IsSomeAnd, OnOk, OnErr};
+ghost use Rattle.std.specs.Prelude.{slice_index, ◌≡◌, ◌∷◌, ◌++◌, ◌<◌, ℕ, List, Some, IfSome, IsSomeAnd, OnOk, OnErr, false, map};
+ghost use Rattle.std.specs.List.{All};
 ghost use Rattle.ee_text.specs.Field.{space};
 ghost use Rattle.ee_flash.specs.Device.{IsBelowAllOnes, all_ones};
 ghost use Rattle.ee_flash.specs.declared.word.Word.{Word};
 ghost use Rattle.ee_flash.specs.declared.word.Word.TheVariants.{Held};
 ghost use Rattle.ee_image.specs.Text.{digits, word_text};
-ghost use Rattle.ee_image.specs.Reading.{digit_worth};
+ghost use Rattle.ee_image.specs.Reading.{bytes_of_pairs, digit_worth, halves_of_bytes};
 
 use ee_flash::Word;
 use std::alloc::{AllocError, Allocator};
-
-/// What each byte is worth as a digit, in lower case alone: 255 where it is none.
-#[rattlefmt::skip]
-const VALUES: [u8; 256] = [
-    255, 255, 255, 255, 255, 255, 255, 255, 255, 255, 255, 255, 255, 255, 255, 255, // 0x00
-    255, 255, 255, 255, 255, 255, 255, 255, 255, 255, 255, 255, 255, 255, 255, 255, // 0x10
-    255, 255, 255, 255, 255, 255, 255, 255, 255, 255, 255, 255, 255, 255, 255, 255, // 0x20
-      0,   1,   2,   3,   4,   5,   6,   7,   8,   9, 255, 255, 255, 255, 255, 255, // 0x30
-    255, 255, 255, 255, 255, 255, 255, 255, 255, 255, 255, 255, 255, 255, 255, 255, // 0x40
-    255, 255, 255, 255, 255, 255, 255, 255, 255, 255, 255, 255, 255, 255, 255, 255, // 0x50
-    255,  10,  11,  12,  13,  14,  15, 255, 255, 255, 255, 255, 255, 255, 255, 255, // 0x60
-    255, 255, 255, 255, 255, 255, 255, 255, 255, 255, 255, 255, 255, 255, 255, 255, // 0x70
-    255, 255, 255, 255, 255, 255, 255, 255, 255, 255, 255, 255, 255, 255, 255, 255, // 0x80
-    255, 255, 255, 255, 255, 255, 255, 255, 255, 255, 255, 255, 255, 255, 255, 255, // 0x90
-    255, 255, 255, 255, 255, 255, 255, 255, 255, 255, 255, 255, 255, 255, 255, 255, // 0xa0
-    255, 255, 255, 255, 255, 255, 255, 255, 255, 255, 255, 255, 255, 255, 255, 255, // 0xb0
-    255, 255, 255, 255, 255, 255, 255, 255, 255, 255, 255, 255, 255, 255, 255, 255, // 0xc0
-    255, 255, 255, 255, 255, 255, 255, 255, 255, 255, 255, 255, 255, 255, 255, 255, // 0xd0
-    255, 255, 255, 255, 255, 255, 255, 255, 255, 255, 255, 255, 255, 255, 255, 255, // 0xe0
-    255, 255, 255, 255, 255, 255, 255, 255, 255, 255, 255, 255, 255, 255, 255, 255, // 0xf0
-];
-
-/// The two digits of each byte, one byte behind another.
-#[rattlefmt::skip]
-const PAIRS: &[u8; 512] = b"\
-    000102030405060708090a0b0c0d0e0f101112131415161718191a1b1c1d1e1f\
-    202122232425262728292a2b2c2d2e2f303132333435363738393a3b3c3d3e3f\
-    404142434445464748494a4b4c4d4e4f505152535455565758595a5b5c5d5e5f\
-    606162636465666768696a6b6c6d6e6f707172737475767778797a7b7c7d7e7f\
-    808182838485868788898a8b8c8d8e8f909192939495969798999a9b9c9d9e9f\
-    a0a1a2a3a4a5a6a7a8a9aaabacadaeafb0b1b2b3b4b5b6b7b8b9babbbcbdbebf\
-    c0c1c2c3c4c5c6c7c8c9cacbcccdcecfd0d1d2d3d4d5d6d7d8d9dadbdcdddedf\
-    e0e1e2e3e4e5e6e7e8e9eaebecedeeeff0f1f2f3f4f5f6f7f8f9fafbfcfdfeff\
-";
+use std::simd::prelude::*;
 
 /// The word at the front of a text, and what stands behind it.
 pub(crate) fn leading_word(text: &[u8]) -> Option<(Word, &[u8])>
@@ -91,65 +59,75 @@ fn read_digits(text: &[u8; 16]) -> Option<u64>
     ensures only { (value : ℕ) → value < all_ones → text.now ≡ digits value
         → result ≡ Some value }
 {
-    let mut value: u64 = 0;
-    let mut seen: u8 = 0;
-    for byte in text {
-        let digit = value_of(*byte);
-        value = value << 4 | u64::from(digit);
-        seen |= digit;
-    }
-    if seen > 15 || value == u64::MAX {
+    let worths = worths_of(u8x16::from_array(*text));
+    let value = u64::from_be_bytes(joined(worths));
+    if has_others(worths) || value == u64::MAX {
         return None;
     }
     Some(value)
 }
 
-// What a byte is worth as a digit.
+// What each of sixteen bytes is worth as a digit, in lower case alone.
 #[inline(always)]
-fn value_of(byte: u8) -> u8
-    ensures { result ≡ digit_worth byte }
+fn worths_of(bytes: u8x16) -> u8x16
+    ensures { result ≡ map digit_worth bytes }
 {
-    VALUES[byte as usize]
+    let figures = bytes - u8x16::splat(b'0');
+    let letters = bytes - u8x16::splat(b'a');
+    let of_letters = letters
+        .simd_lt(u8x16::splat(6))
+        .select(letters + u8x16::splat(10), u8x16::splat(255));
+    figures
+        .simd_lt(u8x16::splat(10))
+        .select(figures, of_letters)
+}
+
+// Whether one of sixteen is worth more than a digit.
+#[inline(always)]
+fn has_others(worths: u8x16) -> bool
+    ensures none { result ≡ false → All (λ worth. worth < 16) worths }
+    ensures some { All (λ worth. worth < 16) worths → result ≡ false }
+{
+    worths.simd_gt(u8x16::splat(15)).to_bitmask() != 0
+}
+
+// A byte of each two of sixteen, the first of the two as its high four bits.
+#[inline(always)]
+fn joined(worths: u8x16) -> [u8; 8]
+    ensures { result ≡ bytes_of_pairs worths }
+{
+    let high = worths.swizzle([0, 2, 4, 6, 8, 10, 12, 14]);
+    let low = worths.swizzle([1, 3, 5, 7, 9, 11, 13, 15]);
+    ((high << u8x8::splat(4)) + low).to_array()
 }
 
 // A space, and the sixteen digits of a number.
 fn spaced_digits(value: u64) -> [u8; 17]
     ensures { result ≡ space ∷ digits value }
 {
-    let [a, b, c, d, e, f, g, h] = value.to_be_bytes();
-    [
-        b' ',
-        first_digit(a),
-        last_digit(a),
-        first_digit(b),
-        last_digit(b),
-        first_digit(c),
-        last_digit(c),
-        first_digit(d),
-        last_digit(d),
-        first_digit(e),
-        last_digit(e),
-        first_digit(f),
-        last_digit(f),
-        first_digit(g),
-        last_digit(g),
-        first_digit(h),
-        last_digit(h),
-    ]
+    let mut text = [b' '; 17];
+    spelled(parted(value.to_be_bytes())).copy_to_slice(&mut text[1..]);
+    text
 }
 
-// The digit of a byte's high four bits.
+// The high four bits of each byte, and the low four behind them.
 #[inline(always)]
-fn first_digit(byte: u8) -> u8
-    ensures { result ≡ slice_index lower_digits (byte / 16) }
+fn parted(bytes: [u8; 8]) -> u8x16
+    ensures { result ≡ halves_of_bytes bytes }
 {
-    PAIRS[2 * byte as usize]
+    let bytes = u8x8::from_array(bytes);
+    let high = bytes >> u8x8::splat(4);
+    let low = bytes & u8x8::splat(15);
+    high.shuffle(low, [0, 8, 1, 9, 2, 10, 3, 11, 4, 12, 5, 13, 6, 14, 7, 15])
 }
 
-// The digit of a byte's low four bits.
+// The digit that is worth each of sixteen.
 #[inline(always)]
-fn last_digit(byte: u8) -> u8
-    ensures { result ≡ slice_index lower_digits (byte % 16) }
+fn spelled(worths: u8x16) -> u8x16
+    requires { All (λ worth. worth < 16) worths }
+    ensures { result ≡ map (λ worth. slice_index lower_digits worth) worths }
 {
-    PAIRS[2 * byte as usize + 1]
+    let figures = worths + u8x16::splat(b'0');
+    let letters = worths + u8x16::splat(b'a' - 10);
+    worths.simd_gt(u8x16::splat(9)).select(letters, figures)
 }
