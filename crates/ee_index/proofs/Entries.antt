@@ -1,6 +1,5 @@
 -- The live addresses with their slots, in order, as a table has them.
 use Rattle.std.proofs.Common.{◌≡◌, ◌≢◌, inl, inr, ℕ, ◌+◌, ◌<◌, ◌≤◌, true, Option, Some, None, is_some, List, [], ◌∷◌, refl, sym, subst, ap, ◌∙◌, arith, rules, zero, suc}
-use Rattle.std.proofs.Math.Path.{fun_ext}
 use Rattle.std.proofs.lemmas.Bool.{cases_eq, cases_lt, le-ltb, lt-ltb}
 use Rattle.std.proofs.lemmas.Bool.Decides.{nat_tests}
 use Rattle.std.proofs.lemmas.Grind.{common_steps}
@@ -108,9 +107,6 @@ entries_ordered slots = from_sorted slots 0 65535
 
 pub no_entries : (slots : Map) → ((address : ℕ) → slots address ≡ None) → entries_in slots ≡ []
 no_entries slots none = from_empty slots 0 65535 none
-
-pub entries_same : (slots other : Map) → ((address : ℕ) → other address ≡ slots address) → entries_in other ≡ entries_in slots
-entries_same slots other same = ap (λ (slots : Map). entries_in slots) (fun_ext same)
 
 -- an address has the slot that the table has
 pub slot_held : (slots : Map) → HasProperAddresses slots → (address : ℕ) → slot_for (entries_in slots) address ≡ slots address

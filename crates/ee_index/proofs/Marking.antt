@@ -147,3 +147,17 @@ bits_from words start at word at_is is place within =
       λ before. let mask = bit_at_mask_below (start % 64) 64 place (omega (arith, at_is, before)) in omega (arith, bit, mask),
       λ behind. let mask = bit_at_mask_inside (start % 64) 64 place (omega (arith, at_is, behind)) within in let few = bit_at-lt (get_or words at 0) place in omega (arith, bit, mask, few),
     )
+
+-- without the bit of the number where they begin
+pub bits_behind : (words : List ℕ) (number at word : ℕ) → at ≡ number / 64 → IsWordFrom words at number word → IsWordFrom words at (number + 1) (bit_and word (bit_not w64 (1 * 2 ^ (number % 64) % 2 ^ 64)))
+bits_behind words number at word at_is from place within = elim (cases_eq place (number % 64)) [
+  | inl here ↦ (
+    λ before. ap (λ place. bit_at (bit_and word (bit_not w64 (1 * 2 ^ (number % 64) % 2 ^ 64))) place) here ∙ bit_at_clear_same w64 word (number % 64) (omega arith),
+    λ behind. absurd (omega (arith, at_is, here, behind)),
+  )
+  | inr apart ↦
+      let same = bit_at_clear_other w64 word (number % 64) (omega arith) place within apart in (
+        λ before. same ∙ (from place within).0 (omega (arith, at_is, apart, before)),
+        λ behind. same ∙ (from place within).1 (omega (arith, behind)),
+      )
+]

@@ -1,12 +1,12 @@
 -- What a table of slots says behind each of its changes.
-use Rattle.std.proofs.Common.{◌≡◌, ◌≢◌, ◌⊎◌, inl, inr, ℕ, zero, suc, ◌+◌, ◌-◌, ◌*◌, ◌/◌, ◌%◌, ◌<◌, ◌≤◌, Some, None, is_some, Bool, cond, true, false, List, [], ◌∷◌, ◌++◌, length, take, get_or, set, refl, sym, ap, ◌∙◌, arith}
+use Rattle.std.proofs.Common.{◌≡◌, ◌≢◌, inl, inr, ℕ, zero, suc, ◌+◌, ◌-◌, ◌*◌, ◌/◌, ◌%◌, ◌<◌, ◌≤◌, Some, None, is_some, Bool, cond, true, false, List, [], ◌∷◌, ◌++◌, length, take, get_or, set, refl, sym, ap, ◌∙◌, arith}
 use Rattle.std.specs.Prelude.{replicate}
 use Rattle.std.proofs.lemmas.Bool.{cases_eq, cases_lt}
 use Rattle.std.proofs.lemmas.Grind.{common_steps, get_or-set_at}
 use Rattle.ee_codec.specs.Words.{IsAddress}
 use Rattle.ee_pages.specs.Meaning.{Forget, Put, map_after}
-use Rattle.ee_index.specs.Marks.{IsNextMark, has_mark}
-use Rattle.ee_index.specs.Table.{AreMarked, AreRowsMarked, HasProperAddresses, IsNextFrom, IsNextPlace, slot_in, slot_told, slots_of_row}
+use Rattle.ee_index.specs.Marks.{IsNextMark, LeavesFrom, has_mark}
+use Rattle.ee_index.specs.Table.{AreMarked, AreRowsMarked, GoesOverRows, IsNextFrom, IsNextPlace, RowLeft, slot_in, slot_told, slots_of_row}
 use Rattle.std.proofs.lemmas.List.{get_or-append_right, get_or-set_other, get_or_append_left, get_or_default, get_or_past, take_all}
 
 -- an empty row at the end says as much as none
@@ -138,12 +138,6 @@ rows_left marks after rows at new are within empty others row place none = elim 
 
 -- ---- the next address
 
--- no address from the first one on has a slot up to a place of a row
-pub record IsNoneBefore (rows : List (List ℕ)) (start row place : ℕ) : Type 0 where
-  pub within : place < 256
-  pub low : start ≤ row * 256 + place
-  pub none : (address : ℕ) → start ≤ address → address < row * 256 + place → slot_in rows address ≡ None
-
 row_of : (address row place : ℕ) → place < 256 → address ≡ row * 256 + place → address / 256 ≡ row
 row_of address row place within e = omega (arith, within, e)
 
@@ -156,68 +150,113 @@ slot_at rows address row place within e = rw (row_of address row place within e,
 in_row : (address row place : ℕ) → row * 256 + place ≤ address → address < (row + 1) * 256 → (at : ℕ) × (at < 256) × (place ≤ at) × (address ≡ row * 256 + at)
 in_row address row place high low = (address - row * 256, omega (arith, high, low), omega (arith, high, low), omega (arith, high, low))
 
-pub none_first : (rows : List (List ℕ)) (start row place : ℕ) → row ≡ start / 256 → place ≡ start % 256 → IsNoneBefore rows start row place
-none_first rows start row place row_is place_is = record {
-  within = omega (arith, place_is);
-  low = omega (arith, row_is, place_is);
-  none = λ address high low. absurd (omega (arith, row_is, place_is, high, low));
-}
+-- no address from the first one on has a slot up to where a row is left
+pub record IsGoneTo (rows : List (List ℕ)) (start row : ℕ) (places : RowLeft) : Type 0 where
+  pub low : start ≤ row * 256 + places.from
+  pub none : (address : ℕ) → start ≤ address → address < row * 256 + places.from → slot_in rows address ≡ None
 
-module _ (rows : List (List ℕ)) (start row place : ℕ) (so_far : IsNoneBefore rows start row place) where
-  pub none_further : IsNextPlace (get_or rows row []) place None → IsNoneBefore rows start (row + 1) 0
-  none_further empty = record {
-    within = omega arith;
-    low = let low = so_far.low in let within = so_far.within in omega (arith, low, within);
-    none = λ address high low. elim (cases_lt address (row * 256 + place)) [
-      | inl before ↦ so_far.none address high before
-      | inr behind ↦
-          let at = in_row address row place behind (omega (arith, low)) in
-          slot_at rows address row at.0 at.1 at.3 ∙ ap slot_told (empty at.0 at.2 at.1)
-    ];
-  }
+module _ (marks : List ℕ) (rows : List (List ℕ)) (from at bits row : ℕ) (places : RowLeft) (over : GoesOverRows marks rows from at bits row places) (start : ℕ) (gone : IsGoneTo rows start row places) where
+  in_this_row : (address : ℕ) → address / 256 ≡ row → slot_in rows address ≡ slot_told (get_or places.row (address % 256) 0)
+  in_this_row address here = slot_at rows address row (address % 256) (omega arith) (omega (arith, here)) ∙ ap (λ (row : List ℕ). slot_told (get_or row (address % 256) 0)) (sym over.here)
 
-  module _ (marks : List ℕ) (are : AreRowsMarked marks rows) where
-    unmarked : (address : ℕ) → has_mark marks (address / 256) ≡ false → slot_in rows address ≡ None
-    unmarked address none = ap slot_told (are (address / 256) (address % 256) none)
+  -- a place of this row is the next
+  module _ (place slot : ℕ) (found : IsNextPlace places.row places.from (Some (place, slot))) where
+    pub found_here : IsNextFrom (slot_in rows) start (Some (row * 256 + place, slot))
+    found_here =
+        let low = found.0 in
+        let within = found.1 in (
+          let up = gone.low in omega (arith, low, up),
+          slot_at rows (row * 256 + place) row place within refl ∙ ap (λ (row : List ℕ). slot_told (get_or row place 0)) (sym over.here) ∙ found.2,
+          λ address high below. elim (cases_lt address (row * 256 + places.from)) [
+            | inl before ↦ gone.none address high before
+            | inr behind ↦ in_this_row address (omega (arith, behind, below, within)) ∙ ap slot_told (found.3 (address % 256) (omega (arith, behind, below, within)) (omega (arith, behind, below, within)))
+          ],
+        )
 
-    -- no row is left
-    pub none_left : IsNextMark marks row None → IsNextFrom (slot_in rows) start None
-    none_left none address high = elim (cases_lt address (row * 256 + place)) [
-      | inl before ↦ so_far.none address high before
-      | inr behind ↦ unmarked address (none (address / 256) (omega (arith, behind)))
+    pub found_proper : IsAddress (row * 256 + place)
+    found_proper = over.proper (row * 256 + place) (ap is_some found_here.1)
+
+  -- it stands behind it then
+  pub over_behind : (after : RowLeft) → after.row ≡ places.row → after.from ≤ 256 → GoesOverRows marks rows from at bits row after
+  over_behind after same within = record { marked = over.marked; proper = over.proper; leaves = over.leaves; here = same ∙ over.here; within = within; above = over.above; between = over.between }
+
+  module _ (none : IsNextPlace places.row places.from None) where
+    -- nothing is left of this row
+    none_here : (address : ℕ) → start ≤ address → address < (row + 1) * 256 → slot_in rows address ≡ None
+    none_here address high below = elim (cases_lt address (row * 256 + places.from)) [
+      | inl before ↦ gone.none address high before
+      | inr behind ↦ in_this_row address (omega (arith, behind, below)) ∙ ap slot_told (none (address % 256) (omega (arith, behind, below)) (omega arith))
     ]
 
-    -- the next row is a further one
-    pub none_to_row : (further : ℕ) → IsNextMark marks row (Some further) → further ≢ row → IsNoneBefore rows start further 0
-    none_to_row further next apart = record {
-      within = omega arith;
-      low = let low = so_far.low in let within = so_far.within in let up = next.0 in omega (arith, low, within, up, apart);
-      none = λ address high low. elim (cases_lt address (row * 256 + place)) [
-        | inl before ↦ so_far.none address high before
-        | inr behind ↦ unmarked address (next.3 (address / 256) (omega (arith, behind)) (omega (arith, low)))
+    pub gone_behind : (after : RowLeft) → places.from ≤ after.from → after.from ≤ 256 → IsGoneTo rows start row after
+    gone_behind after rises within = record {
+      low = let low = gone.low in omega (arith, low, rises);
+      none = λ address high below. none_here address high (omega (arith, below, within));
+    }
+
+    none_between : (address : ℕ) → start ≤ address → address < from * 256 → slot_in rows address ≡ None
+    none_between address high below = elim (cases_lt address ((row + 1) * 256)) [
+      | inl here ↦ none_here address high here
+      | inr behind ↦ ap slot_told (over.between (address / 256) (address % 256) (omega (arith, behind)) (omega (arith, below)))
+    ]
+
+    unmarked : (address : ℕ) → has_mark marks (address / 256) ≡ false → slot_in rows address ≡ None
+    unmarked address none = ap slot_told (over.marked (address / 256) (address % 256) none)
+
+    -- no row is left
+    pub none_at_all : IsNextMark marks from None → IsNextFrom (slot_in rows) start None
+    none_at_all no_row address high = elim (cases_lt address (from * 256)) [
+      | inl before ↦ none_between address high before
+      | inr behind ↦ unmarked address (no_row (address / 256) (omega (arith, behind)))
+    ]
+
+    module _ (further : ℕ) (next : IsNextMark marks from (Some further)) where
+      none_to_row : (address : ℕ) → start ≤ address → address < further * 256 → slot_in rows address ≡ None
+      none_to_row address high below = elim (cases_lt address (from * 256)) [
+        | inl before ↦ none_between address high before
+        | inr behind ↦ unmarked address (next.3 (address / 256) (omega (arith, behind)) (omega (arith, below)))
+      ]
+
+      -- it goes on at the next row
+      pub gone_to_row : (after : RowLeft) → after.from ≡ 0 → IsGoneTo rows start further after
+      gone_to_row after first = record {
+        low = let low = gone.low in let within = over.within in let above = over.above in let up = next.0 in omega (arith, low, within, above, up, first);
+        none = λ address high below. none_to_row address high (omega (arith, below, first));
+      }
+
+  module _ (further : ℕ) (next : IsNextMark marks from (Some further)) (behind at_then bits_then : ℕ) (behind_is : behind ≡ further + 1) (leaves : LeavesFrom marks behind at_then bits_then) (after : RowLeft) (few : after.from ≤ 256) where
+    none_passed : (passed place : ℕ) → row < passed → passed < further → get_or (get_or rows passed []) place 0 ≡ 0
+    none_passed passed place high low = elim (cases_lt passed from) [
+      | inl before ↦ over.between passed place high before
+      | inr onwards ↦ over.marked passed place (next.3 passed onwards low)
+    ]
+
+    pub over_there : after.row ≡ get_or rows further [] → GoesOverRows marks rows behind at_then bits_then further after
+    over_there here = record { marked = over.marked; proper = over.proper; leaves = leaves; here = here; within = few; above = omega (arith, behind_is); between = λ passed place high low. absurd (omega (arith, high, low, behind_is)) }
+
+    -- the row is not there
+    pub over_absent : length rows ≤ further → after.row ≡ places.row → GoesOverRows marks rows behind at_then bits_then row after
+    over_absent past same = record {
+      marked = over.marked;
+      proper = over.proper;
+      leaves = leaves;
+      here = same ∙ over.here;
+      within = few;
+      above = let above = over.above in let up = next.0 in omega (arith, above, up, behind_is);
+      between = λ passed place high low. elim (cases_lt passed further) [
+        | inl before ↦ none_passed passed place high before
+        | inr onwards ↦ ap (λ (row : List ℕ). get_or row place 0) (get_or_past rows passed [] (omega (arith, past, onwards))) ∙ get_or_past [] place 0 (omega arith)
       ];
     }
 
-    pub none_to_place : (further from : ℕ) → IsNextMark marks row (Some further) → ((further ≡ row) × (from ≡ place)) ⊎ ((further ≢ row) × (from ≡ 0)) → IsNoneBefore rows start further from
-    none_to_place further from next (inl same) = rw (same.0, same.1) so_far
-    none_to_place further from next (inr apart) = rw apart.1 (none_to_row further next apart.0)
-
-  module _ (at slot : ℕ) (found : IsNextPlace (get_or rows row []) place (Some (at, slot))) where
-    slot_found : slot_in rows (row * 256 + at) ≡ Some slot
-    slot_found = slot_at rows (row * 256 + at) row at found.1 refl ∙ found.2
-
-    pub is_found : IsNextFrom (slot_in rows) start (Some (row * 256 + at, slot))
-    is_found = (
-      let low = so_far.low in let up = found.0 in omega (arith, low, up),
-      slot_found,
-      λ address high below. elim (cases_lt address (row * 256 + place)) [
-        | inl before ↦ so_far.none address high before
-        | inr behind ↦
-            let within = found.1 in
-            let here = in_row address row place behind (omega (arith, below, within)) in
-            slot_at rows address row here.0 here.1 here.3 ∙ ap slot_told (found.3 here.0 here.2 (let e = here.3 in omega (arith, below, e)))
-      ],
-    )
-
-    pub proper_found : HasProperAddresses (slot_in rows) → IsAddress (row * 256 + at)
-    proper_found proper = proper (row * 256 + at) (ap is_some slot_found)
+  -- no row is left
+  pub over_still : (behind at_then bits_then : ℕ) → behind ≡ from → LeavesFrom marks behind at_then bits_then → (after : RowLeft) → after.row ≡ places.row → after.from ≤ 256 → GoesOverRows marks rows behind at_then bits_then row after
+  over_still behind at_then bits_then same leaves after row_same few = record {
+    marked = over.marked;
+    proper = over.proper;
+    leaves = leaves;
+    here = row_same ∙ over.here;
+    within = few;
+    above = let above = over.above in omega (arith, above, same);
+    between = λ passed place high low. over.between passed place high (omega (arith, low, same));
+  }

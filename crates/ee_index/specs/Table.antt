@@ -1,7 +1,7 @@
 -- The table of an index: the slot of each address by row and place.
 use Rattle.std.specs.Prelude.{◌≡◌, ◌<◌, ◌≤◌, ℕ, zero, suc, ◌+◌, ◌-◌, ◌/◌, ◌%◌, ◌==◌, if◌then◌else◌, is_some, true, false, Option, Some, None, List, [], ◌∷◌, slice_index_or}
 use Rattle.ee_codec.specs.Words.{IsAddress}
-use Rattle.ee_index.specs.Marks.{has_mark}
+use Rattle.ee_index.specs.Marks.{LeavesFrom, has_mark}
 use Rattle.ee_pages.specs.Meaning.{Map, live_in}
 
 -- what a number of the table says: 0 that there is no slot, and n + 1 the slot n
@@ -64,3 +64,21 @@ IsNextPlace row start None = (place : ℕ) → start ≤ place → place < 256 �
 IsNextPlace row start (Some found) =
     (start ≤ found.0) × (found.0 < 256) × (slot_told (slice_index_or row found.0 0) ≡ Some found.1)
     × ((place : ℕ) → start ≤ place → place < found.0 → slice_index_or row place 0 ≡ 0)
+
+-- ---- gone over
+
+-- a row, and the place from which on it is left to go over
+pub record RowLeft : Type 0 where
+  pub row : List ℕ
+  pub from : ℕ
+
+-- What goes over rows stands at this one, with so much of it left, and has numbers of further rows left: no row between
+-- has a slot, and only a proper address has one.
+pub record GoesOverRows (marks : List ℕ) (rows : List (List ℕ)) (from at bits row : ℕ) (places : RowLeft) : Type 0 where
+  pub marked : AreRowsMarked marks rows
+  pub proper : HasProperAddresses (slot_in rows)
+  pub leaves : LeavesFrom marks from at bits
+  pub here : places.row ≡ slice_index_or rows row []
+  pub within : places.from ≤ 256
+  pub above : row < from
+  pub between : (passed place : ℕ) → row < passed → passed < from → slice_index_or (slice_index_or rows passed []) place 0 ≡ 0

@@ -1,5 +1,5 @@
 //! The index: the slot in which each live address stands, and how many are live.
-ghost use Rattle.std.specs.Prelude.{◌≡◌, ◌<◌, ◌≤◌, ◌+◌, ◌^◌, ℕ, IfErr, IfOk, IfSome, OnErr, OnOk, ◌==◌, if◌then◌else◌, false, true, [], ◌∷◌, None, is_some, length};
+ghost use Rattle.std.specs.Prelude.{◌≡◌, ◌<◌, ◌≤◌, ◌+◌, ◌^◌, ℕ, OnErr, OnOk, [], None, is_some, length};
 ghost use Rattle.std.specs.List.Sorted.{IsStrictlySortedBy};
 ghost use Rattle.std.specs.Map.{keys_of};
 ghost use Rattle.std.specs.Ordering.{nat_cmp};
@@ -7,7 +7,7 @@ ghost use Rattle.ee_pages.specs.Meaning.{Forget, Put, above_of, map_after};
 ghost use Rattle.ee_index.specs.Index.{behind_first, entries_left, is_first, numbered_slots, slot_for};
 ghost use Rattle.ee_index.specs.Table.{HasProperAddresses, entries_in, slot_in};
 
-use crate::table::Table;
+use crate::table::{Table, TableCursor};
 use ee_codec::Address;
 use std::alloc::{AllocError, Allocator};
 use std::marker::Model;
@@ -114,30 +114,17 @@ impl<A: Allocator> Index<A> {
         self.table.release();
     }
 
-    /// The first live address from `place` on, with its slot, and the place behind it.
-    pub(crate) fn take_entry(&self, place: &mut usize) -> Option<(Address, usize)>
-        ensures none { result ≡ None → entries_left place.old self.now ≡ [] }
-        ensures some { IfSome result
-            (λ found. entries_left place.old self.now ≡ found ∷ entries_left place.new self.now) }
-    {
-        let Some((address, slot)) = self.table.next_from(*place) else {
-            return None;
-        };
-        *place = address.get() as usize + 1;
-        Some((address, slot))
-    }
-
-    /// The place of the first address above `after`, or of the first of all if `after` is `None`.
-    pub(crate) fn place_behind(&self, after: &Option<Address>) -> usize
-        ensures place { result ≡ above_of after.now + 1 }
+    /// Before the first live address above `after`, or before the first of all if `after` is `None`.
+    #[inline(always)]
+    pub(crate) fn cursor(&self, after: &Option<Address>) -> TableCursor<'_, A>
+        ensures left { result ≡ entries_left (above_of after.now + 1) self.now }
         ensures ordered { IsStrictlySortedBy nat_cmp (keys_of self.now) }
     {
-        // Read, so that what the table keeps is known here.
-        let _count = self.count;
-        match after {
+        let start = match after {
             None => 1,
             Some(address) => address.get() as usize + 1,
-        }
+        };
+        self.table.cursor(start)
     }
 
     /// Gives the addresses, which are those that are live behind a transfer, the slots in which the

@@ -7,9 +7,10 @@ ghost use Rattle.ee_pages.specs.Layout.{IsLayout};
 ghost use Rattle.ee_pages.specs.Meaning.{AreLiveThrough, IsNextLive, above_of, says};
 ghost use Rattle.ee_pages.specs.Sets.{set_of, slots_of};
 ghost use Rattle.ee_core.specs.Parts.{map_in};
-ghost use Rattle.ee_index.specs.Index.{IsIndex, IsLeft, IsNextShown, entries_left, index_with_slot, shown_index, slot_for};
+ghost use Rattle.ee_index.specs.Index.{IsIndex, IsLeft, IsNextShown, index_with_slot, shown_index, slot_for};
 
 use crate::index::Index;
+use crate::table::TableCursor;
 use ee_codec::{Address, Slot, read_slot};
 use ee_core::inner::LiveCursor;
 use ee_flash::{Flash, Word};
@@ -123,9 +124,7 @@ pub(crate) fn batch_indexed<F: Flash, A: Allocator>(
 /// over.
 #[derive(Drop)]
 pub(crate) struct IndexCursor<'a, A: Allocator> {
-    index: &'a Index<A>,
-    /// The first entry that is left has this place or a further one.
-    place: usize,
+    entries: TableCursor<'a, A>,
     hidden: Option<Address>,
     /// The address given last.
     after: Option<Address>,
@@ -139,13 +138,12 @@ impl<'a, A: Allocator> IndexCursor<'a, A> {
         hidden: Option<Address>,
     ) -> IndexCursor<'a, A>
         ensures over { (slots : List Word) → IsIndex slots (shown_index hidden (slot_for index.now))
-            → IsLeft slots hidden after (entries_left result.place result.index.now) }
+            → IsLeft slots hidden after result.entries }
         ensures after { result.after ≡ after }
         ensures hidden { result.hidden ≡ hidden }
     {
         IndexCursor {
-            index,
-            place: index.place_behind(&after),
+            entries: index.cursor(&after),
             hidden,
             after,
         }
@@ -154,16 +152,15 @@ impl<'a, A: Allocator> IndexCursor<'a, A> {
 
 impl<'a, A: Allocator> LiveCursor for IndexCursor<'a, A> {
     ghost use Rattle.ee_pages.specs.Meaning.{above_of};
-    ghost use Rattle.ee_index.specs.Index.{IsLeft, entries_left};
+    ghost use Rattle.ee_index.specs.Index.{IsLeft};
 
     ghost behind = { λ cursor. above_of cursor.after };
 
-    ghost goes_over = { λ cursor slots. IsLeft slots cursor.hidden cursor.after
-        (entries_left cursor.place cursor.index.now) };
+    ghost goes_over = { λ cursor slots. IsLeft slots cursor.hidden cursor.after cursor.entries };
 
     #[inline(always)]
     fn next<F: Flash>(&mut self, flash: &F, layout: &Layout) -> Option<(Address, u32)> {
-        let Some((address, number)) = next_shown(self.index, &mut self.place, self.hidden) else {
+        let Some((address, number)) = next_shown(&mut self.entries, self.hidden) else {
             return None;
         };
         self.after = Some(address);
@@ -172,19 +169,18 @@ impl<'a, A: Allocator> LiveCursor for IndexCursor<'a, A> {
 }
 
 // The next entry that is not hidden.
+#[inline(always)]
 fn next_shown<A: Allocator>(
-    index: &Index<A>,
-    place: &mut usize,
+    entries: &mut TableCursor<'_, A>,
     hidden: Option<Address>,
 ) -> Option<(Address, usize)>
-    ensures { IsNextShown hidden (entries_left place.old index.now) result
-        (entries_left place.new index.now) }
+    ensures { IsNextShown hidden entries.old result entries.new }
 {
-    let Some((address, slot)) = index.take_entry(place) else {
+    let Some((address, slot)) = entries.next() else {
         return None;
     };
     if hidden == Some(address) {
-        return index.take_entry(place);
+        return entries.next();
     }
     Some((address, slot))
 }

@@ -76,9 +76,9 @@ impl Marks {
         None
     }
 
-    /// The first number of the set from `start` on, if it has its bit in the same word.
+    // The first number of the set from `start` on, if it has its bit in the same word.
     #[inline(always)]
-    pub(crate) fn next_near(&self, start: usize) -> Option<usize>
+    fn next_near(&self, start: usize) -> Option<usize>
         requires { start < 256 }
         ensures next { IfSome result (λ found. IsNextMark self.now start (Some found)) }
         ensures none { result ≡ None → IsNoneIn self.now start ((start / 64 + 1) * 64) }
@@ -104,15 +104,33 @@ pub(crate) struct MarkCursor {
 }
 
 impl MarkCursor {
-    /// Before the first number of a set.
-    pub(crate) fn new(marks: &Marks) -> MarkCursor
-        ensures from { result.from ≡ 0 }
+    /// Before the first number of a set from `start` on.
+    #[inline(always)]
+    pub(crate) fn new(marks: &Marks, start: usize) -> MarkCursor
+        requires { start < 256 }
+        ensures from { result.from ≡ start }
         ensures leaves { LeavesFrom marks.now result.from result.at result.bits }
     {
+        let at = start / WORD;
         MarkCursor {
-            from: 0,
-            at: 0,
-            bits: marks.words[0],
+            from: start,
+            at,
+            bits: word_from(&marks.words, at, start),
+        }
+    }
+
+    /// Before the first number of a set behind this one.
+    pub(crate) fn behind(marks: &Marks, number: usize) -> MarkCursor
+        requires { number < 256 }
+        ensures from { result.from ≡ number + 1 }
+        ensures leaves { LeavesFrom marks.now result.from result.at result.bits }
+    {
+        let at = number / WORD;
+        let bits = word_from(&marks.words, at, number);
+        MarkCursor {
+            from: number + 1,
+            at,
+            bits: bits & !(1 << (number % WORD)),
         }
     }
 
@@ -122,8 +140,8 @@ impl MarkCursor {
         requires leaves { LeavesFrom marks.now self.old.from self.old.at self.old.bits }
         ensures next { IsNextMark marks.now self.old.from result }
         ensures behind { IfSome result (λ found. self.new.from ≡ found + 1) }
-        ensures leaves { OnSome result
-            (LeavesFrom marks.now self.new.from self.new.at self.new.bits) }
+        ensures stays { result ≡ None → self.new.from ≡ self.old.from }
+        ensures leaves { LeavesFrom marks.now self.new.from self.new.at self.new.bits }
     {
         let Some(place) = take_lowest(&mut self.bits) else {
             return self.next_word(marks);
@@ -137,6 +155,7 @@ impl MarkCursor {
     fn next_word(&mut self, marks: &Marks) -> Option<usize>
         ensures next { IsNextMark marks.now ((self.old.at + 1) * 64) result }
         ensures behind { IfSome result (λ found. self.new.from ≡ found + 1) }
+        ensures stays { result ≡ None → self.new ≡ self.old }
         ensures leaves { OnSome result
             (LeavesFrom marks.now self.new.from self.new.at self.new.bits) }
     {
@@ -159,6 +178,7 @@ impl MarkCursor {
 fn take_lowest(bits: &mut u64) -> Option<usize>
     ensures lowest { IsLowestBit bits.old result }
     ensures left { IfSome result (λ found. IsWithoutBit bits.old found bits.new) }
+    ensures stays { result ≡ None → bits.new ≡ bits.old }
 {
     match lowest_bit(*bits) {
         None => None,

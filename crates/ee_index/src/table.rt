@@ -1,11 +1,11 @@
 //! The slots of addresses, by row and place: a look takes two steps, and so does a change.
 ghost use Rattle.std.specs.Option.{option_map};
-ghost use Rattle.std.specs.Prelude.{◌≡◌, ◌≢◌, ◌<◌, ◌≤◌, ◌+◌, ◌*◌, ◌^◌, ℕ, if◌then◌else◌, [], IfSome, None, OnErr, OnOk, Some, is_some, length, set, slice_index_or, true};
+ghost use Rattle.std.specs.Prelude.{◌≡◌, ◌≢◌, ◌<◌, ◌≤◌, ◌+◌, ◌*◌, ◌^◌, ℕ, if◌then◌else◌, [], ◌∷◌, IfSome, None, OnErr, OnOk, is_some, length, set, slice_index_or, true};
 ghost use Rattle.ee_codec.specs.Words.{IsAddress};
 ghost use Rattle.ee_pages.specs.Meaning.{Forget, Put, map_after};
 ghost use Rattle.ee_index.specs.Numbering.{numbered_from, one_if_other, others_below};
-ghost use Rattle.ee_index.specs.Table.{AreMarked, AreRowsMarked, HasProperAddresses, IsNextFrom, IsNextPlace, slot_in, slot_told, slots_of_row};
-ghost use Rattle.ee_index.specs.Index.{behind_first, is_first};
+ghost use Rattle.ee_index.specs.Table.{AreMarked, AreRowsMarked, HasProperAddresses, IsNextPlace, entries_in, slot_in, slot_told, slots_of_row};
+ghost use Rattle.ee_index.specs.Index.{behind_first, entries_left, is_first};
 
 use crate::marks::{MarkCursor, Marks};
 use ee_codec::Address;
@@ -49,10 +49,7 @@ impl<A: Allocator> Row<A> {
     fn slot_at(&self, place: usize) -> Option<usize>
         ensures { result ≡ slot_told (slice_index_or self.now place 0) }
     {
-        match self.numbers.get(place) {
-            None | Some(0) => None,
-            Some(number) => Some(*number as usize - 1),
-        }
+        slot_of(&self.numbers, place)
     }
 
     // Gives each address of the row its place.
@@ -133,29 +130,81 @@ impl<A: Allocator> Row<A> {
         }
     }
 
-    // The first place from `start` on whose address has a slot, with the slot.
-    fn next_from(&self, start: usize) -> Option<(usize, usize)>
-        ensures { IsNextPlace self.now start result }
+    // Before the first place of the row from `start` on.
+    #[inline(always)]
+    fn cursor(&self, start: usize) -> RowCursor<'_>
+        requires { start < 256 }
+        ensures row { result.row ≡ self.now }
+        ensures from { result.from ≡ start }
     {
-        let mut from = start;
-        'places: while let Some(place) = self.marks.next_from(from) {
-            if let Some(slot) = self.slot_at(place) {
+        RowCursor {
+            numbers: &self.numbers,
+            marks: &self.marks,
+            left: MarkCursor::new(&self.marks, start),
+        }
+    }
+}
+
+/// Goes over the places of a row whose addresses have a slot.
+#[derive(Drop)]
+struct RowCursor<'a> {
+    numbers: &'a [u32],
+    marks: &'a Marks,
+    left: MarkCursor,
+}
+
+impl<'a> Model for RowCursor<'a> {
+    ghost use Rattle.ee_index.specs.Marks.{LeavesFrom};
+    ghost use Rattle.ee_index.specs.Table.{AreMarked, RowLeft};
+
+    ghost Value = { RowLeft };
+
+    ghost view = { λ cursor. record { row = cursor.numbers.now; from = cursor.left.from } };
+
+    ghost invariant = { λ cursor. AreMarked cursor.marks.now cursor.numbers.now
+        × LeavesFrom cursor.marks.now cursor.left.from cursor.left.at cursor.left.bits };
+}
+
+impl<'a> RowCursor<'a> {
+    // Over a row that has no numbers, whatever these marks are.
+    fn over_none(marks: &'a Marks, start: usize) -> RowCursor<'a>
+        requires { start < 256 }
+        ensures row { result.row ≡ [] }
+        ensures from { result.from ≡ start }
+    {
+        RowCursor {
+            numbers: &[],
+            marks,
+            left: MarkCursor::new(marks, start),
+        }
+    }
+
+    // The next place whose address has a slot, with the slot.
+    #[inline(always)]
+    fn next(&mut self) -> Option<(usize, usize)>
+        ensures next { IsNextPlace self.old.row self.old.from result }
+        ensures row { self.new.row ≡ self.old.row }
+        ensures behind { IfSome result (λ found. self.new.from ≡ found.0 + 1) }
+        ensures rises { self.old.from ≤ self.new.from }
+        ensures within { self.new.from ≤ 256 }
+    {
+        'places: while let Some(place) = self.left.next(self.marks) {
+            if let Some(slot) = slot_of(self.numbers, place) {
                 return Some((place, slot));
             }
-            from = place + 1;
         }
         None
     }
+}
 
-    // The same, if it is found at once: mostly it stands near by.
-    #[inline(always)]
-    fn next_near(&self, start: usize) -> Option<(usize, usize)>
-        requires { start < 256 }
-        ensures { IfSome result (λ found. IsNextPlace self.now start (Some found)) }
-    {
-        let place = self.marks.next_near(start)?;
-        let slot = self.slot_at(place)?;
-        Some((place, slot))
+// The slot of the address of a place, if it has one.
+#[inline(always)]
+fn slot_of(numbers: &[u32], place: usize) -> Option<usize>
+    ensures { result ≡ slot_told (slice_index_or numbers.now place 0) }
+{
+    match numbers.get(place) {
+        None | Some(0) => None,
+        Some(number) => Some(*number as usize - 1),
     }
 }
 
@@ -164,7 +213,7 @@ fn clear_places(numbers: &mut [u32], marks: &Marks)
     requires { AreMarked marks.now numbers.old }
     ensures { (place : ℕ) → slice_index_or numbers.new place 0 ≡ 0 }
 {
-    let mut marked = MarkCursor::new(marks);
+    let mut marked = MarkCursor::new(marks, 0);
     'places: while let Some(place) = marked.next(marks) {
         clear_place(numbers, place);
     }
@@ -190,7 +239,7 @@ fn number_places(numbers: &mut [u32], marks: &Marks, first: Option<usize>, next:
         ≡ numbered_from first next.old (slots_of_row numbers.old) place }
     ensures next { next.new ≡ next.old + others_below first (slots_of_row numbers.old) 256 }
 {
-    let mut marked = MarkCursor::new(marks);
+    let mut marked = MarkCursor::new(marks, 0);
     'places: while let Some(place) = marked.next(marks) {
         number_place(numbers, place, first, next);
     }
@@ -290,7 +339,7 @@ impl<A: Allocator> Table<A> {
     }
 
     /// Takes the slot from an address that has one. The memory of a row in which none has one any
-    /// more is given back.
+    /// more is given back, and with the last row that of the list of rows.
     pub(crate) fn clear(&mut self, address: Address)
     where
         A: Copy,
@@ -302,6 +351,7 @@ impl<A: Allocator> Table<A> {
         let row = number / ROW;
         if self.rows[row].clear(number % ROW) {
             self.marks.clear(row);
+            self.release_list();
         }
     }
 
@@ -333,60 +383,102 @@ impl<A: Allocator> Table<A> {
         'rows: for row in 0..self.rows.len() {
             self.rows[row].release();
         }
+        self.release_list();
     }
 
-    /// The first address from `start` on that has a slot, with the slot.
-    #[inline(always)]
-    pub(crate) fn next_from(&self, start: usize) -> Option<(Address, usize)>
-        requires proper { HasProperAddresses (slot_in self.now) }
-        ensures next { IsNextFrom (slot_in self.now) start result }
+    // Gives the memory of the list of rows back where no address has a slot.
+    fn release_list(&mut self)
+    where
+        A: Copy,
+        ensures { (named : ℕ) → slot_in self.new named ≡ slot_in self.old named }
     {
+        if self.marks.next_from(0).is_none() {
+            let alloc = *self.rows.allocator();
+            self.rows = Vec::new(alloc);
+        }
+    }
+
+    /// Before the first address from `start` on.
+    #[inline(always)]
+    pub(crate) fn cursor(&self, start: usize) -> TableCursor<'_, A>
+        requires start { start < 65536 }
+        requires proper { HasProperAddresses (slot_in self.now) }
+        ensures { result ≡ entries_left start (entries_in (slot_in self.now)) }
+    {
+        let rows = self.rows.as_slice();
         let row = start / ROW;
-        if let Some((place, slot)) = self.near_in(row, start % ROW) {
-            return entry_of(row * ROW + place, slot);
+        TableCursor {
+            rows,
+            marks: &self.marks,
+            left: MarkCursor::behind(&self.marks, row),
+            row,
+            places: cursor_in(rows, &self.marks, row, start % ROW),
         }
-        self.next_further(start)
     }
+}
 
-    // The same, where it is not near by.
-    fn next_further(&self, start: usize) -> Option<(Address, usize)>
-        requires proper { HasProperAddresses (slot_in self.now) }
-        ensures next { IsNextFrom (slot_in self.now) start result }
-    {
-        let mut row = start / ROW;
-        let mut place = start % ROW;
-        'rows: while let Some(marked) = self.marks.next_from(row) {
-            let from = if marked == row { place } else { 0 };
-            if let Some((at, slot)) = self.next_in(marked, from) {
-                return entry_of(marked * ROW + at, slot);
-            }
-            row = marked + 1;
-            place = 0;
-        }
-        None
+// Before the first place of a row from `start` on. There are no places where the row isn't there.
+#[inline(always)]
+fn cursor_in<'a, A: Allocator>(
+    rows: &'a [Row<A>],
+    marks: &'a Marks,
+    row: usize,
+    start: usize,
+) -> RowCursor<'a>
+    requires { start < 256 }
+    ensures row { result.row ≡ slice_index_or rows.now row [] }
+    ensures from { result.from ≡ start }
+{
+    match rows.get(row) {
+        None => RowCursor::over_none(marks, start),
+        Some(row) => row.cursor(start),
     }
+}
 
-    // The first place of a row from `start` on whose address has a slot, with the slot, if it is found
-    // at once.
+/// Goes over the addresses that have a slot, by rising address.
+#[derive(Drop)]
+pub(crate) struct TableCursor<'a, A: Allocator> {
+    rows: &'a [Row<A>],
+    marks: &'a Marks,
+    // over the rows that may be looked at yet
+    left: MarkCursor,
+    // the row where it stands, and what it has left of it
+    row: usize,
+    places: RowCursor<'a>,
+}
+
+impl<'a, A: Allocator> Model for TableCursor<'a, A> {
+    ghost use Rattle.std.specs.Prelude.{◌+◌, ◌*◌, ℕ, List};
+    ghost use Rattle.ee_index.specs.Index.{entries_left};
+    ghost use Rattle.ee_index.specs.Table.{GoesOverRows, entries_in, slot_in};
+
+    ghost Value = { List (ℕ × ℕ) };
+
+    ghost view = { λ cursor. entries_left (cursor.row * 256 + cursor.places.from)
+        (entries_in (slot_in cursor.rows.now)) };
+
+    ghost invariant = { λ cursor. GoesOverRows cursor.marks.now cursor.rows.now cursor.left.from
+        cursor.left.at cursor.left.bits cursor.row cursor.places };
+}
+
+impl<'a, A: Allocator> TableCursor<'a, A> {
+    /// The next address that has a slot, with the slot.
     #[inline(always)]
-    fn near_in(&self, row: usize, start: usize) -> Option<(usize, usize)>
-        requires { start < 256 }
-        ensures { IfSome result
-            (λ found. IsNextPlace (slice_index_or self.now row []) start (Some found)) }
+    pub(crate) fn next(&mut self) -> Option<(Address, usize)>
+        ensures none { result ≡ None → self.old ≡ [] }
+        ensures some { IfSome result (λ found. self.old ≡ found ∷ self.new) }
     {
-        match self.rows.get(row) {
-            None => None,
-            Some(row) => row.next_near(start),
-        }
-    }
-
-    // The first place of a row from `start` on whose address has a slot, with the slot.
-    fn next_in(&self, row: usize, start: usize) -> Option<(usize, usize)>
-        ensures { IsNextPlace (slice_index_or self.now row []) start result }
-    {
-        match self.rows.get(row) {
-            None => None,
-            Some(row) => row.next_from(start),
+        'rows: loop {
+            if let Some((place, slot)) = self.places.next() {
+                return entry_of(self.row * ROW + place, slot);
+            }
+            let Some(row) = self.left.next(self.marks) else {
+                return None;
+            };
+            if let Some(there) = self.rows.get(row) {
+                self.row = row;
+                self.places = there.cursor(0);
+            }
         }
     }
 }
@@ -410,13 +502,12 @@ fn number_rows<A: Allocator>(rows: &mut [Row<A>], marks: &Marks, first: Option<A
         ≡ numbered_from first (behind_first first) (slot_in rows.old) address }
 {
     let mut next = count_first(first);
-    let mut from = 0;
-    'rows: while let Some(row) = marks.next_from(from) {
+    let mut left = MarkCursor::new(marks, 0);
+    'rows: while let Some(row) = left.next(marks) {
         let place = place_in(row, &first);
         if row < rows.len() {
             rows[row].renumber(place, &mut next);
         }
-        from = row + 1;
     }
 }
 

@@ -1,4 +1,6 @@
-use Rattle.std.proofs.Common.{rules, Option, ℕ, sym, subst}
+use Rattle.std.proofs.Common.{rules, ◌∷◌, ◌∙◌, [], Option, ℕ, ap, arith, length, length-append, sym, subst}
+use Rattle.std.proofs.lemmas.Bool.{eqb-false}
+use Rattle.ee_pages.specs.declared.batch_items.TheConstants.{BATCH}
 use Rattle.ee_pages.specs.Sets.{set_of, slots_of}
 use Rattle.ee_core.specs.Parts.{map_in}
 use Rattle.ee_index.proofs.IndexedBatches.{ReachesTo, given_last, proper_pushed, pushed, reaches_none}
@@ -22,3 +24,9 @@ batch-preserved g c =
       left = c.in-Some.ensures.over;
       proper = proper_pushed c.batch.found.items c.push.new.self.items given c.push.ensures.items c.batch.invariant.proper c.in-Some.ensures.proper;
     }
+
+pub batch-smaller : goal.batch-smaller
+batch-smaller g c =
+    let apart = eqb-false (length c.batch.found.items) BATCH (sym c.batch-test.ensures.value) in
+    let more = ap length c.push.ensures.items ∙ length-append c.batch.found.items (c.in-Some.live ∷ []) in
+    omega (arith, more, apart, c.batch-test.ensures.fits)
