@@ -131,6 +131,8 @@ impl<A: Allocator> Index<A> {
     /// transfer put them: `first`, if there is one, stands in the first slot, and behind it stand the
     /// others, by rising address. It takes no memory and doesn't look at the flash.
     pub(crate) fn renumber(&mut self, first: Option<Address>)
+    where
+        A: Copy,
         ensures numbered { (address : ℕ) → slot_for self.new address
             ≡ slot_for (numbered_slots first (behind_first first) self.old) address }
         ensures ordered { IsStrictlySortedBy nat_cmp (keys_of self.old) }

@@ -339,7 +339,7 @@ impl<A: Allocator> Table<A> {
     }
 
     /// Takes the slot from an address that has one. The memory of a row in which none has one any
-    /// more is given back, and with the last row that of the list of rows.
+    /// more is given back.
     pub(crate) fn clear(&mut self, address: Address)
     where
         A: Copy,
@@ -351,7 +351,6 @@ impl<A: Allocator> Table<A> {
         let row = number / ROW;
         if self.rows[row].clear(number % ROW) {
             self.marks.clear(row);
-            self.release_list();
         }
     }
 
@@ -366,12 +365,19 @@ impl<A: Allocator> Table<A> {
     }
 
     /// Numbers the addresses that have a slot anew, by rising address: `first`, if there is one, has the
-    /// first slot, and the others have those behind it.
+    /// first slot, and the others have those behind it. Where none has one any more, the list of the
+    /// rows gives its memory back.
     pub(crate) fn renumber(&mut self, first: Option<Address>)
+    where
+        A: Copy,
         ensures { (address : ℕ) → slot_in self.new address
             ≡ numbered_from first (behind_first first) (slot_in self.old) address }
     {
         number_rows(&mut self.rows, &self.marks, first);
+        // Not at each forgetting: a lone address that comes and goes would make the list anew each time.
+        if first.is_none() {
+            self.release_list();
+        }
     }
 
     /// Gives back the memory of the rows in which no address has a slot.
