@@ -1,13 +1,16 @@
 -- How words are spelled: no two alike, and each as a field of a line.
-use Rattle.std.proofs.Common.{◌≡◌, ◌≢◌, ℕ, zero, suc, ◌<◌, ◌^◌, ◌/◌, ◌%◌, List, [], ◌∷◌, ◌++◌, length, get_or, map, take, drop, refl, sym, ap, ◌∙◌, subst, arith, codes, Ok}
+use Rattle.std.proofs.Common.{◌≡◌, ◌≢◌, ℕ, zero, suc, ◌<◌, ◌^◌, ◌/◌, ◌%◌, List, [], ◌∷◌, ◌++◌, length, get_or, map, take, drop, refl, sym, ap, ◌∙◌, subst, arith, codes, Ok, Result, Option, Some, None, is_some}
 use Rattle.std.specs.Int.{to_be_bytes, from_be_bytes, w64, byte_at, bytes_high_first}
 use Rattle.std.specs.List.{All, AllByRecursion}
 use Rattle.std.proofs.lemmas.List.Elements.{All-head, All-tail}
 use Rattle.std.proofs.lemmas.Nat.{from_be_bytes-to_be_bytes_8}
 use Rattle.std.proofs.Math.Seq.{drop-append_seam, take-append_seam}
 use Rattle.std.proofs.lemmas.List.{get_or_append_left}
-use Rattle.hex.specs.Hex.{IsBytes, decode_of, encode_with, lower_digits}
-use Rattle.hex.proofs.HexLemmas.{decode_of-encode_lower, decode_of-same, length-encode_with}
+use Rattle.std.specs.Result.{is_ok, result_ok}
+use Rattle.std.proofs.lemmas.Bool.{false≢true}
+use Rattle.hex.specs.declared.error.FromHexError.{FromHexError}
+use Rattle.hex.specs.Hex.{IsBytes, decode_of, decode_sized, encode_with, lower_digits}
+use Rattle.hex.proofs.HexLemmas.{decode_of-encode_lower, decode_of-same, decode_sized-encode_lower, length-encode_with}
 use Rattle.ee_text.specs.Field.{Lacks}
 use Rattle.ee_text.proofs.Public.{Lacks-cons, lacks_at}
 use Rattle.ee_flash.specs.Device.{IsBelowAllOnes}
@@ -49,7 +52,7 @@ pub length-digits : (value : ℕ) → length (digits value) ≡ 16
 unfolding digits
 length-digits value = length-encode_with lower_digits (to_be_bytes w64 value)
 
-pub byte_below : (place value : ℕ) → byte_at place value < 256
+byte_below : (place value : ℕ) → byte_at place value < 256
 byte_below zero value = omega arith
 byte_below (suc place) value = omega arith
 
@@ -72,6 +75,28 @@ digits_injective m n fits suits e =
 
 held_fits : (value : ℕ) → IsBelowAllOnes (Held value) → value < 2 ^ 64
 held_fits value below = let h = below value refl in omega arith
+
+-- ---- what a reader of digits finds
+
+decode_sized-digits : (value : ℕ) → decode_sized (digits value) 8 ≡ Ok (to_be_bytes w64 value)
+unfolding digits
+decode_sized-digits value = decode_sized-encode_lower (to_be_bytes w64 value) 8 refl (IsBytes-to_be_bytes value)
+
+pub not_refused : (field : List ℕ) (value : ℕ) (r : Result (List ℕ) FromHexError) (o : Option (List ℕ)) → field ≡ digits value → r ≡ decode_sized field 8
+    → is_some o ≡ is_ok r → o ≡ None → ⊥
+not_refused field value r o spelled decoded same none =
+    let read : r ≡ Ok (to_be_bytes w64 value) = decoded ∙ ap (λ text. decode_sized text 8) spelled ∙ decode_sized-digits value in
+    false≢true (sym (ap is_some none) ∙ same ∙ ap is_ok read)
+
+pub read_back : (field : List ℕ) (value found : ℕ) (r : Result (List ℕ) FromHexError) (o : Option (List ℕ)) (bytes : List ℕ) → value < 2 ^ 64 → field ≡ digits value
+    → r ≡ decode_sized field 8 → o ≡ result_ok r → o ≡ Some bytes → found ≡ from_be_bytes w64 bytes → found ≡ value
+read_back field value found r o bytes fits spelled decoded kept some is =
+    let read : r ≡ Ok (to_be_bytes w64 value) = decoded ∙ ap (λ text. decode_sized text 8) spelled ∙ decode_sized-digits value in
+    let both : Some bytes ≡ Some (to_be_bytes w64 value) = sym some ∙ kept ∙ ap result_ok read in
+    let same : bytes ≡ to_be_bytes w64 value = cc in
+    is ∙ ap (from_be_bytes w64) same ∙ from_be_bytes-to_be_bytes_8 value fits
+
+-- ---- what stands at the front of a text
 
 -- sixteen digits at the front of a text
 pub first_sixteen : (text behind : List ℕ) (value : ℕ) → text ≡ digits value ++ behind → (take 16 text ≡ digits value) × (drop 16 text ≡ behind)

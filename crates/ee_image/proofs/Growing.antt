@@ -21,17 +21,18 @@ page_text-push : (wear : ℕ) (words : List Word) (word : Word) → page_text we
 page_text-push wear words word =
     ap (λ l. joined_fields (decimal wear ∷ l)) (map-append word_text words (word ∷ [])) ∙ joined-append (decimal wear) (map word_text words) (word_text word) []
 
-pub page_grows : (device : Device) (page at : ℕ) (old out new : List ℕ) (word : Word) → IsFormed device → page < page_count device.size → at < device.size.words
-    → out ≡ old ++ page_text (wear_at device page) (take at (page_at device page)) → word ≡ word_at device page at → new ≡ out ++ 32 ∷ word_text word
+pub page_grows : (device : Device) (page at : ℕ) (old out spaced new : List ℕ) (word : Word) → IsFormed device → page < page_count device.size → at < device.size.words
+    → out ≡ old ++ page_text (wear_at device page) (take at (page_at device page)) → spaced ≡ out ++ 32 ∷ [] → word ≡ word_at device page at → new ≡ spaced ++ word_text word
     → new ≡ old ++ page_text (wear_at device page) (take (at + 1) (page_at device page))
-page_grows device page at old out new word formed in_range within so_far is written =
+page_grows device page at old out spaced new word formed in_range within so_far space is written =
     let words = page_at device page in
     let front = page_text (wear_at device page) (take at words) in
     let all : take (at + 1) words ≡ take at words ++ word ∷ [] =
     take_more words at Erased (omega (arith, length-page_at device page formed in_range)) ∙ ap (λ w. take at words ++ w ∷ []) (sym is) in
     let grown : page_text (wear_at device page) (take (at + 1) words) ≡ front ++ 32 ∷ word_text word =
     ap (page_text (wear_at device page)) all ∙ page_text-push (wear_at device page) (take at words) word in
-    written ∙ ap (λ l. l ++ 32 ∷ word_text word) so_far ∙ append_assoc old front (32 ∷ word_text word) ∙ ap (λ l. old ++ l) (sym grown)
+    written ∙ ap (λ l. l ++ word_text word) (space ∙ ap (λ l. l ++ 32 ∷ []) so_far) ∙ append_assoc (old ++ front) (32 ∷ []) (word_text word)
+    ∙ append_assoc old front (32 ∷ word_text word) ∙ ap (λ l. old ++ l) (sym grown)
 
 -- one page more
 page_lines-take : (pages : List (List Word)) (wears : List ℕ) (n : ℕ) → length pages ≡ length wears → n < length pages

@@ -1,5 +1,4 @@
 mod Digits
-mod Decoding
 mod Lines
 mod Rows
 mod Taken

@@ -1,5 +1,5 @@
 -- What the parts of the reader and of the writer give.
-use Rattle.std.specs.Prelude.{◌≡◌, ◌≢◌, ℕ, ◌+◌, ◌-◌, ◌*◌, ◌/◌, ◌%◌, ◌&&◌, nat_le, if◌then◌else◌, List, [], ◌∷◌, ◌++◌, length}
+use Rattle.std.specs.Prelude.{◌≡◌, ◌≢◌, ℕ, List, ◌∷◌, ◌++◌, length}
 use Rattle.std.specs.List.{All, flat_map}
 use Rattle.ee_text.specs.Field.{space}
 use Rattle.ee_text.specs.Line.{line_of}
@@ -12,24 +12,6 @@ use Rattle.ee_image.specs.declared.fault.ImageFault.{ImageFault}
 use Rattle.ee_image.specs.declared.fault.ImageFault.TheVariants.{TooLong, BadLine, BadShape, Memory}
 use Rattle.ee_image.specs.declared.reading.PageFault.{PageFault}
 use Rattle.ee_image.specs.declared.reading.PageFault.TheVariants.{Bad, NoMemory}
-
--- what a byte is worth as a digit of 0123456789abcdef, and 255 where it is none
-unfoldable pub digit_worth : ℕ → ℕ
-digit_worth byte =
-    if nat_le 48 byte && nat_le byte 57 then byte - 48
-    else if nat_le 97 byte && nat_le byte 102 then byte - 87
-    else 255
-
--- a byte of each two numbers of a row, the first as its high four bits
-abbrev pub bytes_of_pairs : List ℕ → List ℕ
-bytes_of_pairs [] = []
-bytes_of_pairs (high ∷ []) = []
-bytes_of_pairs (high ∷ low ∷ more) = (high * 16 % 256 + low) % 256 ∷ bytes_of_pairs more
-
--- the high four bits of each byte, and behind them the low four
-abbrev pub halves_of_bytes : List ℕ → List ℕ
-halves_of_bytes [] = []
-halves_of_bytes (byte ∷ more) = byte / 16 ∷ byte % 16 ∷ halves_of_bytes more
 
 -- words in a row, each behind a space
 abbrev pub spaced_words : List Word → List ℕ

@@ -71,6 +71,7 @@ fn push_page<F: Flash, A: Allocator>(
 {
     push_number(out, flash.wear(page))?;
     for at in 0..flash.shape().words() {
+        out.extend_from_slice(b" ")?;
         push_word(out, flash.word(page, at))?;
     }
     out.extend_from_slice(b"\n")?;

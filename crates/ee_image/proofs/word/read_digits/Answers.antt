@@ -1,24 +1,20 @@
-use Rattle.std.proofs.Common.{◌≡◌, ◌∙◌, Some, ap, arith, inl, inr, sym, true, false, w64}
-use Rattle.std.specs.Int.{from_be_bytes}
-use Rattle.ee_image.proofs.Decoding.{AreRead, all_digits, bytes_fit, only_number, worths_below}
+use Rattle.std.proofs.Common.{rules, ◌≡◌, Some, arith, ap, sym, ◌∙◌, inl, inr}
+use Rattle.ee_image.specs.Text.{digits}
+use Rattle.ee_image.proofs.Digits.{not_refused, read_back}
 use Rattle.ee_image.proofs.word.read_digits.Goals as goal
 
-pub returns-then-has_others-clause-only : goal.returns-then-has_others-clause-only
-returns-then-has_others-clause-only c = λ n less told.
-    let read : AreRead c.args.text.now c.worths_of-worths.result c.from_be_bytes-value.result =
-    record { long = omega arith; fits = bytes_fit _ c.fits-text; told = c.worths_of-worths.ensures; made = c.from_be_bytes-value.ensures ∙ ap (from_be_bytes w64) c.joined.ensures } in
-    let none = c.has_others.ensures.some (worths_below read n told) in
-    let same = only_number read n (worths_below read n told) (omega arith) (omega arith) told in
-    elim c.then-has_others.either [ inl some ↦ (let wrong : true ≡ false = sym some ∙ none in cc) | inr greatest ↦ absurd (omega arith) ]
+pub returns-in_err-ok-clause-only : goal.returns-in_err-ok-clause-only
+returns-in_err-ok-clause-only c = λ value below spelled.
+    absurd (not_refused c.args.text.now value c.from_hex.result c.ok.result spelled c.from_hex.ensures c.ok.ensures.variant c.in_err-ok.was)
 
-pub returns-clause-found : goal.returns-clause-found
-returns-clause-found c =
-    let read : AreRead c.args.text.now c.worths_of-worths.result c.from_be_bytes-value.result =
-    record { long = omega arith; fits = bytes_fit _ c.fits-text; told = c.worths_of-worths.ensures; made = c.from_be_bytes-value.ensures ∙ ap (from_be_bytes w64) c.joined.ensures } in
-    (omega arith, all_digits read (c.has_others.ensures.none c.if-has_others.false))
+-- what the eight bytes are worth is the number that was spelled
+pub returns-then-ne-clause-only : goal.returns-then-ne-clause-only
+returns-then-ne-clause-only c = λ value below spelled.
+    let same : c.from_be_bytes-value.result ≡ value =
+    read_back c.args.text.now value c.from_be_bytes-value.result c.from_hex.result c.ok.result c.in_ok-ok.field-0 (omega arith) spelled c.from_hex.ensures c.ok.ensures.value c.in_ok-ok.was c.from_be_bytes-value.ensures in
+    let written : c.digits_of.result ≡ c.args.text.now = c.digits_of.ensures ∙ ap digits same ∙ sym spelled in
+    elim c.then-ne.either [ inl other ↦ search rules | inr greatest ↦ absurd (omega arith) ]
 
 pub returns-clause-only : goal.returns-clause-only
-returns-clause-only c = λ n less told.
-    let read : AreRead c.args.text.now c.worths_of-worths.result c.from_be_bytes-value.result =
-    record { long = omega arith; fits = bytes_fit _ c.fits-text; told = c.worths_of-worths.ensures; made = c.from_be_bytes-value.ensures ∙ ap (from_be_bytes w64) c.joined.ensures } in
-    ap Some (only_number read n (worths_below read n told) (omega arith) (omega arith) told)
+returns-clause-only c = λ value below spelled.
+    ap Some (read_back c.args.text.now value c.from_be_bytes-value.result c.from_hex.result c.ok.result c.in_ok-ok.field-0 (omega arith) spelled c.from_hex.ensures c.ok.ensures.value c.in_ok-ok.was c.from_be_bytes-value.ensures)
