@@ -1,5 +1,6 @@
 pub mod Live
 pub mod Table
+pub mod LiveSet
 pub mod Schedule
 pub mod Start
 pub mod Certificate

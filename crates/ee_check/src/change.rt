@@ -1,7 +1,7 @@
 ghost use Rattle.std.specs.Prelude.{◌≡◌, OnOk, OnErr};
 ghost use Rattle.ee_check.specs.Live.{live_after_one, live_after};
 
-use super::live_table::LiveTable;
+use super::live_set::LiveSet;
 use ee_codec::Address;
 use std::alloc::{AllocError, Allocator};
 use std::collections::BTreeSet;
@@ -38,10 +38,14 @@ impl Change {
 }
 
 /// Makes the changes, one behind the other.
-pub(crate) fn make_all<A: Allocator>(changes: &[Change], live: &mut LiveTable<A>)
-    ensures { live.new ≡ live_after live.old changes.now }
+pub(crate) fn make_all<A: Allocator + Copy>(
+    changes: &[Change],
+    live: &mut LiveSet<A>,
+) -> Result<(), AllocError>
+    ensures { OnOk result (live.new ≡ live_after live.old changes.now) }
 {
     for change in changes {
-        live.make(*change);
+        live.make(*change)?;
     }
+    Ok(())
 }

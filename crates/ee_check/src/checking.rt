@@ -101,11 +101,11 @@ fn check_stretches<A: Allocator + Copy, B: Allocator>(
     ensures err { IfErr result (λ fault.
         IsFirstFlaw start.now trace.now stretches.now fault ⊎ (fault ≡ CheckFault.Memory)) }
 {
-    let mut walk = Walk::new(alloc, start)?;
+    let mut walk = Walk::new(alloc, start, stretches.len())?;
     let mut count = 0;
     for stretch in stretches {
         walk.judge(start, trace, *stretch, count + 1)?;
-        walk.pass(trace, stretch.to);
+        walk.pass(trace, stretch.to)?;
         count += 1;
     }
     Ok(count)

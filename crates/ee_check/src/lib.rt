@@ -13,7 +13,7 @@
 //! no fewer slots used, there is one tight certificate where the trace keeps within the slots, and
 //! the store that transfers exactly when each slot is used meets it. `specs/Live.antt`,
 //! `Schedule.antt` and `Certificate.antt` are the definitions, `Fault.antt` the causes of a
-//! refusal, `Text.antt` the text. A `LiveTable` keeps the live addresses at one look for each change.
+//! refusal, `Text.antt` the text. A `LiveSet` keeps the live addresses while changes are made.
 //!
 //! # What is proved
 //!
@@ -32,6 +32,7 @@ mod certificate;
 mod change;
 mod checking;
 pub mod laws;
+mod live_set;
 mod live_table;
 mod reading;
 mod start;
@@ -41,7 +42,7 @@ mod writing;
 pub use certificate::{Certificate, Stretch};
 pub use change::Change;
 pub use checking::{CheckFault, check};
-pub use live_table::LiveTable;
+pub use live_set::LiveSet;
 pub use reading::{TextFault, read_certificate};
 pub use start::Start;
 pub use writing::write_certificate;

@@ -2,7 +2,9 @@ ghost use Rattle.std.specs.Prelude.{◌≡◌, [], length, IfOk};
 ghost use Rattle.ee_check.specs.Live.{live_after_one};
 
 use super::change::Change;
-use std::alloc::{AllocError, Allocator, Global};
+use ee_codec::Address;
+use std::alloc::{AllocError, Allocator};
+use std::collections::BTreeSet;
 use std::marker::Model;
 
 /// How many entries a table has: one for each number of 16 bits.
@@ -10,7 +12,7 @@ const ENTRIES: usize = 65536;
 
 /// Which addresses are live, as a table of all of them: a change takes one look. It takes 64 KB.
 #[derive(Drop)]
-pub struct LiveTable<A: Allocator = Global> {
+pub(crate) struct LiveTable<A: Allocator> {
     is_live: Vec<bool, A>,
     // how many are
     count: u64,
@@ -27,9 +29,9 @@ impl<A: Allocator> Model for LiveTable<A> {
     ghost invariant = { λ t. (length t.is_live.items ≡ 65536) × (t.count ≡ length (addresses_from 0 t.is_live.items)) };
 }
 
-impl<A: Allocator> LiveTable<A> {
+impl<A: Allocator + Copy> LiveTable<A> {
     /// No address is live.
-    pub fn new(alloc: A) -> Result<LiveTable<A>, AllocError>
+    pub(crate) fn new(alloc: A) -> Result<LiveTable<A>, AllocError>
         ensures { IfOk result (λ table. table ≡ []) }
     {
         Ok(LiveTable {
@@ -38,8 +40,24 @@ impl<A: Allocator> LiveTable<A> {
         })
     }
 
+    /// The addresses of a set.
+    pub(crate) fn of<B: Allocator>(
+        alloc: A,
+        live: &BTreeSet<Address, B>,
+    ) -> Result<LiveTable<A>, AllocError>
+        ensures { IfOk result (λ table. table ≡ live.now.keys) }
+    {
+        let mut table = LiveTable::new(alloc)?;
+        for address in live {
+            table.make(Change::Write(*address));
+        }
+        Ok(table)
+    }
+}
+
+impl<A: Allocator> LiveTable<A> {
     /// Makes the change.
-    pub fn make(&mut self, change: Change)
+    pub(crate) fn make(&mut self, change: Change)
         ensures { self.new ≡ live_after_one self.old change }
     {
         match change {
@@ -57,7 +75,7 @@ impl<A: Allocator> LiveTable<A> {
     }
 
     /// How many addresses are live.
-    pub fn len(&self) -> u64
+    pub(crate) fn len(&self) -> u64
         ensures { result ≡ length self.now }
     {
         self.count

@@ -2,8 +2,6 @@ ghost use Rattle.std.specs.Prelude.{◌≡◌, IfOk};
 ghost use Rattle.std.specs.Option.{SomeIff};
 ghost use Rattle.ee_check.specs.Start.{IsStart};
 
-use super::change::Change;
-use super::live_table::LiveTable;
 use ee_codec::Address;
 use std::alloc::{AllocError, Allocator, Global};
 use std::collections::BTreeSet;
@@ -80,16 +78,5 @@ impl<A: Allocator> Start<A> {
             copy.insert(*address)?;
         }
         Ok(copy)
-    }
-
-    /// The live addresses as a table, in memory of its own.
-    pub fn table_in<B: Allocator + Copy>(&self, alloc: B) -> Result<LiveTable<B>, AllocError>
-        ensures { IfOk result (λ table. table ≡ self.now.live) }
-    {
-        let mut table = LiveTable::new(alloc)?;
-        for address in &self.live {
-            table.make(Change::Write(*address));
-        }
-        Ok(table)
     }
 }

@@ -1,4 +1,4 @@
-ghost use Rattle.std.specs.Prelude.{◌≡◌, ◌≤◌, IfOk, MatchResult, length, slice_range};
+ghost use Rattle.std.specs.Prelude.{◌≡◌, ◌≤◌, OnOk, IfOk, MatchResult, length, slice_range};
 ghost use Rattle.ee_check.specs.Live.{live_after};
 ghost use Rattle.ee_check.specs.Certificate.{first_place, IsForced};
 ghost use Rattle.ee_check.specs.Fault.{IsFlaw};
@@ -6,7 +6,7 @@ ghost use Rattle.ee_check.specs.Fault.{IsFlaw};
 use super::certificate::Stretch;
 use super::change::{Change, make_all};
 use super::checking::CheckFault;
-use super::live_table::LiveTable;
+use super::live_set::LiveSet;
 use super::start::Start;
 use std::alloc::{AllocError, Allocator};
 use std::marker::Model;
@@ -18,7 +18,7 @@ pub(crate) struct Walk<A: Allocator> {
     after: u64,
     // how many slots are used at least by a store that made no more transfers than it had to
     used: u64,
-    live: LiveTable<A>,
+    live: LiveSet<A>,
 }
 
 impl<A: Allocator> Model for Walk<A> {
@@ -30,15 +30,20 @@ impl<A: Allocator> Model for Walk<A> {
 }
 
 impl<A: Allocator + Copy> Walk<A> {
-    /// A walk that begins.
-    pub(crate) fn new<B: Allocator>(alloc: A, start: &Start<B>) -> Result<Walk<A>, AllocError>
+    /// A walk that begins, through so many stretches.
+    pub(crate) fn new<B: Allocator>(
+        alloc: A,
+        start: &Start<B>,
+        stretches: usize,
+    ) -> Result<Walk<A>, AllocError>
         ensures { IfOk result
             (λ walk. walk ≡ record { place = first_place start.now; live = start.now.live }) }
     {
         Ok(Walk {
             after: 0,
             used: start.fill(),
-            live: start.table_in(alloc)?,
+            // each of them has changes
+            live: LiveSet::of(alloc, start, stretches)?,
         })
     }
 
@@ -67,15 +72,16 @@ impl<A: Allocator + Copy> Walk<A> {
     }
 
     /// Makes the changes up to this one.
-    pub(crate) fn pass(&mut self, trace: &[Change], to: u64)
+    pub(crate) fn pass(&mut self, trace: &[Change], to: u64) -> Result<(), AllocError>
         requires behind { self.old.place.after ≤ to }
         requires within { to ≤ length trace.now }
-        ensures live { self.new.live
-            ≡ live_after self.old.live (slice_range trace.now self.old.place.after to) }
-        ensures place { self.new.place ≡ record { after = to; used = length self.new.live } }
+        ensures live { OnOk result (self.new.live
+            ≡ live_after self.old.live (slice_range trace.now self.old.place.after to)) }
+        ensures place { OnOk result (self.new.place ≡ record { after = to; used = length self.new.live }) }
     {
-        make_all(&trace[self.after as usize..to as usize], &mut self.live);
+        make_all(&trace[self.after as usize..to as usize], &mut self.live)?;
         self.after = to;
         self.used = self.live.len();
+        Ok(())
     }
 }

@@ -4,14 +4,14 @@ ghost use Rattle.std.specs.List.{All, Contains};
 ghost use Rattle.ee_check.specs.Live.{live_after};
 ghost use Rattle.ee_plan.specs.Places.{AreFlats, counts_before};
 
-use ee_check::{Change, LiveTable};
+use ee_check::{Change, LiveSet};
 use std::alloc::{AllocError, Allocator};
 
 /// How many addresses are live before each change. The changes are made.
 pub(crate) fn count<A: Allocator + Copy>(
     alloc: A,
     trace: &[Change],
-    live: &mut LiveTable<A>,
+    live: &mut LiveSet<A>,
 ) -> Result<Vec<u64, A>, AllocError>
     ensures counts { IfOk result
         (λ counts. counts.items ≡ counts_before live.old trace.now) }
@@ -20,7 +20,7 @@ pub(crate) fn count<A: Allocator + Copy>(
     let mut counts = Vec::new(alloc);
     for change in trace {
         counts.push(live.len())?;
-        live.make(*change);
+        live.make(*change)?;
     }
     Ok(counts)
 }

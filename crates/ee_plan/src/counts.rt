@@ -3,7 +3,7 @@ ghost use Rattle.std.specs.Prelude.{◌≡◌, ◌+◌, ◌≤◌, ℕ, IfOk};
 ghost use Rattle.std.specs.List.{All};
 
 use super::counting::{count, flats, greatest};
-use ee_check::{Change, LiveTable};
+use ee_check::{Change, LiveSet};
 use std::alloc::{AllocError, Allocator};
 
 /// How many addresses are live before each change of the first round, and of each later one. The second
@@ -27,7 +27,7 @@ impl<A: Allocator + Copy> Counts<A> {
     pub(crate) fn of(alloc: A, trace: &[Change]) -> Result<Counts<A>, AllocError>
         ensures { IfOk result (AreRoundCounts trace.now) }
     {
-        let mut live = LiveTable::new(alloc)?;
+        let mut live = LiveSet::new(alloc);
         let first = count(alloc, trace, &mut live)?;
         let later = count(alloc, trace, &mut live)?;
         let flats = flats(alloc, &later)?;

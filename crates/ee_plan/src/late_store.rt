@@ -4,7 +4,7 @@ ghost use Rattle.ee_check.specs.Start.{IsStart};
 ghost use Rattle.ee_plan.specs.LateStore.{Makes, IsChangeRefused, store_after_transfer};
 
 use super::planned::PlanFault;
-use ee_check::{Change, LiveTable, Start, Stretch};
+use ee_check::{Change, LiveSet, Start, Stretch};
 use std::alloc::{AllocError, Allocator};
 use std::marker::Model;
 
@@ -15,7 +15,7 @@ pub(crate) struct LateStore<A: Allocator> {
     slots: u64,
     // how many slots are used
     fill: u64,
-    live: LiveTable<A>,
+    live: LiveSet<A>,
     // how many were used where the stretch that goes on began
     from: u64,
     // the stretches that have ended
@@ -31,15 +31,19 @@ impl<A: Allocator> Model for LateStore<A> {
 }
 
 impl<A: Allocator + Copy> LateStore<A> {
-    /// A store before the first change.
-    pub(crate) fn new<B: Allocator>(alloc: A, start: &Start<B>) -> Result<LateStore<A>, AllocError>
+    /// A store before the first of so many changes.
+    pub(crate) fn new<B: Allocator>(
+        alloc: A,
+        start: &Start<B>,
+        changes: usize,
+    ) -> Result<LateStore<A>, AllocError>
         ensures store { IfOk result (λ store. store ≡ record { now = start.now; from = start.now.fill; stretches = [] }) }
         ensures start { IsStart start.now }
     {
         Ok(LateStore {
             slots: start.slots(),
             fill: start.fill(),
-            live: start.table_in(alloc)?,
+            live: LiveSet::of(alloc, start, changes)?,
             from: start.fill(),
             stretches: Vec::new(alloc),
         })
@@ -51,7 +55,7 @@ impl<A: Allocator + Copy> LateStore<A> {
         ensures fits { OnOk result (length self.new.now.live ≤ self.old.now.slots) }
         ensures err { IfErr result (λ fault. IsChangeRefused self.old change number fault) }
     {
-        self.live.make(change);
+        self.live.make(change)?;
         if self.slots < self.live.len() {
             return Err(PlanFault::NotFitting(number));
         }

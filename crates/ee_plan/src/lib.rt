@@ -2,7 +2,7 @@
 //!
 //! The planner is the store that transfers exactly when each slot is used, without a flash: it keeps the
 //! live addresses and how many slots are used, and notes a stretch of the tight certificate where it would
-//! transfer. It takes one look at a table for each change.
+//! transfer. A change is one insertion or removal, and in a long trace one look at a table.
 //!
 //! The layer above calls `plan`. Its contract has the whole promise: the certificate is tight, some
 //! schedule reaches it, and wherever the trace is broken off, the moments so far are those of the tight

@@ -65,7 +65,7 @@ fn follow<A: Allocator + Copy, B: Allocator>(
     ensures ok { IfOk result (HasMade start.now trace.now (length trace.now)) }
     ensures err { IfErr result (IsPlanFault start.now trace.now) }
 {
-    let mut store = LateStore::new(alloc, start)?;
+    let mut store = LateStore::new(alloc, start, trace.len())?;
     let mut number = 0;
     for change in trace {
         number += 1;

@@ -26,5 +26,5 @@ loop-stretch-preserved g c =
     record {
       counted = omega (arith, l.invariant.counted);
       so_far = one_further c.args.start.now c.args.trace.now c.args.stretches.now l.stretch-index no_stretch l.walk c.pass.new.self
-          c.loop-stretch-test.true l.invariant.so_far c.in_ok-judge.ensures c.pass.ensures.live c.pass.ensures.place;
+          c.loop-stretch-test.true l.invariant.so_far c.in_ok-judge.ensures c.in_ok-pass.ensures.live c.in_ok-pass.ensures.place;
     }

@@ -1,7 +1,0 @@
-use Rattle.ee_check.proofs.Walks.{one_copied}
-use Rattle.ee_check.proofs.start.Start.table_in.Goals as goal
-
-pub loop-address-preserved : goal.loop-address-preserved
-loop-address-preserved g c =
-    rw c.make.ensures
-    (one_copied c.loop-address.table c.loop-address.address-iterator c.next.new.self c.args.self.now.live c.in-Some.address.now c.in-Some.ensures.steps c.loop-address.invariant)
