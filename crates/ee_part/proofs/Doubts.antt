@@ -29,7 +29,7 @@ not_none : (said : Option (Option ℕ)) → is_some said ≡ true → said ≢ N
 not_none None some = absurd (cc some)
 not_none (Some said) some = λ none. cc none
 
-pub is_none : (said : Option (Option ℕ)) → is_some said ≡ false → said ≡ None
+pub is_none : {T : Type 0} → (said : Option T) → is_some said ≡ false → said ≡ None
 is_none None none = refl
 is_none (Some said) none = absurd (cc none)
 

@@ -186,7 +186,7 @@ whole_count (Erased ∷ slots) = whole_count slots
 whole_count (Held number ∷ slots) = let rest = whole_count slots in omega (arith, rest)
 whole_count (Torn ∷ slots) = let rest = whole_count slots in omega (arith, rest)
 
-live_alike : (map other : Map) (n : ℕ) → ((address : ℕ) → map address ≡ other address) → live_to map n ≡ live_to other n
+pub live_alike : (map other : Map) (n : ℕ) → ((address : ℕ) → map address ≡ other address) → live_to map n ≡ live_to other n
 live_alike map other zero same = live_to-zero map ∙ sym (live_to-zero other)
 live_alike map other (suc n) same = search (rules, live_to-suc, (live_alike map other n same))
 

@@ -8,7 +8,7 @@ use Rattle.ee_flash.specs.Device.{Device, word_at}
 use Rattle.ee_flash.specs.Size.{Size, page_count}
 use Rattle.ee_flash.specs.declared.word.Word.{Word}
 use Rattle.ee_pages.specs.Layout.{IsLayout, IsScanFault}
-use Rattle.ee_pages.specs.Meaning.{live_in, says}
+use Rattle.ee_pages.specs.Meaning.{live_in, says, value_said}
 use Rattle.ee_pages.specs.Page.{is_torn}
 use Rattle.ee_pages.specs.Sets.{first_page, set_of, slots_of, torn_of}
 use Rattle.ee_pages.specs.declared.find.Layout.{Layout}
@@ -111,6 +111,10 @@ up_to_last such (slot ∷ slots) = if list_any such (slot ∷ slots) then suc (u
 -- the slot says that the address has a value, or that it has none
 abbrev pub speaks_of : ℕ → Word → Bool
 speaks_of address slot = is_some (says slot address)
+
+-- the slot says that the address has a value
+abbrev pub gives_to : ℕ → Word → Bool
+gives_to address slot = is_some (value_said (says slot address))
 
 -- the table tells for each number below 65535 how many slots there are up to the last one that speaks of it as an address
 pub record AreSpoken (slots : List Word) (spoken : List ℕ) : Type 0 where

@@ -1,12 +1,13 @@
 //! The command that tells what an image shows.
-ghost use Rattle.std.specs.Prelude.{◌≡◌, ◌≢◌, ◌<◌, ◌≤◌, ◌⊎◌, ◌++◌, ◌==◌, ℕ, false, true, if◌then◌else◌, codes, is_some, length, slice_index_or, Ok, Err, Some, None, IfOk, IfErr, IfSome, OnOk, MatchOption, MatchResult};
+ghost use Rattle.std.specs.Prelude.{◌≡◌, ◌≢◌, ◌<◌, ◌⊎◌, ◌++◌, ◌==◌, ℕ, false, if◌then◌else◌, codes, length, slice_index_or, Ok, Err, Some, None, IfOk, IfErr, IfSome, OnOk, MatchOption, MatchResult};
 ghost use Rattle.ee_text.specs.Line.{line_of};
-ghost use Rattle.ee_flash.specs.Size.{page_count, slot_count};
+ghost use Rattle.ee_flash.specs.Size.{page_count};
+ghost use Rattle.ee_codec.specs.Words.{IsAddress};
 ghost use Rattle.ee_pages.specs.Layout.{IsLayout};
-ghost use Rattle.ee_pages.specs.Meaning.{live_in, meaning, says, value_said};
+ghost use Rattle.ee_pages.specs.Meaning.{live_in, meaning};
 ghost use Rattle.ee_pages.specs.Page.{is_torn as torn};
 ghost use Rattle.ee_image_store.specs.FileFaults.{IsReadingFault};
-ghost use Rattle.ee_part.specs.Inspecting.{AreFindings, AreSpoken, IsInspected, doubt_line, doubt_lines, each_below, found_lines, is_before, live_slots, parts_text, place_name, scan_words, set_number, set_text, slots_text, speaks_of, torn_line, torn_lines, up_to_last, usage_in};
+ghost use Rattle.ee_part.specs.Inspecting.{AreFindings, AreSpoken, IsInspected, doubt_line, doubt_lines, each_below, found_lines, gives_to, is_before, live_slots, parts_text, place_name, scan_words, set_number, set_text, slots_text, speaks_of, torn_line, torn_lines, up_to_last, usage_in};
 
 use crate::image::read_part;
 use ee_codec::{Slot, read_slot};
@@ -153,32 +154,42 @@ fn count_live<F: Flash>(flash: &F, layout: &Layout, spoken: &[usize]) -> usize
     requires spoken { AreSpoken (live_slots (F.device flash.now) layout.now) spoken.now }
     ensures { result ≡ live_in (meaning (live_slots (F.device flash.now) layout.now)) }
 {
+    // A look for each used slot, of which there may be far fewer than addresses.
     let mut count = 0;
-    'addresses: for address in 1..spoken.len() {
-        if has_value(flash, layout, spoken[address]) {
+    'slots: for slot in 0..layout.fill {
+        let address = valued_address(slot_word(flash, layout, slot));
+        if is_last_of(address, slot + 1, spoken) {
             count += 1;
         }
     }
     count
 }
 
-/// Whether an address has a value, by how many slots there are up to the last one that speaks of it, 0 if
-/// none does.
-fn has_value<F: Flash>(flash: &F, layout: &Layout, spoken: usize) -> bool
-    requires layout { IsLayout (F.device flash.now) layout.now }
-    requires spoken_in_range { spoken ≤ slot_count (F.device flash.now).size }
-    ensures { let slots = live_slots (F.device flash.now) layout.now in (address : ℕ)
-        → spoken ≡ up_to_last (speaks_of address) slots → result ≡ is_some (meaning slots address) }
+/// Whether there is an address, and the last slot that speaks of it is the last of so many.
+fn is_last_of(address: Option<usize>, count: usize, spoken: &[usize]) -> bool
+    requires long { length spoken.now ≡ 65535 }
+    requires proper { IfSome address (λ named. IsAddress named) }
+    ensures { MatchOption address
+        (result ≡ false)
+        (λ named. result ≡ (slice_index_or spoken.now named 0 == count)) }
 {
-    spoken > 0 && gives_value(slot_word(flash, layout, spoken - 1))
+    match address {
+        Some(named) => spoken[named] == count,
+        None => false,
+    }
 }
 
-/// Whether a slot gives the address of which it speaks a value.
-fn gives_value(word: Word) -> bool
-    ensures { (address : ℕ) → speaks_of address word ≡ true
-        → result ≡ is_some (value_said (says word address)) }
+/// The address to which a slot gives a value.
+fn valued_address(word: Word) -> Option<usize>
+    ensures proper { IfSome result (λ named. IsAddress named) }
+    ensures gives { MatchOption result
+        ((address : ℕ) → gives_to address word ≡ false)
+        (λ named. (address : ℕ) → gives_to address word ≡ (named == address)) }
 {
-    matches!(read_slot(word), Slot::Element { .. })
+    let Slot::Element { address, .. } = read_slot(word) else {
+        return None;
+    };
+    Some(usize::from(address.get()))
 }
 
 /// Which of the two sets it is.

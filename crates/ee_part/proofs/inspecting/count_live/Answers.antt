@@ -1,49 +1,41 @@
-use Rattle.std.proofs.Common.{◌≡◌, ◌∙◌, ◌+◌, ◌-◌, ap, arith, cond, sym}
-use Rattle.ee_pages.specs.Meaning.{Map, live_to, meaning}
-use Rattle.ee_pages.proofs.Public.{length-slots, live_to-zero}
+use Rattle.std.proofs.Common.{◌∙◌, ◌+◌, ap, arith, cond, refl, sym}
 use Rattle.ee_part.specs.Inspecting.{live_slots, speaks_of}
-use Rattle.ee_part.proofs.Counting.{counted_more}
-use Rattle.ee_part.proofs.Doubts.{last_within}
+use Rattle.ee_part.proofs.Counting.{all_counted, counted_more, none_counted}
+use Rattle.ee_part.proofs.Inspections.{last_in_fill, slot_in_range}
 use Rattle.ee_part.proofs.inspecting.count_live.Goals as goal
-use Rattle.ee_part.proofs.inspecting.count_live.Goals.{then-has_value, else-has_value}
+use Rattle.ee_part.proofs.inspecting.count_live.Goals.{then-is_last_of, else-is_last_of}
 
-pub addresses-init : goal.addresses-init
-addresses-init g c = record {
+pub slots-init : goal.slots-init
+slots-init g c = record {
   few = omega arith;
-  counted = sym (live_to-zero (meaning (live_slots (g.F.Flash.device c.args.flash.now) c.args.layout.now)));
+  counted = none_counted (live_slots (g.F.Flash.device c.args.flash.now) c.args.layout.now);
 }
 
-pub has_value-requires-clause-spoken_in_range : goal.has_value-requires-clause-spoken_in_range
-has_value-requires-clause-spoken_in_range g c =
-    let device = g.F.Flash.device c.args.flash.now in
-    let slots = live_slots device c.args.layout.now in
-    let last = c.requires.spoken.each c.addresses.address (omega (arith, c.requires.spoken.long)) in
-    omega (
-      arith,
-      last,
-      last_within (speaks_of c.addresses.address) slots,
-      length-slots c.args.layout.now.side device c.requires.layout.live.formed,
-    )
+pub slot_word-requires-clause-slot_in_range : goal.slot_word-requires-clause-slot_in_range
+slot_word-requires-clause-slot_in_range g c =
+    slot_in_range (g.F.Flash.device c.args.flash.now) c.args.layout.now c.requires.layout c.slots.slot c.slots-test.true
 
-pub addresses-preserved : goal.addresses-preserved
-addresses-preserved g c =
-    let map : Map = meaning (live_slots (g.F.Flash.device c.args.flash.now) c.args.layout.now) in
-    let valued = c.has_value.ensures c.addresses.address (c.requires.spoken.each c.addresses.address (omega (arith, c.requires.spoken.long))) in
-    let more = counted_more map c.addresses.address c.addresses.count c.has_value.result c.addresses.auto.address
-    c.addresses.invariant.counted valued in
-    elim c.if-has_value.branch [
-      | then-has_value w ↦ record {
+pub slots-preserved : goal.slots-preserved
+slots-preserved g c =
+    let slots = live_slots (g.F.Flash.device c.args.flash.now) c.args.layout.now in
+    let more = counted_more slots c.slots.slot c.slot_word.result c.args.spoken.now c.valued_address-address.result c.is_last_of.result
+    c.slots.count c.slot_word.ensures c.requires.spoken c.valued_address-address.ensures.proper c.valued_address-address.ensures.gives
+    c.is_last_of.ensures c.slots.invariant.counted in
+    elim c.if-is_last_of.branch [
+      | then-is_last_of w ↦ record {
         few = omega arith;
-        counted = w.count-is ∙ ap (λ b. cond b (c.addresses.count + 1) c.addresses.count) (sym w.if-has_value.true) ∙ more;
+        counted = w.count-is ∙ ap (λ b. cond b (c.slots.count + 1) c.slots.count) (sym w.if-is_last_of.true) ∙ more;
       }
-      | else-has_value w ↦ record {
+      | else-is_last_of w ↦ record {
         few = omega arith;
-        counted = w.count-is ∙ ap (λ b. cond b (c.addresses.count + 1) c.addresses.count) (sym w.if-has_value.false) ∙ more;
+        counted = w.count-is ∙ ap (λ b. cond b (c.slots.count + 1) c.slots.count) (sym w.if-is_last_of.false) ∙ more;
       }
     ]
 
 pub returns : goal.returns
 returns g c =
-    let slots = live_slots (g.F.Flash.device c.args.flash.now) c.args.layout.now in
-    let all : c.addresses.address - 1 ≡ 65534 = omega (arith, c.requires.spoken.long) in
-    c.addresses.invariant.counted ∙ ap (live_to (meaning slots)) all
+    let device = g.F.Flash.device c.args.flash.now in
+    let slots = live_slots device c.args.layout.now in
+    c.slots.invariant.counted
+    ∙ all_counted slots c.slots.slot (λ address.
+    last_in_fill device c.args.layout.now c.requires.layout (speaks_of address) c.slots.slot refl (omega arith))

@@ -1,11 +1,12 @@
-use Rattle.std.proofs.Common.{◌≡◌, ◌<◌, ◌-◌}
-use Rattle.ee_pages.specs.Meaning.{live_to, meaning}
+use Rattle.std.proofs.Common.{◌≡◌, ◌≤◌}
+use Rattle.ee_pages.specs.Meaning.{live_in}
 use Rattle.ee_part.specs.Inspecting.{live_slots}
+use Rattle.ee_part.proofs.Counting.{settled}
 use Rattle.ee_part.proofs.inspecting.count_live.Given as goal
 
--- those of the addresses so far that have a value are counted
-abbrev pub invariant-addresses : goal.invariant-addresses
-invariant-addresses g l = record {
-  few : l.count < l.address;
-  counted : l.count ≡ live_to (meaning (live_slots (g.F.Flash.device l.flash) l.layout)) (l.address - 1);
+-- those of the slots so far that are the last to speak of an address, and give it a value, are counted
+abbrev pub invariant-slots : goal.invariant-slots
+invariant-slots g l = record {
+  few : l.count ≤ l.slot;
+  counted : l.count ≡ live_in (settled (live_slots (g.F.Flash.device l.flash) l.layout) l.slot);
 }
