@@ -247,6 +247,54 @@ def damaged(dice, text):
     return dice.randbytes(dice.choice([1, 10, 100, 5000]))
 
 
+def spread_addresses(dice, count):
+    """So many addresses: side by side, each alone among 256, in groups, or anywhere."""
+    kind = dice.randrange(4)
+    if kind == 0:
+        first = dice.randrange(1, 65535 - count)
+        return list(range(first, first + count))
+    if kind == 1 and count <= 255:
+        return [256 * row + dice.randrange(1, 255) for row in dice.sample(range(255), count)]
+    if kind == 2:
+        rows = dice.sample(range(256), max(1, count // 10))
+        return dice.sample([a for row in rows for a in range(256 * row, 256 * row + 256) if 0 < a < 65535], count)
+    return dice.sample(range(1, 65535), count)
+
+
+def long_script(dice, addresses, lines):
+    """Many lines, some addresses more often than others; with no cut, or with cuts that come early, late, or in the midst
+    alone."""
+    weights = dice.choice([{"w": 90, "r": 10}, {"w": 50, "r": 45, "f": 5}, {"r": 95, "w": 5}, {"w": 45, "f": 45, "r": 10},
+                           {"w": 30, "f": 5, "r": 60, "c": 5}])
+    often = dice.sample(addresses, max(1, len(addresses) // 16))
+    among = [dice.choice([addresses, often]) for _ in range(7)]
+    apart = dice.choice([0, 0, 25, 60, 300])
+    near = dice.choice([10, 60, 400])
+    cuts = range(lines // 3, 2 * lines // 3) if dice.random() < 0.4 else range(lines)
+    script = []
+    for line, kind in enumerate(dice.choices(list(weights), list(weights.values()), k=lines)):
+        if apart and line in cuts and line % apart == apart - 1:
+            cut = [f"x {dice.randrange(1, near)} {dice.choice('ndtm')}", "p"]
+            script += cut if dice.random() < 0.7 else cut[::-1]
+        script.append(random_command(dice, kind, dice.choice(among)))
+    return script_text(*script, *dice.choice([[], ["p"]]))
+
+
+def choosing_case(seed, number):
+    """Case `number` of a seed in which `ee run` has reason to make an index, or hardly none: about as many live addresses
+    as are counted sooner by one, sets that are full of them or hardly used, and scripts on both sides of when looking has
+    cost enough."""
+    dice = random.Random(f"{seed} choosing {number}")
+    pages, words = dice.choice([(1, 244), (1, 250), (1, 260), (2, 132), (4, 68), (1, 512), (2, 512), (8, 512)])
+    slots = pages * (words - 4)
+    count = min(slots, dice.choice([2, 17, 100, 144, 230, 239, 240, 241, 256, 300, slots - 1, slots]))
+    addresses = spread_addresses(dice, count)
+    filled = script_text(*(f"w {address} {random_value(dice)}" for address in addresses))
+    again = [filled] * dice.choice([1, 1, 2])
+    scripts = [long_script(dice, addresses, dice.choice([50, 400, 1500, 4000])) for _ in range(dice.choice([1, 1, 2]))]
+    return Case(f"seed {seed} choosing {number}", worked.formatted(pages, words), [b"".join(again)] + scripts)
+
+
 def random_case(seed, number):
     """Case `number` of a seed, always the same one."""
     dice = random.Random(f"{seed} {number}")

@@ -1,17 +1,50 @@
 -- How the entries of an index are gone over in order.
-use Rattle.std.proofs.Common.{◌≡◌, inl, inr, ℕ, ◌+◌, ◌<◌, ◌≤◌, IfSome, true, false, Option, Some, None, is_some, List, [], ◌∷◌, get_or, refl, sym, subst, ap, ◌∙◌, arith, rules}
-use Rattle.std.proofs.lemmas.Bool.{cases_eq, cases_lt, eqb-true, ne_eqb}
+use Rattle.std.proofs.Common.{◌≡◌, ◌≢◌, ◌⊎◌, inl, inr, ℕ, ◌<◌, Bool, ◌&&◌, cond, IfSome, true, false, Option, Some, None, is_some, List, [], ◌∷◌, get_or, refl, sym, subst, ap, ◌∙◌, arith, rules}
+use Rattle.std.proofs.lemmas.Bool.{cases_eq, eqb-true, ne_eqb}
 use Rattle.std.proofs.lemmas.Grind.{common_steps}
-use Rattle.std.proofs.lemmas.Map.Keys.{sorted_tail}
+use Rattle.std.proofs.lemmas.List.Kept.{IsStrictlySortedBy-filter}
+use Rattle.std.proofs.lemmas.Map.Entries.{lookup-filter-keys}
+use Rattle.std.proofs.lemmas.Map.Keys.{sorted_head, sorted_tail}
+use Rattle.std.specs.BTreeMap.{is_at}
+use Rattle.std.specs.BTreeMap.Range.{entries_between, range_contains}
+use Rattle.std.specs.Cmp.{nat_cmp_is, ranked}
+use Rattle.std.specs.List.{AllByRecursion, filter}
 use Rattle.std.specs.List.Sorted.{IsStrictlySortedBy}
 use Rattle.std.specs.Map.{keys_of}
-use Rattle.std.specs.Ordering.{nat_cmp}
+use Rattle.std.specs.Ordering.{is_eq, is_lt, nat_cmp}
+use Rattle.std.specs.declared.cmp.Ordering.{Ordering}
+use Rattle.std.specs.declared.cmp.Ordering.TheVariants.{Less, Equal, Greater}
+use Rattle.std.specs.declared.ops.Bound.{Bound}
+use Rattle.std.specs.declared.ops.Bound.TheVariants.{Unbounded}
+use Rattle.ee_codec.specs.Words.{IsAddress}
 use Rattle.ee_flash.specs.declared.word.Word.{Word}
 use Rattle.ee_flash.specs.declared.word.Word.TheVariants.{Erased}
 use Rattle.ee_pages.specs.Meaning.{IsNextLive, Map, above_of, meaning, says}
-use Rattle.ee_index.specs.Index.{IsIndex, IsLeft, IsNextShown, entries_left, is_first, said_at, shown_index, slot_for}
-use Rattle.ee_index.proofs.Entries.{absent_to, left_here, left_ordered, left_passed, none_unless, put_elsewhere, put_there}
-use Rattle.ee_index.proofs.Indexing.{Stands, nothing_if, stands_if}
+use Rattle.ee_index.specs.Index.{IsIndex, IsLeft, IsNextShown, bound_above, is_first, said_at, shown_index, slot_for}
+use Rattle.ee_index.proofs.IndexedStores.{as_put, says_proper}
+use Rattle.ee_index.proofs.Indexing.{Stands, nothing_if, stands, stands_if}
+
+-- ---- entries in order
+
+pub put_there : (first : ℕ × ℕ) (rest : List (ℕ × ℕ)) (address : ℕ) → first.0 ≡ address → slot_for (first ∷ rest) address ≡ Some first.1
+put_there first rest address same = as_put first rest address ∙ grind (arith, common_steps, same)
+
+pub put_elsewhere : (first : ℕ × ℕ) (rest : List (ℕ × ℕ)) (address : ℕ) → first.0 ≢ address → slot_for (first ∷ rest) address ≡ slot_for rest address
+put_elsewhere first rest address apart = as_put first rest address ∙ grind (arith, common_steps, apart)
+
+pub held_above : (named : ℕ) (entries : List (ℕ × ℕ)) → AllByRecursion (λ key. nat_cmp named key ≡ Less) (keys_of entries) → (address : ℕ) → is_some (slot_for entries address) ≡ true → named < address
+held_above named [] above address held = absurd (cc held)
+held_above named (first ∷ rest) above address held = elim (cases_eq first.0 address) [
+  | inl same ↦ let here = ranked named first.0 Less (sym above.0) in omega (arith, here, same)
+  | inr apart ↦ held_above named rest above.1 address (sym (ap is_some (put_elsewhere first rest address apart)) ∙ held)
+]
+
+pub absent_to : (first : ℕ × ℕ) (rest : List (ℕ × ℕ)) → IsStrictlySortedBy nat_cmp (keys_of (first ∷ rest)) → (address : ℕ) → is_some (slot_for rest address) ≡ true → first.0 < address
+absent_to first rest sorted = held_above first.0 rest (sorted_head nat_cmp first.0 (keys_of rest) sorted)
+
+pub none_unless : (held : Option ℕ) → (is_some held ≡ true → ⊥) → held ≡ None
+none_unless None none = refl
+none_unless (Some slot) none = absurd (none refl)
 
 -- ---- what is seen while an address is hidden
 
@@ -100,34 +133,87 @@ module _ (slots : List Word) (hidden after : Option ℕ) (entries left : List (�
   pub shown_left : (found : ℕ × ℕ) → IsNextShown hidden entries (Some found) left → IsLeft slots hidden (Some found.0) left
   shown_left found next = left_behind_next slots hidden after found left (before_next slots hidden after entries left found so_far next).0
 
--- ---- the entries from an address on
+-- ---- before the first
 
-part_behind : (start : ℕ) (entries : List (ℕ × ℕ)) → IsStrictlySortedBy nat_cmp (keys_of entries) → (address : ℕ) → is_some (slot_for (entries_left start entries) address) ≡ true → start ≤ address
-part_behind start [] sorted address held = absurd (cc held)
-part_behind start (first ∷ rest) sorted address held = elim (cases_lt first.0 start) [
-  | inl low ↦ part_behind start rest (sorted_tail nat_cmp first.0 (keys_of rest) sorted) address (sym (ap (λ (entries : List (ℕ × ℕ)). is_some (slot_for entries address)) (left_passed start first rest low)) ∙ held)
-  | inr high ↦
-      let some = sym (ap (λ (entries : List (ℕ × ℕ)). is_some (slot_for entries address)) (left_here start first rest high)) ∙ held in elim (cases_eq first.0 address) [
-        | inl same ↦ omega (arith, high, same)
-        | inr apart ↦ let above = absent_to first rest sorted address (sym (ap is_some (put_elsewhere first rest address apart)) ∙ some) in omega (arith, high, above)
-      ]
-]
+pub stands_proper : (slots : List Word) (address number : ℕ) → Stands slots address number → IsAddress address
+stands_proper slots address number here = says_proper (get_or slots number Erased) address (Some here.value) here.says_so
 
-part_same : (start : ℕ) (entries : List (ℕ × ℕ)) (address : ℕ) → start ≤ address → slot_for (entries_left start entries) address ≡ slot_for entries address
-part_same start [] address h = refl
-part_same start (first ∷ rest) address h = elim (cases_lt first.0 start) [
-  | inl low ↦
-      ap (λ (entries : List (ℕ × ℕ)). slot_for entries address) (left_passed start first rest low)
-      ∙ part_same start rest address h
-      ∙ sym (put_elsewhere first rest address (λ same. omega (arith, low, h, same)))
-  | inr high ↦ ap (λ (entries : List (ℕ × ℕ)). slot_for entries address) (left_here start first rest high)
-]
+pub hides_proper : (hidden : Option ℕ) (named : ℕ) → IsAddress named → (hidden ≡ None) ⊎ (hidden ≡ Some named) → (address : ℕ) → is_first hidden address ≡ true → 0 < address
+hides_proper hidden named proper (inl none) address hides = let never = rw none at hides in absurd (cc never)
+hides_proper hidden named proper (inr one) address hides = let same = eqb-true named address (rw one at hides) in omega (arith, same, proper.0)
 
-pub left_behind : (slots : List Word) (hidden after : Option ℕ) (entries : List (ℕ × ℕ)) (start : ℕ) → IsStrictlySortedBy nat_cmp (keys_of entries) → start ≡ above_of after + 1 → IsIndex slots (shown_index hidden (slot_for entries)) → IsLeft slots hidden after (entries_left start entries)
-left_behind slots hidden after entries start ordered is indexes = record {
-  ordered = left_ordered start entries ordered;
-  behind = λ address held. let h = part_behind start entries ordered address held in omega (arith, h, is);
-  indexes = λ address high.
-      ap (λ slot. said_at slots slot address) (shown_same hidden (slot_for (entries_left start entries)) (slot_for entries) address (part_same start entries address (omega (arith, is, high))))
-      ∙ indexes address;
+pub left_first : (slots : List Word) (hidden : Option ℕ) (entries : List (ℕ × ℕ)) → IsStrictlySortedBy nat_cmp (keys_of entries) → ((address : ℕ) → is_first hidden address ≡ true → 0 < address) → IsIndex slots (shown_index hidden (slot_for entries)) → IsLeft slots hidden None entries
+left_first slots hidden entries ordered proper indexes = record {
+  ordered = ordered;
+  behind = λ address held. from_one address held (is_first hidden address) refl;
+  indexes = λ address high. indexes address;
 }
+  where
+    some_held : (held : Option ℕ) → is_some held ≡ true → (number : ℕ) × (held ≡ Some number)
+    some_held None e = absurd (cc e)
+    some_held (Some number) e = (number, refl)
+
+    from_one : (address : ℕ) → is_some (slot_for entries address) ≡ true → (hides : Bool) → is_first hidden address ≡ hides → 0 < address
+    from_one address held true is = proper address is
+    from_one address held false is =
+        let slot = some_held (slot_for entries address) held in
+        let here = stands slots (shown_index hidden (slot_for entries)) indexes address slot.0 (shown_here hidden (slot_for entries) address is ∙ slot.1) in
+        (stands_proper slots address slot.0 here).0
+
+-- ---- before the first behind an address
+
+keys_kept : (test : ℕ → Bool) (entries : List (ℕ × ℕ)) → keys_of (filter (λ entry. test entry.0) entries) ≡ filter test (keys_of entries)
+keys_kept test [] = refl
+keys_kept test (first ∷ rest) = kept (test first.0) (keys_kept test rest)
+  where
+    kept : (b : Bool) → keys_of (filter (λ entry. test entry.0) rest) ≡ filter test (keys_of rest)
+        → keys_of (cond b (first ∷ filter (λ entry. test entry.0) rest) (filter (λ entry. test entry.0) rest)) ≡ cond b (first.0 ∷ filter test (keys_of rest)) (filter test (keys_of rest))
+    kept true e = ap (λ (keys : List ℕ). first.0 ∷ keys) e
+    kept false e = e
+
+same_if : (address key : ℕ) (answer : Ordering) → answer ≡ nat_cmp address key → is_eq answer ≡ true → address ≡ key
+same_if address key Less e same = absurd (cc same)
+same_if address key Equal e same = ranked address key Equal e
+same_if address key Greater e same = absurd (cc same)
+
+above_if : (from address : ℕ) (answer : Ordering) → answer ≡ nat_cmp from address → (is_lt answer && true) ≡ true → from < address
+above_if from address Less e above = ranked from address Less e
+above_if from address Equal e above = absurd (cc above)
+above_if from address Greater e above = absurd (cc above)
+
+-- whether a reader that begins behind this address comes to that one
+abbrev comes_to : Option ℕ → ℕ → Bool
+comes_to after = range_contains nat_cmp (bound_above after) Unbounded
+
+comes_above : (after : Option ℕ) (address : ℕ) → above_of after < address → comes_to after address ≡ true
+comes_above None address high = refl
+comes_above (Some from) address high = ap (λ (answer : Ordering). is_lt answer && true) (sym (nat_cmp_is from address Less high))
+
+module _ (slots : List Word) (entries : List (ℕ × ℕ)) (ordered : IsStrictlySortedBy nat_cmp (keys_of entries)) (indexes : IsIndex slots (slot_for entries)) where
+  abbrev part : Option ℕ → List (ℕ × ℕ)
+  part after = entries_between nat_cmp (bound_above after) Unbounded entries
+
+  slot_in_part : (after : Option ℕ) (address : ℕ) → slot_for (part after) address ≡ cond (comes_to after address) (slot_for entries address) None
+  slot_in_part after address =
+      lookup-filter-keys (is_at (nat_cmp address)) (comes_to after) (comes_to after address) (λ key same. ap (comes_to after) (sym (same_if address key (nat_cmp address key) refl same))) entries
+
+  part_above : (after : Option ℕ) (address : ℕ) → is_some (slot_for (part after) address) ≡ true → above_of after < address
+  part_above None address held = (left_first slots None entries ordered (λ named never. absurd (cc never)) indexes).behind address (sym (ap is_some (slot_in_part None address)) ∙ held)
+  part_above (Some from) address held = if_comes (comes_to (Some from) address) refl (sym (ap is_some (slot_in_part (Some from) address)) ∙ held)
+    where
+      if_comes : (comes : Bool) → comes_to (Some from) address ≡ comes → is_some (cond comes (slot_for entries address) None) ≡ true → from < address
+      if_comes true is held = above_if from address (nat_cmp from address) refl is
+      if_comes false is held = absurd (cc held)
+
+  part_left : (after : Option ℕ) → IsLeft slots None after (part after)
+  part_left after = record {
+    ordered = subst (λ (keys : List ℕ). IsStrictlySortedBy nat_cmp keys) (sym (keys_kept (comes_to after) entries)) (IsStrictlySortedBy-filter nat_cmp (comes_to after) (keys_of entries) ordered);
+    behind = part_above after;
+    indexes = λ address high.
+        ap (λ slot. said_at slots slot address) (slot_in_part after address ∙ ap (λ (comes : Bool). cond comes (slot_for entries address) None) (comes_above after address high))
+        ∙ indexes address;
+  }
+
+  pub left_behind : (after : Option ℕ) (start : Bound ℕ) (found : List (ℕ × ℕ)) → start ≡ bound_above after → found ≡ entries_between nat_cmp start Unbounded entries → IsLeft slots None after found
+  left_behind after start found begins is =
+      subst (λ (found : List (ℕ × ℕ)). IsLeft slots None after found) (sym (is ∙ ap (λ (start : Bound ℕ). entries_between nat_cmp start Unbounded entries) begins)) (part_left after)

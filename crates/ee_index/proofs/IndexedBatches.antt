@@ -1,5 +1,5 @@
 -- A batch of live addresses, found one after another.
-use Rattle.std.proofs.Common.{◌≡◌, ℕ, ◌<◌, ◌≤◌, true, Option, Some, None, is_some, List, [], ◌∷◌, ◌++◌, length, refl, sym, subst, ap, arith, rules}
+use Rattle.std.proofs.Common.{◌≡◌, ℕ, ◌<◌, ◌≤◌, true, Option, Some, is_some, List, [], ◌∷◌, ◌++◌, length, refl, sym, subst, arith, rules}
 use Rattle.std.proofs.lemmas.List.Elements.{All-append}
 use Rattle.std.specs.List.{All}
 use Rattle.ee_codec.specs.Words.{IsAddress}
@@ -35,8 +35,3 @@ pushed map after behind found all address value is so_far more = subst (λ (item
 
 pub proper_pushed : (found all : List (ℕ × ℕ)) (one : ℕ × ℕ) → all ≡ found ++ (one ∷ []) → All (λ (found : ℕ × ℕ). IsAddress found.0) found → IsAddress one.0 → All (λ (found : ℕ × ℕ). IsAddress found.0) all
 proper_pushed found all one is so_far proper = subst (λ (items : List (ℕ × ℕ)). All (λ (found : ℕ × ℕ). IsAddress found.0) items) (sym is) (All-append (λ (found : ℕ × ℕ). IsAddress found.0) found (one ∷ []) so_far (one_proper one proper))
-
--- a cursor behind an address has given it
-pub given_last : (behind : Option ℕ) (address : ℕ) → above_of behind ≡ address → IsAddress address → behind ≡ Some address
-given_last None address e proper = absurd (omega (arith, e, proper.0))
-given_last (Some last) address e proper = ap (λ (n : ℕ). Some n) e

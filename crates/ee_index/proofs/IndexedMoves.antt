@@ -25,8 +25,7 @@ use Rattle.ee_core.specs.Parts.{put_words}
 use Rattle.ee_core.specs.Picture.{IsDrawn, elements_of, elements_to, filled_set, moved_words}
 use Rattle.ee_core.proofs.Public.{forget-at, forget-other, next_element, no_words, none_between, elements_front}
 use Rattle.ee_index.specs.Index.{HasPut, IsIndex, behind_first, is_first, numbered_slots, put_of, said_at, says_value, shown_index, slot_for, without_forgotten}
-use Rattle.ee_index.proofs.Entries.{absent_to, none_unless, put_elsewhere, put_there}
-use Rattle.ee_index.proofs.Numbering.{numbered_alike}
+use Rattle.ee_index.proofs.IndexReaders.{absent_to, none_unless, put_elsewhere, put_there}
 use Rattle.ee_index.proofs.IndexedAppends.{drawn_slot}
 use Rattle.ee_index.proofs.IndexedStores.{alike_held, says_proper, some_is}
 use Rattle.ee_index.proofs.Indexing.{stands}
@@ -59,7 +58,17 @@ element_says address value proper =
 -- ---- entry by entry
 
 held_as_numbered : (first : Option ℕ) (number : ℕ) (entries : List (ℕ × ℕ)) (address : ℕ) → is_some (slot_for (numbered_slots first number entries) address) ≡ true → is_some (slot_for entries address) ≡ true
-held_as_numbered first number entries address held = sym (numbered_alike first number entries address) ∙ held
+held_as_numbered first number [] address held = held
+held_as_numbered first number (entry ∷ rest) address held = elim (cases_eq entry.0 address) [
+  | inl same ↦ ap is_some (put_there entry rest address same)
+  | inr apart ↦
+      let behind = λ (slot next : ℕ) (is : is_some (slot_for ((entry.0, slot) ∷ numbered_slots first next rest) address) ≡ true).
+      ap is_some (put_elsewhere entry rest address apart) ∙ held_as_numbered first next rest address (sym (ap is_some (put_elsewhere (entry.0, slot) (numbered_slots first next rest) address apart)) ∙ is) in
+      elim (cases_Bool (is_first first entry.0)) [
+        | inl here ↦ behind 0 number (rw here at held)
+        | inr other ↦ behind number (number + 1) (rw other at held)
+      ]
+]
 
 -- the slots behind a transfer, and the map that they hold
 pub record IsMovedTo (first : Option ℕ) (others : Map) (slots front : List Word) : Type 0 where

@@ -1,5 +1,5 @@
 -- What a store with an index reads of it.
-use Rattle.std.proofs.Common.{◌==◌, ◌≡◌, ℕ, ◌<◌, Bool, not, true, false, Option, Some, None, is_some, List, [], ◌∷◌, length, get_or, refl, sym, subst, ap, ◌∙◌, arith, rules}
+use Rattle.std.proofs.Common.{◌==◌, ◌≡◌, ℕ, ◌<◌, Bool, not, true, false, Option, Some, None, is_some, List, [], ◌∷◌, length, get_or, refl, sym, subst, ap, ◌∙◌, arith, suc, zero, rules}
 use Rattle.std.proofs.lemmas.Bool.{cases_eq, eq-eqb, eqb-true}
 use Rattle.std.proofs.lemmas.Bool.Decides.{nat_tests}
 use Rattle.std.proofs.lemmas.Grind.{common_steps}
@@ -17,23 +17,28 @@ use Rattle.ee_flash.specs.declared.word.Word.TheVariants.{Erased, Held, Torn}
 use Rattle.ee_codec.specs.Words.{IsAddress}
 use Rattle.ee_pages.specs.Laws.{KeepsLiveSet}
 use Rattle.ee_pages.specs.Layout.{IsLayout}
-use Rattle.ee_pages.specs.Meaning.{Map, Put, map_after, live_in, meaning, says}
+use Rattle.ee_pages.specs.Meaning.{Map, Put, map_after, live_in, live_to, meaning, says}
 use Rattle.ee_pages.specs.Sets.{set_of, slots_of}
 use Rattle.ee_pages.specs.declared.find.Layout.{Layout}
-use Rattle.ee_pages.proofs.Public.{change_counts, length-slots}
+use Rattle.ee_pages.proofs.Public.{live_to-suc, live_to-zero, change_counts, length-slots}
 use Rattle.ee_core.specs.Changes.{IsFull}
 use Rattle.ee_core.specs.State.{capacity, state_of}
 use Rattle.ee_core.proofs.Public.{live_in-nothing, same_counts, map_was}
 use Rattle.ee_index.specs.Index.{IsIndex, IsKept, said_at, says_value, slot_for}
-use Rattle.ee_index.proofs.Counted.{alike}
-use Rattle.ee_index.proofs.Entries.{as_put}
 use Rattle.ee_index.proofs.Indexing.{stands}
 
 -- ---- as many entries as live addresses
 
+alike : (first second : Map) → ((address : ℕ) → is_some (first address) ≡ is_some (second address)) → (n : ℕ) → live_to first n ≡ live_to second n
+alike first second same zero = live_to-zero first ∙ sym (live_to-zero second)
+alike first second same (suc n) = search (rules, live_to-suc, (alike first second same n))
+
 pub absent_above : (named : ℕ) (entries : List (ℕ × ℕ)) → AllByRecursion (λ key. nat_cmp named key ≡ Less) (keys_of entries) → slot_for entries named ≡ None
 absent_above named [] above = refl
 absent_above named (first ∷ rest) above = rw above.0 (absent_above named rest above.1)
+
+pub as_put : (first : ℕ × ℕ) (rest : List (ℕ × ℕ)) (address : ℕ) → slot_for (first ∷ rest) address ≡ map_after (Put first.0 first.1) (slot_for rest) address
+as_put first rest address = search (rules, cases_eq, common_steps, nat_tests)
 
 put_has : (named slot : ℕ) (index : Map) → is_some (map_after (Put named slot) index named) ≡ true
 put_has named slot index = grind (arith, common_steps)
@@ -41,7 +46,7 @@ put_has named slot index = grind (arith, common_steps)
 put_keeps : (named slot address : ℕ) (index : Map) → is_some (index address) ≡ true → is_some (map_after (Put named slot) index address) ≡ true
 put_keeps named slot address index held = search (rules, cases_eq, common_steps)
 
-pub count_of : (entries : List (ℕ × ℕ)) → IsStrictlySortedBy nat_cmp (keys_of entries) → ((address : ℕ) → is_some (slot_for entries address) ≡ true → IsAddress address) → length entries ≡ live_in (slot_for entries)
+count_of : (entries : List (ℕ × ℕ)) → IsStrictlySortedBy nat_cmp (keys_of entries) → ((address : ℕ) → is_some (slot_for entries address) ≡ true → IsAddress address) → length entries ≡ live_in (slot_for entries)
 count_of [] sorted proper = live_in-nothing (slot_for []) (λ address. refl)
 count_of (first ∷ rest) sorted proper =
     let new : slot_for rest first.0 ≡ None = absent_above first.0 rest (sorted_head nat_cmp first.0 (keys_of rest) sorted) in
@@ -112,6 +117,3 @@ module _ (device : Device) (layout : Layout) (entries : List (ℕ × ℕ)) (kept
 -- where the live set stays, the index does
 pub kept_on : (old new : Device) (layout : Layout) (entries : List (ℕ × ℕ)) → KeepsLiveSet old new layout.side layout.generation → IsKept old layout entries → IsLayout new layout → IsKept new layout entries
 kept_on old new layout entries keeps kept found = record { found = found; indexes = subst (λ (slots : List Word). IsIndex slots (slot_for entries)) (sym keeps.same_slots) kept.indexes }
-
-pub layout_on : (old new : Device) (layout : Layout) → IsLayout old layout → KeepsLiveSet old new layout.side layout.generation → IsLayout new layout
-layout_on old new layout found keeps = search rules

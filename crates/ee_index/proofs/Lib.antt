@@ -1,10 +1,4 @@
-mod Marking
-mod Tables
-mod Entries
-mod Counted
 mod Numbering
-mod NumberedRows
-mod Renumbering
 mod Indexing
 mod IndexedStores
 mod IndexReaders

@@ -1,10 +1,12 @@
 -- The index of a store that keeps one: the slots in which the live addresses stand.
-use Rattle.std.specs.Prelude.{◌≡◌, ◌<◌, ◌⊎◌, ℕ, ◌+◌, ◌==◌, nat_lt, if◌then◌else◌, is_some, Bool, true, false, Option, Some, None, List, [], ◌∷◌, slice_index_or}
+use Rattle.std.specs.Prelude.{◌≡◌, ◌<◌, ◌⊎◌, ℕ, ◌+◌, ◌==◌, if◌then◌else◌, is_some, Bool, true, false, Option, Some, None, List, [], ◌∷◌, slice_index_or}
 use Rattle.std.specs.BTreeMap.{is_at}
 use Rattle.std.specs.List.Sorted.{IsStrictlySortedBy}
 use Rattle.std.specs.Map.{keys_of, lookup}
 use Rattle.std.specs.Option.{option_map}
 use Rattle.std.specs.Ordering.{nat_cmp}
+use Rattle.std.specs.declared.ops.Bound.{Bound}
+use Rattle.std.specs.declared.ops.Bound.TheVariants.{Excluded, Unbounded}
 use Rattle.ee_flash.specs.Device.{Device}
 use Rattle.ee_flash.specs.declared.word.Word.{Word}
 use Rattle.ee_flash.specs.declared.word.Word.TheVariants.{Erased}
@@ -97,11 +99,6 @@ abbrev pub shown_index : Option ℕ → Map → Map
 shown_index None index = index
 shown_index (Some hidden) index = map_after (Forget hidden) index
 
--- the entries from this address on, where they are in order
-abbrev pub entries_left : ℕ → List (ℕ × ℕ) → List (ℕ × ℕ)
-entries_left start [] = []
-entries_left start (entry ∷ more) = if nat_lt entry.0 start then entries_left start more else entry ∷ more
-
 -- what is left of the entries, behind this address, to go over
 pub record IsLeft (slots : List Word) (hidden after : Option ℕ) (entries : List (ℕ × ℕ)) : Type 0 where
   pub ordered : IsStrictlySortedBy nat_cmp (keys_of entries)
@@ -115,6 +112,11 @@ IsNextShown hidden entries None left = (address : ℕ) → shown_index hidden (s
 IsNextShown hidden entries (Some found) left =
     ((is_first hidden found.0 ≡ false) × (entries ≡ found ∷ left))
     ⊎ ((passed : ℕ × ℕ) × (is_first hidden passed.0 ≡ true) × (entries ≡ passed ∷ found ∷ left))
+
+-- where a reader of an index begins: behind this address, or at the first of all
+abbrev pub bound_above : Option ℕ → Bound ℕ
+bound_above None = Unbounded
+bound_above (Some address) = Excluded address
 
 -- what a store with an index keeps beside its device, which is on: where the live set is, and its index
 pub record IsKept (device : Device) (layout : Layout) (entries : List (ℕ × ℕ)) : Type 0 where

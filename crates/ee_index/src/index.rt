@@ -1,142 +1,263 @@
-//! The index: the slot in which each live address stands, and how many are live.
-ghost use Rattle.std.specs.Prelude.{◌≡◌, ◌<◌, ◌≤◌, ◌+◌, ◌^◌, ℕ, OnErr, OnOk, [], None, is_some, length};
+ghost use Rattle.std.specs.Prelude.{◌≡◌, ◌<◌, ◌+◌, ℕ, IfOk, IfSome, OnOk, [], ◌∷◌, None, Some, false, slice_index_or, true};
+ghost use Rattle.std.specs.List.{All};
+ghost use Rattle.ee_codec.specs.Words.{IsAddress};
+ghost use Rattle.ee_flash.specs.Size.{slot_count};
+ghost use Rattle.ee_pages.specs.Layout.{IsLayout};
+ghost use Rattle.ee_pages.specs.Meaning.{AreLiveThrough, IsNextLive, above_of, says};
+ghost use Rattle.ee_pages.specs.Sets.{set_of, slots_of};
+ghost use Rattle.ee_index.specs.Index.{IsIndex, IsNextShown, behind_first, bound_above, index_with_slot, is_first, numbered_slots, slot_for};
 ghost use Rattle.std.specs.List.Sorted.{IsStrictlySortedBy};
 ghost use Rattle.std.specs.Map.{keys_of};
 ghost use Rattle.std.specs.Ordering.{nat_cmp};
-ghost use Rattle.ee_pages.specs.Meaning.{Forget, Put, above_of, map_after};
-ghost use Rattle.ee_index.specs.Index.{behind_first, entries_left, is_first, numbered_slots, slot_for};
-ghost use Rattle.ee_index.specs.Table.{HasProperAddresses, entries_in, slot_in};
+ghost use Rattle.ee_core.specs.Parts.{map_in};
 
-use crate::table::{Table, TableCursor};
-use ee_codec::Address;
+use ee_codec::{Address, Slot, read_slot};
+use ee_core::inner::LiveCursor;
+use ee_flash::{Flash, Word};
+use ee_pages::{Batch, Layout, LiveBatch, slot_word};
 use std::alloc::{AllocError, Allocator};
-use std::marker::Model;
+use std::collections::BTreeMap;
+use std::collections::btree_map::Iter;
+use std::ops::{Bound, Range};
 
-/// The slot, counted from 0, in which each live address stands: the list of the addresses with their
-/// slots, in order.
-#[derive(Drop)]
-pub(crate) struct Index<A: Allocator> {
-    table: Table<A>,
-    // how many addresses have a slot in the table
-    count: usize,
+/// The slot, counted from 0, in which each live address stands.
+pub(crate) type Index<A> = BTreeMap<Address, usize, A>;
+
+/// The index of a live set: one look at each used slot.
+pub(crate) fn read_index<F: Flash, A: Allocator + Copy>(
+    alloc: A,
+    flash: &F,
+    layout: &Layout,
+) -> Result<Index<A>, AllocError>
+    requires { IsLayout (F.device flash.now) layout.now }
+    ensures { let slots = slots_of (set_of layout.now.side (F.device flash.now)) in
+        IfOk result (λ index. IsIndex slots (slot_for index.entries)) }
+{
+    let mut index = BTreeMap::new(alloc);
+    for number in 0..layout.fill {
+        enter(
+            &mut index,
+            number,
+            read_slot(slot_word(flash, layout, number)),
+        )?;
+    }
+    Ok(index)
 }
 
-impl<A: Allocator> Model for Index<A> {
-    ghost use Rattle.std.specs.Prelude.{List, ℕ};
-    ghost use Rattle.ee_index.specs.Table.{AreCounted, entries_in, slot_in};
-
-    ghost Value = { List (ℕ × ℕ) };
-
-    ghost view = { λ index. entries_in (slot_in index.table) };
-
-    ghost invariant = { λ index. AreCounted (slot_in index.table) index.count };
+// Enters what the slot of this number says.
+fn enter<A: Allocator + Copy>(
+    index: &mut Index<A>,
+    number: usize,
+    said: Slot,
+) -> Result<(), AllocError>
+    ensures { OnOk result ((address : ℕ) → slot_for index.new.entries address
+        ≡ index_with_slot said number (slot_for index.old.entries) address) }
+{
+    match said {
+        Slot::Element { address, .. } => {
+            index.insert(address, number)?;
+        }
+        Slot::Forgotten { address, .. } => {
+            index.remove(&address);
+        }
+        _ => {}
+    }
+    Ok(())
 }
 
-impl<A: Allocator> Index<A> {
-    /// No address is live.
-    pub(crate) fn new(alloc: A) -> Index<A>
-        ensures { result ≡ [] }
-    {
-        Index {
-            table: Table::new(alloc),
-            count: 0,
+/// Gives the addresses of an index, which has those that are live behind a transfer, the slots in
+/// which the transfer put them: `first`, if there is one, stands in the first slot, and behind it
+/// stand the others, by rising address. It takes no memory and doesn't look at the flash.
+pub(crate) fn renumber<A: Allocator>(index: &mut Index<A>, first: Option<Address>)
+    ensures numbered { index.new.entries
+        ≡ numbered_slots first (behind_first first) index.old.entries }
+    ensures ordered { IsStrictlySortedBy nat_cmp (keys_of index.old.entries) }
+{
+    let behind = match first {
+        None => 0,
+        Some(_) => 1,
+    };
+    let mut numbers = behind..behind + index.len();
+    index.retain(|address, slot| {
+        *slot = next_number(&mut numbers, first, *address);
+        true
+    });
+}
+
+// The slot of the next address: `first` has the first slot, and each other takes the next number.
+fn next_number(numbers: &mut Range<usize>, first: Option<Address>, address: Address) -> usize
+    ensures first { is_first first address ≡ true → (result ≡ 0) × (numbers.new ≡ numbers.old) }
+    ensures other { is_first first address ≡ false → numbers.old.start < numbers.old.end
+        → (result ≡ numbers.old.start) × (numbers.new.start ≡ numbers.old.start + 1)
+        × (numbers.new.end ≡ numbers.old.end) }
+{
+    if first == Some(address) {
+        return 0;
+    }
+    numbers.next().unwrap_or(0)
+}
+
+/// The value that the slot of this number says, 0 if it says none.
+pub(crate) fn value_in<F: Flash>(flash: &F, layout: &Layout, number: usize) -> u32
+    requires layout { IsLayout (F.device flash.now) layout.now }
+    requires slot_in_range { number < slot_count (F.device flash.now).size }
+    ensures { let slots = slots_of (set_of layout.now.side (F.device flash.now)) in
+        (address value : ℕ) → says (slice_index_or slots number Word.Erased) address
+        ≡ Some (Some value) → result ≡ value }
+{
+    match read_slot(slot_word(flash, layout, number)) {
+        Slot::Element { value, .. } => value,
+        _ => 0,
+    }
+}
+
+// The first address of an index above `after`, or of all if `after` is `None`, with its slot.
+fn first_above<A: Allocator>(index: &Index<A>, after: Option<Address>) -> Option<(Address, usize)>
+    ensures { IsNextLive (slot_for index.now.entries) (above_of after) result }
+{
+    match index.range((start_above(after), Bound::Unbounded)).next() {
+        None => None,
+        Some((address, number)) => {
+            // No address is 0, where a reader of the map begins.
+            prove!(address.get() > 0);
+            Some((*address, *number))
         }
     }
+}
 
-    /// How many addresses are live.
-    pub(crate) fn len(&self) -> usize
-        ensures len { result ≡ length self.now }
-        ensures ordered { IsStrictlySortedBy nat_cmp (keys_of self.now) }
-    {
-        self.count
+// The bound at which a reader of the map begins.
+fn start_above(after: Option<Address>) -> Bound<Address>
+    ensures { result ≡ bound_above after }
+{
+    match after {
+        None => Bound::Unbounded,
+        Some(address) => Bound::Excluded(address),
     }
+}
 
-    /// The slot of an address, if it is live.
-    pub(crate) fn get(&self, address: Address) -> Option<usize>
-        ensures { result ≡ slot_for self.now address }
-    {
-        self.table.slot_of(address)
-    }
+/// The next live address above `after`, or the first of all if `after` is `None`, with its value, by
+/// an index of the live set.
+pub(crate) fn next_indexed<F: Flash, A: Allocator>(
+    index: &Index<A>,
+    flash: &F,
+    layout: &Layout,
+    after: Option<Address>,
+) -> Option<(Address, u32)>
+    requires layout { IsLayout (F.device flash.now) layout.now }
+    requires index { let slots = slots_of (set_of layout.now.side (F.device flash.now)) in
+        IsIndex slots (slot_for index.now.entries) }
+    ensures next { IsNextLive (map_in layout.now.side (F.device flash.now)) (above_of after)
+        result }
+    ensures proper { IfSome result (λ found. IsAddress found.0) }
+{
+    let Some((address, number)) = first_above(index, after) else {
+        return None;
+    };
+    Some((address, value_in(flash, layout, number)))
+}
 
-    /// Whether an address is live.
-    pub(crate) fn contains(&self, address: Address) -> bool
-        ensures { result ≡ is_some (slot_for self.now address) }
-    {
-        self.get(address).is_some()
-    }
-
-    /// Gives an address a slot. An `Err`, which only a new address meets, leaves the index as it was.
-    pub(crate) fn insert(&mut self, address: Address, slot: usize) -> Result<(), AllocError>
-    where
-        A: Copy,
-        requires { slot + 1 < 2 ^ 32 }
-        ensures put { OnOk result ((named : ℕ) → slot_for self.new named
-            ≡ map_after (Put address slot) (slot_for self.old) named) }
-        ensures absent { OnErr result (slot_for self.old address ≡ None) }
-        ensures err { OnErr result (self.new ≡ self.old) }
-    {
-        if self.table.slot_of(address).is_some() {
-            self.table.put(address, slot);
-            return Ok(());
-        }
-        self.table.enter(address, slot)?;
-        self.count += 1;
-        Ok(())
-    }
-
-    /// Takes an address from the index, if it is there.
-    pub(crate) fn remove(&mut self, address: Address)
-    where
-        A: Copy,
-        ensures { (named : ℕ) → slot_for self.new named
-            ≡ map_after (Forget address) (slot_for self.old) named }
-    {
-        if self.table.slot_of(address).is_some() {
-            self.table.clear(address);
-            self.count -= 1;
-        }
-    }
-
-    /// Takes all addresses from the index. The room that they had stays, until it is released.
-    pub(crate) fn clear(&mut self)
-        ensures { self.new ≡ [] }
-    {
-        self.table.clear_all();
-        self.count = 0;
-    }
-
-    /// Gives back the room of addresses that are no longer there.
-    pub(crate) fn release(&mut self)
-    where
-        A: Copy,
-        ensures { self.new ≡ self.old }
-    {
-        self.table.release();
-    }
-
-    /// Before the first live address above `after`, or before the first of all if `after` is `None`.
-    #[inline(always)]
-    pub(crate) fn cursor(&self, after: &Option<Address>) -> TableCursor<'_, A>
-        ensures left { result ≡ entries_left (above_of after.now + 1) self.now }
-        ensures ordered { IsStrictlySortedBy nat_cmp (keys_of self.now) }
-    {
-        let start = match after {
-            None => 1,
-            Some(address) => address.get() as usize + 1,
+/// The next live addresses above `after`, or the first of all if `after` is `None`, with their
+/// values, by an index of the live set: as many as a batch takes.
+pub(crate) fn batch_indexed<F: Flash, A: Allocator>(
+    index: &Index<A>,
+    flash: &F,
+    layout: &Layout,
+    after: Option<Address>,
+) -> LiveBatch
+    requires layout { IsLayout (F.device flash.now) layout.now }
+    requires index { let slots = slots_of (set_of layout.now.side (F.device flash.now)) in
+        IsIndex slots (slot_for index.now.entries) }
+    ensures live { AreLiveThrough (map_in layout.now.side (F.device flash.now)) (above_of after)
+        result.found.items result.through }
+    ensures proper { All (λ found. IsAddress found.0) result.found.items }
+{
+    let mut found = Batch::new();
+    let mut behind = after;
+    // One search finds where the batch begins, and each further address stands behind the last.
+    let mut entries = index.range((start_above(after), Bound::Unbounded));
+    'batch: while !found.is_full() {
+        let Some((address, number)) = entries.next() else {
+            return LiveBatch {
+                found,
+                through: None,
+            };
         };
-        self.table.cursor(start)
+        found.push((*address, value_in(flash, layout, *number)));
+        behind = Some(*address);
     }
+    LiveBatch {
+        found,
+        through: behind,
+    }
+}
 
-    /// Gives the addresses, which are those that are live behind a transfer, the slots in which the
-    /// transfer put them: `first`, if there is one, stands in the first slot, and behind it stand the
-    /// others, by rising address. It takes no memory and doesn't look at the flash.
-    pub(crate) fn renumber(&mut self, first: Option<Address>)
-    where
-        A: Copy,
-        ensures numbered { (address : ℕ) → slot_for self.new address
-            ≡ slot_for (numbered_slots first (behind_first first) self.old) address }
-        ensures ordered { IsStrictlySortedBy nat_cmp (keys_of self.old) }
+/// Goes over the live addresses by an index. A hidden address, which has no value yet, is passed
+/// over.
+#[derive(Drop)]
+pub(crate) struct IndexCursor<'a> {
+    /// The entries that are left.
+    entries: Iter<'a, Address, usize>,
+    hidden: Option<Address>,
+    /// The address given last.
+    after: Option<Address>,
+}
+
+impl<'a> IndexCursor<'a> {
+    /// Before the first.
+    pub(crate) fn new<A: Allocator>(index: &'a Index<A>, hidden: Option<Address>) -> IndexCursor<'a>
+        ensures entries { result.entries ≡ index.now.entries }
+        ensures ordered { IsStrictlySortedBy nat_cmp (keys_of index.now.entries) }
+        ensures hidden { result.hidden ≡ hidden }
+        ensures first { result.after ≡ None }
     {
-        self.table.renumber(first);
+        IndexCursor {
+            entries: index.iter(),
+            hidden,
+            after: None,
+        }
+    }
+}
+
+impl<'a> LiveCursor for IndexCursor<'a> {
+    ghost use Rattle.ee_pages.specs.Meaning.{above_of};
+    ghost use Rattle.ee_index.specs.Index.{IsLeft};
+
+    ghost behind = { λ cursor. above_of cursor.after };
+
+    ghost goes_over = { λ cursor slots. IsLeft slots cursor.hidden cursor.after cursor.entries };
+
+    fn next<F: Flash>(&mut self, flash: &F, layout: &Layout) -> Option<(Address, u32)> {
+        let Some((address, number)) = next_shown(&mut self.entries, self.hidden) else {
+            return None;
+        };
+        self.after = Some(address);
+        Some((address, value_in(flash, layout, number)))
+    }
+}
+
+// The next entry that is not hidden.
+fn next_shown(
+    entries: &mut Iter<'_, Address, usize>,
+    hidden: Option<Address>,
+) -> Option<(Address, usize)>
+    ensures { IsNextShown hidden entries.old result entries.new }
+{
+    let Some((address, number)) = entries.next() else {
+        return None;
+    };
+    if hidden == Some(*address) {
+        return next_left(entries);
+    }
+    Some((*address, *number))
+}
+
+// The next entry.
+fn next_left(entries: &mut Iter<'_, Address, usize>) -> Option<(Address, usize)>
+    ensures none { result ≡ None → entries.old ≡ [] }
+    ensures some { IfSome result (λ found. entries.old ≡ found ∷ entries.new) }
+{
+    match entries.next() {
+        None => None,
+        Some((address, number)) => Some((*address, *number)),
     }
 }

@@ -1,9 +1,8 @@
 ghost use Rattle.std.specs.Bool.{MatchBool};
-ghost use Rattle.std.specs.Prelude.{◌≡◌, ◌≢◌, ◌<◌, IfErr, IfOk, IfSome, OnErr, OnOk, []};
+ghost use Rattle.std.specs.Prelude.{◌≡◌, ◌≢◌, ◌<◌, IfErr, IfOk, IfSome, OnErr, OnOk};
 ghost use Rattle.ee_codec.specs.Words.{IsAddress};
 ghost use Rattle.ee_flash.specs.Device.{IsOn};
 ghost use Rattle.ee_flash.specs.Size.{slot_count};
-ghost use Rattle.ee_pages.specs.Layout.{IsLayout};
 ghost use Rattle.ee_pages.specs.Meaning.{IsNextLive, above_of, live_in};
 ghost use Rattle.ee_core.specs.Calls.{Cleans, Forgets, Reads, Writes};
 ghost use Rattle.ee_core.specs.Changes.{IsFull, IsSpent};
@@ -13,9 +12,8 @@ ghost use Rattle.ee_core.specs.State.{capacity, state_of};
 ghost use Rattle.ee_index.specs.Index.{IndexedOpenFails};
 ghost use Rattle.ee_index.specs.Kept.{IsKeptBeside};
 
-use crate::index::Index;
+use crate::index::{Index, batch_indexed, next_indexed, read_index, value_in};
 use crate::index_changing::{append_indexed, enter_slot, make_room, move_indexed};
-use crate::index_reading::{batch_indexed, next_indexed, read_index, value_in};
 use ee_codec::Address;
 use ee_core::inner::{Change, GREATEST_GENERATION, clean, finish};
 use ee_core::{ForgetFault, Off, Variables, WriteFault, Written, count_pending};
@@ -59,16 +57,43 @@ impl<F: Flash + Drop, A: Allocator> Model for IndexedStore<F, A> {
 
     ghost invariant = { λ store. IsStore (F.device store.flash)
         × (IsOn (F.device store.flash)
-        → IsKept (F.device store.flash) store.layout store.index) };
+        → IsKept (F.device store.flash) store.layout store.index.entries) };
 }
 
 /// What a store with an index keeps in memory beside its device.
-///
-/// Source: ours.
 #[derive(Drop)]
 pub struct Kept<A: Allocator = Global> {
-    layout: Layout,
-    index: Index<A>,
+    pub(crate) layout: Layout,
+    pub(crate) index: Index<A>,
+}
+
+/// The device of a store, as it is, and what was kept beside it, by which `store_of` makes the store again with no look
+/// at the flash.
+pub fn parts_of<F: Flash + Drop, A: Allocator>(store: IndexedStore<F, A>) -> (F, Kept<A>)
+    ensures device { F.device result.0 ≡ store }
+    ensures store { IsStore store }
+    ensures kept { IsOn store → IsKeptBeside store result.1 }
+{
+    let IndexedStore {
+        flash,
+        layout,
+        index,
+    } = store;
+    (flash, Kept { layout, index })
+}
+
+/// The store of this device, beside which this is kept.
+pub fn store_of<F: Flash + Drop, A: Allocator>(flash: F, kept: Kept<A>) -> IndexedStore<F, A>
+    requires store { IsStore (F.device flash) }
+    requires kept { IsKeptBeside (F.device flash) kept }
+    ensures { result ≡ F.device flash }
+{
+    let Kept { layout, index } = kept;
+    IndexedStore {
+        flash,
+        layout,
+        index,
+    }
 }
 
 impl<F: Flash + Drop, A: Allocator> IndexedStore<F, A> {
@@ -88,30 +113,24 @@ impl<F: Flash + Drop, A: Allocator> IndexedStore<F, A> {
         ensures failed { IfErr result
             (λ failed. IndexedOpenFails (F.device flash) failed.1 (F.device failed.0)) }
     {
-        open_with(Index::new(alloc), flash)
-    }
-
-    /// `open` in the memory of what another store kept, so that as many addresses in the same places
-    /// want none.
-    ///
-    /// Source: ours.
-    ///
-    /// # Errors
-    ///
-    /// The device and the first `IndexedFault` that applies.
-    pub fn open_in(kept: Kept<A>, flash: F) -> Result<IndexedStore<F, A>, (F, IndexedFault)>
-    where
-        A: Copy,
-        requires { IsOn (F.device flash) }
-        ensures opened { IfOk result (Opens (F.device flash)) }
-        ensures failed { IfErr result
-            (λ failed. IndexedOpenFails (F.device flash) failed.1 (F.device failed.0)) }
-    {
-        let mut index = kept.index;
-        index.clear();
-        let mut store = open_with(index, flash)?;
-        store.index.release();
-        Ok(store)
+        let mut flash = flash;
+        let layout = match scan(&flash) {
+            Ok(layout) => layout,
+            Err(fault) => return Err((flash, IndexedFault::Scan(fault))),
+        };
+        // The index is made before the first step, so want of memory leaves the device as it was.
+        let index = match read_index(alloc, &flash, &layout) {
+            Ok(index) => index,
+            Err(_) => return Err((flash, IndexedFault::Memory)),
+        };
+        match finish(&mut flash, &layout) {
+            Ok(()) => Ok(IndexedStore {
+                flash,
+                layout,
+                index,
+            }),
+            Err(Cut) => Err((flash, IndexedFault::Cut)),
+        }
     }
 
     /// The device, as it is.
@@ -120,34 +139,6 @@ impl<F: Flash + Drop, A: Allocator> IndexedStore<F, A> {
         ensures store { IsStore self }
     {
         self.flash
-    }
-
-    /// The device, as it is, and what was kept beside it, with which `of_parts` makes the store again.
-    pub fn into_parts(self) -> (F, Kept<A>)
-        ensures device { F.device result.0 ≡ self }
-        ensures store { IsStore self }
-        ensures kept { IsOn self → IsKeptBeside self result.1 }
-    {
-        let Self {
-            flash,
-            layout,
-            index,
-        } = self;
-        (flash, Kept { layout, index })
-    }
-
-    /// The store of a device, and of what is kept beside it: no look at the flash.
-    pub fn of_parts(flash: F, kept: Kept<A>) -> IndexedStore<F, A>
-        requires store { IsStore (F.device flash) }
-        requires kept { IsKeptBeside (F.device flash) kept }
-        ensures { result ≡ F.device flash }
-    {
-        let Kept { layout, index } = kept;
-        IndexedStore {
-            flash,
-            layout,
-            index,
-        }
     }
 
     /// Whether a write or forgetting must be refused since no generation is left for the transfer
@@ -167,7 +158,7 @@ impl<F: Flash + Drop, A: Allocator> IndexedStore<F, A> {
         ensures { MatchBool result (IsFull (capacity self.now) (state_of self.now) address)
             (¬ IsFull (capacity self.now) (state_of self.now) address) }
     {
-        self.index.len() == self.flash.shape().slots() && !self.index.contains(address)
+        self.index.len() == self.flash.shape().slots() && !self.index.contains_key(&address)
     }
 
     /// The value of an address, by the index.
@@ -175,41 +166,10 @@ impl<F: Flash + Drop, A: Allocator> IndexedStore<F, A> {
         requires { IsOn self.now }
         ensures { result ≡ (state_of self.now).map address }
     {
-        match self.index.get(address) {
+        match self.index.get(&address) {
             None => None,
-            Some(number) => Some(value_in(&self.flash, &self.layout, number)),
+            Some(number) => Some(value_in(&self.flash, &self.layout, *number)),
         }
-    }
-}
-
-// Opens the store of a device, with an index that has no address.
-fn open_with<F: Flash + Drop, A: Allocator + Copy>(
-    index: Index<A>,
-    flash: F,
-) -> Result<IndexedStore<F, A>, (F, IndexedFault)>
-    requires on { IsOn (F.device flash) }
-    requires empty { index ≡ [] }
-    ensures opened { IfOk result (Opens (F.device flash)) }
-    ensures failed { IfErr result
-        (λ failed. IndexedOpenFails (F.device flash) failed.1 (F.device failed.0)) }
-{
-    let mut flash = flash;
-    let mut index = index;
-    let layout = match scan(&flash) {
-        Ok(layout) => layout,
-        Err(fault) => return Err((flash, IndexedFault::Scan(fault))),
-    };
-    // The index is made before the first step, so want of memory leaves the device as it was.
-    let Ok(()) = read_index(&mut index, &flash, &layout) else {
-        return Err((flash, IndexedFault::Memory));
-    };
-    match finish(&mut flash, &layout) {
-        Ok(()) => Ok(IndexedStore {
-            flash,
-            layout,
-            index,
-        }),
-        Err(Cut) => Err((flash, IndexedFault::Cut)),
     }
 }
 

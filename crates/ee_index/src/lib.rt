@@ -16,9 +16,8 @@
 
 mod index;
 mod index_changing;
-mod index_reading;
 mod indexed;
-mod marks;
-mod table;
+#[doc(hidden)]
+pub mod inner;
 
-pub use indexed::{IndexedFault, IndexedStore, Kept};
+pub use indexed::{IndexedFault, IndexedStore};

@@ -91,7 +91,3 @@ arm_open old fuse kept last is still on there =
 -- an open store is on, and no mark is left to set
 pub store_sound : (device : Device) → IsStore device → IsSound (open_point device)
 store_sound device store = record { legal = store.legal; on = λ on. on; store = λ on. store }
-
--- a device alone on the desk, with a legal image
-pub bare_sound : (device : Device) → IsLegal device → IsSound (closed_point device)
-bare_sound device legal = record { legal = legal; on = λ on. absurd (cc on); store = λ on. absurd (cc on) }

@@ -137,24 +137,40 @@ impl<S: Opened<MemFlash<A>, A>, A: Allocator + Copy> Desk<S, A> {
         Desk::Open(self.into_open().with_fuse(fuse))
     }
 
-    /// Turns power on and opens the store, in the memory of one that was open before.
-    fn open(self, alloc: A) -> Result<S, (MemFlash<A>, IndexedFault)>
-        requires { IsLegalDesk self }
-        ensures opened { let old = (point_of_desk S.device self).device in IfOk result
-            (λ store. Opens (with_power_on old) (S.device store)) }
-        ensures failed { let old = (point_of_desk S.device self).device in IfErr result
-            (λ failed. IndexedOpenFails (with_power_on old) failed.1 (device_of failed.0)) }
-        ensures sound { IsSound (point_of_desk S.device self) }
+    /// Takes note of what a line took, and says whether the store is to be settled now.
+    #[inline(always)]
+    pub(crate) fn note(&mut self, answer: Answer) -> bool
+        ensures point { point_of_desk S.device self.new ≡ point_of_desk S.device self.old }
+        ensures legal { IsLegalSo self.old → IsLegalSo self.new }
     {
         match self {
-            Desk::Open(store) => store.reopen(alloc),
-            Desk::Bare(flash) => {
-                let mut flash = flash;
-                flash.power_on();
-                S::open_on(alloc, flash)
-            }
-            Desk::Gone => unreachable!("it is there"),
+            Desk::Open(store) => store.note(answer),
+            Desk::Bare(_) | Desk::Gone => false,
         }
+    }
+
+    /// A store that is open, in the kind that pays behind a line about this address.
+    pub(crate) fn settled(self, alloc: A, address: Address) -> Desk<S, A>
+        requires { IsLegalDesk self }
+        ensures point { point_of_desk S.device result ≡ point_of_desk S.device self }
+        ensures legal { IsLegalDesk result }
+    {
+        if !self.is_open() {
+            return self;
+        }
+        Desk::Open(self.into_open().settled(alloc, address))
+    }
+
+    /// A store that is open, in the kind that counts its variables sooner.
+    pub(crate) fn settled_to_count(self, alloc: A) -> Desk<S, A>
+        requires { IsLegalDesk self }
+        ensures point { point_of_desk S.device result ≡ point_of_desk S.device self }
+        ensures legal { IsLegalDesk result }
+    {
+        if !self.is_open() {
+            return self;
+        }
+        Desk::Open(self.into_open().settled_to_count(alloc))
     }
 
     /// Turns power on and opens the store, which changes nothing where one is open. An error says
@@ -169,7 +185,9 @@ impl<S: Opened<MemFlash<A>, A>, A: Allocator + Copy> Desk<S, A> {
         if self.is_open() {
             return (self, Ok(Answer::Opened));
         }
-        match self.open(alloc) {
+        let mut flash = self.into_flash();
+        flash.power_on();
+        match S::open_on(alloc, flash) {
             Ok(store) => (Desk::Open(store), Ok(Answer::Opened)),
             Err((flash, IndexedFault::Cut)) => (Desk::Bare(flash), Ok(Answer::Cut)),
             Err((flash, IndexedFault::Memory)) => (Desk::Bare(flash), Err(AllocError)),

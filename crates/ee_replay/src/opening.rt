@@ -1,22 +1,21 @@
 //! Stores of either kind, with an index or without: how they are opened and closed.
 ghost use Rattle.std.specs.Prelude.{◌≡◌, IfOk, IfErr};
 ghost use Rattle.ee_flash.specs.Device.{Device, IsOn};
-ghost use Rattle.ee_flash.specs.Memory.{device_of, memory_of, unused_memory};
-ghost use Rattle.ee_image.specs.Text.{at_rest, image_text};
+ghost use Rattle.ee_flash.specs.Memory.{device_of, memory_of};
 ghost use Rattle.ee_core.specs.Finished.{IsStore};
 ghost use Rattle.ee_core.specs.Openings.{OpenFails, Opens};
-ghost use Rattle.ee_core.specs.Points.{with_power_on};
 ghost use Rattle.ee_index.specs.Index.{IndexedOpenFails};
 ghost use Rattle.ee_image_store.specs.Opening.{IsOpenFault, IsOpened, StaysOn};
 ghost use Rattle.ee_replay.specs.Opening.{IsStillFault};
 ghost use Rattle.ee_replay.specs.Serving.{ArmsDevice, IsArmed};
 
-use ee_core::inner::{parts_of, store_of};
-use ee_core::{OpenFault, Store, Variables, open};
+use ee_codec::Address;
+use ee_core::{OpenFault, Store, Variables, inner as plain, open};
 use ee_faults::ReplayFault;
 use ee_flash::{Flash, Fuse, MemFlash};
 use ee_image::read_image;
-use ee_index::{IndexedFault, IndexedStore};
+use ee_index::{IndexedFault, IndexedStore, inner as indexed};
+use ee_script::Answer;
 use std::alloc::Allocator;
 
 /// A device on which a cut can be armed.
@@ -47,18 +46,34 @@ pub(crate) trait Opened<F: Arming, A: Allocator + Copy>: Variables + Drop + Size
         ensures failed { IfErr result
             (λ failed. IndexedOpenFails (F.device flash) failed.1 (F.device failed.0)) };
 
-    /// Turns power on and opens the store of its device again, in the memory that this one had.
-    fn reopen(self, alloc: A) -> Result<Self, (F, IndexedFault)>
-        ensures opened { IfOk result
-            (λ store. Opens (with_power_on (Self.device self)) (Self.device store)) }
-        ensures failed { IfErr result (λ failed.
-            IndexedOpenFails (with_power_on (Self.device self)) failed.1 (F.device failed.0)) }
-        ensures store { IsStore (Self.device self) };
-
     /// Arms a cut, which takes no step and no memory.
     fn with_fuse(self, fuse: Fuse) -> Self
         requires { IsOn (Self.device self) }
         ensures { ArmsDevice (Self.device self) fuse (Self.device result) };
+
+    /// Takes note of what a line took, and says whether to settle now in which kind of store the variables are kept: a
+    /// store of one kind alone never does.
+    fn note(&mut self, _answer: Answer) -> bool
+        ensures { Self.device self.new ≡ Self.device self.old }
+    {
+        false
+    }
+
+    /// The same variables, in the kind of store that pays behind a line about this address.
+    fn settled(self, _alloc: A, _address: Address) -> Self
+        requires { IsOn (Self.device self) }
+        ensures { Self.device result ≡ Self.device self }
+    {
+        self
+    }
+
+    /// The same variables, in the kind of store that counts them sooner.
+    fn settled_to_count(self, _alloc: A) -> Self
+        requires { IsOn (Self.device self) }
+        ensures { Self.device result ≡ Self.device self }
+    {
+        self
+    }
 
     /// Its device.
     fn close(self) -> F
@@ -89,26 +104,12 @@ impl<F: Arming, A: Allocator + Copy> Opened<F, A> for Store<F> {
         }
     }
 
-    fn reopen(self, _alloc: A) -> Result<Store<F>, (F, IndexedFault)>
-        ensures opened { IfOk result (Opens (with_power_on self)) }
-        ensures failed { IfErr result
-            (λ failed. IndexedOpenFails (with_power_on self) failed.1 (F.device failed.0)) }
-        ensures store { IsStore self }
-    {
-        let mut flash = self.into_flash();
-        flash.power_on();
-        match open(flash) {
-            Ok(store) => Ok(store),
-            Err((flash, fault)) => Err((flash, fault_of_open(fault))),
-        }
-    }
-
     fn with_fuse(self, fuse: Fuse) -> Store<F>
         requires { IsOn self }
         ensures { ArmsDevice self fuse result }
     {
-        let (flash, layout) = parts_of(self);
-        store_of(flash.armed(fuse), layout)
+        let (flash, layout) = plain::parts_of(self);
+        plain::store_of(flash.armed(fuse), layout)
     }
 
     fn close(self) -> F
@@ -129,23 +130,12 @@ impl<F: Arming, A: Allocator + Copy> Opened<F, A> for IndexedStore<F, A> {
         IndexedStore::open(alloc, flash)
     }
 
-    fn reopen(self, _alloc: A) -> Result<IndexedStore<F, A>, (F, IndexedFault)>
-        ensures opened { IfOk result (Opens (with_power_on self)) }
-        ensures failed { IfErr result
-            (λ failed. IndexedOpenFails (with_power_on self) failed.1 (F.device failed.0)) }
-        ensures store { IsStore self }
-    {
-        let (mut flash, kept) = self.into_parts();
-        flash.power_on();
-        IndexedStore::open_in(kept, flash)
-    }
-
     fn with_fuse(self, fuse: Fuse) -> IndexedStore<F, A>
         requires { IsOn self }
         ensures { ArmsDevice self fuse result }
     {
-        let (flash, kept) = self.into_parts();
-        IndexedStore::of_parts(flash.armed(fuse), kept)
+        let (flash, kept) = indexed::parts_of(self);
+        indexed::store_of(flash.armed(fuse), kept)
     }
 
     fn close(self) -> F
@@ -156,50 +146,18 @@ impl<F: Arming, A: Allocator + Copy> Opened<F, A> for IndexedStore<F, A> {
     }
 }
 
-/// The device that a text spells, before a store is opened on it.
-pub(crate) fn read_device<A: Allocator + Copy>(
+/// The store of the image that a text spells, of either kind, in memory.
+pub(crate) fn open_as<A: Allocator + Copy, S: Opened<MemFlash<A>, A>>(
     alloc: A,
     image: &[u8],
-) -> Result<MemFlash<A>, ReplayFault>
-    ensures spelled { IfOk result (λ flash. image.now ≡ image_text (device_of flash)) }
-    ensures at_rest { IfOk result
-        (λ flash. memory_of flash ≡ unused_memory (at_rest (device_of flash))) }
+) -> Result<S, ReplayFault>
+    ensures opened { IfOk result (λ store. IsOpened image.now (S.device store)) }
     ensures fault { IfErr result (IsOpenFault image.now) }
 {
     let flash = read_image(alloc, image)?;
-    Ok(flash)
-}
-
-/// The store of a device that was just read, of either kind.
-pub(crate) fn open_as<A: Allocator + Copy, S: Opened<MemFlash<A>, A>>(
-    alloc: A,
-    flash: MemFlash<A>,
-) -> Result<S, ReplayFault>
-    requires { device_of flash ≡ at_rest (device_of flash) }
-    ensures opened { IfOk result
-        (λ store. IsOpened (image_text (device_of flash)) (S.device store)) }
-    ensures fault { IfErr result (IsOpenFault (image_text (device_of flash))) }
-{
     match open_still(alloc, flash) {
         Ok(store) => Ok(store),
         Err(fault) => Err(fault),
-    }
-}
-
-/// The same, which gives the device back as it was where no such store is opened.
-pub(crate) fn open_or_give_back<A: Allocator + Copy, S: Opened<MemFlash<A>, A>>(
-    alloc: A,
-    flash: MemFlash<A>,
-) -> Result<S, MemFlash<A>>
-    requires { device_of flash ≡ at_rest (device_of flash) }
-    ensures opened { IfOk result
-        (λ store. IsOpened (image_text (device_of flash)) (S.device store)) }
-    ensures device { IfErr result (λ back. device_of back ≡ device_of flash) }
-{
-    match S::open_on(alloc, flash) {
-        Ok(store) => Ok(store),
-        Err((_, IndexedFault::Cut)) => unreachable!("power is never cut"),
-        Err((flash, _)) => Err(flash),
     }
 }
 

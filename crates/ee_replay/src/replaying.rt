@@ -1,14 +1,12 @@
 //! Scripts on images.
 ghost use Rattle.std.specs.Prelude.{◌≡◌, ◌≢◌, ◌⊎◌, ℕ, List, IfOk, IfErr, MatchResult, Some};
-ghost use Rattle.ee_flash.specs.Memory.{device_of};
-ghost use Rattle.ee_image.specs.Text.{at_rest, image_text};
 ghost use Rattle.ee_script.specs.Script.{IsFirstBadCommandLine};
 ghost use Rattle.ee_replay.specs.Replaying.{IsReplayFault, IsReplayed, IsRunFault, IsRunOn, IsTried};
 ghost use Rattle.ee_replay.specs.Reading.{IsGiven, IsNotAnswered, IsReaderFault};
 ghost use Rattle.ee_image_store.specs.Opening.{HasStore, IsOpenFault, StaysOn};
 
-use super::choosing::pays;
-use super::opening::{Opened, open_as, open_or_give_back, read_device};
+use super::either::EitherStore;
+use super::opening::{Opened, open_as};
 use super::reporting::{answer_on, answer_reader_on};
 use ee_core::Store;
 use ee_faults::ReplayFault;
@@ -52,19 +50,12 @@ pub fn replay<A: Allocator + Copy>(
         → MatchResult result (λ _. ⊥)
         (λ fault. (fault ≡ cause) ⊎ (fault ≡ ReplayFault.Memory)) }
 {
-    let flash = read_device(alloc, image)?;
-    if !pays(alloc, &flash, script) {
-        return replay_on::<A, Store<MemFlash<A>>>(alloc, flash, script);
-    }
-    // A store without an index wants no memory for one. Where the index is refused at the opening it gets the same
-    // device; a device on which lines were answered is gone, and the image is read again.
-    match open_or_give_back::<A, IndexedStore<MemFlash<A>, A>>(alloc, flash) {
-        Ok(store) => match run_on(alloc, store, script) {
-            Ok(replayed) => Ok(replayed),
-            Err(ReplayFault::Memory) => replay_as::<A, Store<MemFlash<A>>>(alloc, image, script),
-            Err(fault) => Err(fault),
-        },
-        Err(flash) => replay_on::<A, Store<MemFlash<A>>>(alloc, flash, script),
+    let store = open_as::<A, EitherStore<MemFlash<A>, A>>(alloc, image)?;
+    match run_on(alloc, store, script) {
+        Ok(replayed) => Ok(replayed),
+        // What memory an index took may be what the report wanted.
+        Err(ReplayFault::Memory) => replay_as::<A, Store<MemFlash<A>>>(alloc, image, script),
+        Err(fault) => Err(fault),
     }
 }
 
@@ -107,27 +98,7 @@ fn replay_as<A: Allocator + Copy, S: Opened<MemFlash<A>, A>>(
         → MatchResult result (λ _. ⊥)
         (λ fault. (fault ≡ cause) ⊎ (fault ≡ ReplayFault.Memory)) }
 {
-    let flash = read_device(alloc, image)?;
-    replay_on::<A, S>(alloc, flash, script)
-}
-
-/// The same of a device that was just read from an image's text.
-fn replay_on<A: Allocator + Copy, S: Opened<MemFlash<A>, A>>(
-    alloc: A,
-    flash: MemFlash<A>,
-    script: &[u8],
-) -> Result<Replayed<A>, ReplayFault>
-    requires { device_of flash ≡ at_rest (device_of flash) }
-    ensures replayed { IfOk result (λ replayed. IsReplayed (image_text (device_of flash))
-        script.now replayed.image.items replayed.report.items) }
-    ensures fault { IfErr result (IsReplayFault (image_text (device_of flash)) script.now) }
-    // No cause is passed over.
-    ensures names { (cause : ReplayFault) → cause ≢ ReplayFault.Memory
-        → IsReplayFault (image_text (device_of flash)) script.now cause
-        → MatchResult result (λ _. ⊥)
-        (λ fault. (fault ≡ cause) ⊎ (fault ≡ ReplayFault.Memory)) }
-{
-    let store = open_as::<A, S>(alloc, flash)?;
+    let store = open_as::<A, S>(alloc, image)?;
     let replayed = run_on(alloc, store, script)?;
     Ok(replayed)
 }

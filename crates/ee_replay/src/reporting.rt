@@ -49,9 +49,11 @@ pub(crate) fn answer_on<A: Allocator + Copy, S: Opened<MemFlash<A>, A>>(
         → MatchResult result (λ _. ⊥)
         (λ fault. (fault ≡ ScriptFault.BadLine n) ⊎ (fault ≡ ScriptFault.Memory)) }
 {
+    let store = store.settled_to_count(alloc);
     let start = start_of(alloc, &store)?;
     let left = trace_on(alloc, store, script)?;
     let Traced { desk, notes, lines } = left;
+    let desk = desk.settled_to_count(alloc);
     let report = report_on(&start, notes, &desk, lines)?;
     Ok((desk.into_flash(), report))
 }
@@ -70,9 +72,11 @@ pub(crate) fn answer_reader_on<A: Allocator + Copy, S: Opened<MemFlash<A>, A>, R
     ensures fault { IfErr result
         (IsStreamFault (R.remaining reader.old) (R.remaining reader.new)) }
 {
+    let store = store.settled_to_count(alloc);
     let start = start_of(alloc, &store)?;
     let left = trace_reader(alloc, store, reader)?;
     let Traced { desk, notes, lines } = left;
+    let desk = desk.settled_to_count(alloc);
     let report = report_on(&start, notes, &desk, lines)?;
     Ok((desk.into_flash(), report))
 }

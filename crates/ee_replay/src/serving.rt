@@ -141,6 +141,27 @@ impl<S: Opened<MemFlash<A>, A>, A: Allocator + Copy> Server<S, A> {
             answer => answer,
         }
     }
+
+    /// Takes note of what a line about this address took, and goes on with the kind of store that pays.
+    #[inline(always)]
+    fn settle(&mut self, address: Address, answer: Answer)
+        ensures point { point_of_desk S.device self.new.desk ≡ point_of_desk S.device self.old.desk }
+        ensures notes { self.new.notes ≡ self.old.notes }
+    {
+        if self.desk.note(answer) {
+            self.change_kind(address);
+        }
+    }
+
+    /// Goes on with the kind of store that pays behind a line about this address.
+    #[inline(never)]
+    fn change_kind(&mut self, address: Address)
+        ensures point { point_of_desk S.device self.new.desk ≡ point_of_desk S.device self.old.desk }
+        ensures notes { self.new.notes ≡ self.old.notes }
+    {
+        let desk = replace(&mut self.desk, Desk::Gone);
+        self.desk = desk.settled(self.alloc, address);
+    }
 }
 
 impl<S: Opened<MemFlash<A>, A>, A: Allocator + Copy> Serve for Server<S, A> {
@@ -152,9 +173,21 @@ impl<S: Opened<MemFlash<A>, A>, A: Allocator + Copy> Serve for Server<S, A> {
 
     fn serve(&mut self, command: Command) -> Result<Answer, AllocError> {
         match command {
-            Command::Write { address, value } => self.write(address, value),
-            Command::Forget { address } => self.forget(address),
-            Command::Read { address } => Ok(self.read(address)),
+            Command::Write { address, value } => {
+                let answer = self.write(address, value)?;
+                self.settle(address, answer);
+                Ok(answer)
+            }
+            Command::Forget { address } => {
+                let answer = self.forget(address)?;
+                self.settle(address, answer);
+                Ok(answer)
+            }
+            Command::Read { address } => {
+                let answer = self.read(address);
+                self.settle(address, answer);
+                Ok(answer)
+            }
             Command::Clean => Ok(self.clean()),
             Command::Arm { fuse } => Ok(self.arm(fuse)),
             Command::PowerOn => self.power_on(),

@@ -1,12 +1,13 @@
-use Rattle.std.proofs.Common.{subst}
+use Rattle.std.proofs.Common.{subst, sym}
 use Rattle.ee_check.specs.Schedule.{IsProper}
 use Rattle.ee_replay.proofs.Reported.{no_bad_line}
 use Rattle.ee_replay.proofs.reporting.answer_on.Goals as goal
 
 pub returns-clause-served : goal.returns-clause-served
 returns-clause-served g c =
-    let served = c.in_ok-report.ensures _ _ c.in_ok-left.ensures.traced c.in_ok-start.ensures.start (subst IsProper c.start.view_is c.start.invariant.proper) c.requires in
-    (_, c.into_flash.ensures.device, c.into_flash.ensures.sound, served)
+    let store = c.settled_to_count-store.ensures in
+    let served = c.in_ok-report.ensures _ _ (rw c.settled_to_count-desk.ensures.point c.in_ok-left.ensures.traced) c.in_ok-start.ensures.start (subst IsProper c.start.view_is c.start.invariant.proper) (rw store c.requires) in
+    (_, c.into_flash.ensures.device, c.into_flash.ensures.sound, rw (sym store) served)
 
 pub returns-clause-bad : goal.returns-clause-bad
 returns-clause-bad g c = λ n bad. no_bad_line _ _ _ _ _ n c.in_ok-left.ensures.traced bad

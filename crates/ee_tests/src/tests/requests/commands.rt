@@ -82,27 +82,39 @@ fn an_index_takes_memory(rt: HostRuntime) {
     same(&rt, plain.left() > indexed.left(), true);
 }
 
-// A script for which an index pays: many lines, few variables and several moves, with a line in the midst and power on
-// near the end.
+// A script for which an index pays: many looks for what has no value and several moves, with a line in the midst and
+// power on near the end.
 fn long_script(alloc: Global, line: &[u8]) -> Result<Vec<u8>, Fail> {
     let mut script = Vec::new(alloc);
-    for round in 0..200u32 {
-        if round == 100 {
+    for round in 0..150u32 {
+        if round == 60 {
             script.extend_from_slice(line)?;
         }
-        if round == 180 {
+        if round == 140 {
             script.extend_from_slice(b"p\n")?;
         }
         let lines = format!(in alloc; "w 1 {round}\nw 2 {round}\nr 1\nf 2\nr 2\n")?;
         script.extend_from_slice(lines.as_bytes())?;
+        // Of these none has a value.
+        script.extend_from_slice(b"r 3\nr 4\nr 5\nr 6\nr 7\nr 8\n")?;
+        script.extend_from_slice(b"r 9\nr 10\nr 11\nr 12\nr 13\nr 14\n")?;
+    }
+    Ok(script)
+}
+
+// A script that gives forty addresses a value: an index of them takes several requests for memory.
+fn filling(alloc: Global) -> Result<Vec<u8>, Fail> {
+    let mut script = Vec::new(alloc);
+    for address in 300..340u32 {
+        script.extend_from_slice(format!(in alloc; "w {address} 7\n")?.as_bytes())?;
     }
     Ok(script)
 }
 
 // Whether this was replayed.
-fn replays<A: Allocator>(
+fn replays<A: Allocator, B: Allocator>(
     given: Result<Replayed<A>, ReplayFault>,
-    wanted: &Replayed,
+    wanted: &Replayed<B>,
 ) -> Option<bool> {
     match given {
         Ok(replayed) => Some(
@@ -118,18 +130,26 @@ fn replays<A: Allocator>(
 /// of reading the image: it goes on without an index then.
 #[test]
 fn an_index_that_pays(rt: HostRuntime) -> Result<(), Fail> {
-    // With a value, so that an opening has an index to make.
-    let seven = given(try_script(rt.alloc(), shape(1, 260)?, b"w 300 7\n"))?;
-    let image = seven.image.as_slice();
+    let filling = filling(rt.alloc())?;
+    let filled = given(try_script(rt.alloc(), shape(1, 260)?, filling.as_slice()))?;
+    let image = filled.image.as_slice();
     let reading = Refusing::new(rt.alloc(), u64::MAX);
     given(read_image(&reading, image))?;
     for line in [b"r 1\n".as_slice(), b"x 200 t\n"] {
         let script = long_script(rt.alloc(), line)?;
         let script = script.as_slice();
         let mut reader = script;
-        let wanted = given(replay_reader(rt.alloc(), image, &mut reader))?;
+        let plain = Refusing::new(rt.alloc(), u64::MAX);
+        let wanted = given(replay_reader(&plain, image, &mut reader))?;
         let indexed = replays(replay_indexed(rt.alloc(), image, script), &wanted);
         same(&rt, indexed, Some(true));
+        let either = Refusing::new(rt.alloc(), u64::MAX);
+        same(
+            &rt,
+            replays(replay(&either, image, script), &wanted),
+            Some(true),
+        );
+        same(&rt, plain.left() > either.left(), true);
         let wants = Cell::new(0u64);
         with_each_refusal(&rt, rt.alloc(), 5, |alloc| {
             let answer = replays(replay(alloc, image, script), &wanted);

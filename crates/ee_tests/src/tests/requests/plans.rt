@@ -79,21 +79,28 @@ fn starts(rt: HostRuntime) -> Result<(), Fail> {
     Ok(())
 }
 
-// On one slot each write but the first transfers.
+// On one slot each write but the first transfers. Behind a thousand changes the checker asks for memory once more, and
+// goes on without where that is refused.
 #[test]
 fn a_certificate_of_a_thousand_stretches(rt: HostRuntime) -> Result<(), Fail> {
     let mut trace = vec![in rt.alloc(); write(1)?]?;
-    let mut text = String::from_str(rt.alloc(), "slots 1 fill 0 live 0 writes 1001\n")?;
-    for to in 2..1002_u64 {
+    let mut text = String::from_str(rt.alloc(), "slots 1 fill 0 live 0 writes 1101\n")?;
+    for to in 2..1102_u64 {
         trace.push(write(1)?)?;
         let from = if to == 2 { 0 } else { 1 };
         text.push_str(format!(in rt.alloc(); "to {to} from {from}\n")?.as_str())?;
     }
-    text.push_str("transfers 1000\n")?;
+    text.push_str("transfers 1100\n")?;
     let certificate = read_certificate(rt.alloc(), text.as_bytes())?;
-    same(&rt, certificate.stretches.len(), 1000);
-    let checked = check(rt.alloc(), &start(rt.alloc(), 1)?, &trace, &certificate);
-    same(&rt, checked, Ok(1000));
+    same(&rt, certificate.stretches.len(), 1100);
+    let start = start(rt.alloc(), 1)?;
+    with_each_refusal(&rt, rt.alloc(), 2, |alloc| {
+        match check(alloc, &start, &trace, &certificate) {
+            Ok(count) => Some(count == 1100),
+            Err(CheckFault::Memory) => None,
+            Err(_) => Some(false),
+        }
+    });
     let mut out = Vec::new(rt.alloc());
     write_certificate(&certificate, &mut out)?;
     same(&rt, out.as_slice(), text.as_bytes());

@@ -7,11 +7,11 @@ pub value_in-requires-clause-slot_in_range : goal.value_in-requires-clause-slot_
 value_in-requires-clause-slot_in_range g c =
     let device = g.F.Flash.device c.self.inside.flash in
     let kept = c.self.invariant.1 (ap (λ device. device.on) c.self.view_is ∙ c.requires) in
-    slot_in_range device c.self.inside.layout c.self.inside.index kept c.args.address c.in-Some.number (sym c.in-Some.ensures)
+    slot_in_range device c.self.inside.layout c.self.inside.index.entries kept c.args.address c.in-Some.number.now (sym c.in-Some.ensures.value)
 
 pub returns-in-Some : goal.returns-in-Some
 returns-in-Some g c =
     let device = g.F.Flash.device c.self.inside.flash in
     let kept = c.self.invariant.1 (ap (λ device. device.on) c.self.view_is ∙ c.requires) in
-    search (value_held device c.self.inside.layout c.self.inside.index kept c.args.address c.in-Some.number c.value_in.result (sym c.in-Some.ensures) c.value_in.ensures
+    search (value_held device c.self.inside.layout c.self.inside.index.entries kept c.args.address c.in-Some.number.now c.value_in.result (sym c.in-Some.ensures.value) c.value_in.ensures
     ∙ ap (λ device. (state_of device).map c.args.address) c.self.view_is)

@@ -10,4 +10,4 @@ invariant_of-self g c =
     let on = sym (c.if-not-is_on.ensures) in
     let kept = c.self.invariant.1 on in
     let store = clean_store c.clean.result old new c.self.inside.layout on c.self.invariant.0 kept.found c.clean.ensures.keeps c.clean.ensures.marked c.clean.ensures.power in
-    (store.0, λ still. kept_on old new c.self.inside.layout c.self.inside.index c.clean.ensures.keeps kept (store.1 still))
+    (store.0, λ still. kept_on old new c.self.inside.layout c.self.inside.index.entries c.clean.ensures.keeps kept (store.1 still))

@@ -24,4 +24,4 @@ move_indexed-requires-clause-all_used g c =
 pub append_indexed-requires-clause-ready : goal.append_indexed-requires-clause-ready
 append_indexed-requires-clause-ready g c =
     let kept = c.self.invariant.1 (sym (c.if-not-is_on.ensures)) in
-    (slot_for c.self.inside.index, kept.indexes, λ address. refl)
+    (slot_for c.self.inside.index.entries, kept.indexes, λ address. refl)

@@ -8,5 +8,5 @@ pub returns : goal.returns
 returns g c =
     let device = g.F.Flash.device c.self.inside.flash in
     let kept = c.self.invariant.1 (ap (λ device. device.on) c.self.view_is ∙ c.requires) in
-    let counted = c.len.ensures.len ∙ entries_live device c.self.inside.layout c.self.inside.index kept c.len.ensures.ordered ∙ ap (λ device. live_in (state_of device).map) c.self.view_is in
+    let counted = c.len.ensures.len ∙ entries_live device c.self.inside.layout c.self.inside.index.entries kept c.len.ensures.ordered ∙ ap (λ device. live_in (state_of device).map) c.self.view_is in
     search (rules, counted)

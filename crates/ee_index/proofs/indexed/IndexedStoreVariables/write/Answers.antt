@@ -25,5 +25,5 @@ move_indexed-requires-clause-all_used g c =
 pub append_indexed-requires-clause-ready : goal.append_indexed-requires-clause-ready
 append_indexed-requires-clause-ready g c =
     let kept = c.self.invariant.1 (sym (c.if-not-is_on.ensures)) in
-    let entered : (address : ℕ) → slot_for c.enter_slot.new.index address ≡ map_after (Put c.args.address c.self.inside.layout.fill) (slot_for c.self.inside.index) address = search rules in
-    (slot_for c.self.inside.index, kept.indexes, entered)
+    let entered : (address : ℕ) → slot_for c.enter_slot.new.index.entries address ≡ map_after (Put c.args.address c.self.inside.layout.fill) (slot_for c.self.inside.index.entries) address = search rules in
+    (slot_for c.self.inside.index.entries, kept.indexes, entered)

@@ -1,0 +1,27 @@
+//! The parts of a store with an index, for `ee_replay` alone, which arms the device in memory that a store keeps, and
+//! makes an index for a store that is open.
+ghost use Rattle.std.specs.Prelude.{◌≡◌, IfErr, IfOk};
+ghost use Rattle.ee_flash.specs.Device.{IsOn};
+
+use crate::index::read_index;
+use crate::indexed::IndexedStore;
+pub use crate::indexed::{Kept, parts_of, store_of};
+use ee_core::{Store, inner};
+use ee_flash::Flash;
+use std::alloc::Allocator;
+
+/// The same store with an index: one look at each used slot. An `Err` has it as it was, where memory is refused.
+pub fn with_index<F: Flash + Drop, A: Allocator + Copy>(
+    alloc: A,
+    store: Store<F>,
+) -> Result<IndexedStore<F, A>, Store<F>>
+    requires { IsOn store }
+    ensures indexed { IfOk result (λ indexed. indexed ≡ store) }
+    ensures plain { IfErr result (λ plain. plain ≡ store) }
+{
+    let (flash, layout) = inner::parts_of(store);
+    match read_index(alloc, &flash, &layout) {
+        Ok(index) => Ok(store_of(flash, Kept { layout, index })),
+        Err(_) => Err(inner::store_of(flash, layout)),
+    }
+}

@@ -1,0 +1,284 @@
+//! A store that makes itself an index when looking through the slots has cost more than that.
+ghost use Rattle.std.specs.Prelude.{◌≡◌, IfErr, IfOk, IfSome};
+ghost use Rattle.std.specs.List.{All};
+ghost use Rattle.ee_codec.specs.Words.{IsAddress};
+ghost use Rattle.ee_flash.specs.Device.{IsOn};
+ghost use Rattle.ee_core.specs.Finished.{IsStore};
+ghost use Rattle.ee_core.specs.Openings.{Opens};
+ghost use Rattle.ee_index.specs.Index.{IndexedOpenFails};
+ghost use Rattle.ee_replay.specs.Either.{device_of_either};
+ghost use Rattle.ee_replay.specs.Serving.{ArmsDevice};
+
+use super::costs::{Costs, counts_sooner, may_count_sooner};
+use super::looking::{count_live, looks_for};
+use super::opening::{Arming, Opened};
+use ee_codec::Address;
+use ee_core::{ForgetFault, LiveBatch, Off, Store, Variables, WriteFault, Written, inner as plain};
+use ee_flash::Fuse;
+use ee_index::{IndexedFault, IndexedStore, inner as indexed};
+use ee_script::Answer;
+use std::alloc::{Allocator, Global};
+
+/// Variables in a store of either kind. It is opened without an index, gets one when that pays, and keeps it until power
+/// is cut. Where memory for an index is refused it goes on without.
+#[derive(Drop)]
+pub(crate) enum EitherStore<F: Arming, A: Allocator = Global> {
+    /// Without an index.
+    Plain {
+        store: Store<F>,
+        /// What that has cost.
+        costs: Costs,
+    },
+    /// With one.
+    Indexed(IndexedStore<F, A>),
+}
+
+impl<F: Arming, A: Allocator + Copy> Variables for EitherStore<F, A> {
+    ghost use Rattle.ee_replay.specs.Either.{device_of_either};
+
+    ghost device = { λ store. device_of_either store };
+
+    fn slots(&self) -> usize {
+        match self {
+            EitherStore::Plain { store, .. } => store.slots(),
+            EitherStore::Indexed(store) => store.slots(),
+        }
+    }
+
+    fn is_on(&self) -> bool {
+        match self {
+            EitherStore::Plain { store, .. } => store.is_on(),
+            EitherStore::Indexed(store) => store.is_on(),
+        }
+    }
+
+    fn read(&self, address: Address) -> Result<Option<u32>, Off> {
+        match self {
+            EitherStore::Plain { store, .. } => store.read(address),
+            EitherStore::Indexed(store) => store.read(address),
+        }
+    }
+
+    fn write(&mut self, address: Address, value: u32) -> Result<Written, WriteFault> {
+        match self {
+            EitherStore::Plain { store, .. } => store.write(address, value),
+            EitherStore::Indexed(store) => store.write(address, value),
+        }
+    }
+
+    fn forget(&mut self, address: Address) -> Result<Written, ForgetFault> {
+        match self {
+            EitherStore::Plain { store, .. } => store.forget(address),
+            EitherStore::Indexed(store) => store.forget(address),
+        }
+    }
+
+    fn clean_step(&mut self) -> Result<bool, WriteFault> {
+        match self {
+            EitherStore::Plain { store, .. } => store.clean_step(),
+            EitherStore::Indexed(store) => store.clean_step(),
+        }
+    }
+
+    fn pending(&self) -> usize {
+        match self {
+            EitherStore::Plain { store, .. } => store.pending(),
+            EitherStore::Indexed(store) => store.pending(),
+        }
+    }
+
+    fn fill(&self) -> usize {
+        match self {
+            EitherStore::Plain { store, .. } => store.fill(),
+            EitherStore::Indexed(store) => store.fill(),
+        }
+    }
+
+    fn generation(&self) -> u32 {
+        match self {
+            EitherStore::Plain { store, .. } => store.generation(),
+            EitherStore::Indexed(store) => store.generation(),
+        }
+    }
+
+    fn live_count(&self) -> usize {
+        match self {
+            EitherStore::Plain { store, .. } => store.live_count(),
+            EitherStore::Indexed(store) => store.live_count(),
+        }
+    }
+
+    fn next_live(&self, after: Option<Address>) -> Option<(Address, u32)> {
+        match self {
+            EitherStore::Plain { store, .. } => store.next_live(after),
+            EitherStore::Indexed(store) => store.next_live(after),
+        }
+    }
+
+    fn next_batch(&self, after: Option<Address>) -> LiveBatch {
+        match self {
+            EitherStore::Plain { store, .. } => store.next_batch(after),
+            EitherStore::Indexed(store) => store.next_batch(after),
+        }
+    }
+}
+
+impl<F: Arming, A: Allocator + Copy> Opened<F, A> for EitherStore<F, A> {
+    fn open_on(alloc: A, flash: F) -> Result<EitherStore<F, A>, (F, IndexedFault)>
+        requires { IsOn (F.device flash) }
+        ensures opened { IfOk result (λ store. Opens (F.device flash) (device_of_either store)) }
+        ensures failed { IfErr result
+            (λ failed. IndexedOpenFails (F.device flash) failed.1 (F.device failed.0)) }
+    {
+        let store = <Store<F> as Opened<F, A>>::open_on(alloc, flash)?;
+        Ok(EitherStore::of(store))
+    }
+
+    fn with_fuse(self, fuse: Fuse) -> EitherStore<F, A>
+        requires { IsOn (device_of_either self) }
+        ensures { ArmsDevice (device_of_either self) fuse (device_of_either result) }
+    {
+        match self {
+            EitherStore::Plain { store, costs } => EitherStore::Plain {
+                store: <Store<F> as Opened<F, A>>::with_fuse(store, fuse),
+                costs,
+            },
+            EitherStore::Indexed(store) => EitherStore::Indexed(store.with_fuse(fuse)),
+        }
+    }
+
+    #[inline(always)]
+    fn note(&mut self, answer: Answer) -> bool
+        ensures { device_of_either self.new ≡ device_of_either self.old }
+    {
+        match self {
+            EitherStore::Plain { store, costs } => note_answer(store, costs, answer),
+            EitherStore::Indexed(_) => false,
+        }
+    }
+
+    fn settled(self, alloc: A, address: Address) -> EitherStore<F, A>
+        requires { IsOn (device_of_either self) }
+        ensures { device_of_either result ≡ device_of_either self }
+    {
+        match self {
+            EitherStore::Plain { store, costs } => settle(alloc, store, costs, address),
+            EitherStore::Indexed(store) => EitherStore::Indexed(store),
+        }
+    }
+
+    fn settled_to_count(self, alloc: A) -> EitherStore<F, A>
+        requires { IsOn (device_of_either self) }
+        ensures { device_of_either result ≡ device_of_either self }
+    {
+        match self {
+            EitherStore::Plain { store, costs } => settle_to_count(alloc, store, costs),
+            EitherStore::Indexed(store) => EitherStore::Indexed(store),
+        }
+    }
+
+    fn close(self) -> F
+        ensures device { F.device result ≡ device_of_either self }
+        ensures store { IsStore (device_of_either self) }
+    {
+        match self {
+            EitherStore::Plain { store, .. } => store.into_flash(),
+            EitherStore::Indexed(store) => store.into_flash(),
+        }
+    }
+}
+
+impl<F: Arming, A: Allocator + Copy> EitherStore<F, A> {
+    /// A store that was opened now.
+    fn of(store: Store<F>) -> EitherStore<F, A>
+        ensures { device_of_either result ≡ store }
+    {
+        EitherStore::Plain {
+            store,
+            costs: Costs::new(),
+        }
+    }
+
+    /// A store with an index, or as it is where memory is refused.
+    fn with_index(alloc: A, store: Store<F>) -> EitherStore<F, A>
+        requires { IsOn store }
+        ensures { device_of_either result ≡ store }
+    {
+        match indexed::with_index(alloc, store) {
+            Ok(store) => EitherStore::Indexed(store),
+            Err(store) => EitherStore::of(store),
+        }
+    }
+}
+
+/// Takes note of what an answer cost a store without an index. Says whether an index may pay now.
+// One for each line of a script, and most lines are appended or read.
+#[inline(always)]
+fn note_answer<F: Arming>(store: &Store<F>, costs: &mut Costs, answer: Answer) -> bool {
+    match answer {
+        Answer::Appended => {
+            costs.note_append();
+            false
+        }
+        Answer::Value(_) => costs.note_read(),
+        Answer::NoValue | Answer::Absent | Answer::Moved => note_looks(store, costs, answer),
+        _ => false,
+    }
+}
+
+/// The same where all slots were looked at.
+#[inline(never)]
+fn note_looks<F: Arming>(store: &Store<F>, costs: &mut Costs, answer: Answer) -> bool {
+    if !store.is_on() {
+        return false;
+    }
+    if answer == Answer::Moved {
+        costs.note_move(store.fill(), store.slots());
+    } else {
+        costs.note_absent(store.fill());
+    }
+    costs.pay_for(store.fill())
+}
+
+/// Measures a read of this address, if it is its turn, and makes an index if that pays by now.
+fn settle<F: Arming, A: Allocator + Copy>(
+    alloc: A,
+    store: Store<F>,
+    costs: Costs,
+    address: Address,
+) -> EitherStore<F, A>
+    requires { IsOn store }
+    ensures { device_of_either result ≡ store }
+{
+    let mut costs = costs;
+    let (flash, layout) = plain::parts_of(store);
+    if costs.measures_now() {
+        costs.measure_read(looks_for(&flash, &layout, address));
+    }
+    let store = plain::store_of(flash, layout);
+    if costs.pay_for(layout.fill) {
+        return EitherStore::with_index(alloc, store);
+    }
+    EitherStore::Plain { store, costs }
+}
+
+/// Makes an index if live addresses are counted sooner so.
+fn settle_to_count<F: Arming, A: Allocator + Copy>(
+    alloc: A,
+    store: Store<F>,
+    costs: Costs,
+) -> EitherStore<F, A>
+    requires { IsOn store }
+    ensures { device_of_either result ≡ store }
+{
+    if !may_count_sooner(store.fill()) {
+        return EitherStore::Plain { store, costs };
+    }
+    let (flash, layout) = plain::parts_of(store);
+    let live = count_live(alloc, &flash, &layout).unwrap_or(0);
+    let store = plain::store_of(flash, layout);
+    if counts_sooner(live, layout.fill) {
+        return EitherStore::with_index(alloc, store);
+    }
+    EitherStore::Plain { store, costs }
+}
