@@ -1,8 +1,9 @@
-/* Code at 0, and 32 KB of RAM, as a small part has them; the stack takes what the variables leave of the RAM. */
+/* Code at 0 and 32 KB of RAM, as a small part has them, or where --defsym says; the stack takes what the variables leave of
+ * the RAM. */
 MEMORY
 {
-    FLASH (rx) : ORIGIN = 0x00000000, LENGTH = 256K
-    RAM (rw) : ORIGIN = 0x20000000, LENGTH = 32K
+    FLASH (rx) : ORIGIN = DEFINED(code) ? code : 0x00000000, LENGTH = 256K
+    RAM (rw) : ORIGIN = DEFINED(memory) ? memory : 0x20000000, LENGTH = 32K
 }
 
 ENTRY(reset)
