@@ -33,10 +33,10 @@ class Tally:
             print(f"{what} failed\n{said}".rstrip(), flush=True)
         return is_well
 
-    def run(self, what, *words, environment=None):
+    def run(self, what, *words, environment=None, folder=LIBRARY):
         """What a command prints, None where it fails, which is counted."""
         ran = subprocess.run([str(word) for word in words], check=False, text=True, stdout=subprocess.PIPE,
-                             stderr=subprocess.STDOUT, cwd=LIBRARY, env={**os.environ, **(environment or {})})
+                             stderr=subprocess.STDOUT, cwd=folder, env={**os.environ, **(environment or {})})
         if ran.returncode != 0:
             self.count(what, False, ran.stdout)
             return None

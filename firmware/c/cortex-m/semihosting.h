@@ -1,15 +1,25 @@
-/* Calls to a debugger, which QEMU answers: printing and ending. */
+/* Calls to a debugger, which QEMU answers: printing, files and ending. */
 #ifndef SEMIHOSTING_H
 #define SEMIHOSTING_H
 
 #include <stdint.h>
 
-enum { SYS_WRITE0 = 0x04, SYS_EXIT = 0x18, ENDED = 0x20026, FAILED = 0x20024 };
+enum {
+    SYS_OPEN = 0x01,
+    SYS_WRITE0 = 0x04,
+    SYS_WRITE = 0x05,
+    SYS_READ = 0x06,
+    SYS_SEEK = 0x0a,
+    SYS_EXIT = 0x18,
+    ENDED = 0x20026,
+    FAILED = 0x20024
+};
 
-static inline void ask(int operation, uintptr_t with) {
+static inline int ask(int operation, uintptr_t with) {
     register int r0 __asm__("r0") = operation;
     register uintptr_t r1 __asm__("r1") = with;
     __asm__ volatile("bkpt 0xab" : "+r"(r0) : "r"(r1) : "memory");
+    return r0;
 }
 
 static inline void end(int is_well) {
