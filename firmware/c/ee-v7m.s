@@ -1,10 +1,11 @@
 /* ee: variables in flash, the library of ee.h as one file, for Cortex-M3, M4, M7 and M33.
  *
- * sum of sources: dcfa791b879b56a948948bb510eaed999d08b66ede4bc09767de06e6476f63d5
+ * sum of sources: 87ebdd8f8e1e2d612ba138e583ef9526ede7e04ecf0878339d62b8be58623145
  * made by: firmware/c/assemble
  * compiler: rustc 1.96.0 (ac68faa20 2026-05-25) (built from a source tarball), LLVM 22.1.8
  * words: --target thumbv7m-none-eabi -C panic=abort -C embed-bitcode=yes -C opt-level=s -C codegen-units=1 -C lto=fat --emit asm,link
  * asks of others: memcpy
+ * stack: 576 bytes, and what memcpy and your functions take
  *
  * Of firmware/rust/ee-store, which is proved, firmware/c/src/lib.rs, which is written by hand, and what these take of Rust's
  * own library. Change none of it here. */

@@ -1,6 +1,6 @@
 /* ee: variables in flash, the library of ee.h as one file, for Linux on x86-64.
  *
- * sum of sources: dcfa791b879b56a948948bb510eaed999d08b66ede4bc09767de06e6476f63d5
+ * sum of sources: 87ebdd8f8e1e2d612ba138e583ef9526ede7e04ecf0878339d62b8be58623145
  * made by: firmware/c/assemble
  * compiler: rustc 1.96.0 (ac68faa20 2026-05-25) (built from a source tarball), LLVM 22.1.8
  * words: --target x86_64-unknown-linux-gnu -C panic=abort -C embed-bitcode=yes -C opt-level=s -C codegen-units=1 -C lto=fat --emit asm,link

@@ -10,6 +10,25 @@
  * Every call answers a status. Pointers that are NULL are refused with EE_NULL; all others must be good. No call may be
  * made from inside one of the three functions, nor from an interrupt or a thread that may break into a call on the same
  * store.
+ *
+ * Nothing here calls itself, no memory is asked for, and each loop has an end. At most so many words are read, words
+ * programmed and pages erased in a call, with P pages in a set, S = P * (page_words - 4) slots, W = 2 * P * page_words words
+ * of the flash, and N = S * (S / 16 + 1):
+ *
+ *                                       words read       programmed       erased
+ *     ee_start                          3 * W            2 * P            2 * P
+ *     ee_open                           3 * W            2 * P            0
+ *     ee_format                         W + 2            2                2 * P
+ *     ee_write   where a slot is free   2                3                0
+ *                else                   2 * N + 2 * W    S + 3 * P + 1    P
+ *     ee_forget  where a slot is free   S + 2            3                0
+ *                else                   N + 2 * W        S + 3 * P + 1    P
+ *     ee_clean                          W / 2            0                1
+ *     ee_read                           S                0                0
+ *     ee_next                           N                0                0
+ *     ee_counts                         N + W            0                0
+ *
+ * The stack that a call takes stands in the head of ee.s, beside what the three functions take. README.md has more of this.
  */
 #ifndef EE_H
 #define EE_H

@@ -1,0 +1,89 @@
+/* Counts the words that each call reads, the words that it programs and the pages that it erases, and holds them to the table
+ * of ee.h: random calls on parts of several shapes, with cuts, many forgettings, and sets with a value in each slot. */
+#include "part.h"
+
+#include "../sim/sim.c"
+
+enum { SHAPES = 5, CALLS = 3000 };
+enum kind { START, OPEN, FORMAT, WRITE, FORGET, CLEAN, READ, NEXT, COUNTS };
+
+static const uint32_t shapes[SHAPES][2] = {{1, 5}, {1, 40}, {2, 7}, {3, 20}, {8, 5}};
+static sim device;
+static ee_flash flash;
+static ee_store store;
+static uint64_t dice = 88172645463325252u;
+static unsigned long most_read;
+
+static uint32_t below(uint32_t end) {
+    dice ^= dice << 13;
+    dice ^= dice >> 7;
+    dice ^= dice << 17;
+    return (uint32_t)(dice >> 20) % end;
+}
+
+static uint32_t made(enum kind kind, uint16_t address) {
+    uint32_t value = address;
+    ee_numbers numbers;
+    switch (kind) {
+    case START: return ee_start(&store, &flash);
+    case OPEN: return ee_open(&store, &flash);
+    case FORMAT: return ee_format(&store, &flash);
+    case WRITE: return ee_write(&store, address, value);
+    case FORGET: return ee_forget(&store, address);
+    case CLEAN: return ee_clean(&store);
+    case READ: return ee_read(&store, address, &value);
+    case NEXT: return ee_next(&store, &address, &value);
+    default: return ee_counts(&store, &numbers);
+    }
+}
+
+/* Makes a call, and sees that it stays below the table. */
+static uint32_t counted(enum kind kind, uint16_t address, int is_room) {
+    uint32_t p = device.pages, s = p * (device.page_words - 4), w = 2 * p * device.page_words, n = s * (s / 16 + 1);
+    const uint32_t most[][3] = {
+        [START] = {3 * w, 2 * p, 2 * p}, [OPEN] = {3 * w, 2 * p, 0},
+        [FORMAT] = {w + 2, 2, 2 * p},    [WRITE] = {is_room ? 2 : 2 * n + 2 * w, is_room ? 3 : s + 3 * p + 1, is_room ? 0 : p},
+        [FORGET] = {is_room ? s + 2 : n + 2 * w, is_room ? 3 : s + 3 * p + 1, is_room ? 0 : p},
+        [CLEAN] = {w / 2, 0, 1},         [READ] = {s, 0, 0},
+        [NEXT] = {n, 0, 0},              [COUNTS] = {n + w, 0, 0}};
+    device.read = device.programmed = device.erased = 0;
+    uint32_t status = made(kind, address);
+    CHECK(device.read <= most[kind][0] && device.programmed <= most[kind][1] && device.erased <= most[kind][2]);
+    if (device.read > most_read) most_read = device.read;
+    return status;
+}
+
+/* Opens the store again after a cut, or formats again. */
+static void opened_again(int is_format) {
+    sim_power(&device);
+    CHECK(counted(is_format ? FORMAT : below(2) ? OPEN : START, 0, 0) == EE_OK);
+}
+
+/* Whether a slot is free, of a store that is on. */
+static int is_room(void) {
+    ee_numbers numbers;
+    return ee_counts(&store, &numbers) == EE_OK && numbers.fill < numbers.slots;
+}
+
+static void run(uint32_t pages, uint32_t page_words, uint32_t addresses) {
+    sim_new(&device, pages, page_words);
+    flash = sim_flash(&device);
+    CHECK(counted(OPEN, 0, 0) == EE_UNFORMATTED && counted(START, 0, 0) == EE_OK);
+    for (int i = 0; i < CALLS; i++) {
+        enum kind kind = below(50) == 0 ? FORMAT : below(4) == 0 ? (enum kind)below(COUNTS + 1) : below(3) ? WRITE : FORGET;
+        sim_cut(&device, below(4) == 0 ? 1 + below(12) : 0, "ndtm"[below(4)]);
+        if (counted(kind, (uint16_t)(1 + below(addresses)), is_room()) == EE_DRIVER) {
+            opened_again(kind == FORMAT);
+        }
+        sim_cut(&device, 0, SIM_NOTHING);
+    }
+}
+
+int main(void) {
+    for (int i = 0; i < SHAPES; i++) {
+        uint32_t slots = shapes[i][0] * (shapes[i][1] - 4);
+        run(shapes[i][0], shapes[i][1], slots + 1);
+        run(shapes[i][0], shapes[i][1], 3 * slots);
+    }
+    return most_read == 0;
+}
