@@ -1,6 +1,7 @@
 /* ee: variables in flash, the library of ee.h as one file, for Linux on x86-64.
  *
- * sum of sources: 87ebdd8f8e1e2d612ba138e583ef9526ede7e04ecf0878339d62b8be58623145
+ * sum of sources: cc5b4336bf8a6492f5ca1914eea72931bc1263c4f86b75fba99895f39e5db965
+ * sum of the text below: 6b0f2484db191596f96a4879d0a39463991d19ffe209ce86a853838453d4e74d
  * made by: firmware/c/assemble
  * compiler: rustc 1.96.0 (ac68faa20 2026-05-25) (built from a source tarball), LLVM 22.1.8
  * words: --target x86_64-unknown-linux-gnu -C panic=abort -C embed-bitcode=yes -C opt-level=s -C codegen-units=1 -C lto=fat --emit asm,link

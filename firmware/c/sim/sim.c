@@ -55,7 +55,7 @@ static uint32_t erase(void *context, uint32_t page) {
     owed(is_place(part, page, 0), "no such page is there to be erased", page, 0);
     if (!part->is_on) return 1;
     part->erased++;
-    part->wear[page]++;
+    if (part->wear[page] < UINT64_MAX) part->wear[page]++;
     int cut = is_cut(part);
     for (uint32_t place = 0; place < part->page_words; place++) {
         sim_tear left = cut ? tear_of(part, place) : SIM_DONE;
