@@ -1,10 +1,10 @@
 //! Looks through the slots of a set by which a kind of store is chosen. No clause says what they find: whatever it is,
 //! the store that is chosen by it keeps the contract of `Variables`.
-ghost use Rattle.std.specs.Prelude.{◌<◌};
+ghost use Rattle.std.specs.Prelude.{◌<◌, ◌≤◌, ◌-◌};
 ghost use Rattle.ee_flash.specs.Size.{page_count};
 
 use ee_codec::{Address, Slot, ends_in, read_slot};
-use ee_flash::{Flash, HEADER_WORDS, Word};
+use ee_flash::{Flash, HEADER_WORDS};
 use ee_pages::{Layout, first_page};
 use std::alloc::{AllocError, Allocator};
 
@@ -21,18 +21,34 @@ pub(crate) fn count_live<F: Flash, A: Allocator>(
     let mut live: usize = 0;
     for page in (0..2 * flash.shape().pages()).rev() {
         if first <= page && page <= layout.current {
-            live = live.saturating_add(count_in_page(flash, page, &mut told));
+            let used = used_behind(flash, layout, page - first);
+            live = live.saturating_add(count_in_page(flash, page, used, &mut told));
         }
     }
     Ok(live)
 }
 
-/// How many addresses a page gives a value, of which no newer slot has told.
-fn count_in_page<F: Flash, A: Allocator>(flash: &F, page: usize, told: &mut Told<A>) -> usize
-    requires { page < page_count (F.device flash.now).size }
+/// How many slots are used in the page behind so many pages of the live set.
+fn used_behind<F: Flash>(flash: &F, layout: &Layout, pages: usize) -> usize
+    ensures { result ≤ (F.device flash.now).size.words - 4 }
+{
+    let slots = flash.shape().words() - HEADER_WORDS;
+    let before = pages.saturating_mul(slots);
+    layout.fill.saturating_sub(before).min(slots)
+}
+
+/// How many addresses the used slots of a page give a value, of which no newer slot has told.
+fn count_in_page<F: Flash, A: Allocator>(
+    flash: &F,
+    page: usize,
+    used: usize,
+    told: &mut Told<A>,
+) -> usize
+    requires page_in_range { page < page_count (F.device flash.now).size }
+    requires used_in_range { used ≤ (F.device flash.now).size.words - 4 }
 {
     let mut live: usize = 0;
-    for at in (HEADER_WORDS..flash.shape().words()).rev() {
+    for at in (HEADER_WORDS..HEADER_WORDS + used).rev() {
         match read_slot(flash.word(page, at)) {
             Slot::Element { address, .. } => {
                 if told.is_new(address) {
@@ -76,7 +92,8 @@ pub(crate) fn looks_for<F: Flash>(flash: &F, layout: &Layout, address: Address) 
     let mut looks: u64 = 0;
     for page in (0..2 * flash.shape().pages()).rev() {
         if first <= page && page <= layout.current {
-            let (passed, is_found) = looks_in_page(flash, page, address);
+            let used = used_behind(flash, layout, page - first);
+            let (passed, is_found) = looks_in_page(flash, page, used, address);
             looks = looks.saturating_add(passed);
             if is_found {
                 return looks;
@@ -87,16 +104,14 @@ pub(crate) fn looks_for<F: Flash>(flash: &F, layout: &Layout, address: Address) 
 }
 
 /// How many used slots of a page it goes through, and whether it ends there.
-fn looks_in_page<F: Flash>(flash: &F, page: usize, address: Address) -> (u64, bool)
-    requires { page < page_count (F.device flash.now).size }
+fn looks_in_page<F: Flash>(flash: &F, page: usize, used: usize, address: Address) -> (u64, bool)
+    requires page_in_range { page < page_count (F.device flash.now).size }
+    requires used_in_range { used ≤ (F.device flash.now).size.words - 4 }
 {
     let mut passed: u64 = 0;
-    for at in (HEADER_WORDS..flash.shape().words()).rev() {
-        let word = flash.word(page, at);
-        if word != Word::Erased {
-            passed = passed.saturating_add(1);
-        }
-        if ends_in(word, address) {
+    for at in (HEADER_WORDS..HEADER_WORDS + used).rev() {
+        passed = passed.saturating_add(1);
+        if ends_in(flash.word(page, at), address) {
             return (passed, true);
         }
     }
