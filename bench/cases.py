@@ -256,7 +256,7 @@ def spread_addresses(dice, count):
     if kind == 1 and count <= 255:
         return [256 * row + dice.randrange(1, 255) for row in dice.sample(range(255), count)]
     if kind == 2:
-        rows = dice.sample(range(256), max(1, count // 10))
+        rows = dice.sample(range(256), min(256, max(1, count // 10)))
         return dice.sample([a for row in rows for a in range(256 * row, 256 * row + 256) if 0 < a < 65535], count)
     return dice.sample(range(1, 65535), count)
 
