@@ -280,18 +280,33 @@ def long_script(dice, addresses, lines):
     return script_text(*script, *dice.choice([[], ["p"]]))
 
 
+def reads_of_the_newest(dice, addresses):
+    """A line that writes an address and many that read it, which a store without an index finds at once."""
+    address = dice.choice(addresses)
+    return script_text(f"w {address} {random_value(dice)}", *[f"r {address}"] * dice.choice([100, 400, 2000]))
+
+
+def choosing_script(dice, addresses):
+    """A script in which an index may be made, given back and made again."""
+    parts = []
+    for _ in range(dice.choice([1, 1, 2, 3])):
+        parts.append(long_script(dice, addresses, dice.choice([50, 400, 1500, 4000])))
+        parts += dice.choice([[], [reads_of_the_newest(dice, addresses)]])
+    return b"".join(parts)
+
+
 def choosing_case(seed, number):
-    """Case `number` of a seed in which `ee run` has reason to make an index, or hardly none: about as many live addresses
-    as are counted sooner by one, sets that are full of them or hardly used, and scripts on both sides of when looking has
-    cost enough."""
+    """Case `number` of a seed in which `ee run` has reason to make an index, or hardly none, and to give it back: about as
+    many live addresses as are counted sooner by one, sets that are full of them or hardly used, and scripts on both sides
+    of when looking has cost enough."""
     dice = random.Random(f"{seed} choosing {number}")
-    pages, words = dice.choice([(1, 244), (1, 250), (1, 260), (2, 132), (4, 68), (1, 512), (2, 512), (8, 512)])
+    pages, words = dice.choice([(1, 54), (1, 250), (1, 260), (4, 68), (1, 512), (5, 132), (2, 512), (8, 512)])
     slots = pages * (words - 4)
-    count = min(slots, dice.choice([2, 17, 100, 144, 230, 239, 240, 241, 256, 300, slots - 1, slots]))
+    count = min(slots, dice.choice([2, 17, 50, 100, 240, 256, 600, 623, 624, 625, slots - 1, slots]))
     addresses = spread_addresses(dice, count)
     filled = script_text(*(f"w {address} {random_value(dice)}" for address in addresses))
     again = [filled] * dice.choice([1, 1, 2])
-    scripts = [long_script(dice, addresses, dice.choice([50, 400, 1500, 4000])) for _ in range(dice.choice([1, 1, 2]))]
+    scripts = [choosing_script(dice, addresses) for _ in range(dice.choice([1, 1, 2]))]
     return Case(f"seed {seed} choosing {number}", worked.formatted(pages, words), [b"".join(again)] + scripts)
 
 

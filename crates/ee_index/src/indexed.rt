@@ -1,5 +1,5 @@
 ghost use Rattle.std.specs.Bool.{MatchBool};
-ghost use Rattle.std.specs.Prelude.{◌≡◌, ◌≢◌, ◌<◌, IfErr, IfOk, IfSome, OnErr, OnOk};
+ghost use Rattle.std.specs.Prelude.{◌≡◌, ◌≢◌, ◌<◌, ◌-◌, IfErr, IfOk, IfSome, MatchOption, OnErr, OnOk, length};
 ghost use Rattle.ee_codec.specs.Words.{IsAddress};
 ghost use Rattle.ee_flash.specs.Device.{IsOn};
 ghost use Rattle.ee_flash.specs.Size.{slot_count};
@@ -9,7 +9,7 @@ ghost use Rattle.ee_core.specs.Changes.{IsFull, IsSpent};
 ghost use Rattle.ee_core.specs.Finished.{IsStore};
 ghost use Rattle.ee_core.specs.Openings.{Opens};
 ghost use Rattle.ee_core.specs.State.{capacity, state_of};
-ghost use Rattle.ee_index.specs.Index.{IndexedOpenFails};
+ghost use Rattle.ee_index.specs.Index.{IndexedOpenFails, slot_for};
 ghost use Rattle.ee_index.specs.Kept.{IsKeptBeside};
 
 use crate::index::{Index, batch_indexed, next_indexed, read_index, value_in};
@@ -65,6 +65,28 @@ impl<F: Flash + Drop, A: Allocator> Model for IndexedStore<F, A> {
 pub struct Kept<A: Allocator = Global> {
     pub(crate) layout: Layout,
     pub(crate) index: Index<A>,
+}
+
+impl<A: Allocator> Kept<A> {
+    /// How many used slots a look for the value of an address would go through, from the newest back to the one that has it:
+    /// all, if none has.
+    pub fn looks_for(&self, address: Address) -> usize
+        ensures { MatchOption (slot_for self.now.index.entries address)
+            (result ≡ self.now.layout.fill)
+            (λ slot. result ≡ self.now.layout.fill - slot) }
+    {
+        match self.index.get(&address) {
+            None => self.layout.fill,
+            Some(slot) => self.layout.fill.saturating_sub(*slot),
+        }
+    }
+
+    /// How many addresses have a value.
+    pub fn live_count(&self) -> usize
+        ensures { result ≡ length self.now.index.entries }
+    {
+        self.index.len()
+    }
 }
 
 /// The device of a store, as it is, and what was kept beside it, by which `store_of` makes the store again with no look

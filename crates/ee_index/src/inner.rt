@@ -1,5 +1,5 @@
-//! The parts of a store with an index, for `ee_replay` alone, which arms the device in memory that a store keeps, and
-//! makes an index for a store that is open.
+//! The parts of a store with an index, for `ee_replay` alone, which arms the device in memory that a store keeps, makes an
+//! index for a store that is open, and gives it back.
 ghost use Rattle.std.specs.Prelude.{◌≡◌, IfErr, IfOk};
 ghost use Rattle.ee_flash.specs.Device.{IsOn};
 
@@ -24,4 +24,13 @@ pub fn with_index<F: Flash + Drop, A: Allocator + Copy>(
         Ok(index) => Ok(store_of(flash, Kept { layout, index })),
         Err(_) => Err(inner::store_of(flash, layout)),
     }
+}
+
+/// The same store without its index, with no look at the flash.
+pub fn without_index<F: Flash + Drop, A: Allocator>(store: IndexedStore<F, A>) -> Store<F>
+    requires { IsOn store }
+    ensures { result ≡ store }
+{
+    let (flash, kept) = parts_of(store);
+    inner::store_of(flash, kept.layout)
 }

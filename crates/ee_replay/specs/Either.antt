@@ -5,4 +5,4 @@ use Rattle.ee_replay.specs.declared.either.EitherStore.TheVariants.{Plain, Index
 
 abbrev pub device_of_either : {F A : Type 0} → EitherStore F A → Device
 device_of_either (Plain store costs) = store
-device_of_either (Indexed store) = store
+device_of_either (Indexed store costs) = store

@@ -3,8 +3,11 @@
 //! All is counted in looks at a slot for a value, each some ten instructions. The figures of an index were taken by
 //! callgrind, once.
 
-/// What a slot costs in a look for the next sixteen live addresses.
-const LIVE_LOOK: u64 = 2;
+/// What a used slot costs in a look for the next sixteen live addresses,
+const USED_LOOK: u64 = 2;
+
+/// and a free one.
+const FREE_LOOK: u64 = 1;
 
 /// How many live addresses a look finds.
 const FOUND: u64 = 16;
@@ -12,23 +15,32 @@ const FOUND: u64 = 16;
 /// What an index costs for each used slot when it is made and given back,
 const ENTERING: u64 = 60;
 
+/// beside what each index costs, as much as so many slots,
+const FIXED_SLOTS: u64 = 16;
+
 /// with each change,
 const KEEPING: u64 = 20;
 
 /// for each live address when they are moved,
 const MOVING: u64 = 5;
 
-/// and with each read.
-const READING: u64 = 20;
+/// and with each read, as often as the addresses in it can be halved.
+const READING: u64 = 3;
 
-/// An index is made when looking has cost so many times what making it costs: so whatever comes behind it, a script takes
-/// hardly more than an eighth longer for it.
-const TIMES: u64 = 8;
+/// An index is made when looking has cost so many times what it may cost, so that it takes no more than a tenth of what the
+/// lines before it took.
+const TIMES: u64 = 10;
 
-/// What looks through the slots have cost since a store was opened, less what an index would have cost for the same lines.
+/// What looking through the slots costs and what an index costs, from line to line.
 #[derive(Clone, Copy)]
 pub(crate) struct Costs {
-    looks: u64,
+    has_index: bool,
+    // How much more looking has cost than an index would have; where there is one, how much it may lose yet.
+    ahead: u64,
+    // and how much that may come to
+    most: u64,
+    // how often an index lost its reserve
+    losses: u32,
     // how many reads go by before one is measured, and how many went by for it
     left: u32,
     apart: u32,
@@ -36,34 +48,59 @@ pub(crate) struct Costs {
 }
 
 impl Costs {
-    /// Nothing was looked for.
+    /// Nothing was looked for yet, and there is no index.
     pub(crate) fn new() -> Costs {
         Costs {
-            looks: 0,
+            has_index: false,
+            ahead: 0,
+            most: u64::MAX,
+            losses: 0,
             left: 8,
             apart: 8,
             dice: 1,
         }
     }
 
-    /// A change was appended.
-    pub(crate) fn note_append(&mut self) {
-        self.looks = self.looks.saturating_sub(KEEPING);
+    /// An index of so many used slots was made now. It may lose its reserve before it is given back.
+    pub(crate) fn with_index(self, fill: usize) -> Costs {
+        Costs {
+            has_index: true,
+            ahead: self.reserve(fill),
+            most: self.price(fill).saturating_mul(TIMES),
+            ..self
+        }
+    }
+
+    /// The index was given back now.
+    pub(crate) fn without_index(self) -> Costs {
+        Costs {
+            has_index: false,
+            ahead: 0,
+            most: u64::MAX,
+            losses: self.losses.saturating_add(1),
+            ..self
+        }
+    }
+
+    /// A change was appended. Says whether an index has nothing left to lose.
+    pub(crate) fn note_append(&mut self) -> bool {
+        self.ahead = self.ahead.saturating_sub(KEEPING);
+        self.has_index && self.ahead == 0
     }
 
     /// A change moved so many live addresses, in a set of so many slots.
     pub(crate) fn note_move(&mut self, live: usize, slots: usize) {
-        let live = live as u64;
-        let saved = count_cost(live, slots as u64);
-        self.balance(saved, live.saturating_mul(MOVING).saturating_add(KEEPING));
+        let looking = count_cost(live, slots, slots);
+        let moving = (live as u64).saturating_mul(MOVING);
+        self.balance(looking, moving.saturating_add(KEEPING));
     }
 
     /// An address with no value was looked for in so many used slots.
     pub(crate) fn note_absent(&mut self, fill: usize) {
-        self.balance(fill as u64, READING);
+        self.balance(fill as u64, reading(fill));
     }
 
-    /// A value was read. Says whether it is this read's turn to be measured: one of some thirty is, at uneven distances.
+    /// A value was read. Says whether it is this read's turn to be measured: one of some sixty is, at uneven distances.
     pub(crate) fn note_read(&mut self) -> bool {
         self.left = self.left.saturating_sub(1);
         self.measures_now()
@@ -74,42 +111,67 @@ impl Costs {
         self.left == 0
     }
 
-    /// This read, which is measured, took so many looks, and stands for those since the one before it.
-    pub(crate) fn measure_read(&mut self, looks: u64) {
+    /// This read, which is measured, takes so many looks, or one in an index of so many addresses. It stands for those
+    /// since the one before it.
+    pub(crate) fn measure_read(&mut self, looks: usize, addresses: usize) {
         let reads = u64::from(self.apart);
-        self.balance(looks.saturating_mul(reads), reads.saturating_mul(READING));
+        let looking = (looks as u64).saturating_mul(reads);
+        self.balance(looking, reading(addresses).saturating_mul(reads));
         self.dice = self
             .dice
             .wrapping_mul(1_664_525)
             .wrapping_add(1_013_904_223);
-        self.apart = 1 + (self.dice >> 26);
+        self.apart = 1 + (self.dice >> 25);
         self.left = self.apart;
     }
 
-    /// Whether an index of so many used slots is worth its making by now.
-    pub(crate) fn pay_for(&self, fill: usize) -> bool {
-        self.looks >= (fill as u64).saturating_mul(ENTERING * TIMES)
+    /// Whether the other kind of store pays by now, where so many slots are used.
+    pub(crate) fn is_time_to_change(&self, fill: usize) -> bool {
+        if self.has_index {
+            return self.ahead == 0;
+        }
+        self.ahead >= self.price(fill).saturating_mul(TIMES)
     }
 
-    fn balance(&mut self, saved: u64, spent: u64) {
-        self.looks = self.looks.saturating_add(saved).saturating_sub(spent);
+    /// Whether an index pays for one count of so many live addresses, in a set of which so many slots are used.
+    pub(crate) fn pays_for_a_count(&self, live: usize, fill: usize, slots: usize) -> bool {
+        count_cost(live, fill, slots) >= self.price(fill)
+    }
+
+    /// What an index of so many used slots may cost: its making, and its reserve.
+    fn price(&self, fill: usize) -> u64 {
+        making(fill).saturating_add(self.reserve(fill))
+    }
+
+    /// What an index may lose against looking before it is given back: half of what its making costs, and twice as much each
+    /// time that this was too little, for a move may be still to come that makes up for it.
+    fn reserve(&self, fill: usize) -> u64 {
+        (making(fill) / 2).saturating_mul(1 << self.losses.min(32))
+    }
+
+    fn balance(&mut self, looking: u64, indexed: u64) {
+        let ahead = self.ahead.saturating_add(looking).min(self.most);
+        self.ahead = ahead.saturating_sub(indexed);
     }
 }
 
-/// Whether so many live addresses, in so many used slots, are counted sooner by an index, which is made first. They are
-/// counted twice, for the first line of the certificate and for the end of the answers.
-pub(crate) fn counts_sooner(live: usize, fill: usize) -> bool {
-    let twice = count_cost(live as u64, fill as u64).saturating_mul(2);
-    twice > (fill as u64).saturating_mul(ENTERING)
+/// What so many live addresses cost to count in a set of which so many slots are used.
+fn count_cost(live: usize, fill: usize, slots: usize) -> u64 {
+    let free = slots.saturating_sub(fill) as u64;
+    let slot_looks = (fill as u64)
+        .saturating_mul(USED_LOOK)
+        .saturating_add(free.saturating_mul(FREE_LOOK));
+    (live as u64 / FOUND + 1).saturating_mul(slot_looks)
 }
 
-/// Whether so many used slots can have as many live addresses as that takes.
-pub(crate) fn may_count_sooner(fill: usize) -> bool {
-    counts_sooner(fill, fill)
+/// What an index of so many used slots costs when it is made and given back.
+fn making(fill: usize) -> u64 {
+    (fill as u64)
+        .saturating_add(FIXED_SLOTS)
+        .saturating_mul(ENTERING)
 }
 
-/// What so many live addresses cost to count in so many slots.
-fn count_cost(live: u64, slots: u64) -> u64 {
-    let looks = live / FOUND + 1;
-    looks.saturating_mul(slots).saturating_mul(LIVE_LOOK)
+/// What a read in an index of so many addresses costs.
+fn reading(addresses: usize) -> u64 {
+    u64::from(usize::BITS - addresses.leading_zeros()).saturating_mul(READING)
 }

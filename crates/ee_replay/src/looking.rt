@@ -87,9 +87,9 @@ impl<A: Allocator> Told<A> {
 }
 
 /// How many slots a look for the value of an address goes through, from the newest down.
-pub(crate) fn looks_for<F: Flash>(flash: &F, layout: &Layout, address: Address) -> u64 {
+pub(crate) fn looks_for<F: Flash>(flash: &F, layout: &Layout, address: Address) -> usize {
     let first = first_page(flash, layout.side);
-    let mut looks: u64 = 0;
+    let mut looks: usize = 0;
     for page in (0..2 * flash.shape().pages()).rev() {
         if first <= page && page <= layout.current {
             let used = used_behind(flash, layout, page - first);
@@ -104,11 +104,11 @@ pub(crate) fn looks_for<F: Flash>(flash: &F, layout: &Layout, address: Address) 
 }
 
 /// How many used slots of a page it goes through, and whether it ends there.
-fn looks_in_page<F: Flash>(flash: &F, page: usize, used: usize, address: Address) -> (u64, bool)
+fn looks_in_page<F: Flash>(flash: &F, page: usize, used: usize, address: Address) -> (usize, bool)
     requires page_in_range { page < page_count (F.device flash.now).size }
     requires used_in_range { used ≤ (F.device flash.now).size.words - 4 }
 {
-    let mut passed: u64 = 0;
+    let mut passed: usize = 0;
     for at in (HEADER_WORDS..HEADER_WORDS + used).rev() {
         passed = passed.saturating_add(1);
         if ends_in(flash.word(page, at), address) {
