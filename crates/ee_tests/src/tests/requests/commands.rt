@@ -149,7 +149,9 @@ fn an_index_that_pays(rt: HostRuntime) -> Result<(), Fail> {
             replays(replay(&either, image, script), &wanted),
             Some(true),
         );
-        same(&rt, plain.left() > either.left(), true);
+        // An index of forty addresses takes several nodes.
+        let more = plain.left().saturating_sub(either.left());
+        same(&rt, more > 4, true);
         let wants = Cell::new(0u64);
         with_each_refusal(&rt, rt.alloc(), 5, |alloc| {
             let answer = replays(replay(alloc, image, script), &wanted);
