@@ -2,10 +2,8 @@
 mod counted;
 mod cuts;
 mod formats;
-mod images;
 mod limits;
 mod outside;
-mod program;
 mod requests;
 mod streams;
 mod trial;

@@ -1,7 +1,7 @@
 //! How many words of the flash a read by the index takes, on a device that counts them.
-use crate::tests::images::ONE_MOVE;
 use crate::tests::{address, device, given, same};
 use ee_codec::Address;
+use ee_fakes::images::ONE_MOVE;
 use ee_flash::{Cut, Flash, MemFlash, Shape, Word};
 use ee_store::{IndexedStore, Variables};
 use std::alloc::Global;

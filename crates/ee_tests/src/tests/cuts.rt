@@ -1,7 +1,7 @@
 //! Stores whose erases are cut in every mix of words, one cut after another: what no fuse makes.
 use crate::tests::{address, given, same, same_at, shape};
-use crate::{Fate, Left, ListFlash};
 use ee_codec::Address;
+use ee_fakes::{Fate, Left, ListFlash};
 use ee_flash::Flash;
 use ee_store::{OpenFault, Store, Variables, WriteFault, Written, format, open};
 use std::alloc::Global;

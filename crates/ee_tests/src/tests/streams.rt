@@ -1,12 +1,12 @@
 //! Inputs and outputs: in pieces, failing at each call, of any length, and without end.
 ghost use Rattle.std.specs.Prelude.{◌<◌};
 
-use crate::tests::images::{FORMATTED, REPORT, SCRIPT, TWO_MOVES};
 use crate::tests::requests::LastValue;
 use crate::tests::trial::with_each_refusal;
 use crate::tests::{given, same, same_at};
-use crate::{FailingReader, FailingWriter, Stop};
 use ee_command_line::{MOST_BYTES, MOST_READS, ReadFault, Stopped, read_whole, write_whole};
+use ee_fakes::images::{FORMATTED, REPORT, SCRIPT, TWO_MOVES};
+use ee_fakes::{FailingReader, FailingWriter, Stop};
 use ee_faults::ReplayFault;
 use ee_script::{StreamFault, answer_reader};
 use ee_shell::{replay, replay_reader};

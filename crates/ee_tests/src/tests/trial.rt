@@ -1,4 +1,4 @@
-use crate::Refusing;
+use ee_fakes::Refusing;
 use std::alloc::Global;
 use std::process::Abort;
 

@@ -1,10 +1,10 @@
 //! The commands over bytes.
-use crate::Refusing;
-use crate::tests::images::{
-    CERTIFICATE, CLEANED, FORMATTED, ONE_MOVE, REPORT, SCRIPT, TIDIED, TWO_MOVES, VOLUME,
-};
 use crate::tests::trial::with_each_refusal;
 use crate::tests::{given, same, shape};
+use ee_fakes::Refusing;
+use ee_fakes::images::{
+    CERTIFICATE, CLEANED, FORMATTED, ONE_MOVE, REPORT, SCRIPT, TIDIED, TWO_MOVES, VOLUME,
+};
 use ee_faults::{Fault, File, ReplayFault, fault_line};
 use ee_image::read_image;
 use ee_pages::ScanFault;

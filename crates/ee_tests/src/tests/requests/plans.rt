@@ -1,8 +1,8 @@
 //! Starts, plans, checks, rounds and ledgers.
-use crate::tests::images::CERTIFICATE;
 use crate::tests::trial::with_each_refusal;
 use crate::tests::{address, device, given, same, shape, write};
 use ee_check::{Change, CheckFault, Start, check, read_certificate, write_certificate};
+use ee_fakes::images::CERTIFICATE;
 use ee_flash::{Flash, MemFlash};
 use ee_plan::{Demand, PlanFault, Rounds, RoundsFault, plan, start_of};
 use ee_store::{Variables, format};

@@ -1,7 +1,7 @@
 //! Schemas, and what they find on a store with an index.
-use crate::tests::images::TWO_MOVES;
 use crate::tests::trial::with_each_refusal;
 use crate::tests::{address, device, given, same};
+use ee_fakes::images::TWO_MOVES;
 use ee_flash::{Flash, MemFlash};
 use ee_settings::{Held, ListFault, Listed, Reading, Schema, SchemaFault, Stale, StaleFault};
 use ee_store::{IndexedStore, Written};

@@ -1,9 +1,9 @@
 //! Devices, stores with an index, and events that drive a store.
-use crate::ListFlash;
-use crate::tests::images::ONE_MOVE;
 use crate::tests::trial::with_each_refusal;
 use crate::tests::{address, shape};
 use ee_codec::Address;
+use ee_fakes::ListFlash;
+use ee_fakes::images::ONE_MOVE;
 use ee_flash::{Flash, MemFlash, Shape};
 use ee_image::{read_image, write_image};
 use ee_store::{

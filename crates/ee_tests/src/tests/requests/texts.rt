@@ -1,8 +1,8 @@
 //! Numbers, answers, sessions, images and certificates.
-use crate::tests::images::{CERTIFICATE, SCRIPT};
 use crate::tests::trial::with_each_refusal;
 use crate::tests::{device, same};
 use ee_check::{TextFault, read_certificate, write_certificate};
+use ee_fakes::images::{CERTIFICATE, SCRIPT};
 use ee_flash::Flash;
 use ee_image::{ImageFault, read_image, write_image};
 use ee_script::{

@@ -1,0 +1,16 @@
+use Rattle.std.proofs.Common.{ℕ, ◌+◌, ◌≡◌, List, set, sym, ◌∙◌, ap}
+use Rattle.ee_flash.specs.Device.{Device}
+use Rattle.ee_flash.specs.Pages.{pages_of}
+use Rattle.ee_flash.specs.declared.word.Word.{Word}
+use Rattle.ee_flash.proofs.Public.{pages_of-set}
+use Rattle.ee_fakes.specs.Listed.{Listed, device_of_list, state_of_list}
+use Rattle.ee_fakes.proofs.list.ListFlash.set_word.Goals as goal
+
+pub returns : goal.returns
+returns g c =
+    let flash = c.args.self.now in
+    let cells = flash.cells.items in
+    let image : pages_of flash.shape (set cells (c.page_start-start.result + c.args.at) c.args.word) ≡ _ =
+    ap (λ place. pages_of flash.shape (set cells place c.args.word)) (ap (λ (start : ℕ). start + c.args.at) c.page_start-start.ensures.value)
+    ∙ pages_of-set flash.shape cells c.args.page c.args.at c.args.word (sym flash.cells.ok.0 ∙ flash.cells_length) c.requires.page_in_range c.requires.place_in_range in
+    ap (λ (pages : List (List Word)). let old : Listed = state_of_list flash in let device : Device = device_of_list flash in let now : Listed = record old { device = record device { image = pages } } in now) image

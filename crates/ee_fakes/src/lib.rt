@@ -1,0 +1,23 @@
+//! What tests need beside the product.
+//!
+//! - `Refusing`: an allocator that refuses one request for memory.
+//! - `FailingReader`, `FailingWriter`: streams that give or take a few bytes a call and fail at one call.
+//! - `ListFlash`: a flash device whose steps are done or cut as a list says, each word of a cut step by itself.
+//! - `images`: the texts that several tests read.
+//!
+//! Only tests stand on this crate. So the product's crates hold no unsafe code and no help for tests; the one `unsafe impl`
+//! stands here, with its proof.
+#![tactic(auto)]
+
+mod fate;
+pub mod images;
+mod list;
+mod reader;
+mod refusing;
+mod writer;
+
+pub use fate::{Fate, Left};
+pub use list::ListFlash;
+pub use reader::FailingReader;
+pub use refusing::Refusing;
+pub use writer::{FailingWriter, Stop};

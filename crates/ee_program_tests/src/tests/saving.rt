@@ -1,0 +1,186 @@
+//! How an image's file is replaced: in which order, with each call failing, and with another run at each call.
+use super::trail::{Tracked, Trail};
+use crate::tests::{same, same_at};
+use ee_fakes::images::{CLEANED, FORMATTED, ONE_MOVE, TWO_MOVES};
+use ee_program::{FileLocks, SaveFault, save};
+use std::fs;
+use std::process::Abort;
+use std::rt::Files;
+use std::test::Fail;
+
+/// The calls by which a plain file is replaced.
+const REPLACING: &str =
+    "find resolve open lock examine find read read create examine mode write sync rename ";
+
+/// The calls by which it is written in place, where none can be made beside it.
+const IN_PLACE: &str = "find resolve open lock examine find read read seek write length ";
+
+/// What saving answers.
+type Answer = Result<(), SaveFault>;
+
+// Compares the bytes of a file.
+fn holds<R: Files + AllocGlobal + Abort>(
+    rt: &R,
+    place: u64,
+    path: &str,
+    bytes: &[u8],
+) -> Result<(), Fail> {
+    same_at(rt, place, fs::read(rt, path)?.as_slice(), bytes);
+    Ok(())
+}
+
+#[test]
+fn the_calls_in_their_order(rt: HostRuntime) -> Result<(), Fail> {
+    for (is_bare, calls) in [(false, REPLACING), (true, IN_PLACE)] {
+        fs::write(&rt, "ordered", ONE_MOVE)?;
+        let trail = Trail::new(&rt, "ordered", is_bare);
+        let answer = save(&Tracked::on(&trail), "ordered", Some(ONE_MOVE), CLEANED);
+        same_at(&rt, is_bare, answer, Ok(()));
+        holds(&rt, 0, "ordered", CLEANED)?;
+        same_at(&rt, is_bare, trail.asked().as_str(), calls);
+    }
+    Ok(())
+}
+
+// Saves with one call failing: the new image stands or the old one, as is answered, and nothing beside it.
+fn fails_at<R: FileLocks + AllocGlobal + Abort>(
+    rt: &R,
+    is_bare: bool,
+    call: u64,
+    wanted: Answer,
+) -> Result<(), Fail> {
+    fs::write(rt, "failing", ONE_MOVE)?;
+    let trail = Trail::failing(rt, "failing", is_bare, call);
+    let answer = save(&Tracked::on(&trail), "failing", Some(ONE_MOVE), CLEANED);
+    same_at(rt, call, answer, wanted);
+    let stands = if wanted.is_ok() { CLEANED } else { ONE_MOVE };
+    holds(rt, call, "failing", stands)?;
+    same_at(rt, call, fs::exists(rt, "failing.ee-saving-0")?, false);
+    Ok(())
+}
+
+/// Where the path isn't resolved, and no file is made beside it or given a mode, the image is written in place; where
+/// there are no locks it is replaced all the same. Each other call that fails keeps the old one.
+#[test]
+fn each_call_that_fails(rt: HostRuntime) -> Result<(), Fail> {
+    for (is_bare, calls, goes_on) in [
+        (false, REPLACING, [2, 4, 9, 10, 11].as_slice()),
+        (true, IN_PLACE, [2, 4].as_slice()),
+    ] {
+        for (at, _) in calls.split_whitespace().enumerate() {
+            let call = (at as u64).saturating_add(1);
+            let wanted = if goes_on.contains(&call) {
+                Ok(())
+            } else {
+                Err(SaveFault::Failed)
+            };
+            fails_at(&rt, is_bare, call, wanted)?;
+        }
+    }
+    Ok(())
+}
+
+// Saves while another run does, from the same text, before a call: one of the two images stands, and the run that has
+// the lock first is the one that is done.
+fn crosses_at<R: FileLocks + AllocGlobal + Abort>(
+    rt: &R,
+    is_bare: bool,
+    call: u64,
+) -> Result<(), Fail> {
+    fs::write(rt, "crossed", ONE_MOVE)?;
+    let trail = Trail::crossed(rt, "crossed", is_bare, call);
+    let answer = save(&Tracked::on(&trail), "crossed", Some(ONE_MOVE), CLEANED);
+    let changed = Err(SaveFault::Changed);
+    let (wanted, others, stands) = if call <= 4 {
+        (changed, Ok(()), TWO_MOVES)
+    } else {
+        (Ok(()), changed, CLEANED)
+    };
+    same_at(rt, call, answer, wanted);
+    same_at(rt, call, trail.other(), Some(others));
+    holds(rt, call, "crossed", stands)
+}
+
+#[test]
+fn another_run_before_each_call(rt: HostRuntime) -> Result<(), Fail> {
+    for (is_bare, calls) in [(false, REPLACING), (true, IN_PLACE)] {
+        for (at, _) in calls.split_whitespace().enumerate() {
+            crosses_at(&rt, is_bare, (at as u64).saturating_add(1))?;
+        }
+    }
+    Ok(())
+}
+
+#[test]
+fn what_is_not_what_was_read_stays(rt: HostRuntime) -> Result<(), Fail> {
+    let changed = Err(SaveFault::Changed);
+    same(&rt, save(&rt, "other", Some(ONE_MOVE), CLEANED), changed);
+    same(&rt, fs::exists(&rt, "other")?, false);
+    let front = ONE_MOVE.split_at(ONE_MOVE.len() / 2).0;
+    for text in [TWO_MOVES, CLEANED, front, b"".as_slice()] {
+        fs::write(&rt, "other", text)?;
+        same(&rt, save(&rt, "other", Some(ONE_MOVE), CLEANED), changed);
+        holds(&rt, text.len() as u64, "other", text)?;
+    }
+    // Formatting asks for no text, but for the lock.
+    let held = fs::open(&rt, "other")?;
+    same(&rt, rt.try_lock(&held).is_ok(), true);
+    same(&rt, save(&rt, "other", None, FORMATTED), changed);
+    same(&rt, save(&rt, "other", Some(b""), FORMATTED), changed);
+    holds(&rt, 0, "other", b"")?;
+    drop(held);
+    same(&rt, save(&rt, "other", None, FORMATTED), Ok(()));
+    holds(&rt, 0, "other", FORMATTED)
+}
+
+/// A second name of the old image's file goes on having it.
+#[test]
+fn a_hard_link_keeps_the_old_image(rt: HostRuntime) -> Result<(), Fail> {
+    fs::write(&rt, "first", ONE_MOVE)?;
+    fs::hard_link(&rt, "first", "second")?;
+    same(&rt, save(&rt, "first", Some(ONE_MOVE), CLEANED), Ok(()));
+    holds(&rt, 0, "first", CLEANED)?;
+    holds(&rt, 0, "second", ONE_MOVE)
+}
+
+/// What stands under a name that would be used isn't this run's, and stays.
+#[test]
+fn names_that_are_taken_stay(rt: HostRuntime) -> Result<(), Fail> {
+    fs::write(&rt, "taken", ONE_MOVE)?;
+    for number in 0..100u8 {
+        let beside = format!(in rt.alloc(); "taken.ee-saving-{number}")?;
+        fs::write(&rt, beside.as_str(), TWO_MOVES)?;
+    }
+    let failed = Err(SaveFault::Failed);
+    same(&rt, save(&rt, "taken", Some(ONE_MOVE), CLEANED), failed);
+    holds(&rt, 0, "taken", ONE_MOVE)?;
+    fs::remove_file(&rt, "taken.ee-saving-99")?;
+    same(&rt, save(&rt, "taken", Some(ONE_MOVE), CLEANED), Ok(()));
+    holds(&rt, 0, "taken", CLEANED)?;
+    same(&rt, fs::exists(&rt, "taken.ee-saving-99")?, false);
+    for number in 0..99u8 {
+        let beside = format!(in rt.alloc(); "taken.ee-saving-{number}")?;
+        holds(&rt, u64::from(number), beside.as_str(), TWO_MOVES)?;
+    }
+    Ok(())
+}
+
+/// A file that wasn't there isn't there after a failure.
+#[test]
+fn a_first_image_that_fails(rt: HostRuntime) -> Result<(), Fail> {
+    for call in 1..4 {
+        let trail = Trail::failing(&rt, "none", false, call);
+        let answer = save(&Tracked::on(&trail), "none", None, FORMATTED);
+        let wanted = if call == 1 {
+            Ok(())
+        } else {
+            Err(SaveFault::Failed)
+        };
+        same_at(&rt, call, answer, wanted);
+        same_at(&rt, call, fs::exists(&rt, "none")?, wanted.is_ok());
+        if wanted.is_ok() {
+            fs::remove_file(&rt, "none")?;
+        }
+    }
+    Ok(())
+}
