@@ -1,6 +1,5 @@
 //! The program over files, and its table of commands.
 mod commands;
-mod desk;
 mod files;
 mod saving;
 mod trail;

@@ -29,26 +29,27 @@ tidy IMAGE SETTINGS
 list IMAGE [SETTINGS]
 size W SCRIPT CYCLES RUNS";
 
+/// The least and the greatest number that a word may be, where it is one.
+fn range_of(id: &str) -> Option<(i64, i64)> {
+    match id {
+        "P" => Some((1, 64)),
+        "W" => Some((5, 512)),
+        "VALUE" => Some((0, 4_294_967_295)),
+        "CYCLES" | "RUNS" => Some((1, 4_294_967_295)),
+        _ => None,
+    }
+}
+
 /// A word of a row.
 fn word<'a>(alloc: Global, id: &'a str) -> Arg<'a> {
-    let word = Arg::new(alloc, id).action(ArgAction::Set);
-    match id {
-        "--indexed" => word.long("indexed").action(ArgAction::SetTrue),
-        "--rust" => word.long("rust").action(ArgAction::SetTrue),
-        "[BEFORE]" | "[SETTINGS]" => word,
-        "P" => word
-            .required(true)
-            .value_parser(value_parser!(u64).range(1..=64)),
-        "W" => word
-            .required(true)
-            .value_parser(value_parser!(u64).range(5..=512)),
-        "VALUE" => word
-            .required(true)
-            .value_parser(value_parser!(u64).range(0..=4_294_967_295)),
-        "CYCLES" | "RUNS" => word
-            .required(true)
-            .value_parser(value_parser!(u64).range(1..=4_294_967_295)),
-        _ => word.required(true),
+    let word = Arg::new(alloc, id);
+    if let Some(name) = id.strip_prefix("--") {
+        return word.long(name).action(ArgAction::SetTrue);
+    }
+    let word = word.action(ArgAction::Set).required(!id.starts_with("["));
+    match range_of(id) {
+        Some((least, most)) => word.value_parser(value_parser!(u64).range(least..=most)),
+        None => word,
     }
 }
 

@@ -1,10 +1,9 @@
 //! What stands in the files where a write fails, and behind a link. What each command does with its files is told by the
 //! worked examples (`ee_cases`).
-use super::desk::Desk;
+use super::trail::{Tracked, Trail};
 use crate::tests::{same, same_at};
 use ee_fakes::images::{CLEANED, ONE_MOVE};
 use ee_program::FileLocks;
-use std::cell::Cell;
 use std::fs::{self, Permissions};
 use std::os::unix::fs::{PermissionsExt, symlink};
 use std::process::Abort;
@@ -20,10 +19,10 @@ fn holds<R: Files + AllocGlobal + Abort>(rt: &R, path: &str, bytes: &[u8]) -> Re
 #[test]
 fn a_closed_output_is_told_after_the_image(rt: HostRuntime) -> Result<(), Fail> {
     fs::write(&rt, "closed", ONE_MOVE)?;
-    let mut desk = Desk::new(&rt);
-    desk.closed = true;
-    same(&rt, desk.run(&["clean", "closed"])?, 3);
-    let told = desk.written().1;
+    let mut trail = Trail::new(&rt, "closed");
+    trail.is_closed = true;
+    same(&rt, Tracked::on(&trail).run(&["clean", "closed"])?, 3);
+    let told = trail.written().1;
     same(
         &rt,
         told.as_slice(),
@@ -36,12 +35,14 @@ fn a_closed_output_is_told_after_the_image(rt: HostRuntime) -> Result<(), Fail> 
 fn keeps_the_image<R: FileLocks + AllocGlobal + Input + Abort>(
     rt: &R,
     bytes: usize,
-    bare: bool,
+    is_bare: bool,
 ) -> Result<(), Fail> {
-    let room = Cell::new(bytes);
-    let desk = Desk::cramped(rt, &room, bare);
-    same_at(rt, bytes, desk.run(&["clean", "full"])?, 3);
-    let told = desk.written().1;
+    let mut trail = Trail::new(rt, "full");
+    trail.is_bare = is_bare;
+    trail.room.set(bytes);
+    let status = Tracked::on(&trail).run(&["clean", "full"])?;
+    same_at(rt, bytes, status, 3);
+    let told = trail.written().1;
     same(rt, told.as_slice(), b"ee: cannot write image\n".as_slice());
     holds(rt, "full", ONE_MOVE)?;
     same_at(rt, bytes, fs::exists(rt, "full.ee-saving-0")?, false);
@@ -65,9 +66,10 @@ fn a_link_and_a_mode_stay(rt: HostRuntime) -> Result<(), Fail> {
     fs::write(&rt, "linked.ee-saving-0", b"".as_slice())?;
     fs::set_permissions(&rt, "linked", Permissions::from_mode(0o640))?;
     symlink(&rt, "linked", "link")?;
-    let desk = Desk::new(&rt);
-    same(&rt, desk.run(&["clean", "link"])?, 0);
-    same(&rt, desk.written().0.as_slice(), b"cleaned 1\n".as_slice());
+    let trail = Trail::new(&rt, "link");
+    same(&rt, Tracked::on(&trail).run(&["clean", "link"])?, 0);
+    let printed = trail.written().0;
+    same(&rt, printed.as_slice(), b"cleaned 1\n".as_slice());
     holds(&rt, "linked", CLEANED)?;
     holds(&rt, "linked.ee-saving-0", b"")?;
     same(&rt, fs::exists(&rt, "linked.ee-saving-1")?, false);

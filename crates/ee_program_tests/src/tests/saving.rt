@@ -33,7 +33,8 @@ fn holds<R: Files + AllocGlobal + Abort>(
 fn the_calls_in_their_order(rt: HostRuntime) -> Result<(), Fail> {
     for (is_bare, calls) in [(false, REPLACING), (true, IN_PLACE)] {
         fs::write(&rt, "ordered", ONE_MOVE)?;
-        let trail = Trail::new(&rt, "ordered", is_bare);
+        let mut trail = Trail::new(&rt, "ordered");
+        trail.is_bare = is_bare;
         let answer = save(&Tracked::on(&trail), "ordered", Some(ONE_MOVE), CLEANED);
         same_at(&rt, is_bare, answer, Ok(()));
         holds(&rt, 0, "ordered", CLEANED)?;
@@ -50,7 +51,9 @@ fn fails_at<R: FileLocks + AllocGlobal + Abort>(
     wanted: Answer,
 ) -> Result<(), Fail> {
     fs::write(rt, "failing", ONE_MOVE)?;
-    let trail = Trail::failing(rt, "failing", is_bare, call);
+    let mut trail = Trail::new(rt, "failing");
+    trail.is_bare = is_bare;
+    trail.fails_at = call;
     let answer = save(&Tracked::on(&trail), "failing", Some(ONE_MOVE), CLEANED);
     same_at(rt, call, answer, wanted);
     let stands = if wanted.is_ok() { CLEANED } else { ONE_MOVE };
@@ -88,7 +91,9 @@ fn crosses_at<R: FileLocks + AllocGlobal + Abort>(
     call: u64,
 ) -> Result<(), Fail> {
     fs::write(rt, "crossed", ONE_MOVE)?;
-    let trail = Trail::crossed(rt, "crossed", is_bare, call);
+    let mut trail = Trail::new(rt, "crossed");
+    trail.is_bare = is_bare;
+    trail.other_at = call;
     let answer = save(&Tracked::on(&trail), "crossed", Some(ONE_MOVE), CLEANED);
     let changed = Err(SaveFault::Changed);
     let (wanted, others, stands) = if call <= 4 {
@@ -169,7 +174,8 @@ fn names_that_are_taken_stay(rt: HostRuntime) -> Result<(), Fail> {
 #[test]
 fn a_first_image_that_fails(rt: HostRuntime) -> Result<(), Fail> {
     for call in 1..4 {
-        let trail = Trail::failing(&rt, "none", false, call);
+        let mut trail = Trail::new(&rt, "none");
+        trail.fails_at = call;
         let answer = save(&Tracked::on(&trail), "none", None, FORMATTED);
         let wanted = if call == 1 {
             Ok(())
