@@ -6,6 +6,7 @@ use ee_fakes::images::{
     CERTIFICATE, CLEANED, FORMATTED, ONE_MOVE, REPORT, SCRIPT, TIDIED, TWO_MOVES, VOLUME,
 };
 use ee_faults::{Fault, File, ReplayFault, fault_line};
+use ee_flash::Shape;
 use ee_image::read_image;
 use ee_pages::ScanFault;
 use ee_shell::{
@@ -51,19 +52,52 @@ fn moves_twice<A: Allocator>(given: Result<Replayed<A>, ReplayFault>) -> Option<
     }
 }
 
+// Whether the fault is that the image is not formatted.
+fn finds_no_store<A: Allocator>(given: Result<Replayed<A>, ReplayFault>) -> Option<bool> {
+    match given {
+        Ok(_) => Some(false),
+        Err(ReplayFault::Memory) => None,
+        Err(fault) => Some(fault == ReplayFault::Open(ScanFault::Unformatted)),
+    }
+}
+
+// The ways to replay a script.
+#[derive(Clone, Copy)]
+enum Way {
+    Whole,
+    Indexed,
+    Pieces,
+}
+
+// The script of two moves, replayed over an image.
+fn replay_by<'m>(
+    way: Way,
+    alloc: &'m Refusing<Global>,
+    image: &[u8],
+) -> Result<Replayed<&'m Refusing<Global>>, ReplayFault> {
+    match way {
+        Way::Whole => replay(alloc, image, SCRIPT),
+        Way::Indexed => replay_indexed(alloc, image, SCRIPT),
+        Way::Pieces => {
+            let mut reader = SCRIPT;
+            replay_reader(alloc, image, &mut reader)
+        }
+    }
+}
+
+/// An image that is not legal is told as that.
 #[test]
 fn scripts(rt: HostRuntime) -> Result<(), Fail> {
+    let blank = b"ee 1 6\n0 - - - - - -\n0 - - - - - -\n";
+    for way in [Way::Whole, Way::Indexed, Way::Pieces] {
+        with_each_refusal(&rt, rt.alloc(), 5, |alloc| {
+            moves_twice(replay_by(way, alloc, FORMATTED))
+        });
+        with_each_refusal(&rt, rt.alloc(), 1, |alloc| {
+            finds_no_store(replay_by(way, alloc, blank))
+        });
+    }
     let shape = shape(1, 6)?;
-    with_each_refusal(&rt, rt.alloc(), 5, |alloc| {
-        moves_twice(replay(alloc, FORMATTED, SCRIPT))
-    });
-    with_each_refusal(&rt, rt.alloc(), 5, |alloc| {
-        moves_twice(replay_indexed(alloc, FORMATTED, SCRIPT))
-    });
-    with_each_refusal(&rt, rt.alloc(), 5, |alloc| {
-        let mut reader = SCRIPT;
-        moves_twice(replay_reader(alloc, FORMATTED, &mut reader))
-    });
     with_each_refusal(&rt, rt.alloc(), 5, |alloc| {
         moves_twice(try_script(alloc, shape, SCRIPT))
     });
@@ -165,110 +199,11 @@ fn an_index_that_pays(rt: HostRuntime) -> Result<(), Fail> {
     Ok(())
 }
 
-// Whether the fault is that the image is not formatted.
-fn finds_no_store<A: Allocator>(given: Result<Replayed<A>, ReplayFault>) -> Option<bool> {
-    match given {
-        Ok(_) => Some(false),
-        Err(ReplayFault::Memory) => None,
-        Err(fault) => Some(fault == ReplayFault::Open(ScanFault::Unformatted)),
-    }
-}
-
-/// An image that is not legal is told as that.
-#[test]
-fn blank_images(rt: HostRuntime) {
-    let blank = b"ee 1 6\n0 - - - - - -\n0 - - - - - -\n";
-    with_each_refusal(&rt, rt.alloc(), 1, |alloc| {
-        finds_no_store(replay(alloc, blank, SCRIPT))
-    });
-    with_each_refusal(&rt, rt.alloc(), 1, |alloc| {
-        finds_no_store(replay_indexed(alloc, blank, SCRIPT))
-    });
-    with_each_refusal(&rt, rt.alloc(), 1, |alloc| {
-        let mut reader = SCRIPT;
-        finds_no_store(replay_reader(alloc, blank, &mut reader))
-    });
-}
-
-#[test]
-fn images(rt: HostRuntime) -> Result<(), Fail> {
-    let shape = shape(1, 6)?;
-    with_each_refusal(&rt, rt.alloc(), 3, |alloc| {
-        gives(format_image(alloc, shape), FORMATTED)
-    });
-    with_each_refusal(&rt, rt.alloc(), 4, |alloc| {
-        gives_both(clean_image(alloc, ONE_MOVE), CLEANED, b"cleaned 1\n")
-    });
-    with_each_refusal(&rt, rt.alloc(), 3, |alloc| {
-        let states = b"page 0 ERASING\npage 1 ACTIVE\n";
-        gives(states_text(alloc, ONE_MOVE), states)
-    });
-    with_each_refusal(&rt, rt.alloc(), 4, |alloc| {
-        let wear = b"page 0 wear 1\npage 1 wear 0\ntotal 1 least 0 greatest 1\n";
-        gives(wear_text(alloc, TWO_MOVES, None), wear)
-    });
-    with_each_refusal(&rt, rt.alloc(), 7, |alloc| {
-        let since = b"page 0 wear 0\npage 1 wear 1\ntotal 1 least 0 greatest 1\n";
-        gives(wear_text(alloc, TIDIED, Some(TWO_MOVES)), since)
-    });
-    Ok(())
-}
-
-#[test]
-fn traces(rt: HostRuntime) {
-    with_each_refusal(&rt, rt.alloc(), 5, |alloc| {
-        gives(plan_script(alloc, FORMATTED, SCRIPT), CERTIFICATE)
-    });
-    with_each_refusal(&rt, rt.alloc(), 5, |alloc| {
-        let proved = check_script(alloc, FORMATTED, SCRIPT, CERTIFICATE);
-        gives(proved, b"proved 2\n")
-    });
-    // Ten writes of two addresses in all.
-    with_each_refusal(&rt, rt.alloc(), 6, |alloc| {
-        let front = b"pages 1 slots 2 transfers 8 erases 4 least 4 limit 0 worn for all
-pages 2 slots 4 transfers 2 erases 1 least 1 limit 0 enough\n";
-        match size_parts(alloc, 6, b"w 1 1\nw 2 2\nr 1\n", 3, 5) {
-            Ok(sizes) => Some(sizes.some_enough && sizes.text.as_slice().starts_with(front)),
-            Err(Fault::Memory) => None,
-            Err(_) => Some(false),
-        }
-    });
-}
-
 /// With 10 written at address 1.
 const TEN: &[u8] = b"ee 1 6
 0 aaaaaaaa00000001 aaaaaaaaaaaaaaaa - - 0000000a00000001 -
 0 - - - - - -
 ";
-
-#[test]
-fn settings(rt: HostRuntime) {
-    let heap = rt.alloc();
-    with_each_refusal(&rt, heap, 4, |alloc| {
-        gives(
-            get_setting(alloc, heap, TEN, VOLUME, "volume"),
-            b"10 stored\n",
-        )
-    });
-    with_each_refusal(&rt, heap, 5, |alloc| {
-        let set = set_setting(alloc, heap, FORMATTED, VOLUME, "volume", 10);
-        gives_both(set, TEN, b"set\n")
-    });
-    with_each_refusal(&rt, heap, 7, |alloc| {
-        gives(stale_text(alloc, heap, TWO_MOVES, VOLUME), b"volume 13\n")
-    });
-    with_each_refusal(&rt, heap, 6, |alloc| {
-        let tidied = tidy_image(alloc, heap, TWO_MOVES, VOLUME);
-        gives_both(tidied, TIDIED, b"tidied 1\n")
-    });
-    with_each_refusal(&rt, heap, 6, |alloc| {
-        let named = list_text(alloc, heap, TWO_MOVES, Some(VOLUME));
-        gives(named, b"1 13 stale volume\n2 5\n")
-    });
-    with_each_refusal(&rt, heap, 6, |alloc| {
-        gives(list_text(alloc, heap, TWO_MOVES, None), b"1 13\n2 5\n")
-    });
-}
 
 /// The part of the formatted image, as bytes and as Intel HEX from 0807f000 on.
 const DUMP: &[u8] = b"\x01\x00\x00\x00\xaa\xaa\xaa\xaa\xaa\xaa\xaa\xaa\xaa\xaa\xaa\xaa\
@@ -288,40 +223,12 @@ const HEX: &[u8] = b":020000040807EB
 :00000001FF
 ";
 
-const BASE: u32 = 0x0807_f000;
-
-#[test]
-fn parts(rt: HostRuntime) -> Result<(), Fail> {
-    let shape = shape(1, 6)?;
-    with_each_refusal(&rt, rt.alloc(), 3, |alloc| {
-        gives(import_image(alloc, shape, DUMP), FORMATTED)
-    });
-    with_each_refusal(&rt, rt.alloc(), 3, |alloc| {
-        gives(export_image(alloc, FORMATTED), DUMP)
-    });
-    with_each_refusal(&rt, rt.alloc(), 4, |alloc| {
-        gives(import_hex(alloc, shape, BASE, HEX), FORMATTED)
-    });
-    with_each_refusal(&rt, rt.alloc(), 4, |alloc| {
-        gives(export_hex(alloc, FORMATTED, BASE), HEX)
-    });
-    with_each_refusal(&rt, rt.alloc(), 3, |alloc| {
-        let found = b"scan ok
+/// What is found in it.
+const SCAN: &[u8] = b"scan ok
 set 0 generation 1 fill 0 room 2 live 0 pending 0 superseded 0 torn 0\n";
-        gives(inspect_text(alloc, FORMATTED), found)
-    });
-    Ok(())
-}
 
-#[test]
-fn factories(rt: HostRuntime) {
-    let heap = rt.alloc();
-    with_each_refusal(&rt, heap, 5, |alloc| {
-        let applied = apply_values(alloc, heap, FORMATTED, VOLUME, b"volume = 10\n");
-        gives_both(applied, TEN, b"applied 1 of 1\n")
-    });
-    with_each_refusal(&rt, heap, 2, |alloc| {
-        let header = b"// Made by `ee header --rust` from a file of settings.
+/// The header of the schema.
+const HEADER: &[u8] = b"// Made by `ee header --rust` from a file of settings.
 
 pub const VOLUME_ADDRESS: u16 = 1;
 pub const VOLUME_LEAST: u32 = 0;
@@ -333,7 +240,149 @@ pub const SETTINGS: [(&str, u16, u32, u32, u32); 1] = [
     (\"VOLUME\", 1, 0, 10, 5),
 ];
 ";
-        gives(header_text(alloc, heap, VOLUME, Language::Rust), header)
+
+type Bytes<'m> = Vec<u8, &'m Refusing<Global>>;
+
+/// A command that gives a text.
+#[derive(Clone, Copy)]
+enum Text {
+    Format,
+    States,
+    Wear,
+    WearSince,
+    Plan,
+    Check,
+    Get,
+    Stale,
+    List,
+    ListNamed,
+    Import,
+    Export,
+    ImportHex,
+    ExportHex,
+    Inspect,
+    Header,
+}
+
+const BASE: u32 = 0x0807_f000;
+
+// Its text. The tables of settings are read on the heap.
+fn text_of<'m>(
+    command: Text,
+    heap: Global,
+    alloc: &'m Refusing<Global>,
+    shape: Shape,
+) -> Result<Bytes<'m>, Fault> {
+    match command {
+        Text::Format => format_image(alloc, shape),
+        Text::States => states_text(alloc, ONE_MOVE),
+        Text::Wear => wear_text(alloc, TWO_MOVES, None),
+        Text::WearSince => wear_text(alloc, TIDIED, Some(TWO_MOVES)),
+        Text::Plan => plan_script(alloc, FORMATTED, SCRIPT),
+        Text::Check => check_script(alloc, FORMATTED, SCRIPT, CERTIFICATE),
+        Text::Get => get_setting(alloc, heap, TEN, VOLUME, "volume"),
+        Text::Stale => stale_text(alloc, heap, TWO_MOVES, VOLUME),
+        Text::List => list_text(alloc, heap, TWO_MOVES, None),
+        Text::ListNamed => list_text(alloc, heap, TWO_MOVES, Some(VOLUME)),
+        Text::Import => import_image(alloc, shape, DUMP),
+        Text::Export => export_image(alloc, FORMATTED),
+        Text::ImportHex => import_hex(alloc, shape, BASE, HEX),
+        Text::ExportHex => export_hex(alloc, FORMATTED, BASE),
+        Text::Inspect => inspect_text(alloc, FORMATTED),
+        Text::Header => header_text(alloc, heap, VOLUME, Language::Rust),
+    }
+}
+
+// The commands that give a text, with the least number of their requests and the text.
+const TEXTS: [(Text, u64, &[u8]); 16] = [
+    (Text::Format, 3, FORMATTED),
+    (Text::States, 3, b"page 0 ERASING\npage 1 ACTIVE\n"),
+    (
+        Text::Wear,
+        4,
+        b"page 0 wear 1\npage 1 wear 0\ntotal 1 least 0 greatest 1\n",
+    ),
+    (
+        Text::WearSince,
+        7,
+        b"page 0 wear 0\npage 1 wear 1\ntotal 1 least 0 greatest 1\n",
+    ),
+    (Text::Plan, 5, CERTIFICATE),
+    (Text::Check, 5, b"proved 2\n"),
+    (Text::Get, 4, b"10 stored\n"),
+    (Text::Stale, 7, b"volume 13\n"),
+    (Text::List, 6, b"1 13\n2 5\n"),
+    (Text::ListNamed, 6, b"1 13 stale volume\n2 5\n"),
+    (Text::Import, 3, FORMATTED),
+    (Text::Export, 3, DUMP),
+    (Text::ImportHex, 4, FORMATTED),
+    (Text::ExportHex, 4, HEX),
+    (Text::Inspect, 3, SCAN),
+    (Text::Header, 2, HEADER),
+];
+
+#[test]
+fn texts(rt: HostRuntime) -> Result<(), Fail> {
+    let heap = rt.alloc();
+    let shape = shape(1, 6)?;
+    for (command, least, wanted) in TEXTS {
+        with_each_refusal(&rt, heap, least, |alloc| {
+            gives(text_of(command, heap, alloc, shape), wanted)
+        });
+    }
+    Ok(())
+}
+
+/// A command that gives an image and a text.
+#[derive(Clone, Copy)]
+enum Change {
+    Clean,
+    Set,
+    Tidy,
+    Apply,
+}
+
+// Its image and its text.
+fn change_of<'m>(
+    command: Change,
+    heap: Global,
+    alloc: &'m Refusing<Global>,
+) -> Result<(Bytes<'m>, Bytes<'m>), Fault> {
+    match command {
+        Change::Clean => clean_image(alloc, ONE_MOVE),
+        Change::Set => set_setting(alloc, heap, FORMATTED, VOLUME, "volume", 10),
+        Change::Tidy => tidy_image(alloc, heap, TWO_MOVES, VOLUME),
+        Change::Apply => apply_values(alloc, heap, FORMATTED, VOLUME, b"volume = 10\n"),
+    }
+}
+
+#[test]
+fn changes(rt: HostRuntime) {
+    let heap = rt.alloc();
+    let rows: [(Change, u64, &[u8], &[u8]); 4] = [
+        (Change::Clean, 4, CLEANED, b"cleaned 1\n"),
+        (Change::Set, 5, TEN, b"set\n"),
+        (Change::Tidy, 6, TIDIED, b"tidied 1\n"),
+        (Change::Apply, 5, TEN, b"applied 1 of 1\n"),
+    ];
+    for (command, least, image, text) in rows {
+        with_each_refusal(&rt, heap, least, |alloc| {
+            gives_both(change_of(command, heap, alloc), image, text)
+        });
+    }
+}
+
+/// Ten writes of two addresses in all.
+#[test]
+fn sizes(rt: HostRuntime) {
+    with_each_refusal(&rt, rt.alloc(), 6, |alloc| {
+        let front = b"pages 1 slots 2 transfers 8 erases 4 least 4 limit 0 worn for all
+pages 2 slots 4 transfers 2 erases 1 least 1 limit 0 enough\n";
+        match size_parts(alloc, 6, b"w 1 1\nw 2 2\nr 1\n", 3, 5) {
+            Ok(sizes) => Some(sizes.some_enough && sizes.text.as_slice().starts_with(front)),
+            Err(Fault::Memory) => None,
+            Err(_) => Some(false),
+        }
     });
 }
 
