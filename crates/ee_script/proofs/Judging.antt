@@ -20,44 +20,33 @@ record BeginsWith (text : List ℕ) (command : Command) : Type 0 where
   more : List ℕ
   text_is : text ≡ line_of (command_text command) ++ more
 
-stands : (text : List ℕ) (command : Command) → IsCommand command → BeginsWith text command ⊎ (BeginsWith text command → ⊥)
-stands text command proper = elim (begins_so (line_of (command_text command)) text) [
-  | inl more ↦ inl record { proper = proper; more = more.0; text_is = more.1 }
-  | inr none ↦ inr (λ begins. none begins.more begins.text_is)
-]
+below : (n bound : ℕ) → (n < bound) ⊎ ¬ (n < bound)
+below n bound = elim (cases_lt n bound) [ inl less ↦ inl less | inr more ↦ inr (λ less. omega arith) ]
 
-stands_read : (text : List ℕ) (address : ℕ) → BeginsWith text (Read address) ⊎ (BeginsWith text (Read address) → ⊥)
-stands_read text address = elim (cases_lt 0 address) [
-  | inr low ↦ inr (λ begins. omega (arith, begins.proper))
-  | inl above ↦ elim (cases_lt address 65535) [
-    | inr high ↦ inr (λ begins. omega (arith, begins.proper))
-    | inl below ↦ stands text (Read address) (above, below)
-  ]
-]
+both : {P Q : Type 0} → P ⊎ ¬ P → Q ⊎ ¬ Q → (P × Q) ⊎ ¬ (P × Q)
+both (inl p) (inl q) = inl (p, q)
+both (inl p) (inr none) = inr (λ h. none h.1)
+both (inr none) q = inr (λ h. none h.0)
 
-stands_forget : (text : List ℕ) (address : ℕ) → BeginsWith text (Forget address) ⊎ (BeginsWith text (Forget address) → ⊥)
-stands_forget text address = elim (cases_lt 0 address) [
-  | inr low ↦ inr (λ begins. omega (arith, begins.proper))
-  | inl above ↦ elim (cases_lt address 65535) [
-    | inr high ↦ inr (λ begins. omega (arith, begins.proper))
-    | inl below ↦ stands text (Forget address) (above, below)
-  ]
-]
+proper_or_not : (command : Command) → IsCommand command ⊎ ¬ IsCommand command
+proper_or_not (Write address value) = both (both (below 0 address) (below address 65535)) (below value (2 ^ 32))
+proper_or_not (Read address) = both (below 0 address) (below address 65535)
+proper_or_not (Forget address) = both (below 0 address) (below address 65535)
+proper_or_not Clean = inl tt
+proper_or_not (Arm fuse) = below (fuse.after + 1) (2 ^ 64)
+proper_or_not PowerOn = inl tt
 
-stands_write : (text : List ℕ) (address value : ℕ) → BeginsWith text (Write address value) ⊎ (BeginsWith text (Write address value) → ⊥)
-stands_write text address value = elim (cases_lt 0 address) [
-  | inr low ↦ inr (λ begins. omega (arith, begins.proper))
-  | inl above ↦ elim (cases_lt address 65535) [
-    | inr high ↦ inr (λ begins. omega (arith, begins.proper))
-    | inl below ↦ elim (cases_lt value (2 ^ 32)) [
-      | inr large ↦ inr (λ begins. omega (arith, begins.proper))
-      | inl fits ↦ stands text (Write address value) ((above, below), fits)
-    ]
+stands : (text : List ℕ) (command : Command) → BeginsWith text command ⊎ (BeginsWith text command → ⊥)
+stands text command = elim (proper_or_not command) [
+  | inr improper ↦ inr (λ begins. improper begins.proper)
+  | inl proper ↦ elim (begins_so (line_of (command_text command)) text) [
+    | inl more ↦ inl record { proper = proper; more = more.0; text_is = more.1 }
+    | inr none ↦ inr (λ begins. none begins.more begins.text_is)
   ]
 ]
 
 some_value : (text : List ℕ) (address : ℕ) → ((value : ℕ) × BeginsWith text (Write address value)) ⊎ (((value : ℕ) × BeginsWith text (Write address value)) → ⊥)
-some_value text address = elim (some_below (λ value. BeginsWith text (Write address value)) (stands_write text address) (2 ^ 32)) [
+some_value text address = elim (some_below (λ value. BeginsWith text (Write address value)) (λ value. stands text (Write address value)) (2 ^ 32)) [
   | inl one ↦ inl (one.0, one.2)
   | inr none ↦ inr (λ begins. none begins.0 begins.1.proper.1 begins.1)
 ]
@@ -65,14 +54,6 @@ some_value text address = elim (some_below (λ value. BeginsWith text (Write add
 -- the fuse of this step and tear
 fuse_of : ℕ → Tear → Fuse
 fuse_of after tear = record { after = after; tear = tear }
-
-stands_arm : (text : List ℕ) (after : ℕ) (tear : Tear)
-    → BeginsWith text (Arm (fuse_of after tear)) ⊎ (BeginsWith text (Arm (fuse_of after tear)) → ⊥)
-unfolding fuse_of
-stands_arm text after tear = elim (cases_lt (after + 1) (2 ^ 64)) [
-  | inr large ↦ inr (λ begins. omega (arith, begins.proper))
-  | inl fits ↦ stands text (Arm (fuse_of after tear)) fits
-]
 
 -- whether some tear follows this step
 SomeTear : List ℕ → ℕ → Type 0
@@ -88,13 +69,13 @@ no_tear text after nothing done torn mixed Mixed = mixed
 
 some_tear : (text : List ℕ) (after : ℕ) → SomeTear text after ⊎ (SomeTear text after → ⊥)
 unfolding SomeTear
-some_tear text after = elim (stands_arm text after Nothing) [
+some_tear text after = elim (stands text (Arm (fuse_of after Nothing))) [
   | inl begins ↦ inl (Nothing, begins)
-  | inr nothing ↦ elim (stands_arm text after Done) [
+  | inr nothing ↦ elim (stands text (Arm (fuse_of after Done))) [
     | inl begins ↦ inl (Done, begins)
-    | inr done ↦ elim (stands_arm text after Torn) [
+    | inr done ↦ elim (stands text (Arm (fuse_of after Torn))) [
       | inl begins ↦ inl (Torn, begins)
-      | inr torn ↦ elim (stands_arm text after Mixed) [
+      | inr torn ↦ elim (stands text (Arm (fuse_of after Mixed))) [
         | inl begins ↦ inl (Mixed, begins)
         | inr mixed ↦ inr (λ some. no_tear text after nothing done torn mixed some.0 some.1)
       ]
@@ -133,9 +114,9 @@ other_at_front : (text : List ℕ) → ((address : ℕ) → address < 65535 → 
 unfolding SomeArm
 other_at_front text writes reads forgets = elim (some_arm text) [
   | inl arm ↦ inl (Arm arm.0, arm.1)
-  | inr arms ↦ elim (stands text Clean tt) [
+  | inr arms ↦ elim (stands text Clean) [
     | inl clean ↦ inl (Clean, clean)
-    | inr clean ↦ elim (stands text PowerOn tt) [
+    | inr clean ↦ elim (stands text PowerOn) [
       | inl power ↦ inl (PowerOn, power)
       | inr power ↦ inr (no_line text writes reads forgets arms clean power)
     ]
@@ -146,9 +127,9 @@ other_at_front text writes reads forgets = elim (some_arm text) [
 at_front : (text : List ℕ) → ((command : Command) × BeginsWith text command) ⊎ NoLine text
 at_front text = elim (some_below (λ address. (value : ℕ) × BeginsWith text (Write address value)) (some_value text) 65535) [
   | inl write ↦ inl (Write write.0 write.2.0, write.2.1)
-  | inr writes ↦ elim (some_below (λ address. BeginsWith text (Read address)) (stands_read text) 65535) [
+  | inr writes ↦ elim (some_below (λ address. BeginsWith text (Read address)) (λ address. stands text (Read address)) 65535) [
     | inl read ↦ inl (Read read.0, read.2)
-    | inr reads ↦ elim (some_below (λ address. BeginsWith text (Forget address)) (stands_forget text) 65535) [
+    | inr reads ↦ elim (some_below (λ address. BeginsWith text (Forget address)) (λ address. stands text (Forget address)) 65535) [
       | inl forget ↦ inl (Forget forget.0, forget.2)
       | inr forgets ↦ other_at_front text writes reads forgets
     ]

@@ -1,5 +1,5 @@
 -- A text is read in one way.
-use Rattle.std.proofs.Common.{◌≡◌, ℕ, ◌+◌, ◌<◌, ◌^◌, ◌++◌, List, [], ◌∷◌, length, get_or, refl, sym, ◌∙◌, ap, arith, append_assoc, length-append, inl}
+use Rattle.std.proofs.Common.{◌≡◌, ℕ, ◌+◌, ◌<◌, ◌^◌, ◌++◌, List, [], ◌∷◌, length, get_or, refl, rules, sym, ◌∙◌, ap, arith, append_assoc, length-append, inl}
 use Rattle.std.specs.Fmt.{decimal}
 use Rattle.std.specs.List.{AllByRecursion}
 use Rattle.std.proofs.lemmas.Fmt.{decimal_injective}
@@ -24,84 +24,19 @@ write_injective a v b w h k e =
     (decimal_injective a b (omega arith) (omega arith) parts.0, decimal_injective v w (omega arith) (omega arith) parts.1)
 
 letter_injective : (s t : Tear) → letter s ≡ letter t → s ≡ t
-letter_injective Nothing Nothing e = refl
-letter_injective Nothing Done e = absurd (omega (arith, ap (λ l. get_or l 0 0) e))
-letter_injective Nothing Torn e = absurd (omega (arith, ap (λ l. get_or l 0 0) e))
-letter_injective Nothing Mixed e = absurd (omega (arith, ap (λ l. get_or l 0 0) e))
-letter_injective Done Nothing e = absurd (omega (arith, ap (λ l. get_or l 0 0) e))
-letter_injective Done Done e = refl
-letter_injective Done Torn e = absurd (omega (arith, ap (λ l. get_or l 0 0) e))
-letter_injective Done Mixed e = absurd (omega (arith, ap (λ l. get_or l 0 0) e))
-letter_injective Torn Nothing e = absurd (omega (arith, ap (λ l. get_or l 0 0) e))
-letter_injective Torn Done e = absurd (omega (arith, ap (λ l. get_or l 0 0) e))
-letter_injective Torn Torn e = refl
-letter_injective Torn Mixed e = absurd (omega (arith, ap (λ l. get_or l 0 0) e))
-letter_injective Mixed Nothing e = absurd (omega (arith, ap (λ l. get_or l 0 0) e))
-letter_injective Mixed Done e = absurd (omega (arith, ap (λ l. get_or l 0 0) e))
-letter_injective Mixed Torn e = absurd (omega (arith, ap (λ l. get_or l 0 0) e))
-letter_injective Mixed Mixed e = refl
+letter_injective s t e = grind arith
 
 pub same_fuse : (f g : Fuse) → f.after ≡ g.after → f.tear ≡ g.tear → f ≡ g
 same_fuse f g after tear =
     ap (λ (n : ℕ). record { after = n; tear = f.tear }) after ∙ ap (λ (t : Tear). record { after = g.after; tear = t }) tear
 
-arm_injective : (f g : Fuse) → f.after + 1 < 2 ^ 64 → g.after + 1 < 2 ^ 64
-    → decimal (f.after + 1) ++ 32 ∷ letter f.tear ≡ decimal (g.after + 1) ++ 32 ∷ letter g.tear → f ≡ g
-arm_injective f g h k e =
-    let parts = first_place 32 (decimal (f.after + 1)) (decimal (g.after + 1)) (letter f.tear) (letter g.tear)
-    (Lacks-decimal 32 (f.after + 1) (inl (omega arith)) h) (Lacks-decimal 32 (g.after + 1) (inl (omega arith)) k) e in
-    let after : f.after ≡ g.after = omega (arith, decimal_injective (f.after + 1) (g.after + 1) h k parts.0) in
-    let tear : f.tear ≡ g.tear = letter_injective f.tear g.tear parts.1 in
-    same_fuse f g after tear
+arm_injective : (m n : ℕ) (s t : Tear) → m + 1 < 2 ^ 64 → n + 1 < 2 ^ 64 → decimal (m + 1) ++ 32 ∷ letter s ≡ decimal (n + 1) ++ 32 ∷ letter t → (m ≡ n) × (s ≡ t)
+arm_injective m n s t h k e =
+    let parts = first_place 32 (decimal (m + 1)) (decimal (n + 1)) (letter s) (letter t) (Lacks-decimal 32 (m + 1) (inl (omega arith)) h) (Lacks-decimal 32 (n + 1) (inl (omega arith)) k) e in
+    (omega (arith, decimal_injective (m + 1) (n + 1) h k parts.0), letter_injective s t parts.1)
 
 pub spelling_injective : (c d : Command) → IsCommand c → IsCommand d → command_text c ≡ command_text d → c ≡ d
-spelling_injective (Write a v) (Write b w) h k e =
-    let rest : decimal a ++ 32 ∷ decimal v ≡ decimal b ++ 32 ∷ decimal w = cc in
-    let same = write_injective a v b w h k rest in
-    let first = same.0 in
-    let second = same.1 in
-    cc
-spelling_injective (Write a v) (Read b) h k e = absurd (omega (arith, ap (λ l. get_or l 0 0) e))
-spelling_injective (Write a v) (Forget b) h k e = absurd (omega (arith, ap (λ l. get_or l 0 0) e))
-spelling_injective (Write a v) Clean h k e = absurd (omega (arith, ap (λ l. get_or l 0 0) e))
-spelling_injective (Write a v) (Arm g) h k e = absurd (omega (arith, ap (λ l. get_or l 0 0) e))
-spelling_injective (Write a v) PowerOn h k e = absurd (omega (arith, ap (λ l. get_or l 0 0) e))
-spelling_injective (Read a) (Write b w) h k e = absurd (omega (arith, ap (λ l. get_or l 0 0) e))
-spelling_injective (Read a) (Read b) h k e =
-    let rest : decimal a ≡ decimal b = cc in
-    ap Read (decimal_injective a b (omega arith) (omega arith) rest)
-spelling_injective (Read a) (Forget b) h k e = absurd (omega (arith, ap (λ l. get_or l 0 0) e))
-spelling_injective (Read a) Clean h k e = absurd (omega (arith, ap (λ l. get_or l 0 0) e))
-spelling_injective (Read a) (Arm g) h k e = absurd (omega (arith, ap (λ l. get_or l 0 0) e))
-spelling_injective (Read a) PowerOn h k e = absurd (omega (arith, ap (λ l. get_or l 0 0) e))
-spelling_injective (Forget a) (Write b w) h k e = absurd (omega (arith, ap (λ l. get_or l 0 0) e))
-spelling_injective (Forget a) (Read b) h k e = absurd (omega (arith, ap (λ l. get_or l 0 0) e))
-spelling_injective (Forget a) (Forget b) h k e =
-    let rest : decimal a ≡ decimal b = cc in
-    ap Forget (decimal_injective a b (omega arith) (omega arith) rest)
-spelling_injective (Forget a) Clean h k e = absurd (omega (arith, ap (λ l. get_or l 0 0) e))
-spelling_injective (Forget a) (Arm g) h k e = absurd (omega (arith, ap (λ l. get_or l 0 0) e))
-spelling_injective (Forget a) PowerOn h k e = absurd (omega (arith, ap (λ l. get_or l 0 0) e))
-spelling_injective Clean (Write b w) h k e = absurd (omega (arith, ap (λ l. get_or l 0 0) e))
-spelling_injective Clean (Read b) h k e = absurd (omega (arith, ap (λ l. get_or l 0 0) e))
-spelling_injective Clean (Forget b) h k e = absurd (omega (arith, ap (λ l. get_or l 0 0) e))
-spelling_injective Clean Clean h k e = refl
-spelling_injective Clean (Arm g) h k e = absurd (omega (arith, ap (λ l. get_or l 0 0) e))
-spelling_injective Clean PowerOn h k e = absurd (omega (arith, ap (λ l. get_or l 0 0) e))
-spelling_injective (Arm f) (Write b w) h k e = absurd (omega (arith, ap (λ l. get_or l 0 0) e))
-spelling_injective (Arm f) (Read b) h k e = absurd (omega (arith, ap (λ l. get_or l 0 0) e))
-spelling_injective (Arm f) (Forget b) h k e = absurd (omega (arith, ap (λ l. get_or l 0 0) e))
-spelling_injective (Arm f) Clean h k e = absurd (omega (arith, ap (λ l. get_or l 0 0) e))
-spelling_injective (Arm f) (Arm g) h k e =
-    let rest : decimal (f.after + 1) ++ 32 ∷ letter f.tear ≡ decimal (g.after + 1) ++ 32 ∷ letter g.tear = cc in
-    ap Arm (arm_injective f g h k rest)
-spelling_injective (Arm f) PowerOn h k e = absurd (omega (arith, ap (λ l. get_or l 0 0) e))
-spelling_injective PowerOn (Write b w) h k e = absurd (omega (arith, ap (λ l. get_or l 0 0) e))
-spelling_injective PowerOn (Read b) h k e = absurd (omega (arith, ap (λ l. get_or l 0 0) e))
-spelling_injective PowerOn (Forget b) h k e = absurd (omega (arith, ap (λ l. get_or l 0 0) e))
-spelling_injective PowerOn Clean h k e = absurd (omega (arith, ap (λ l. get_or l 0 0) e))
-spelling_injective PowerOn (Arm g) h k e = absurd (omega (arith, ap (λ l. get_or l 0 0) e))
-spelling_injective PowerOn PowerOn h k e = refl
+spelling_injective c d h k e = search (rules, write_injective, decimal_injective, arm_injective)
 
 -- ---- the good lines at the front of a text
 

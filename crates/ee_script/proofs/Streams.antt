@@ -2,7 +2,7 @@
 use Rattle.std.proofs.Common.{◌≡◌, ◌⊎◌, ◌∙◌, ℕ, ◌+◌, ◌<◌, ◌≤◌, ◌^◌, ◌++◌, List, [], ◌∷◌, length, inl, inr, refl, sym, ap, subst, arith, length-append, Some, None}
 use Rattle.std.specs.Prelude.{Option}
 use Rattle.std.specs.Io.KnownBytes.{Consumes, IsAtEnd, Keeps}
-use Rattle.std.proofs.KnownBytes.{Consumes-kept, Consumes-trans}
+use Rattle.std.proofs.KnownBytes.{Consumes-all, Consumes-kept, Consumes-nil, Consumes-trans}
 use Rattle.ee_script.specs.declared.command.Command.{Command}
 use Rattle.ee_script.specs.declared.answer.Answer.{Answer}
 use Rattle.ee_script.specs.declared.session.ScriptFault.{ScriptFault}
@@ -26,12 +26,8 @@ pub record HasTaken {S : Type 0} (step : S → Command → Answer → S → Type
   pub few : length text ≤ most
   pub went : Goes step old text held
 
-pub consumes_none : (known : Option (List ℕ)) → Consumes known known []
-consumes_none None = tt
-consumes_none (Some bytes) = refl
-
 pub taken_none : {S : Type 0} (step : S → Command → Answer → S → Type 0) (old : Progress S) (before : Option (List ℕ)) (most : ℕ) → HasTaken step old before before most old
-taken_none step old before most = record { text = []; given = consumes_none before; few = omega arith; went = goes_nowhere step old }
+taken_none step old before most = record { text = []; given = Consumes-nil before; few = omega arith; went = goes_nowhere step old }
 
 -- a read gave more, which was judged
 pub taken_more : {S : Type 0} (step : S → Command → Answer → S → Type 0) (old held new : Progress S) (before now after : Option (List ℕ)) (most limit : ℕ) (bytes : List ℕ)
@@ -108,9 +104,7 @@ module _ {S : Type 0} (step : S → Command → Answer → S → Type 0) (server
 -- ---- a bad line is not passed over
 
 pub all_given : (text given : List ℕ) (after : Option (List ℕ)) → Consumes (Some text) after given → IsAtEnd after → given ≡ text
-all_given text given None taken ended = absurd taken
-all_given text given (Some []) taken ended = sym (taken ∙ append-nil given)
-all_given text given (Some (byte ∷ rest)) taken ended = absurd (omega (arith, ap length ended))
+all_given text given after taken ended = Consumes-all (Some text) after given [] given taken ended refl
 
 some_given : (text given : List ℕ) (after : Option (List ℕ)) → Consumes (Some text) after given → (more : List ℕ) × (text ≡ given ++ more)
 some_given text given None taken = absurd taken

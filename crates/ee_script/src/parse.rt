@@ -19,13 +19,10 @@ pub fn read_command(line: &[u8]) -> Option<Command>
     ensures only { (command : Command) → IsCommand command → line.now ≡ command_text command
         → result ≡ Some command }
 {
-    let Some((command, behind)) = leading_command(line) else {
-        return None;
-    };
-    if !behind.is_empty() {
-        return None;
+    match leading_command(line) {
+        Some((command, [])) => Some(command),
+        _ => None,
     }
-    Some(command)
 }
 
 /// The command whose line stands at the front of a text, and what stands behind the line. None where

@@ -164,21 +164,14 @@ impl<S: Serve + Drop, A: Allocator> Session<S, A> {
                 Ok(count) => session = session.feed(&piece[..count])?,
                 Err(error) => {
                     if error.kind() != ErrorKind::Interrupted {
-                        return Err(session.break_off());
+                        break;
                     }
                 }
             }
         }
-        Err(session.break_off())
-    }
-
-    /// The fault of a script of which no more can be read. Less than a line is lost with it.
-    fn break_off(&self) -> StreamFault
-        ensures read { result ≡ StreamFault.Read }
-        ensures short { IsUnfinished self.now.unfinished }
-    {
-        let _ = &self.unfinished;
-        StreamFault::Read
+        // What is lost is less than a line, which a proof knows where the field is used.
+        let _ = &session.unfinished;
+        Err(StreamFault::Read)
     }
 
     /// Ends the script, and gives what served it and the report. A line that no line feed ended is

@@ -1,6 +1,5 @@
-use Rattle.std.proofs.Common.{rules}
 use Rattle.ee_script.proofs.Judging.{script_or_bad_line}
 use Rattle.ee_script.proofs.laws.each_text_is_judged.Goals as goal
 
 pub returns : goal.returns
-returns c = search (rules, script_or_bad_line)
+returns c = script_or_bad_line

@@ -1,6 +1,5 @@
-use Rattle.std.proofs.Common.{rules}
 use Rattle.ee_script.proofs.Reading.{scripts_are_good_lem}
 use Rattle.ee_script.proofs.laws.scripts_are_good.Goals as goal
 
 pub returns : goal.returns
-returns c = search (rules, scripts_are_good_lem)
+returns c = scripts_are_good_lem

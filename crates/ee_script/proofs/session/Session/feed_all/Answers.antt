@@ -1,9 +1,10 @@
-use Rattle.std.proofs.Common.{◌*◌, ◌+◌, arith, take, rules}
+use Rattle.std.proofs.Common.{◌*◌, ◌+◌, ap, arith, rules, subst, take}
 use Rattle.std.proofs.lemmas.List.{length-take}
 use Rattle.std.proofs.lemmas.Result.{err_from_is_err_and}
+use Rattle.ee_script.specs.Session.{IsUnfinished}
 use Rattle.ee_script.proofs.Streams.{stops_at_fault, taken_kept, taken_more, taken_none, takes}
 use Rattle.ee_script.proofs.session.Session.feed_all.Goals as goal
-use Rattle.ee_script.proofs.session.Session.feed_all.Goals.{in-Ok+in_ok-session-in-Ok, in-Err+else-ne}
+use Rattle.ee_script.proofs.session.Session.feed_all.Goals.{else-reading-test, in-Ok+in_ok-session-in-Ok, in-Err+else-ne, then-reading-test+in-Err+then-ne}
 
 pub reading-init : goal.reading-init
 reading-init g c = taken_none g.S.Serve.serves c.args.self (g.R.Read.remaining c.args.reader.now) 0
@@ -24,16 +25,14 @@ reading-preserved g c = elim c.match-read.branch [
       (taken_kept g.S.Serve.serves c.args.self c.reading.session _ _ _ (c.reading.counter * 4096) ((c.reading.counter + 1) * 4096) c.reading.invariant w.in-Err.ensures.bytes (omega arith))
 ]
 
-pub returns-then-ne-clause-fault : goal.returns-then-ne-clause-fault
-returns-then-ne-clause-fault g c =
-    rw c.break_off.ensures.read (
-      _,
-      takes g.S.Serve.serves c.args.self c.reading.session _ _ (c.reading.counter * 4096) (omega arith)
-          (taken_kept g.S.Serve.serves c.args.self c.reading.session _ _ _ (c.reading.counter * 4096) (c.reading.counter * 4096) c.reading.invariant c.in-Err.ensures.bytes (omega arith)),
-      c.break_off.ensures.short,
-    )
-
 pub returns-clause-fault : goal.returns-clause-fault
-returns-clause-fault g c =
-    rw c.break_off-2.ensures.read
-    (_, takes g.S.Serve.serves c.args.self c.reading.session _ _ (c.reading.counter * 4096) (omega arith) c.reading.invariant, c.break_off-2.ensures.short)
+returns-clause-fault g c = (
+  c.reading.session,
+  elim c.reading-test.branch [
+    | else-reading-test w ↦ rw w.reader-is (takes g.S.Serve.serves c.args.self c.reading.session _ _ (c.reading.counter * 4096) (omega arith) c.reading.invariant)
+    | then-reading-test+in-Err+then-ne w ↦ rw w.reader-is
+        (takes g.S.Serve.serves c.args.self c.reading.session _ _ (c.reading.counter * 4096) (omega arith)
+        (taken_kept g.S.Serve.serves c.args.self c.reading.session _ _ _ (c.reading.counter * 4096) (c.reading.counter * 4096) c.reading.invariant w.in-Err.ensures.bytes (omega arith)))
+  ],
+  subst IsUnfinished (ap (λ p. p.unfinished) c.session.view_is) c.session.invariant,
+)
