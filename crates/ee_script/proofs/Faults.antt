@@ -1,5 +1,5 @@
 -- The faults of a piece, as the code names them.
-use Rattle.std.proofs.Common.{◌≡◌, ◌≢◌, ◌<◌, ℕ, ◌+◌, ◌++◌, List, [], length, refl, sym, ap, ◌∙◌, append_assoc, subst}
+use Rattle.std.proofs.Common.{◌≡◌, ◌≢◌, ◌<◌, ℕ, ◌+◌, ◌++◌, List, [], length, refl, sym, ap, ◌∙◌, append_assoc, subst, rules}
 use Rattle.ee_text.specs.Line.{IsLine, line_of}
 use Rattle.ee_script.specs.declared.command.Command.{Command}
 use Rattle.ee_script.specs.declared.answer.Answer.{Answer}
@@ -30,8 +30,7 @@ fault_later step old mid front back (BadLine n) first second = meets_later step 
 fault_later step old mid front back Memory first second = tt
 
 pub fault_before : {S : Type 0} (old : Progress S) (front back : List ℕ) (fault : ScriptFault) → IsFault old front fault → IsFault old (front ++ back) fault
-fault_before old front back (BadLine n) met = meets_before old front back n met
-fault_before old front back Memory met = tt
+fault_before old front back fault h1 = search (rules, meets_before)
 
 -- so many of a piece's bytes were judged, and the rest are left
 pub record HasJudged {S : Type 0} (step : S → Command → Answer → S → Type 0) (old : Progress S) (piece rest : List ℕ) (now : Progress S) : Type 0 where
@@ -53,8 +52,7 @@ judged_line step old mid new piece rest line behind judged cut went = record {
 -- the rest of a piece is an unfinished line
 pub judged_all : {S : Type 0} (step : S → Command → Answer → S → Type 0) (old mid new : Progress S) (piece rest : List ℕ)
     → HasJudged step old piece rest mid → Goes step mid rest new → Goes step old piece new
-judged_all step old mid new piece rest judged went =
-    subst (λ text. Goes step old text new) (sym judged.piece_is) (goes_on step old mid new judged.front rest judged.went went)
+judged_all step old mid new piece rest judged went = search (rules, goes_on)
 
 pub fault_at_last : {S : Type 0} (step : S → Command → Answer → S → Type 0) (old mid : Progress S) (piece rest : List ℕ) (fault : ScriptFault)
     → HasJudged step old piece rest mid → IsFault mid rest fault → IsFault old piece fault

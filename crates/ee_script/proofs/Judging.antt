@@ -1,6 +1,7 @@
 -- Every text is a script or has a first bad line: whether a good line stands at its front can be found out, since there
 -- are only so many addresses, values and steps.
-use Rattle.std.proofs.Common.{◌≡◌, ◌⊎◌, ◌∙◌, ◌+◌, ◌<◌, ◌≤◌, ◌^◌, ◌++◌, ℕ, zero, suc, List, [], ◌∷◌, length, inl, inr, refl, sym, ap, arith, append_assoc, length-append}
+use Rattle.std.proofs.Common.{◌≡◌, ◌⊎◌, ◌∙◌, ◌+◌, ◌<◌, ◌≤◌, ◌^◌, ◌++◌, ℕ, zero, suc, List, [], ◌∷◌, length, inl, inr, refl, sym, ap, arith, append_assoc, rules}
+use Rattle.std.proofs.lemmas.Grind.{common_steps}
 use Rattle.std.proofs.lemmas.Bool.{cases_lt}
 use Rattle.ee_flash.specs.declared.fuse.Fuse.{Fuse}
 use Rattle.ee_flash.specs.declared.fuse.Tear.{Tear}
@@ -24,9 +25,7 @@ below : (n bound : ℕ) → (n < bound) ⊎ ¬ (n < bound)
 below n bound = elim (cases_lt n bound) [ inl less ↦ inl less | inr more ↦ inr (λ less. omega arith) ]
 
 both : {P Q : Type 0} → P ⊎ ¬ P → Q ⊎ ¬ Q → (P × Q) ⊎ ¬ (P × Q)
-both (inl p) (inl q) = inl (p, q)
-both (inl p) (inr none) = inr (λ h. none h.1)
-both (inr none) q = inr (λ h. none h.0)
+both h1 h2 = search rules
 
 proper_or_not : (command : Command) → IsCommand command ⊎ ¬ IsCommand command
 proper_or_not (Write address value) = both (both (below 0 address) (below address 65535)) (below value (2 ^ 32))
@@ -62,10 +61,7 @@ SomeTear text after = (tear : Tear) × BeginsWith text (Arm (fuse_of after tear)
 no_tear : (text : List ℕ) (after : ℕ) → (BeginsWith text (Arm (fuse_of after Nothing)) → ⊥) → (BeginsWith text (Arm (fuse_of after Done)) → ⊥)
     → (BeginsWith text (Arm (fuse_of after Torn)) → ⊥) → (BeginsWith text (Arm (fuse_of after Mixed)) → ⊥)
     → (tear : Tear) → BeginsWith text (Arm (fuse_of after tear)) → ⊥
-no_tear text after nothing done torn mixed Nothing = nothing
-no_tear text after nothing done torn mixed Done = done
-no_tear text after nothing done torn mixed Torn = torn
-no_tear text after nothing done torn mixed Mixed = mixed
+no_tear text after h1 h2 h3 h4 tear = search rules
 
 some_tear : (text : List ℕ) (after : ℕ) → SomeTear text after ⊎ (SomeTear text after → ⊥)
 unfolding SomeTear
@@ -165,8 +161,7 @@ behind_line text command begins (inr bad) = inr (
 )
 
 shorter : (text : List ℕ) (command : Command) (begins : BeginsWith text command) → length begins.more < length text
-shorter text command begins =
-    omega (arith, ap length begins.text_is, length-append (line_of (command_text command)) begins.more, length-append (command_text command) (10 ∷ []))
+shorter text command begins = grind (arith, common_steps)
 
 -- a text of at most so many bytes
 judged : (most : ℕ) (text : List ℕ) → length text ≤ most → IsJudged text

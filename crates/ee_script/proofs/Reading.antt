@@ -1,5 +1,5 @@
 -- A text is read in one way.
-use Rattle.std.proofs.Common.{◌≡◌, ℕ, ◌+◌, ◌<◌, ◌^◌, ◌++◌, List, [], ◌∷◌, length, get_or, refl, rules, sym, ◌∙◌, ap, arith, append_assoc, length-append, inl}
+use Rattle.std.proofs.Common.{◌≡◌, ℕ, ◌+◌, ◌<◌, ◌^◌, ◌++◌, List, [], ◌∷◌, length, refl, rules, sym, ◌∙◌, ap, arith, append_assoc, length-append, inl}
 use Rattle.std.specs.Fmt.{decimal}
 use Rattle.std.specs.List.{AllByRecursion}
 use Rattle.std.proofs.lemmas.Fmt.{decimal_injective}
@@ -7,11 +7,9 @@ use Rattle.std.proofs.lemmas.List.{append-nil}
 use Rattle.ee_codec.specs.Words.{IsAddress, IsValue}
 use Rattle.ee_flash.specs.declared.fuse.Fuse.{Fuse}
 use Rattle.ee_flash.specs.declared.fuse.Tear.{Tear}
-use Rattle.ee_flash.specs.declared.fuse.Tear.TheVariants.{Nothing, Done, Torn, Mixed}
 use Rattle.ee_text.specs.Line.{line_of}
 use Rattle.ee_text.proofs.Public.{first_place, Lacks-decimal, first_line}
 use Rattle.ee_script.specs.declared.command.Command.{Command}
-use Rattle.ee_script.specs.declared.command.Command.TheVariants.{Write, Read, Forget, Clean, Arm, PowerOn}
 use Rattle.ee_script.specs.Command.{IsCommand, letter, command_text}
 use Rattle.ee_script.specs.Script.{script, NoLine, NoLineOf, IsScript, IsFirstBadCommandLine, IsFirstBadLineOf}
 use Rattle.ee_script.proofs.Spelling.{Lacks-spelling}
@@ -27,8 +25,7 @@ letter_injective : (s t : Tear) → letter s ≡ letter t → s ≡ t
 letter_injective s t e = grind arith
 
 pub same_fuse : (f g : Fuse) → f.after ≡ g.after → f.tear ≡ g.tear → f ≡ g
-same_fuse f g after tear =
-    ap (λ (n : ℕ). record { after = n; tear = f.tear }) after ∙ ap (λ (t : Tear). record { after = g.after; tear = t }) tear
+same_fuse f g after tear = search rules
 
 arm_injective : (m n : ℕ) (s t : Tear) → m + 1 < 2 ^ 64 → n + 1 < 2 ^ 64 → decimal (m + 1) ++ 32 ∷ letter s ≡ decimal (n + 1) ++ 32 ∷ letter t → (m ≡ n) × (s ≡ t)
 arm_injective m n s t h k e =
@@ -71,9 +68,7 @@ module _ (IsGood : Command → Type 0) (proper : (command : Command) → IsGood 
       (append-nil (script commands) ∙ sym is ∙ is_too ∙ sym (append-nil (script others)))).0
 
   pub one_bad_line : (text : List ℕ) (m n : ℕ) → IsFirstBadLineOf IsGood text m → IsFirstBadLineOf IsGood text n → m ≡ n
-  one_bad_line text m n first second =
-      let same = good_front first.good second.good first.rest second.rest first.proper second.proper first.bad second.bad (sym first.text_is ∙ second.text_is) in
-      first.number ∙ ap (λ good. length good + 1) same.0 ∙ sym second.number
+  one_bad_line text m n first second = search (rules, good_front)
 
   pub no_bad_line : (text : List ℕ) (commands : List Command) (n : ℕ) → AllByRecursion IsGood commands → text ≡ script commands → IsFirstBadLineOf IsGood text n → ⊥
   no_bad_line text commands n good whole bad =
@@ -82,8 +77,7 @@ module _ (IsGood : Command → Type 0) (proper : (command : Command) → IsGood 
       bad.goes_on (sym same.1)
 
 pub one_script_lem : (text : List ℕ) (commands others : List Command) → IsScript text commands → IsScript text others → commands ≡ others
-one_script_lem text commands others first second =
-    one_reading IsCommand (λ command is. is) text commands others first.proper first.text_is second.proper second.text_is
+one_script_lem text commands others first second = search (rules, one_reading)
 
 pub one_first_bad_line_lem : (text : List ℕ) (m n : ℕ) → IsFirstBadCommandLine text m → IsFirstBadCommandLine text n → m ≡ n
 one_first_bad_line_lem = one_bad_line IsCommand (λ command is. is)

@@ -1,5 +1,5 @@
 -- A run of what serves is a run of what is seen of it.
-use Rattle.std.proofs.Common.{ℕ, List, [], ◌∷◌, ap}
+use Rattle.std.proofs.Common.{ℕ, List, [], ◌∷◌, ap, rules}
 use Rattle.ee_script.specs.declared.command.Command.{Command}
 use Rattle.ee_script.specs.declared.answer.Answer.{Answer}
 use Rattle.ee_script.specs.Run.{Run}
@@ -14,10 +14,4 @@ Run-seen see step old new (c ∷ commands) (a ∷ answers) run = (see run.0, run
 
 pub IsAnswered-seen : {S T : Type 0} (see : S → T) (step : T → Command → Answer → T → Type 0) (old new : S) (text reported : List ℕ)
     → IsAnswered (λ s c a t. step (see s) c a (see t)) old text new reported → IsAnswered step (see old) text (see new) reported
-IsAnswered-seen see step old new text reported answered = record {
-  commands = answered.commands;
-  answers = answered.answers;
-  is_script = answered.is_script;
-  run = Run-seen see step old new answered.commands answered.answers answered.run;
-  report_is = answered.report_is;
-}
+IsAnswered-seen see step old new text reported answered = search (rules, Run-seen)

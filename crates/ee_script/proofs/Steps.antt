@@ -1,5 +1,6 @@
 -- How a session goes on: a byte at a time, a line at a time.
-use Rattle.std.proofs.Common.{◌≡◌, ◌≢◌, ℕ, ◌+◌, ◌<◌, ◌++◌, List, [], ◌∷◌, length, refl, sym, ◌∙◌, ap, subst, arith, append_assoc, length-append}
+use Rattle.std.proofs.Common.{◌≡◌, ◌≢◌, ℕ, ◌+◌, ◌<◌, ◌++◌, List, [], ◌∷◌, length, refl, sym, ◌∙◌, ap, subst, arith, append_assoc, length-append, rules}
+use Rattle.std.proofs.lemmas.Grind.{common_steps}
 use Rattle.std.proofs.lemmas.List.{append-nil}
 use Rattle.std.proofs.lemmas.List.Concat.{flat_map-append}
 use Rattle.ee_text.specs.Field.{Lacks}
@@ -9,7 +10,7 @@ use Rattle.ee_script.specs.declared.answer.Answer.{Answer}
 use Rattle.ee_text.specs.Line.{IsLine, line_of}
 use Rattle.ee_script.specs.Command.{IsCommand, command_text}
 use Rattle.ee_script.specs.Script.{script, AreCommands, NoLine}
-use Rattle.ee_script.specs.Answer.{report, wording}
+use Rattle.ee_script.specs.Answer.{report}
 use Rattle.ee_script.specs.Run.{Run}
 use Rattle.ee_script.specs.Session.{Answered, Progress, Goes, MeetsBadLine, saturating_count}
 use Rattle.ee_script.proofs.Spelling.{Lacks-spelling, length-spelling}
@@ -137,26 +138,12 @@ pub Run-append : {S : Type 0} (step : S → Command → Answer → S → Type 0)
 Run-append {S} step old mid new [] ds [] ys first second = subst (λ (s : S). Run step s ds ys new) first second
 Run-append step old mid new [] ds (x ∷ xs) ys first second = absurd first
 Run-append step old mid new (c ∷ cs) ds [] ys first second = absurd first
-Run-append step old mid new (c ∷ cs) ds (x ∷ xs) ys first second =
-    (first.0, first.1, Run-append step first.0 mid new cs ds xs ys first.2 second)
+Run-append step old mid new (c ∷ cs) ds (x ∷ xs) ys first second = search (rules, (Run-append step first.0 mid new cs ds xs ys first.2 second))
 
 -- one piece, and then the next
 pub goes_on : {S : Type 0} (step : S → Command → Answer → S → Type 0) (old mid new : Progress S) (front back : List ℕ)
     → Goes step old front mid → Goes step mid back new → Goes step old (front ++ back) new
-goes_on step old mid new front back first second = record {
-  commands = first.commands ++ second.commands;
-  answers = first.answers ++ second.answers;
-  proper = AreCommands-append first.commands second.commands first.proper second.proper;
-  text_is =
-      sym (append_assoc old.unfinished front back) ∙ ap (λ text. text ++ back) first.text_is ∙ append_assoc (script first.commands) mid.unfinished back
-      ∙ ap (λ text. script first.commands ++ text) second.text_is ∙ sym (append_assoc (script first.commands) (script second.commands) new.unfinished)
-      ∙ ap (λ text. text ++ new.unfinished) (sym (flat_map-append (λ command. line_of (command_text command)) first.commands second.commands));
-  report_is =
-      second.report_is ∙ ap (λ text. text ++ report second.answers) first.report_is ∙ append_assoc old.report (report first.answers) (report second.answers)
-      ∙ ap (λ text. old.report ++ text) (sym (flat_map-append (λ answer. line_of (wording answer)) first.answers second.answers));
-  run = Run-append step old.server mid.server new.server first.commands second.commands first.answers second.answers first.run second.run;
-  lines_are = omega (arith, first.lines_are, second.lines_are, length-append first.commands second.commands);
-}
+goes_on step old mid new front back first second = grind (arith, common_steps, AreCommands-append, flat_map-append, Run-append)
 
 -- one piece, and a bad line in the next
 pub meets_later : {S : Type 0} (step : S → Command → Answer → S → Type 0) (old mid : Progress S) (front back : List ℕ) (n : ℕ)

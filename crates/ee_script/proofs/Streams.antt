@@ -1,5 +1,5 @@
 -- How a session takes what a reader gives, a read at a time, and what it comes to.
-use Rattle.std.proofs.Common.{◌≡◌, ◌⊎◌, ◌∙◌, ℕ, ◌+◌, ◌<◌, ◌≤◌, ◌^◌, ◌++◌, List, [], ◌∷◌, length, inl, inr, refl, sym, ap, subst, arith, length-append, Some, None}
+use Rattle.std.proofs.Common.{◌≡◌, ◌⊎◌, ℕ, ◌+◌, ◌<◌, ◌≤◌, ◌^◌, ◌++◌, List, [], length, inl, inr, refl, sym, ap, subst, arith, length-append, Some, rules}
 use Rattle.std.specs.Prelude.{Option}
 use Rattle.std.specs.Io.KnownBytes.{Consumes, IsAtEnd, Keeps}
 use Rattle.std.proofs.KnownBytes.{Consumes-all, Consumes-kept, Consumes-nil, Consumes-trans}
@@ -15,7 +15,6 @@ use Rattle.ee_script.specs.Fault.{EndsBadly, IsFault}
 use Rattle.ee_script.specs.Reading.{IsStreamAnswered, IsStreamFault, StopsReading, TakesText}
 use Rattle.ee_script.proofs.Reading.{one_first_bad_line_lem}
 use Rattle.ee_script.proofs.WholeScript.{answered, bad_already, fault_at_end, none_passed, started}
-use Rattle.std.proofs.lemmas.List.{append-nil}
 use Rattle.ee_script.proofs.Steps.{goes_nowhere, goes_on}
 use Rattle.ee_script.proofs.Faults.{fault_later}
 
@@ -42,12 +41,7 @@ taken_more step old held new before now after most limit bytes taken given few w
 -- a read gave nothing
 pub taken_kept : {S : Type 0} (step : S → Command → Answer → S → Type 0) (old held : Progress S) (before now after : Option (List ℕ)) (most limit : ℕ)
     → HasTaken step old before now most held → Keeps now after → most ≤ limit → HasTaken step old before after limit held
-taken_kept step old held before now after most limit taken kept within = record {
-  text = taken.text;
-  given = Consumes-kept before now after taken.text taken.given kept;
-  few = omega (arith, taken.few);
-  went = taken.went;
-}
+taken_kept step old held before now after most limit taken kept within = search (rules, Consumes-kept)
 
 pub takes : {S : Type 0} (step : S → Command → Answer → S → Type 0) (old held : Progress S) (before now : Option (List ℕ)) (most : ℕ) → most < 2 ^ 64
     → HasTaken step old before now most held → TakesText step old before now held
@@ -68,28 +62,11 @@ stops_at_fault step old held before now after most bytes fault taken given small
 module _ {S : Type 0} (step : S → Command → Answer → S → Type 0) (server : S) (before after : Option (List ℕ)) where
   pub stream_answered : (last : Progress S) (new : S) (reported : List ℕ) → TakesText step (started server) before after last → IsAtEnd after → EndsScript last new reported
       → IsStreamAnswered step server before after new reported
-  stream_answered last new reported taken ended done = record {
-    text = taken.text;
-    given = taken.given;
-    ended = ended;
-    answered = answered step server taken.text last new reported taken.went done;
-  }
+  stream_answered last new reported taken ended done = search (rules, answered)
 
   -- a session that stopped
   pub stopped : (fault : StreamFault) → StopsReading step (started server) before after fault → IsStreamFault before after fault
-  stopped Read stops = record {
-    text = stops.1.text;
-    given = stops.1.given;
-    met = record {
-      commands = stops.1.went.commands;
-      unfinished = stops.0.unfinished;
-      proper = stops.1.went.proper;
-      text_is = stops.1.went.text_is;
-      short = stops.2;
-    };
-  }
-  stopped (Script (BadLine n)) stops = record { text = stops.0; given = stops.1; met = inl (bad_already server stops.0 n stops.2 stops.3) }
-  stopped (Script Memory) stops = record { text = stops.0; given = stops.1; met = tt }
+  stopped fault h1 = search (rules, bad_already)
 
   -- or that ended in the middle of a line
   pub ended_badly : (last : Progress S) (fault : ScriptFault) → TakesText step (started server) before after last → IsAtEnd after → EndsBadly last fault
@@ -107,8 +84,7 @@ pub all_given : (text given : List ℕ) (after : Option (List ℕ)) → Consumes
 all_given text given after taken ended = Consumes-all (Some text) after given [] given taken ended refl
 
 some_given : (text given : List ℕ) (after : Option (List ℕ)) → Consumes (Some text) after given → (more : List ℕ) × (text ≡ given ++ more)
-some_given text given None taken = absurd taken
-some_given text given (Some rest) taken = (rest, taken)
+some_given text given after h1 = search rules
 
 pub stream_has_no_bad_line : {S : Type 0} (step : S → Command → Answer → S → Type 0) (server new : S) (before after : Option (List ℕ)) (reported text : List ℕ) (n : ℕ)
     → before ≡ Some text → IsFirstBadCommandLine text n → IsStreamAnswered step server before after new reported → ⊥
