@@ -2,6 +2,7 @@
 ghost use Rattle.ee_script.specs.Laws.{EachTextIsJudged, OneFirstBadLine, OneScript, ScriptsAreGood};
 
 /// A text is the script of one list of commands at most.
+#[tactic(auto, using(crate::proofs::Reading::one_script_lem))]
 pub fn one_script()
     ensures { OneScript }
 {}

@@ -1,13 +1,10 @@
-use Rattle.std.proofs.Common.{◌<◌, ◌^◌, length, arith}
+use Rattle.std.proofs.Common.{◌<◌, ◌^◌, length, arith, rules}
 use Rattle.std.proofs.lemmas.Result.{err_from_is_err_and, MatchResult-weaker}
 use Rattle.ee_script.proofs.WholeScript.{answered, fault_in_script, fault_at_end, named, none_passed}
 use Rattle.ee_script.proofs.whole.answer_script.Goals as goal
 
 pub returns-in_err-feed-clause-fault : goal.returns-in_err-feed-clause-fault
-returns-in_err-feed-clause-fault g c =
-    let p = err_from_is_err_and c.from_residual.result c.from_residual.ensures.1 in
-    let small : length c.args.script.now < 2 ^ 64 = omega arith in
-    rw p.1 (rw p.2 (fault_in_script c.args.server c.args.script.now c.in_err-feed.field-0.0 small (rw c.new.ensures at c.in_err-feed.ensures)))
+returns-in_err-feed-clause-fault g c = search (rules, err_from_is_err_and, fault_in_script)
 
 pub returns-in_err-feed-clause-bad : goal.returns-in_err-feed-clause-bad
 returns-in_err-feed-clause-bad g c n bad =
@@ -16,11 +13,7 @@ returns-in_err-feed-clause-bad g c n bad =
     rw p.1 (rw p.2 (named c.args.script.now c.in_err-feed.field-0.0 n bad (fault_in_script c.args.server c.args.script.now c.in_err-feed.field-0.0 small (rw c.new.ensures at c.in_err-feed.ensures))))
 
 pub returns-clause-fault : goal.returns-clause-fault
-returns-clause-fault g c =
-    let small : length c.args.script.now < 2 ^ 64 = omega arith in
-    let went = rw c.new.ensures at c.in_ok-feed.ensures in
-    MatchResult-weaker c.finish.result c.finish.ensures (λ done ended. tt)
-    (λ fault ended. fault_at_end g.S.Serve.serves c.args.server c.args.script.now c.in_ok-feed.field-0 fault small went ended)
+returns-clause-fault g c = search (rules, MatchResult-weaker, fault_at_end)
 
 pub returns-clause-bad : goal.returns-clause-bad
 returns-clause-bad g c n bad =

@@ -1,4 +1,4 @@
-use Rattle.std.proofs.Common.{◌*◌, ◌+◌, ap, arith, rules, subst, take}
+use Rattle.std.proofs.Common.{◌*◌, ap, arith, rules, subst, take}
 use Rattle.std.proofs.lemmas.List.{length-take}
 use Rattle.std.proofs.lemmas.Result.{err_from_is_err_and}
 use Rattle.ee_script.specs.Session.{IsUnfinished}
@@ -17,13 +17,7 @@ returns-in_err-session-in-Ok-clause-fault g c =
     c.reading.invariant c.in-Ok.ensures.bytes.0 (omega (arith, length-take c.in-Ok.count c.read.new.buf)) (search (rules, c.in_err-session-in-Ok.ensures))))
 
 pub reading-preserved : goal.reading-preserved
-reading-preserved g c = elim c.match-read.branch [
-  | in-Ok+in_ok-session-in-Ok w ↦ rw w.session-is
-      (taken_more g.S.Serve.serves c.args.self c.reading.session _ _ _ _ (c.reading.counter * 4096) ((c.reading.counter + 1) * 4096) (take w.in-Ok.count c.read.new.buf)
-      c.reading.invariant w.in-Ok.ensures.bytes.0 (omega (arith, length-take w.in-Ok.count c.read.new.buf)) (search (rules, w.in_ok-session-in-Ok.ensures)))
-  | in-Err+else-ne w ↦ rw w.session-is
-      (taken_kept g.S.Serve.serves c.args.self c.reading.session _ _ _ (c.reading.counter * 4096) ((c.reading.counter + 1) * 4096) c.reading.invariant w.in-Err.ensures.bytes (omega arith))
-]
+reading-preserved g c = search (rules, taken_more, length-take, taken_kept)
 
 pub returns-clause-fault : goal.returns-clause-fault
 returns-clause-fault g c = (
