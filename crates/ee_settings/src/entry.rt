@@ -24,10 +24,7 @@ pub(crate) fn read_entries<A: Allocator + Copy>(
     let mut settings = Settings::new(alloc);
     for (name, value) in table.iter() {
         let number = settings.len() as u64 + 1;
-        let setting = match read_entry(alloc, &settings, number, name.as_str(), value) {
-            Ok(setting) => setting,
-            Err(fault) => return Err(fault),
-        };
+        let setting = read_entry(alloc, &settings, number, name.as_str(), value)?;
         settings = match settings.with(setting) {
             Ok(more) => more,
             Err(_) => return Err(SchemaFault::Memory),
@@ -50,13 +47,11 @@ fn read_entry<A: Allocator + Copy>(
     if !is_proper_name(name) {
         return Err(SchemaFault::BadName(number));
     }
-    let fields = match read_fields(value) {
-        Some(fields) => fields,
-        None => return Err(SchemaFault::BadField(number)),
+    let Some(fields) = read_fields(value) else {
+        return Err(SchemaFault::BadField(number));
     };
-    let numbers = match checked(fields) {
-        Some(numbers) => numbers,
-        None => return Err(SchemaFault::BadRange(number)),
+    let Some(numbers) = checked(fields) else {
+        return Err(SchemaFault::BadRange(number));
     };
     if earlier.has(numbers.address) {
         return Err(SchemaFault::SameAddress(number));

@@ -3,7 +3,7 @@ ghost use Rattle.std.specs.BTreeMap.{get};
 ghost use Rattle.std.specs.Ordering.{nat_cmp};
 ghost use Rattle.ee_flash.specs.Device.{IsOn};
 ghost use Rattle.ee_core.specs.State.{state_of};
-ghost use Rattle.ee_settings.specs.Listing.{IsListFault, held_by, listed_in, listed_of, named_in};
+ghost use Rattle.ee_settings.specs.Listing.{IsListFault, listed_in, listed_of, named_in};
 
 use crate::fault::ListFault;
 use crate::numbers::Numbers;
@@ -64,10 +64,7 @@ impl<A: Allocator> Schema<A> {
         if !store.is_on() {
             return Err(ListFault::Off);
         }
-        match list_on(alloc, store, self.settings().as_slice()) {
-            Ok(listed) => Ok(listed),
-            Err(_) => Err(ListFault::Memory),
-        }
+        list_on(alloc, store, self.settings().as_slice()).map_err(|_| ListFault::Memory)
     }
 }
 

@@ -71,10 +71,7 @@ pub(crate) fn read_fields(value: &Value) -> Option<Fields>
     ensures found { IfSome result (λ fields. IsTableOf (view value.now) fields) }
     ensures none { IfNone result (HasBadField (view value.now)) }
 {
-    match value.as_table() {
-        Some(table) => fields_in(table),
-        None => None,
-    }
+    fields_in(value.as_table()?)
 }
 
 /// The numbers in a table, if it has these four and nothing else.
@@ -101,10 +98,7 @@ fn fields_in(table: &Table) -> Option<Fields>
 fn whole_number(table: &Table, key: &str) -> Option<i64>
     ensures { result ≡ option_and_then as_integer (get_member key.now (table_view table.now)) }
 {
-    match table.get(key) {
-        Some(value) => value.as_integer(),
-        None => None,
-    }
+    table.get(key)?.as_integer()
 }
 
 /// The same as the numbers of a setting, if they are in their ranges.

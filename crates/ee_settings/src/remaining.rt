@@ -42,10 +42,8 @@ impl<'a, T: Copy> Remaining<'a, T> {
     pub(crate) fn address(&self) -> Option<Address>
         ensures { result ≡ first_address self.now }
     {
-        match self.first {
-            Some((address, _)) => Some(address),
-            None => None,
-        }
+        let (address, _) = self.first?;
+        Some(address)
     }
 
     /// Takes the first out, if it is this address's, and gives what it has.
@@ -66,10 +64,8 @@ impl<'a, T: Copy> Remaining<'a, T> {
 fn next_of<T: Copy>(entries: &mut Iter<'_, Address, T>) -> Option<(Address, T)>
     ensures { left_of result entries.new ≡ entries.old }
 {
-    match entries.next() {
-        Some((address, value)) => Some((*address, *value)),
-        None => None,
-    }
+    let (address, value) = entries.next()?;
+    Some((*address, *value))
 }
 
 /// The lower of two addresses, or the one that there is.

@@ -66,10 +66,8 @@ impl<A: Allocator> Schema<A> {
         A: Copy,
         ensures { GivesSchema (table_view table.now) result }
     {
-        match read_entries(alloc, table) {
-            Ok(settings) => Ok(Schema { settings }),
-            Err(fault) => Err(fault),
-        }
+        let settings = read_entries(alloc, table)?;
+        Ok(Schema { settings })
     }
 
     /// What the setting of a name reads as in a store: the value that its address has, if that is
@@ -83,12 +81,10 @@ impl<A: Allocator> Schema<A> {
     pub fn get<V: Variables>(&self, store: &V, name: &str) -> Result<Reading, GetFault>
         ensures { Gets self.now (V.device store.now) name.now result }
     {
-        let numbers = match self.find(name) {
-            Some(numbers) => numbers,
-            None => return Err(GetFault::UnknownName),
+        let Some(numbers) = self.find(name) else {
+            return Err(GetFault::UnknownName);
         };
-        let address = numbers.address;
-        match store.read(address) {
+        match store.read(numbers.address) {
             Ok(stored) => Ok(numbers.reading(stored)),
             Err(_) => Err(GetFault::Off),
         }
@@ -110,9 +106,8 @@ impl<A: Allocator> Schema<A> {
     ) -> Result<Written, SetFault>
         ensures { Sets self.now (V.device store.old) name.now value result (V.device store.new) }
     {
-        let numbers = match self.find(name) {
-            Some(numbers) => numbers,
-            None => return Err(SetFault::UnknownName),
+        let Some(numbers) = self.find(name) else {
+            return Err(SetFault::UnknownName);
         };
         let Numbers {
             address,
@@ -123,10 +118,7 @@ impl<A: Allocator> Schema<A> {
         if value < min || max < value {
             return Err(SetFault::OutOfRange { min, max });
         }
-        match store.write(address, value) {
-            Ok(written) => Ok(written),
-            Err(fault) => Err(SetFault::Store(fault)),
-        }
+        store.write(address, value).map_err(SetFault::Store)
     }
 
     /// How many entries there are.
@@ -148,10 +140,8 @@ impl<A: Allocator> Schema<A> {
         if entry == 0 {
             return None;
         }
-        match self.settings.as_slice().get(entry as usize - 1) {
-            Some(setting) => Some(setting.name()),
-            None => None,
-        }
+        let setting = self.settings.as_slice().get(entry as usize - 1)?;
+        Some(setting.name())
     }
 
     /// The settings, by rising name.

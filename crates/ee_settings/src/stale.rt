@@ -44,16 +44,10 @@ impl<A: Allocator> Schema<A> {
             ≡ map (λ stale. stale.entry) (stale_in (state_of (V.device store.now)).map self.now)) }
         ensures fault { IfErr result (IsStaleFault (V.device store.now)) }
     {
-        let values = match self.stale_values(alloc, store) {
-            Ok(values) => values,
-            Err(fault) => return Err(fault),
-        };
+        let values = self.stale_values(alloc, store)?;
         let mut entries = Vec::new(alloc);
         for stale in &values {
-            match entries.push(stale.entry) {
-                Ok(()) => {}
-                Err(_) => return Err(StaleFault::Memory),
-            }
+            entries.push(stale.entry).map_err(|_| StaleFault::Memory)?;
         }
         Ok(entries)
     }

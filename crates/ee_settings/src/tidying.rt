@@ -31,10 +31,7 @@ impl<A: Allocator> Schema<A> {
         let mut after = None;
         'forgetting: loop {
             let batch = store.next_batch(after);
-            match forget_unnamed(self.settings(), store, batch.found.as_slice()) {
-                Ok(more) => forgotten += more,
-                Err(fault) => return Err(fault),
-            }
+            forgotten += forget_unnamed(self.settings(), store, batch.found.as_slice())?;
             let Some(through) = batch.through else {
                 return Ok(forgotten);
             };
@@ -61,10 +58,7 @@ fn forget_unnamed<A: Allocator, V: Variables>(
 {
     let mut forgotten = 0;
     for (address, _) in found {
-        match forget_one(settings, store, *address) {
-            Ok(more) => forgotten += more,
-            Err(fault) => return Err(fault),
-        }
+        forgotten += forget_one(settings, store, *address)?;
     }
     Ok(forgotten)
 }

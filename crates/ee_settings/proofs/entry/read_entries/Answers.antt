@@ -1,4 +1,5 @@
 use Rattle.std.proofs.Common.{◌≡◌, ◌∙◌, ◌++◌, ◌∷◌, [], ◌+◌, length, map, subst, ap, sym, rules, Err, Ok, string_bytes}
+use Rattle.std.proofs.lemmas.Result.{err_from_is_err_and}
 use Rattle.std.proofs.lemmas.Map.Iter.{iter_end, rest_more, rest_so_far}
 use Rattle.std.specs.Map.Iter.{deref_pair}
 use Rattle.toml.specs.View.{view}
@@ -8,23 +9,24 @@ use Rattle.ee_settings.proofs.Names.{rising_names}
 use Rattle.ee_settings.specs.File.{AreEntriesOf, IsSchemaOf}
 use Rattle.ee_settings.proofs.entry.read_entries.Goals as goal
 
-pub returns-in-Err-clause-err : goal.returns-in-Err-clause-err
-returns-in-Err-clause-err g c =
+pub returns-in_err-setting-clause-err : goal.returns-in_err-setting-clause-err
+returns-in_err-setting-clause-err g c =
     let start : c.into_iter-name-iterator.result ≡ c.args.table.now.entries = search rules in
     let so_far = rest_so_far deref_pair c.loop-name.yielded c.into_iter-name-iterator.result c.loop-name.name-iterator c.loop-name.yielded_by in
     let more = rest_more deref_pair c.loop-name.name-iterator c.next.new.self c.next.result (c.in-Some.name, c.in-Some.value) c.in-Some.is c.next.ensures.steps in
     let whole : c.args.table.now.entries ≡ map deref_pair c.loop-name.yielded ++ (c.in-Some.name.now, c.in-Some.value.now) ∷ c.next.new.self = sym start ∙ so_far ∙ ap (λ rest. map deref_pair c.loop-name.yielded ++ rest) more in
     let counted : c.len.result + 1 ≡ length c.loop-name.settings + 1 = search rules in
-    fault_named c.in-Err.fault _ _ _ _ c.loop-name.settings (c.len.result + 1)
+    let p = err_from_is_err_and c.from_residual.result c.from_residual.ensures.1 in
+    rw (p.1, p.2) (fault_named _ _ _ _ _ c.loop-name.settings (c.len.result + 1)
     (split_entries c.args.table.now.entries (map deref_pair c.loop-name.yielded) c.next.new.self (c.in-Some.name.now, c.in-Some.value.now) whole)
     counted c.loop-name.invariant
-    (gives_same (Err c.in-Err.fault) c.loop-name.settings c.loop-name.settings (c.len.result + 1) c.as_str.result.now (string_bytes c.in-Some.name.now) (view c.in-Some.value.now) (search rules) (search rules) c.in-Err.ensures)
+    (gives_same (Err c.in_err-setting.field-0.0) c.loop-name.settings c.loop-name.settings (c.len.result + 1) c.as_str.result.now (string_bytes c.in-Some.name.now) (view c.in-Some.value.now) (search rules) (search rules) c.in_err-setting.ensures))
 
 pub loop-name-preserved : goal.loop-name-preserved
 loop-name-preserved g c =
-    let pushed : c.in-Ok-with.more ≡ c.loop-name.settings ++ c.in-Ok.setting ∷ [] = search rules in
-    let gives = gives_same (Ok c.in-Ok.setting) c.loop-name.settings c.loop-name.settings (c.len.result + 1) c.as_str.result.now (string_bytes c.in-Some.name.now) (view c.in-Some.value.now) (search rules) (search rules) c.in-Ok.ensures in
-    let grown = schema_more _ c.loop-name.settings (seen (c.in-Some.name.now, c.in-Some.value.now)) c.in-Ok.setting c.loop-name.invariant gives in
+    let pushed : c.in-Ok.more ≡ c.loop-name.settings ++ c.in_ok-setting.setting ∷ [] = search rules in
+    let gives = gives_same (Ok c.in_ok-setting.setting) c.loop-name.settings c.loop-name.settings (c.len.result + 1) c.as_str.result.now (string_bytes c.in-Some.name.now) (view c.in-Some.value.now) (search rules) (search rules) c.in_ok-setting.ensures in
+    let grown = schema_more _ c.loop-name.settings (seen (c.in-Some.name.now, c.in-Some.value.now)) c.in_ok-setting.setting c.loop-name.invariant gives in
     rw (gone_more c.loop-name.yielded (c.in-Some.name, c.in-Some.value), pushed) grown
 
 pub returns-clause-ok : goal.returns-clause-ok

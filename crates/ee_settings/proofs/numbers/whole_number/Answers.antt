@@ -1,13 +1,14 @@
-use Rattle.std.proofs.Common.{◌∙◌}
+use Rattle.std.proofs.Common.{◌≡◌, ◌∙◌, None, rules}
 use Rattle.toml.proofs.Views.{table_get}
 use Rattle.ee_settings.proofs.numbers.whole_number.Goals as goal
 
-pub returns-in-Some : goal.returns-in-Some
-returns-in-Some c =
+pub returns : goal.returns
+returns c =
     let found = table_get c.get.result c.args.key.now c.args.table.now.entries c.get.ensures.value in
-    c.as_integer.ensures ∙ rw (← rw c.in-Some.is at found)
+    c.as_integer.ensures ∙ rw (← rw c.in_ok-get.was at found)
 
-pub returns-in-None : goal.returns-in-None
-returns-in-None c =
+pub returns-in_err-get : goal.returns-in_err-get
+returns-in_err-get c =
     let found = table_get c.get.result c.args.key.now c.args.table.now.entries c.get.ensures.value in
-    rw (← rw c.in-None.is at found)
+    let none : c.from_residual.result ≡ None = search rules in
+    none ∙ rw (← rw c.in_err-get.was at found)

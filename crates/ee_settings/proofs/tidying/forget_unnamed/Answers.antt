@@ -1,4 +1,5 @@
 use Rattle.std.proofs.Common.{rules}
+use Rattle.std.proofs.lemmas.Result.{err_from_is_err_and}
 use Rattle.ee_settings.proofs.Tidied.{batch_further, batch_stops, one_lives}
 use Rattle.ee_settings.proofs.tidying.forget_unnamed.Goals as goal
 
@@ -8,17 +9,18 @@ forget_one-requires-clause-live g c =
     let lives = one_lives c.args.settings.now c.args.found.now c.loop-address.address-index c.loop-address.forgotten _ _ c.loop-address-item.result so_far c.loop-address-test.true c.loop-address-item.is in
     search (rules, lives)
 
-pub returns-in-Err-clause-stopped : goal.returns-in-Err-clause-stopped
-returns-in-Err-clause-stopped g c =
+pub returns-in_err-forgotten-clause-stopped : goal.returns-in_err-forgotten-clause-stopped
+returns-in_err-forgotten-clause-stopped g c =
     let so_far = c.loop-address.invariant in
     let stops = batch_stops c.args.settings.now c.args.found.now c.loop-address.address-index c.loop-address.forgotten _ _ c.loop-address-item.result so_far c.loop-address-test.true c.loop-address-item.is in
-    let stopped = c.in-Err.ensures.stopped in
-    search (rules, stops, stopped)
+    let stopped = c.in_err-forgotten.ensures.stopped in
+    let p = err_from_is_err_and c.from_residual.result c.from_residual.ensures.1 in
+    rw (p.1, p.2) (search (rules, stops, stopped))
 
 pub loop-address-preserved : goal.loop-address-preserved
 loop-address-preserved g c =
     let so_far = c.loop-address.invariant in
     let further = batch_further c.args.settings.now c.args.found.now c.loop-address.address-index c.loop-address.forgotten _ _ c.loop-address-item.result so_far c.loop-address-test.true c.loop-address-item.is in
-    let counted = c.in-Ok.ensures.count in
-    let made = c.in-Ok.ensures.forgotten in
+    let counted = c.in_ok-forgotten.ensures.count in
+    let made = c.in_ok-forgotten.ensures.forgotten in
     search (rules, further, counted, made)

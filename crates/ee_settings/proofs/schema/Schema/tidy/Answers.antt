@@ -1,4 +1,5 @@
 use Rattle.std.proofs.Common.{◌≡◌, ◌∙◌, ◌<◌, ◌+◌, ℕ, Option, ap, arith, length, refl, rules, subst, sym}
+use Rattle.std.proofs.lemmas.Result.{err_from_is_err_and}
 use Rattle.ee_flash.specs.Device.{IsOn}
 use Rattle.ee_pages.specs.Meaning.{AreLiveThrough, above_of}
 use Rattle.ee_core.specs.State.{state_of}
@@ -15,18 +16,19 @@ pub overflow_add-forgotten : goal.overflow_add-forgotten
 overflow_add-forgotten g c =
     let found = c.next_batch-batch.result.found.items in
     let among : unnamed_among c.settings.result.now c.as_slice.result.now ≡ unnamed_among c.args.self.now c.next_batch-batch.result.found.items = rw (c.settings.ensures, c.as_slice.ensures.value) refl in
-    let few : c.forgetting.forgotten + c.in-Ok.more < 65535 = few_so_far c.args.self.now (above_of c.forgetting.after) c.forgetting.forgotten _ _ found c.forgetting.invariant c.next_batch-batch.ensures.proper c.in-Ok.more
-    (c.in-Ok.ensures.count ∙ ap length among) c.next_batch-batch.ensures.live.next in
+    let few : c.forgetting.forgotten + c.in_ok-forgotten.field-0 < 65535 = few_so_far c.args.self.now (above_of c.forgetting.after) c.forgetting.forgotten _ _ found c.forgetting.invariant c.next_batch-batch.ensures.proper c.in_ok-forgotten.field-0
+    (c.in_ok-forgotten.ensures.count ∙ ap length among) c.next_batch-batch.ensures.live.next in
     omega arith
 
-pub returns-in-Err : goal.returns-in-Err
-returns-in-Err g c =
+pub returns-in_err-forgotten : goal.returns-in_err-forgotten
+returns-in_err-forgotten g c =
     let found = c.next_batch-batch.result.found.items in
     let among : unnamed_among c.settings.result.now c.as_slice.result.now ≡ unnamed_among c.args.self.now c.next_batch-batch.result.found.items = rw (c.settings.ensures, c.as_slice.ensures.value) refl in
     let stops = tidying_stops c.args.self.now (above_of c.forgetting.after) c.forgetting.forgotten (g.V.Variables.device c.args.store.now) (g.V.Variables.device c.forgetting.store) found c.forgetting.invariant c.next_batch-batch.ensures.proper in
     let next = c.next_batch-batch.ensures.live.next in
-    let stopped = subst (λ l. Stops l (g.V.Variables.device c.forgetting.store) c.in-Err.fault (g.V.Variables.device c.forget_unnamed.new.store)) among c.in-Err.ensures.stopped in
-    search (rules, stops, next, stopped)
+    let stopped = subst (λ l. Stops l (g.V.Variables.device c.forgetting.store) c.in_err-forgotten.field-0.0 (g.V.Variables.device c.forget_unnamed.new.store)) among c.in_err-forgotten.ensures.stopped in
+    let p = err_from_is_err_and c.from_residual.result c.from_residual.ensures.1 in
+    rw (p.1, p.2) (search (rules, stops, next, stopped))
 
 pub returns-in_default : goal.returns-in_default
 returns-in_default g c =
@@ -37,8 +39,8 @@ returns-in_default g c =
     let among : unnamed_among c.settings.result.now c.as_slice.result.now ≡ unnamed_among c.args.self.now c.next_batch-batch.result.found.items = rw (c.settings.ensures, c.as_slice.ensures.value) refl in
     let all = tidied_all c.args.self.now (above_of c.forgetting.after) c.forgetting.forgotten old now found c.forgetting.invariant c.next_batch-batch.ensures.proper on in
     let batch = subst (λ (through : Option ℕ). AreLiveThrough (state_of now).map (above_of c.forgetting.after) found through) c.in_default.is c.next_batch-batch.ensures.live in
-    let counted = c.in-Ok.ensures.count ∙ ap length among in
-    let made = subst (λ l. ForgetsEach l now (g.V.Variables.device c.forget_unnamed.new.store)) among c.in-Ok.ensures.forgotten in
+    let counted = c.in_ok-forgotten.ensures.count ∙ ap length among in
+    let made = subst (λ l. ForgetsEach l now (g.V.Variables.device c.forget_unnamed.new.store)) among c.in_ok-forgotten.ensures.forgotten in
     search (rules, all, batch, counted, made)
 
 pub forgetting-preserved : goal.forgetting-preserved
@@ -50,6 +52,6 @@ forgetting-preserved g c =
     let further = tidied_through c.args.self.now (above_of c.forgetting.after) c.forgetting.forgotten old now found c.forgetting.invariant c.next_batch-batch.ensures.proper in
     let low : c.in-Some.through < 65535 = search arith in
     let batch = subst (λ (through : Option ℕ). AreLiveThrough (state_of now).map (above_of c.forgetting.after) found through) c.in-Some.is c.next_batch-batch.ensures.live in
-    let counted = c.in-Ok.ensures.count ∙ ap length among in
-    let made = subst (λ l. ForgetsEach l now (g.V.Variables.device c.forget_unnamed.new.store)) among c.in-Ok.ensures.forgotten in
+    let counted = c.in_ok-forgotten.ensures.count ∙ ap length among in
+    let made = subst (λ l. ForgetsEach l now (g.V.Variables.device c.forget_unnamed.new.store)) among c.in_ok-forgotten.ensures.forgotten in
     search (rules, further, low, batch, counted, made)
