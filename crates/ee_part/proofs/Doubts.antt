@@ -2,7 +2,7 @@
 use Rattle.std.proofs.Common.{◌≡◌, ◌≢◌, ◌∙◌, ◌+◌, ◌<◌, ◌≤◌, ℕ, suc, Bool, true, false, cond, is_some, Option, Some, None, List, [], ◌∷◌, ◌++◌, length, refl, sym, ap, arith, inl, inr, rules}
 use Rattle.std.specs.Prelude.{◌||◌}
 use Rattle.std.specs.List.{list_any}
-use Rattle.std.proofs.lemmas.Bool.{and_from, and_parts, both_ways, cases_Bool, lt-ltb, ltb-true}
+use Rattle.std.proofs.lemmas.Bool.{and_from, and_parts, both_ways, cases_Bool, lt-ltb, ltb-true, or_from, or_parts, or_right, true_from_ne_false}
 use Rattle.std.proofs.lemmas.List.{length-append}
 use Rattle.ee_flash.specs.declared.word.Word.{Word}
 use Rattle.ee_flash.specs.declared.word.Word.TheVariants.{Erased, Held, Torn}
@@ -48,24 +48,12 @@ pub record IsParted (such : Word → Bool) (slots : List Word) : Type 0 where
   pub of_kind : such at ≡ true
   pub none_behind : list_any such behind ≡ false
 
-or_left : (a b : Bool) → b ≡ false → (a || b) ≡ true → a ≡ true
-or_left true b none some = refl
-or_left false b none some = absurd (both_ways b none some)
-
-or_some : (a b : Bool) → b ≡ true → (a || b) ≡ true
-or_some true b some = refl
-or_some false b some = some
-
-or_none : (a b : Bool) → (a || b) ≡ false → b ≡ false
-or_none true b none = absurd (cc none)
-or_none false b none = none
-
 pub parted : (such : Word → Bool) (slots : List Word) → list_any such slots ≡ true → IsParted such slots
 parted such [] some = absurd (cc some)
 parted such (first ∷ slots) some = elim (cases_Bool (list_any such slots)) [
   | inl more ↦
       let rest = parted such slots more in
-      let any : list_any such (first ∷ slots) ≡ true = or_some (such first) (list_any such slots) more in
+      let any : list_any such (first ∷ slots) ≡ true = or_right (such first) (list_any such slots) more in
       let up : up_to_last such (first ∷ slots) ≡ suc (up_to_last such slots) =
       ap (λ b. cond b (suc (up_to_last such slots)) 0) any in
       record {
@@ -86,7 +74,7 @@ parted such (first ∷ slots) some = elim (cases_Bool (list_any such slots)) [
         behind = slots;
         slots_are = refl;
         count = omega (arith, up, no_last such slots none);
-        of_kind = or_left (such first) (list_any such slots) none some;
+        of_kind = true_from_ne_false (such first) (λ no. both_ways (such first || list_any such slots) (or_from (such first) (list_any such slots) no none) some);
         none_behind = none;
       }
 ]
@@ -134,7 +122,7 @@ doubt_from slots address spoken torn spoken_is torn_is_last some less =
       slots_are = parts.slots_are ∙ ap (λ word. parts.before ++ word ∷ parts.behind) torn_at;
       said = not_none (latest_in parts.before address) (said_by_some parts.before address ∙ said);
       silent = is_none (latest_in parts.behind address)
-          (said_by_some parts.behind address ∙ or_none (speaks parts.at) (list_any speaks parts.behind) silent);
+          (said_by_some parts.behind address ∙ (or_parts (speaks parts.at) (list_any speaks parts.behind) silent).1);
     }
 
 doubt_to : (slots : List Word) (address : ℕ) → IsDoubted slots address

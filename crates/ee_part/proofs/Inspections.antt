@@ -1,6 +1,7 @@
 -- What is told of an image, a number, a slot or an address further.
 use Rattle.std.proofs.Common.{nat_lt, inl, inr, ◌≡◌, ◌∙◌, ◌+◌, ◌<◌, ◌≤◌, ℕ, zero, suc, Bool, true, false, not, cond, None, List, [], ◌∷◌, ◌++◌, length, get_or, take, drop, refl, sym, ap, arith, add-one, rules}
 use Rattle.std.proofs.lemmas.Bool.{cases_Bool, le-ltb}
+use Rattle.std.proofs.Math.Bool.{or-false, or-true}
 use Rattle.std.proofs.lemmas.Grind.{common_steps}
 use Rattle.std.specs.Prelude.{◌||◌}
 use Rattle.std.specs.List.{filter, list_any}
@@ -63,14 +64,6 @@ none_doubted spoken torn old is = rw is (rw (nothing_told (length spoken) (λ ad
 
 -- ---- the last slot of a kind
 
-or_true : (b : Bool) → (b || true) ≡ true
-or_true true = refl
-or_true false = refl
-
-or_false : (b : Bool) → (b || false) ≡ b
-or_false true = refl
-or_false false = refl
-
 pub no_last : (such : Word → Bool) (slots : List Word) → list_any such slots ≡ false → up_to_last such slots ≡ 0
 no_last such [] none = refl
 no_last such (first ∷ slots) none = rw none refl
@@ -83,12 +76,12 @@ some_last such (first ∷ slots) some = rw some (omega arith)
 pub last_behind : (such : Word → Bool) (slots more : List Word) → list_any such more ≡ true
     → up_to_last such (slots ++ more) ≡ length slots + up_to_last such more
 last_behind such [] more some = omega arith
-last_behind such (first ∷ slots) more some = search (rules, list_any-append, or_true, (last_behind such slots more some))
+last_behind such (first ∷ slots) more some = search (rules, list_any-append, or-true, (last_behind such slots more some))
 
 pub last_before : (such : Word → Bool) (slots more : List Word) → list_any such more ≡ false
     → up_to_last such (slots ++ more) ≡ up_to_last such slots
 last_before such [] more none = no_last such more none
-last_before such (first ∷ slots) more none = search (rules, list_any-append, or_false, (last_before such slots more none))
+last_before such (first ∷ slots) more none = search (rules, list_any-append, or-false, (last_before such slots more none))
 
 push_there : (such : Word → Bool) (slots : List Word) (slot : Word) → such slot ≡ true
     → up_to_last such (slots ++ slot ∷ []) ≡ length slots + 1

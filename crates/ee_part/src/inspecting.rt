@@ -280,7 +280,7 @@ fn push_if_torn<A: Allocator, F: Flash>(
     ensures { OnOk result
         (out.new.items ≡ out.old.items ++ torn_line (F.device flash.now) live page at) }
 {
-    if !is_torn(flash.word(page, at)) {
+    if !matches!(flash.word(page, at), Word::Torn) {
         return Ok(());
     }
     push_number_behind(out, b"torn ", page as u64)?;
@@ -289,13 +289,6 @@ fn push_if_torn<A: Allocator, F: Flash>(
     out.extend_from_slice(name_of(flash, live, page, at))?;
     out.extend_from_slice(b"\n")?;
     Ok(())
-}
-
-/// Whether a word is torn.
-fn is_torn(word: Word) -> bool
-    ensures { result ≡ torn word }
-{
-    matches!(word, Word::Torn)
 }
 
 /// What a word is to the live set, if there is one.
@@ -342,7 +335,7 @@ fn last_torn<F: Flash>(flash: &F, layout: &Layout) -> usize
     // The slots behind the fill are erased.
     let mut last = 0;
     'slots: for slot in 0..layout.fill {
-        if is_torn(slot_word(flash, layout, slot)) {
+        if matches!(slot_word(flash, layout, slot), Word::Torn) {
             last = slot + 1;
         }
     }
@@ -398,8 +391,9 @@ fn address_of(word: Word) -> Option<usize>
         (λ named. (address : ℕ) → speaks_of address word ≡ (named == address)) }
 {
     match read_slot(word) {
-        Slot::Element { address, .. } => Some(usize::from(address.get())),
-        Slot::Forgotten { address, .. } => Some(usize::from(address.get())),
+        Slot::Element { address, .. } | Slot::Forgotten { address, .. } => {
+            Some(usize::from(address.get()))
+        }
         _ => None,
     }
 }
