@@ -1,6 +1,6 @@
 -- One clean step after another erases a front of the pages that wait, and at last all of them.
 use Rattle.std.proofs.Common.{◌≡◌, ◌∙◌, ℕ, ◌++◌, sym, List, [], ◌∷◌, length, ap, refl, subst, arith}
-use Rattle.std.proofs.lemmas.List.{append-nil, append_assoc}
+use Rattle.std.proofs.lemmas.List.{append-nil, append_assoc, nil_from_length}
 use Rattle.ee_flash.specs.Device.{Device}
 use Rattle.ee_core.specs.Calls.{ErasesLowest}
 use Rattle.ee_core.specs.State.{Wears, pending_pages, state_of}
@@ -22,12 +22,8 @@ front_more old mid new some one = record {
   wears = wears_both some.front (one.page ∷ []) old mid new some.wears one.wear;
 }
 
-empty_of : (pages : List ℕ) → length pages ≡ 0 → pages ≡ []
-empty_of [] e = refl
-empty_of (page ∷ pages) e = absurd (omega (arith, e))
-
 pub front_all : (old new : Device) → ErasesFront old new → (state_of new).pending ≡ 0 → Wears (pending_pages old) old new
 front_all old new some none =
-    let rest : pending_pages new ≡ [] = empty_of (pending_pages new) (length-pending_pages new ∙ none) in
+    let rest : pending_pages new ≡ [] = nil_from_length (pending_pages new) (length-pending_pages new ∙ none) in
     let all : pending_pages old ≡ some.front = some.waited ∙ ap (λ list. some.front ++ list) rest ∙ append-nil some.front in
     subst (λ (pages : List ℕ). Wears pages old new) (sym all) some.wears

@@ -42,9 +42,7 @@ use Rattle.ee_commands.proofs.Traces.{one_first_bad_line, traces_are_good}
 -- ---- one start
 
 both_or_none : (a b : Bool) → (a ≡ true → b ≡ true) → (b ≡ true → a ≡ true) → a ≡ b
-both_or_none true b there back = sym (there refl)
-both_or_none false true there back = back refl
-both_or_none false false there back = refl
+both_or_none a b h1 h2 = search rules
 
 has_too : (map : Map) (live other : List ℕ) (address : ℕ) → AreLive map live → AreLive map other → Contains live address → Contains other address
 has_too map live other address first second has = second.all address (All-contains (λ a. map a ≢ None) live address first.have_values has)
@@ -90,15 +88,12 @@ other_cause named fault cause memory some is wanting = λ e. some (is ∙ ap nam
 -- one cause has one name
 pub one_name : {Cause : Type 0} (named : Cause → Fault) (fault other : Fault) (cause second memory : Cause) → fault ≡ named cause → other ≡ named second → named memory ≡ Memory
     → (second ≡ cause) ⊎ (second ≡ memory) → (other ≡ fault) ⊎ (other ≡ Memory)
-one_name named fault other cause second memory is too wanting (inl same) = inl (too ∙ ap named same ∙ sym is)
-one_name named fault other cause second memory is too wanting (inr none) = inr (too ∙ ap named none ∙ wanting)
+one_name named fault other cause second memory h1 h2 h3 h4 = search rules
 
 -- ---- one fault of a start and a trace
 
 pub one_trace_fault : (text : List ℕ) (cause fault : ScriptFault) → cause ≢ script.Memory → IsTraceFault text cause → IsTraceFault text fault → (fault ≡ cause) ⊎ (fault ≡ script.Memory)
-one_trace_fault text (script.BadLine m) (script.BadLine n) some h i = inl (ap script.BadLine (one_first_bad_line text n m i h))
-one_trace_fault text (script.BadLine m) script.Memory some h i = inr refl
-one_trace_fault text script.Memory fault some h i = absurd (some refl)
+one_trace_fault text cause fault h1 h2 h3 = search (rules, one_first_bad_line)
 
 -- where a store is opened an image's fault is want of memory
 opened_memory : (image : List ℕ) (device : Device) (cause : ReplayFault) → IsStoreText image device → IsOpenFault image cause → cause ≡ replay.Memory
@@ -113,16 +108,13 @@ pub one_task_fault : (image text : List ℕ) (cause fault : Fault) → cause ≢
 one_task_fault image text cause fault some (inl h) (inl i) =
     one_name fault_of_replay cause fault h.cause i.cause replay.Memory h.fault_is i.fault_is refl
     (one_open_fault image h.cause i.cause (other_cause fault_of_replay cause h.cause replay.Memory some h.fault_is refl) h.applies i.applies)
-one_task_fault image text cause fault some (inl h) (inr i) =
-    absurd (store_is_good image i.0.0 h.cause i.0.1 (other_cause fault_of_replay cause h.cause replay.Memory some h.fault_is refl) h.applies)
-one_task_fault image text cause fault some (inr h) (inl i) =
-    inr (i.fault_is ∙ ap fault_of_replay (opened_memory image h.0.0 i.cause h.0.1 i.applies))
+one_task_fault image text cause fault some (inl h) (inr i) = search (rules, store_is_good, other_cause)
+one_task_fault image text cause fault some (inr h) (inl i) = search (rules, opened_memory)
 one_task_fault image text cause fault some (inr h) (inr i) = search (rules, one_name, one_trace_fault, other_cause)
 
 -- where a start and a trace are had it is want of memory
 pub only_memory : (image text : List ℕ) (start : Situation) (trace : List Change) (fault : Fault) → IsTask image text start trace → IsTaskFault image text fault → fault ≡ Memory
-only_memory image text start trace fault task (inl h) =
-    h.fault_is ∙ ap fault_of_replay (opened_memory image task.start_is.device h.cause task.start_is.store h.applies)
+only_memory image text start trace fault task (inl h) = search (rules, opened_memory)
 only_memory image text start trace fault task (inr h) = h.1.fault_is ∙ ap fault_of_script (trace_memory text trace h.1.cause task.trace_is h.1.applies)
 
 -- ---- one fault of a plan
@@ -146,8 +138,7 @@ pub record NamesChange (start : Situation) (trace : List Change) (fault : Fault)
 
 names_change : (start : Situation) (trace : List Change) (fault : Fault) (cause : PlanFault) → fault ≢ Memory → IsPlanFault start trace cause → fault ≡ fault_of_plan cause
     → NamesChange start trace fault
-names_change start trace fault (plan.NotFitting n) some applies is = record { n = n; first = applies; fault_is = is }
-names_change start trace fault plan.Memory some applies is = absurd (some is)
+names_change start trace fault cause h1 h2 h3 = search rules
 
 pub change_of_plan : (image text : List ℕ) (start : Situation) (trace : List Change) (cause : Fault) → cause ≢ Memory → IsPlanningFault image text cause
     → IsTask image text start trace → NamesChange start trace cause
@@ -171,19 +162,15 @@ later_of_check image text certificate start trace cause some (inr h) task =
     same_task (λ s l. IsCertificateFault s l certificate cause) image text h.0 start h.1 trace h.2 task h.3
 
 one_text_fault : (certificate : List ℕ) (cause fault : TextFault) → cause ≢ spelled.Memory → IsCertificateTextFault certificate cause → IsCertificateTextFault certificate fault → (fault ≡ cause) ⊎ (fault ≡ spelled.Memory)
-one_text_fault certificate (spelled.BadText m) (spelled.BadText n) some h i = inl (ap spelled.BadText (one_bad_line certificate n m i h))
-one_text_fault certificate (spelled.BadText m) spelled.Memory some h i = inr refl
-one_text_fault certificate spelled.Memory fault some h i = absurd (some refl)
+one_text_fault certificate cause fault h1 h2 h3 = search (rules, one_bad_line)
 
 -- where the text says a claim its fault is want of memory
 text_memory : (certificate : List ℕ) (claim : Claim) (cause : TextFault) → IsText certificate claim → IsCertificateTextFault certificate cause → cause ≡ spelled.Memory
-text_memory certificate claim (spelled.BadText n) is bad = absurd (texts_are_good_lem certificate claim n is bad)
-text_memory certificate claim spelled.Memory is bad = refl
+text_memory certificate claim cause h1 h2 = search (rules, texts_are_good_lem)
 
 pub text_of_check : (start : Situation) (trace : List Change) (certificate : List ℕ) (cause : Fault) (fault : TextFault) → cause ≢ Memory
     → IsCertificateFault start trace certificate cause → IsCertificateTextFault certificate fault → (fault_of_certificate fault ≡ cause) ⊎ (fault_of_certificate fault ≡ Memory)
-text_of_check start trace certificate cause fault some (inl h) i = search (rules, one_name, one_text_fault, other_cause)
-text_of_check start trace certificate cause fault some (inr h) i = inr (ap fault_of_certificate (text_memory certificate h.0 fault h.1 i))
+text_of_check start trace certificate cause fault h1 h2 h3 = search (rules, one_name, one_text_fault, other_cause, text_memory)
 
 -- a fault but for want of memory has its cause in the claim
 pub record NamesCause (start : Situation) (trace : List Change) (claim : Claim) (fault : Fault) : Type 0 where
@@ -193,8 +180,7 @@ pub record NamesCause (start : Situation) (trace : List Change) (claim : Claim) 
 
 names_cause : (start : Situation) (trace : List Change) (claim : Claim) (fault : Fault) (cause : CheckFault) → fault ≢ Memory → IsRefusal start trace claim cause
     → fault ≡ fault_of_check cause → NamesCause start trace claim fault
-names_cause start trace claim fault cause some (inl applies) is = record { cause = cause; applies = applies; fault_is = is }
-names_cause start trace claim fault cause some (inr none) is = absurd (some (is ∙ ap fault_of_check none))
+names_cause start trace claim fault cause h1 h2 h3 = search rules
 
 pub cause_of_check : (start : Situation) (trace : List Change) (certificate : List ℕ) (claim : Claim) (cause : Fault) → cause ≢ Memory
     → IsCertificateFault start trace certificate cause → IsText certificate claim → NamesCause start trace claim cause
@@ -219,17 +205,14 @@ no_trace image text store fault opened bad = inr ((opened.device, opened.old), r
 -- a claim that is read and refused
 pub not_proved : (image text certificate : List ℕ) (start : Situation) (trace : List Change) (claim : Claim) (fault : CheckFault) → IsTask image text start trace → IsText certificate claim
     → IsRefusal start trace claim fault → IsCheckingFault image text certificate (fault_of_check fault)
-not_proved image text certificate start trace claim fault task spelled refused =
-    inr (start, trace, task, inr (claim, spelled, record { cause = fault; applies = refused; fault_is = refl }))
+not_proved image text certificate start trace claim fault task spelled refused = search rules
 
 -- ---- one answer, as the shell names it
 
 pub change_named : (cause : Fault) (fault : PlanFault) (n : ℕ) → cause ≡ NotFitting n → (fault ≡ plan.NotFitting n) ⊎ (fault ≡ plan.Memory)
     → (fault_of_plan fault ≡ cause) ⊎ (fault_of_plan fault ≡ Memory)
-change_named cause fault n is (inl same) = inl (ap fault_of_plan same ∙ sym is)
-change_named cause fault n is (inr none) = inr (ap fault_of_plan none)
+change_named cause fault n h1 h2 = search rules
 
 pub cause_named : (cause : Fault) (fault known : CheckFault) → cause ≡ fault_of_check known → (fault ≡ known) ⊎ (fault ≡ check.Memory)
     → (fault_of_check fault ≡ cause) ⊎ (fault_of_check fault ≡ Memory)
-cause_named cause fault known is (inl same) = inl (ap fault_of_check same ∙ sym is)
-cause_named cause fault known is (inr none) = inr (ap fault_of_check none)
+cause_named cause fault known h1 h2 = search rules

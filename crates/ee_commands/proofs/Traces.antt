@@ -71,12 +71,10 @@ traces_are_good text trace n is = no_bad_line IsTraceCommand (λ command good. g
 
 -- what is left, as its length tells
 pub goes_on : (rest : List ℕ) → false ≡ (length rest == 0) → rest ≢ []
-goes_on [] e = absurd (cc e)
-goes_on (byte ∷ rest) e = λ empty. absurd (cc empty)
+goes_on rest h1 = search rules
 
 pub some_left : (rest : List ℕ) → false ≡ (length rest == 0) → 0 < length rest
-some_left [] e = absurd (cc e)
-some_left (byte ∷ rest) e = omega arith
+some_left rest h1 = search rules
 
 is_zero : (n : ℕ) → true ≡ (n == 0) → n ≡ 0
 is_zero n e = grind (arith, common_steps)
