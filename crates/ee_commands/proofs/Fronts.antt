@@ -1,5 +1,5 @@
 -- One clean step after another erases a front of the pages that wait, and at last all of them.
-use Rattle.std.proofs.Common.{◌≡◌, ◌∙◌, ℕ, ◌++◌, sym, List, [], ◌∷◌, length, ap, refl, subst, arith}
+use Rattle.std.proofs.Common.{◌≡◌, ◌∙◌, ℕ, ◌++◌, sym, List, [], ◌∷◌, ap, refl, subst}
 use Rattle.std.proofs.lemmas.List.{append-nil, append_assoc, nil_from_length}
 use Rattle.ee_flash.specs.Device.{Device}
 use Rattle.ee_core.specs.Calls.{ErasesLowest}

@@ -8,7 +8,6 @@ use Rattle.ee_check.specs.declared.change.Change.{Change}
 use Rattle.ee_plan.specs.Rounds.{IsDemand, fresh}
 use Rattle.ee_plan.specs.declared.demand.Demand.{Demand}
 use Rattle.ee_script.specs.declared.session.ScriptFault.{ScriptFault}
-use Rattle.ee_script.specs.declared.session.ScriptFault.TheVariants as script
 use Rattle.ee_faults.specs.Fault.{fault_of_script}
 use Rattle.ee_faults.specs.declared.fault.Fault.{Fault}
 use Rattle.ee_faults.specs.declared.fault.Fault.TheVariants.{Memory}

@@ -1,7 +1,6 @@
 use Rattle.std.proofs.Common.{◌∙◌, rules, arith, refl}
 use Rattle.ee_pages.specs.Page.{is_torn}
 use Rattle.ee_pages.proofs.Public.{length-slots}
-use Rattle.ee_part.specs.Inspecting.{live_slots}
 use Rattle.ee_part.proofs.Inspections.{last_in_fill, last_same, last_there, slot_in_range}
 use Rattle.ee_part.proofs.inspecting.last_torn.Goals as goal
 
