@@ -1,6 +1,6 @@
 /* ee: variables in flash, the library of ee.h as one file, for Cortex-M3, M4, M7 and M33.
  *
- * sum of sources: 753e793b848272f8fd09dbee760b6d9ccf62f785448ac9f380eca4771945e4c5
+ * sum of sources: b7a0d888b911f533054cb84f8fbdb8724d6d24e96f5ca522089f549b50a1b30a
  * sum of the text below: f0e1d0ceb9b0cdc13aad52347f69b70015eb0f01d7f51c86f030faecd9ffd242
  * made by: firmware/c/assemble
  * compiler: rustc 1.96.0 (ac68faa20 2026-05-25) (built from a source tarball), LLVM 22.1.8

@@ -1,6 +1,6 @@
 /* ee: variables in flash, the library of ee.h as one file, for every Cortex-M.
  *
- * sum of sources: 753e793b848272f8fd09dbee760b6d9ccf62f785448ac9f380eca4771945e4c5
+ * sum of sources: b7a0d888b911f533054cb84f8fbdb8724d6d24e96f5ca522089f549b50a1b30a
  * sum of the text below: 2d99fb696ffc9121d331cadbb88e756d60a58a87dc59b676072934720d21a4c2
  * made by: firmware/c/assemble
  * compiler: rustc 1.96.0 (ac68faa20 2026-05-25) (built from a source tarball), LLVM 22.1.8

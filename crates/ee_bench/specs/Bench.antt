@@ -7,9 +7,9 @@ use Rattle.ee_bench.specs.declared.driving.Bench.TheVariants.{Bare, Open}
 use Rattle.ee_bench.specs.declared.driving.Note.{Note}
 use Rattle.ee_bench.specs.declared.event.Event.{Event}
 
-module _ {F : Type 0} (device_of : F → Device) where
+module _ {F : Type 0} (device : F → Device) where
   abbrev pub point_of_bench : Bench F → Point
-  point_of_bench (Bare flash) = closed_point (device_of flash)
+  point_of_bench (Bare flash) = closed_point (device flash)
   point_of_bench (Open store) = open_point store
 
 -- the turn of which this is noted

@@ -1,3 +1,4 @@
+//! A store at the bench: each event is a call of it, and what a cut left is looked up in the image.
 ghost use Rattle.std.specs.Prelude.{◌≡◌, IfErr, IfOk};
 ghost use Rattle.ee_pages.specs.Legal.{IsLegal};
 ghost use Rattle.ee_core.specs.Points.{Point, open_point};
@@ -18,12 +19,12 @@ use std::alloc::{AllocError, Allocator};
 #[derive(Drop)]
 struct Note {
     answer: Answer,
-    // Whether the image has the change, if power was cut in one.
+    /// Whether the image has the change, if power was cut in one.
     found: Option<bool>,
 }
 
 impl Note {
-    // With nothing to look for.
+    /// With nothing to look for.
     fn of(answer: Answer) -> Note
         ensures { result ≡ record { answer = answer; found = None } }
     {
@@ -33,7 +34,7 @@ impl Note {
         }
     }
 
-    // With what the image was found to have.
+    /// With what the image was found to have.
     fn looked(answer: Answer, found: bool) -> Note
         ensures { result ≡ record { answer = answer; found = Some found } }
     {
@@ -52,7 +53,7 @@ enum Bench<F: Flash + Drop> {
 }
 
 impl<F: Flash + Drop> Bench<F> {
-    // With this store, which a cut closes.
+    /// With this store, which a cut closes.
     fn of(store: Store<F>) -> Bench<F>
         ensures point { point_of_bench F.device result ≡ open_point store }
         ensures store { IsStore store }
@@ -167,7 +168,7 @@ fn reopen<F: Flash + Drop>(flash: F) -> (Bench<F>, Note)
     }
 }
 
-// The value that the image gives an address, whether power is on or off.
+/// The value that the image gives an address, whether power is on or off.
 fn value_in<F: Flash>(flash: &F, address: Address) -> Option<u32>
     requires { IsLegal (F.device flash.now) }
     ensures { result ≡ (state_of (F.device flash.now)).map address }

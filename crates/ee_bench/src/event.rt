@@ -1,3 +1,4 @@
+//! What a store at the bench is asked, what it answers, and what a list of events leaves.
 use ee_codec::Address;
 use ee_core::{ForgetFault, OpenFault, WriteFault, Written};
 use ee_flash::Flash;

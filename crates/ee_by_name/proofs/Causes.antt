@@ -1,19 +1,17 @@
 -- The image that is left, and that one cause at most applies for which nothing is applied.
-use Rattle.std.proofs.Common.{◌≡◌, ◌≢◌, ◌⊎◌, ◌∙◌, ℕ, List, length, inl, inr, sym, ap, subst}
+use Rattle.std.proofs.Common.{◌≡◌, ◌⊎◌, ◌∙◌, ℕ, List, length, inl, inr, sym, ap, subst}
 use Rattle.toml.specs.Data.{Members}
 use Rattle.ee_flash.specs.Device.{Device}
 use Rattle.ee_settings.specs.File.{entries_of}
 use Rattle.ee_settings.specs.Setting.{Setting}
-use Rattle.ee_faults.specs.Fault.{fault_of_replay}
 use Rattle.ee_faults.specs.declared.fault.Fault.{Fault}
 use Rattle.ee_faults.specs.declared.fault.Fault.TheVariants.{Memory, ValuesText}
-use Rattle.ee_faults.specs.declared.replay_fault.ReplayFault.{ReplayFault}
-use Rattle.ee_image_store.specs.Opening.{IsOpenFault, IsOpened, IsStoreLeft}
-use Rattle.ee_image_store.proofs.Public.{no_memory_to_open, not_opened, opening_good, opening_named, same_at_rest, same_state}
-use Rattle.ee_by_name.proofs.Named.{one_tree, settings_good, spelled_once}
-use Rattle.ee_by_name.specs.Settings.{HasNoTree, HasTree, IsSettingsFault, SpellsSettings}
+use Rattle.ee_image_store.specs.Opening.{HasStore, IsOpened, IsStoreLeft}
+use Rattle.ee_image_store.proofs.Public.{no_memory_to_open, same_at_rest, same_state}
+use Rattle.ee_by_name.proofs.Named.{one_tree, spelled_once}
+use Rattle.ee_by_name.specs.Settings.{HasNoTree, HasTree, SpellsSettings}
 use Rattle.ee_by_name.proofs.Taken.{IsAlike, applied_good, applied_keeps, one_stop}
-use Rattle.ee_by_name.specs.Applying.{Applies, IsApplied, IsApplyFault, IsValueFault, StopsAtEntry, applied_text}
+use Rattle.ee_by_name.specs.Applying.{Applies, HasSettings, IsApplied, IsApplyFault, IsValueFault, StopsAtEntry, applied_text}
 
 pub is_applied : (image text values new_image line : List ℕ) (store new : Device) (settings : List Setting) (tree : Members) (count : ℕ) → IsOpened image store → SpellsSettings text settings → HasTree values tree
     → Applies settings (entries_of tree) store count new → IsStoreLeft new.size new_image new → line ≡ applied_text count (length (entries_of tree)) → IsApplied image text values new_image line
@@ -60,42 +58,27 @@ stops_there image text values settings tree cause spelled has_tree h =
     subst (λ (ss : List Setting). StopsAtEntry ss (entries_of tree) h.store cause) (spelled_once text h.settings settings h.spelled spelled)
     (subst (λ (t : Members). StopsAtEntry h.settings (entries_of t) h.store cause) (one_tree values h.tree tree h.has_tree has_tree) h.stops)
 
-pub apply_unopened : (image text values : List ℕ) (why : ReplayFault) (fault cause : Fault) → IsOpenFault image why → fault ≡ fault_of_replay why → cause ≢ Memory → IsApplyFault image text values cause
-    → (fault ≡ cause) ⊎ (fault ≡ Memory)
-apply_unopened image text values why fault cause unopened told some (inl h) = opening_named image why fault cause unopened told some h
-apply_unopened image text values why fault cause unopened told some (inr (inl h)) = inr (not_opened image why fault unopened told h.0)
-apply_unopened image text values why fault cause unopened told some (inr (inr (inl h))) = inr (not_opened image why fault unopened told h.0)
-apply_unopened image text values why fault cause unopened told some (inr (inr (inr h))) = inr (not_opened image why fault unopened told (h.opened.device, h.opened.old))
+-- each cause of its own takes a store and settings
+pub apply_takes : (image text values : List ℕ) (cause : Fault) → (HasStore image × HasSettings text × HasNoTree values × (cause ≡ ValuesText)) ⊎ IsValueFault image text values cause → HasStore image × HasSettings text
+apply_takes image text values cause (inl h) = (h.0, h.1)
+apply_takes image text values cause (inr h) = ((h.opened.device, h.opened.old), (h.settings, h.spelled))
 
-pub apply_unspelled : (image text values : List ℕ) (store : Device) (fault cause : Fault) → IsOpened image store
-    → ((other : Fault) → other ≢ Memory → IsSettingsFault text other → (fault ≡ other) ⊎ (fault ≡ Memory)) → ((settings : List Setting) → SpellsSettings text settings → fault ≡ Memory)
-    → cause ≢ Memory → IsApplyFault image text values cause → (fault ≡ cause) ⊎ (fault ≡ Memory)
-apply_unspelled image text values store fault cause opened names only some (inl h) = absurd (opening_good image opened.device cause opened.old some h)
-apply_unspelled image text values store fault cause opened names only some (inr (inl h)) = names cause some h.1
-apply_unspelled image text values store fault cause opened names only some (inr (inr (inl h))) = inr (only h.1.0 h.1.1)
-apply_unspelled image text values store fault cause opened names only some (inr (inr (inr h))) = inr (only h.settings h.spelled)
-
-pub apply_unread : (image text values : List ℕ) (store : Device) (settings : List Setting) (fault cause : Fault) → IsOpened image store → SpellsSettings text settings
-    → ((fault ≡ ValuesText) × HasNoTree values) ⊎ (fault ≡ Memory) → cause ≢ Memory → IsApplyFault image text values cause → (fault ≡ cause) ⊎ (fault ≡ Memory)
-apply_unread image text values store settings fault cause opened spelled (inr none) some h = inr none
-apply_unread image text values store settings fault cause opened spelled (inl told) some (inl h) = absurd (opening_good image opened.device cause opened.old some h)
-apply_unread image text values store settings fault cause opened spelled (inl told) some (inr (inl h)) = absurd (settings_good text settings cause spelled some h.1)
-apply_unread image text values store settings fault cause opened spelled (inl told) some (inr (inr (inl h))) = inl (told.0 ∙ sym h.3)
-apply_unread image text values store settings fault cause opened spelled (inl told) some (inr (inr (inr h))) = absurd (told.1 h.tree h.has_tree)
+pub apply_unread : (image text values : List ℕ) (fault cause : Fault) → ((fault ≡ ValuesText) × HasNoTree values) ⊎ (fault ≡ Memory)
+    → (HasStore image × HasSettings text × HasNoTree values × (cause ≡ ValuesText)) ⊎ IsValueFault image text values cause → (fault ≡ cause) ⊎ (fault ≡ Memory)
+apply_unread image text values fault cause (inr none) h = inr none
+apply_unread image text values fault cause (inl told) (inl h) = inl (told.0 ∙ sym h.3)
+apply_unread image text values fault cause (inl told) (inr h) = absurd (told.1 h.tree h.has_tree)
 
 pub apply_stopped : (image text values : List ℕ) (store : Device) (settings : List Setting) (tree : Members) (fault cause : Fault) → IsOpened image store → SpellsSettings text settings → HasTree values tree
-    → StopsAtEntry settings (entries_of tree) store fault ⊎ (fault ≡ Memory) → cause ≢ Memory → IsApplyFault image text values cause → (fault ≡ cause) ⊎ (fault ≡ Memory)
-apply_stopped image text values store settings tree fault cause opened spelled has_tree (inr none) some h = inr none
-apply_stopped image text values store settings tree fault cause opened spelled has_tree (inl stops) some (inl h) = absurd (opening_good image opened.device cause opened.old some h)
-apply_stopped image text values store settings tree fault cause opened spelled has_tree (inl stops) some (inr (inl h)) = absurd (settings_good text settings cause spelled some h.1)
-apply_stopped image text values store settings tree fault cause opened spelled has_tree (inl stops) some (inr (inr (inl h))) = absurd (h.2 tree has_tree)
-apply_stopped image text values store settings tree fault cause opened spelled has_tree (inl stops) some (inr (inr (inr h))) =
+    → StopsAtEntry settings (entries_of tree) store fault ⊎ (fault ≡ Memory)
+    → (HasStore image × HasSettings text × HasNoTree values × (cause ≡ ValuesText)) ⊎ IsValueFault image text values cause → (fault ≡ cause) ⊎ (fault ≡ Memory)
+apply_stopped image text values store settings tree fault cause opened spelled has_tree (inr none) h = inr none
+apply_stopped image text values store settings tree fault cause opened spelled has_tree (inl stops) (inl h) = absurd (h.2 tree has_tree)
+apply_stopped image text values store settings tree fault cause opened spelled has_tree (inl stops) (inr h) =
     inl (one_stop settings (entries_of tree) store h.store fault cause spelled.schema.1 (opened_alike image store h.store opened h.opened) stops (stops_there image text values settings tree cause spelled has_tree h))
 
 pub apply_good : (image text values : List ℕ) (store new : Device) (settings : List Setting) (tree : Members) (count : ℕ) (cause : Fault) → IsOpened image store → SpellsSettings text settings → HasTree values tree
-    → Applies settings (entries_of tree) store count new → cause ≢ Memory → IsApplyFault image text values cause → ⊥
-apply_good image text values store new settings tree count cause opened spelled has_tree applied some (inl h) = opening_good image opened.device cause opened.old some h
-apply_good image text values store new settings tree count cause opened spelled has_tree applied some (inr (inl h)) = settings_good text settings cause spelled some h.1
-apply_good image text values store new settings tree count cause opened spelled has_tree applied some (inr (inr (inl h))) = h.2 tree has_tree
-apply_good image text values store new settings tree count cause opened spelled has_tree applied some (inr (inr (inr h))) =
+    → Applies settings (entries_of tree) store count new → (HasStore image × HasSettings text × HasNoTree values × (cause ≡ ValuesText)) ⊎ IsValueFault image text values cause → ⊥
+apply_good image text values store new settings tree count cause opened spelled has_tree applied (inl h) = h.2 tree has_tree
+apply_good image text values store new settings tree count cause opened spelled has_tree applied (inr h) =
     applied_good settings (entries_of tree) store h.store new count cause spelled.schema.1 (opened_alike image store h.store opened h.opened) applied (stops_there image text values settings tree cause spelled has_tree h)

@@ -1,4 +1,5 @@
 mod Named
+mod OwnCauses
 mod TidiedImages
 mod Listings
 mod Taken

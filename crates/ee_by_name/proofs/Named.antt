@@ -26,13 +26,11 @@ use Rattle.ee_script.specs.declared.answer.Answer.{Answer}
 use Rattle.ee_script.specs.declared.answer.Answer.TheVariants.{Appended, Moved}
 use Rattle.ee_script.specs.declared.command.Command.{Command}
 use Rattle.ee_script.specs.declared.command.Command.TheVariants.{Write}
-use Rattle.ee_faults.specs.Fault.{fault_of_replay}
-use Rattle.ee_by_name.specs.Settings.{fault_of_schema, HasTree, IsGetFault, IsSettingRead, IsSettingRefused, IsRefusedIn, IsSet, IsSetFault, IsSettingsFault, IsValueRefusal, IsWriteRefusal, IsWriteServed, IsWritten, SpellsSettings}
+use Rattle.ee_by_name.specs.Settings.{fault_of_schema, HasTree, IsUnknownIn, IsSettingRead, IsSettingRefused, IsRefusedIn, IsSet, IsSettingsFault, IsValueRefusal, IsWriteRefusal, IsWriteServed, IsWritten, SpellsSettings}
 use Rattle.ee_faults.specs.declared.fault.Fault.{Fault}
-use Rattle.ee_faults.specs.declared.fault.Fault.TheVariants.{UnknownName, Memory}
-use Rattle.ee_faults.specs.declared.replay_fault.ReplayFault.{ReplayFault}
-use Rattle.ee_image_store.proofs.Public.{both, by_append, by_move, pages_since, same_at_rest, same_state, not_opened, opening_good, opening_named}
-use Rattle.ee_image_store.specs.Opening.{IsOpenFault, IsOpened, IsStoreLeft, StaysOn}
+use Rattle.ee_faults.specs.declared.fault.Fault.TheVariants.{Memory}
+use Rattle.ee_image_store.proofs.Public.{both, by_append, by_move, pages_since, same_at_rest, same_state}
+use Rattle.ee_image_store.specs.Opening.{IsOpened, IsStoreLeft, StaysOn}
 use Rattle.ee_image_store.specs.Steps.{Steps}
 
 -- ---- the text of the settings
@@ -86,31 +84,9 @@ schema_only text tree why fault others has gives told spelled = search (rules, n
 
 -- ---- reading
 
-pub get_unopened : (image text name : List ℕ) (why : ReplayFault) (fault cause : Fault) → IsOpenFault image why → fault ≡ fault_of_replay why → cause ≢ Memory → IsGetFault image text name cause
-    → (fault ≡ cause) ⊎ (fault ≡ Memory)
-get_unopened image text name why fault cause unopened told some (inl h) = opening_named image why fault cause unopened told some h
-get_unopened image text name why fault cause unopened told some (inr (inl h)) = inr (not_opened image why fault unopened told h.0)
-get_unopened image text name why fault cause unopened told some (inr (inr h)) = inr (not_opened image why fault unopened told h.0)
-
-pub get_unspelled : (image text name : List ℕ) (store : Device) (fault cause : Fault) → IsOpened image store
-    → ((other : Fault) → other ≢ Memory → IsSettingsFault text other → (fault ≡ other) ⊎ (fault ≡ Memory)) → ((settings : List Setting) → SpellsSettings text settings → fault ≡ Memory)
-    → cause ≢ Memory → IsGetFault image text name cause → (fault ≡ cause) ⊎ (fault ≡ Memory)
-get_unspelled image text name store fault cause opened names only some (inl h) = absurd (opening_good image opened.device cause opened.old some h)
-get_unspelled image text name store fault cause opened names only some (inr (inl h)) = names cause some h.1
-get_unspelled image text name store fault cause opened names only some (inr (inr h)) = inr (only h.1.settings h.1.spelled)
-
-pub get_unknown : (image text name : List ℕ) (store : Device) (settings : List Setting) (cause : Fault) → IsOpened image store → SpellsSettings text settings → cause ≢ Memory → IsGetFault image text name cause
-    → (UnknownName ≡ cause) ⊎ (UnknownName ≡ Memory)
-get_unknown image text name store settings cause opened spelled some (inl h) = absurd (opening_good image opened.device cause opened.old some h)
-get_unknown image text name store settings cause opened spelled some (inr (inl h)) = absurd (settings_good text settings cause spelled some h.1)
-get_unknown image text name store settings cause opened spelled some (inr (inr h)) = inl (sym h.2)
-
-pub got_good : (image text name : List ℕ) (store : Device) (settings : List Setting) (reading : Reading) (cause : Fault) → IsOpened image store → SpellsSettings text settings → IsSettingRead settings (state_of store) name reading
-    → cause ≢ Memory → IsGetFault image text name cause → ⊥
-got_good image text name store settings reading cause opened spelled read some (inl h) = opening_good image opened.device cause opened.old some h
-got_good image text name store settings reading cause opened spelled read some (inr (inl h)) = settings_good text settings cause spelled some h.1
-got_good image text name store settings reading cause opened spelled read some (inr (inr h)) =
-    subst (λ (ss : List Setting). IsUnknown ss name) (spelled_once text h.1.settings settings h.1.spelled spelled) h.1.unknown read.0 read.1
+-- a name that is read is no unknown one
+pub never_unknown : (text name : List ℕ) (settings : List Setting) (state : State) (reading : Reading) → SpellsSettings text settings → IsSettingRead settings state name reading → IsUnknownIn text name → ⊥
+never_unknown text name settings state reading spelled read h = subst (λ (ss : List Setting). IsUnknown ss name) (spelled_once text h.settings settings h.spelled spelled) h.unknown read.0 read.1
 
 -- ---- setting
 
@@ -238,29 +214,12 @@ refused_there image text name value store settings cause opened spelled h =
     (subst (λ (s : Size). IsSettingRefused h.settings s (state_of store) name value cause) size
     (subst (λ (t : State). IsSettingRefused h.settings h.device.size t name value cause) state h.refused))
 
-pub set_unopened : (image text name : List ℕ) (value : ℕ) (why : ReplayFault) (fault cause : Fault) → IsOpenFault image why → fault ≡ fault_of_replay why → cause ≢ Memory → IsSetFault image text name value cause
-    → (fault ≡ cause) ⊎ (fault ≡ Memory)
-set_unopened image text name value why fault cause unopened told some (inl h) = opening_named image why fault cause unopened told some h
-set_unopened image text name value why fault cause unopened told some (inr (inl h)) = inr (not_opened image why fault unopened told h.0)
-set_unopened image text name value why fault cause unopened told some (inr (inr h)) = inr (not_opened image why fault unopened told (h.device, h.old))
-
-pub set_unspelled : (image text name : List ℕ) (value : ℕ) (store : Device) (fault cause : Fault) → IsOpened image store
-    → ((other : Fault) → other ≢ Memory → IsSettingsFault text other → (fault ≡ other) ⊎ (fault ≡ Memory)) → ((settings : List Setting) → SpellsSettings text settings → fault ≡ Memory)
-    → cause ≢ Memory → IsSetFault image text name value cause → (fault ≡ cause) ⊎ (fault ≡ Memory)
-set_unspelled image text name value store fault cause opened names only some (inl h) = absurd (opening_good image opened.device cause opened.old some h)
-set_unspelled image text name value store fault cause opened names only some (inr (inl h)) = names cause some h.1
-set_unspelled image text name value store fault cause opened names only some (inr (inr h)) = inr (only h.settings h.spelled)
-
-pub set_refused : (image text name : List ℕ) (value : ℕ) (store : Device) (settings : List Setting) (fault cause : Fault) → IsOpened image store → SpellsSettings text settings
-    → IsSettingRefused settings store.size (state_of store) name value fault → cause ≢ Memory → IsSetFault image text name value cause → (fault ≡ cause) ⊎ (fault ≡ Memory)
-set_refused image text name value store settings fault cause opened spelled refused some (inl h) = absurd (opening_good image opened.device cause opened.old some h)
-set_refused image text name value store settings fault cause opened spelled refused some (inr (inl h)) = absurd (settings_good text settings cause spelled some h.1)
-set_refused image text name value store settings fault cause opened spelled refused some (inr (inr h)) =
+pub refused_once : (image text name : List ℕ) (value : ℕ) (store : Device) (settings : List Setting) (fault cause : Fault) → IsOpened image store → SpellsSettings text settings
+    → IsSettingRefused settings store.size (state_of store) name value fault → cause ≢ Memory → IsRefusedIn image text name value cause → (fault ≡ cause) ⊎ (fault ≡ Memory)
+refused_once image text name value store settings fault cause opened spelled refused some h =
     one_refusal settings store.size (state_of store) name value fault cause spelled.schema.1 some refused (refused_there image text name value store settings cause opened spelled h)
 
 pub set_good : (image text name : List ℕ) (value : ℕ) (store new : Device) (settings : List Setting) (cause : Fault) → IsOpened image store → SpellsSettings text settings → IsWritten settings store name value new
-    → cause ≢ Memory → IsSetFault image text name value cause → ⊥
-set_good image text name value store new settings cause opened spelled done some (inl h) = opening_good image opened.device cause opened.old some h
-set_good image text name value store new settings cause opened spelled done some (inr (inl h)) = settings_good text settings cause spelled some h.1
-set_good image text name value store new settings cause opened spelled done some (inr (inr h)) =
+    → cause ≢ Memory → IsRefusedIn image text name value cause → ⊥
+set_good image text name value store new settings cause opened spelled done some h =
     written_good settings store new name value cause spelled.schema.1 some done (refused_there image text name value store settings cause opened spelled h)

@@ -1,5 +1,5 @@
 -- What is told and tidied by a later schema, and that one cause at most applies for which it is not.
-use Rattle.std.proofs.Common.{◌≡◌, ◌≢◌, ◌⊎◌, ◌∙◌, ◌+◌, ℕ, Option, Some, None, List, inl, inr, sym, ap, subst, arith, Ok, Err, rules}
+use Rattle.std.proofs.Common.{◌≡◌, ◌∙◌, ◌+◌, ℕ, Option, Some, None, List, sym, ap, subst, arith, Ok, Err, rules}
 use Rattle.std.specs.Prelude.{option_map}
 use Rattle.ee_flash.specs.Device.{Device}
 use Rattle.ee_flash.specs.Size.{Size}
@@ -9,15 +9,13 @@ use Rattle.ee_settings.specs.Setting.{Setting}
 use Rattle.ee_settings.specs.Stale.{stale_in}
 use Rattle.ee_settings.specs.Tidying.{IsSpentAmong, Tidies, after_forgettings, kept_map, unnamed_in}
 use Rattle.ee_settings.specs.declared.fault.TidyFault.TheVariants as tidy
-use Rattle.ee_faults.specs.Fault.{fault_of_replay}
 use Rattle.ee_faults.specs.declared.fault.Fault.{Fault}
-use Rattle.ee_faults.specs.declared.fault.Fault.TheVariants.{Memory, Spent}
-use Rattle.ee_faults.specs.declared.replay_fault.ReplayFault.{ReplayFault}
-use Rattle.ee_image_store.proofs.Public.{not_opened, opening_good, opening_named, same_at_rest, same_state}
-use Rattle.ee_by_name.proofs.Named.{settings_good, spelled_once}
-use Rattle.ee_image_store.specs.Opening.{IsOpenFault, IsOpened, IsStoreLeft, StaysOn}
-use Rattle.ee_by_name.specs.SecondSchema.{AreStaleLines, IsSpentFor, IsStaleTextFault, IsTidied, IsTidiedImage, IsTidyImageFault, stale_lines, tidied_text}
-use Rattle.ee_by_name.specs.Settings.{IsSettingsFault, SpellsSettings}
+use Rattle.ee_faults.specs.declared.fault.Fault.TheVariants.{Spent}
+use Rattle.ee_image_store.proofs.Public.{same_at_rest, same_state}
+use Rattle.ee_by_name.proofs.Named.{spelled_once}
+use Rattle.ee_image_store.specs.Opening.{IsOpened, IsStoreLeft, StaysOn}
+use Rattle.ee_by_name.specs.SecondSchema.{AreStaleLines, IsSpentFor, IsTidied, IsTidiedImage, stale_lines, tidied_text}
+use Rattle.ee_by_name.specs.Settings.{SpellsSettings}
 
 -- ---- tidying a store
 
@@ -66,21 +64,6 @@ is_spent_for image text store settings fault opened spelled told spent = search 
 
 -- ---- the causes
 
-pub stale_unopened : (image text : List ℕ) (why : ReplayFault) (fault cause : Fault) → IsOpenFault image why → fault ≡ fault_of_replay why → cause ≢ Memory → IsStaleTextFault image text cause
-    → (fault ≡ cause) ⊎ (fault ≡ Memory)
-stale_unopened image text why fault cause unopened told some (inl h) = opening_named image why fault cause unopened told some h
-stale_unopened image text why fault cause unopened told some (inr h) = inr (not_opened image why fault unopened told h.0)
-
-pub stale_unspelled : (image text : List ℕ) (store : Device) (fault cause : Fault) → IsOpened image store
-    → ((other : Fault) → other ≢ Memory → IsSettingsFault text other → (fault ≡ other) ⊎ (fault ≡ Memory))
-    → cause ≢ Memory → IsStaleTextFault image text cause → (fault ≡ cause) ⊎ (fault ≡ Memory)
-stale_unspelled image text store fault cause opened names some (inl h) = absurd (opening_good image opened.device cause opened.old some h)
-stale_unspelled image text store fault cause opened names some (inr h) = names cause some h.1
-
-pub stale_good : (image text : List ℕ) (store : Device) (settings : List Setting) (cause : Fault) → IsOpened image store → SpellsSettings text settings → cause ≢ Memory → IsStaleTextFault image text cause → ⊥
-stale_good image text store settings cause opened spelled some (inl h) = opening_good image opened.device cause opened.old some h
-stale_good image text store settings cause opened spelled some (inr h) = settings_good text settings cause spelled some h.1
-
 -- what is spent in the image is spent in its store
 spent_there : (image text : List ℕ) (store : Device) (settings : List Setting) (cause : Fault) → IsOpened image store → SpellsSettings text settings → IsSpentFor image text cause
     → IsSpentAmong store.size (unnamed_in settings (state_of store).map) (state_of store)
@@ -92,28 +75,5 @@ spent_there image text store settings cause opened spelled h =
     (subst (λ (s : Size). IsSpentAmong s (unnamed_in h.settings (state_of store).map) (state_of store)) size
     (subst (λ (t : State). IsSpentAmong h.device.size (unnamed_in h.settings t.map) t) state h.spent))
 
-pub tidy_unopened : (image text : List ℕ) (why : ReplayFault) (fault cause : Fault) → IsOpenFault image why → fault ≡ fault_of_replay why → cause ≢ Memory → IsTidyImageFault image text cause
-    → (fault ≡ cause) ⊎ (fault ≡ Memory)
-tidy_unopened image text why fault cause unopened told some (inl h) = opening_named image why fault cause unopened told some h
-tidy_unopened image text why fault cause unopened told some (inr (inl h)) = inr (not_opened image why fault unopened told h.0)
-tidy_unopened image text why fault cause unopened told some (inr (inr h)) = inr (not_opened image why fault unopened told (h.device, h.old))
-
-pub tidy_unspelled : (image text : List ℕ) (store : Device) (fault cause : Fault) → IsOpened image store
-    → ((other : Fault) → other ≢ Memory → IsSettingsFault text other → (fault ≡ other) ⊎ (fault ≡ Memory)) → ((settings : List Setting) → SpellsSettings text settings → fault ≡ Memory)
-    → cause ≢ Memory → IsTidyImageFault image text cause → (fault ≡ cause) ⊎ (fault ≡ Memory)
-tidy_unspelled image text store fault cause opened names only some (inl h) = absurd (opening_good image opened.device cause opened.old some h)
-tidy_unspelled image text store fault cause opened names only some (inr (inl h)) = names cause some h.1
-tidy_unspelled image text store fault cause opened names only some (inr (inr h)) = inr (only h.settings h.spelled)
-
-pub tidy_spent : (image text : List ℕ) (store : Device) (settings : List Setting) (fault cause : Fault) → IsOpened image store → SpellsSettings text settings → fault ≡ Spent → cause ≢ Memory → IsTidyImageFault image text cause
-    → (fault ≡ cause) ⊎ (fault ≡ Memory)
-tidy_spent image text store settings fault cause opened spelled told some (inl h) = absurd (opening_good image opened.device cause opened.old some h)
-tidy_spent image text store settings fault cause opened spelled told some (inr (inl h)) = absurd (settings_good text settings cause spelled some h.1)
-tidy_spent image text store settings fault cause opened spelled told some (inr (inr h)) = inl (told ∙ sym h.fault_is)
-
-pub tidy_good : (image text : List ℕ) (store new : Device) (settings : List Setting) (count : ℕ) (cause : Fault) → IsOpened image store → SpellsSettings text settings → IsTidied settings store count new → cause ≢ Memory
-    → IsTidyImageFault image text cause → ⊥
-tidy_good image text store new settings count cause opened spelled done some (inl h) = opening_good image opened.device cause opened.old some h
-tidy_good image text store new settings count cause opened spelled done some (inr (inl h)) = settings_good text settings cause spelled some h.1
-tidy_good image text store new settings count cause opened spelled done some (inr (inr h)) =
-    none_spent settings store new count done.tidied (spent_there image text store settings cause opened spelled h)
+pub tidy_good : (image text : List ℕ) (store new : Device) (settings : List Setting) (count : ℕ) (cause : Fault) → IsOpened image store → SpellsSettings text settings → IsTidied settings store count new → IsSpentFor image text cause → ⊥
+tidy_good image text store new settings count cause opened spelled done h = none_spent settings store new count done.tidied (spent_there image text store settings cause opened spelled h)

@@ -1,8 +1,11 @@
 -- Texts written piece by piece.
-use Rattle.std.proofs.Common.{◌≡◌, ◌<◌, ◌+◌, ℕ, List, [], ◌++◌, get_or, length, refl, take, rules}
+use Rattle.std.proofs.Common.{◌≡◌, ◌<◌, ◌+◌, ℕ, List, [], ◌++◌, append_assoc, codes, get_or, length, refl, take, rules}
 use Rattle.std.proofs.lemmas.List.{flat_map_more, take_more}
 use Rattle.std.specs.List.{flat_map}
 use Rattle.ee_settings.specs.Setting.{Setting}
+use Rattle.ee_by_name.specs.Header.{constant, constants, in_capitals}
+use Rattle.ee_by_name.specs.declared.header.Language.{Language}
+use Rattle.ee_by_name.specs.declared.header.Language.TheVariants.{C, Rust}
 
 -- what is written of one more setting
 pub one_more : (of : Setting → List ℕ) (settings : List Setting) (i : ℕ) (setting : Setting) (old so_far now : List ℕ) → setting ≡ get_or settings i setting → i < length settings → so_far ≡ old ++ flat_map of (take i settings)
@@ -12,3 +15,11 @@ one_more of settings i setting old so_far now here within before written = searc
 -- five pieces from nothing on
 pub five_pieces : (a b c d e none first second third fourth fifth : List ℕ) → none ≡ [] → first ≡ none ++ a → second ≡ first ++ b → third ≡ second ++ c → fourth ≡ third ++ d → fifth ≡ fourth ++ e → fifth ≡ a ++ b ++ c ++ d ++ e
 five_pieces a b c d e none first second third fourth fifth h0 h1 h2 h3 h4 h5 = rw (h5, h4, h3, h2, h1, h0) refl
+
+-- the constants of a setting
+pub constants_made : (language : Language) (setting : Setting) (name old line first second third last : List ℕ) → name ≡ in_capitals setting.name → line ≡ old ++ codes "\n"
+    → first ≡ line ++ constant language name (codes "ADDRESS") (codes "u16") setting.numbers.address → second ≡ first ++ constant language name (codes "LEAST") (codes "u32") setting.numbers.min
+    → third ≡ second ++ constant language name (codes "MOST") (codes "u32") setting.numbers.max → last ≡ third ++ constant language name (codes "DEFAULT") (codes "u32") setting.numbers.default
+    → last ≡ old ++ constants language setting
+constants_made C setting name old line first second third last capitals h1 h2 h3 h4 h5 = rw (h5, h4, h3, h2, h1, capitals) (search (rules, append_assoc))
+constants_made Rust setting name old line first second third last capitals h1 h2 h3 h4 h5 = rw (h5, h4, h3, h2, h1, capitals) (search (rules, append_assoc))

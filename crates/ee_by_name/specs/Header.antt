@@ -112,3 +112,17 @@ pub record IsHeader (settings_text : List ℕ) (language : Language) (text : Lis
   pub settings : List Setting
   pub spelled : SpellsSettings settings_text settings
   pub text_is : text ≡ header language settings
+
+-- ---- for the functions within
+
+abbrev pub constant : Language → List ℕ → List ℕ → List ℕ → ℕ → List ℕ
+constant C name kind type number = c_constant name kind number
+constant Rust name kind type number = rust_constant name kind type number
+
+abbrev pub constants : Language → Setting → List ℕ
+constants C = c_constants
+constants Rust = rust_constants
+
+abbrev pub row : Language → Setting → List ℕ
+row C = c_row
+row Rust = rust_row

@@ -1,5 +1,5 @@
 //! The command that sets many values at once.
-ghost use Rattle.std.specs.Prelude.{◌≡◌, ◌≢◌, ◌⊎◌, ◌≤◌, pos, ℕ, Some, Ok, IfOk, IfErr, IfSome, IfNone, MatchResult, length};
+ghost use Rattle.std.specs.Prelude.{◌≡◌, ◌≢◌, ◌⊎◌, ◌≤◌, pos, ℕ, Some, Ok, IfOk, IfErr, IfSome, IfNone, length};
 ghost use Rattle.std.specs.Bool.{OnFalse, OnTrue};
 ghost use Rattle.toml.specs.View.{table_view, view};
 ghost use Rattle.ee_core.specs.Calls.{Writes};
@@ -7,12 +7,13 @@ ghost use Rattle.ee_core.specs.State.{state_of};
 ghost use Rattle.ee_settings.specs.File.{entries_of};
 ghost use Rattle.ee_image_store.specs.Opening.{StaysOn};
 ghost use Rattle.ee_by_name.specs.Applying.{Applies, IsApplied, IsApplyFault, IsEntryRefusal, IsWriteRefusalAt, StopsAtEntry, TakesEntry, applied_text};
+ghost use Rattle.ee_faults.specs.Causes.{NamesEach};
 
-use super::settings::{read_schema, read_table};
+use super::opening::{open_with_settings, read_table};
 use ee_codec::Address;
 use ee_core::{Variables, WriteFault, Written};
 use ee_faults::Fault;
-use ee_image_store::{open_image, text_left};
+use ee_image_store::{ImageAndText, text_left};
 use ee_settings::{Numbers, Schema};
 use std::alloc::{AllocError, Allocator, Global};
 use toml::{Table, Value};
@@ -37,23 +38,19 @@ pub fn apply_values<A: Allocator + Copy>(
     image: &[u8],
     settings: &[u8],
     values: &[u8],
-) -> Result<(Vec<u8, A>, Vec<u8, A>), Fault>
+) -> Result<ImageAndText<A>, Fault>
     ensures applied { IfOk result (λ given.
-        IsApplied image.now settings.now values.now given.0.items given.1.items) }
+        IsApplied image.now settings.now values.now given.image.items given.text.items) }
     ensures fault { IfErr result (IsApplyFault image.now settings.now values.now) }
     // No cause is passed over.
-    ensures names { (cause : Fault) → cause ≢ Fault.Memory
-        → IsApplyFault image.now settings.now values.now cause
-        → MatchResult result (λ _. ⊥)
-        (λ fault. (fault ≡ cause) ⊎ (fault ≡ Fault.Memory)) }
+    ensures names { NamesEach Fault.Memory (IsApplyFault image.now settings.now values.now) result }
 {
-    let mut store = open_image(alloc, image)?;
-    let schema = read_schema(alloc, heap, settings)?;
+    let mut opened = open_with_settings(alloc, heap, image, settings)?;
     let table = read_table(heap, values, Fault::ValuesText)?;
-    let counts = take_entries(&mut store, &schema, &table)?;
-    let written = text_left(alloc, store)?;
+    let counts = take_entries(&mut opened.store, &opened.schema, &table)?;
+    let image = text_left(alloc, opened.store)?;
     let text = applied_line(alloc, counts)?;
-    Ok((written, text))
+    Ok(ImageAndText { image, text })
 }
 
 /// How many entries there are, and how many of them were written.
@@ -82,8 +79,7 @@ fn take_entries<V: Variables, A: Allocator>(
     let mut written = 0;
     for (name, value) in table.iter() {
         number += 1;
-        let more = take_entry(store, schema, number, name.as_str(), value)?;
-        written += more;
+        written += take_entry(store, schema, number, name.as_str(), value)?;
     }
     Ok(Counts { written, entries })
 }
@@ -125,10 +121,8 @@ fn take_entry<V: Variables, A: Allocator>(
     if has_value(store, address, value) {
         return Ok(0);
     }
-    match write_on(store, address, value, entry) {
-        Ok(_) => Ok(1),
-        Err(fault) => Err(fault),
-    }
+    write_on(store, address, value, entry)?;
+    Ok(1)
 }
 
 /// The number, if it is in the range.

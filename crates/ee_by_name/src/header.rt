@@ -1,11 +1,11 @@
 //! The command that prints the settings as constants of a program.
-ghost use Rattle.std.specs.Prelude.{◌≡◌, ◌≢◌, ◌⊎◌, IfOk, IfErr, MatchResult, string_bytes};
+ghost use Rattle.std.specs.Prelude.{◌≡◌, IfOk, IfErr, string_bytes};
 ghost use Rattle.ee_by_name.specs.Settings.{IsSettingsFault};
 ghost use Rattle.ee_by_name.specs.Header.{IsHeader, header};
+ghost use Rattle.ee_faults.specs.Causes.{NamesEach};
 
-use crate::in_c::c_header;
-use crate::in_rust::rust_header;
-use crate::settings::read_schema;
+use crate::constants::{c_header, rust_header};
+use crate::opening::read_schema;
 use ee_faults::Fault;
 use ee_settings::Setting;
 use std::alloc::{AllocError, Allocator, Global};
@@ -39,9 +39,7 @@ pub fn header_text<A: Allocator + Copy>(
     ensures header { IfOk result (λ text. IsHeader settings.now language text.items) }
     ensures fault { IfErr result (IsSettingsFault settings.now) }
     // No cause is passed over.
-    ensures names { (cause : Fault) → cause ≢ Fault.Memory → IsSettingsFault settings.now cause
-        → MatchResult result (λ _. ⊥)
-        (λ fault. (fault ≡ cause) ⊎ (fault ≡ Fault.Memory)) }
+    ensures names { NamesEach Fault.Memory (IsSettingsFault settings.now) result }
 {
     let schema = read_schema(alloc, heap, settings)?;
     let text = header_of(alloc, schema.as_slice(), language)?;

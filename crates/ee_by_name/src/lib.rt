@@ -19,11 +19,11 @@
 #![tactic(auto)]
 
 mod applying;
+mod constants;
 mod header;
-mod in_c;
-mod in_rust;
 pub mod laws;
 mod listing;
+mod opening;
 mod second_schema;
 mod settings;
 

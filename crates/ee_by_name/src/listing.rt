@@ -1,12 +1,13 @@
 //! The command that tells what an image holds.
-ghost use Rattle.std.specs.Prelude.{◌≡◌, ◌≢◌, ◌⊎◌, ◌++◌, Some, None, IfOk, IfErr, OnOk, MatchResult};
+ghost use Rattle.std.specs.Prelude.{◌≡◌, ◌++◌, Some, None, IfOk, IfErr, OnOk};
 ghost use Rattle.std.specs.Option.{option_map};
 ghost use Rattle.ee_core.specs.State.{state_of};
 ghost use Rattle.ee_settings.specs.Listing.{listed_in};
 ghost use Rattle.ee_by_name.specs.Listing.{IsList, IsListTextFault, held_words, listed_line, listed_lines, name_words, words_behind};
 ghost use Rattle.ee_image_store.specs.Opening.{StaysOn};
+ghost use Rattle.ee_faults.specs.Causes.{NamesEach};
 
-use super::settings::read_schema;
+use super::opening::open_with_settings;
 use ee_core::Variables;
 use ee_faults::Fault;
 use ee_image_store::open_image;
@@ -37,9 +38,8 @@ pub fn list_text<A: Allocator + Copy>(
     ensures fault { IfErr result
         (IsListTextFault image.now (option_map (λ text. text.now) settings.entry)) }
     // No cause is passed over.
-    ensures names { (cause : Fault) → cause ≢ Fault.Memory
-        → IsListTextFault image.now (option_map (λ text. text.now) settings.entry) cause
-        → MatchResult result (λ _. ⊥) (λ fault. (fault ≡ cause) ⊎ (fault ≡ Fault.Memory)) }
+    ensures names { NamesEach Fault.Memory
+        (IsListTextFault image.now (option_map (λ text. text.now) settings.entry)) result }
 {
     match settings {
         None => list_values(alloc, image),
@@ -51,9 +51,7 @@ pub fn list_text<A: Allocator + Copy>(
 fn list_values<A: Allocator + Copy>(alloc: A, image: &[u8]) -> Result<Vec<u8, A>, Fault>
     ensures list { IfOk result (λ text. IsList image.now None text.items) }
     ensures fault { IfErr result (IsListTextFault image.now None) }
-    ensures names { (cause : Fault) → cause ≢ Fault.Memory
-        → IsListTextFault image.now None cause
-        → MatchResult result (λ _. ⊥) (λ fault. (fault ≡ cause) ⊎ (fault ≡ Fault.Memory)) }
+    ensures names { NamesEach Fault.Memory (IsListTextFault image.now None) result }
 {
     let store = open_image(alloc, image)?;
     let schema = Schema::empty(alloc);
@@ -70,13 +68,10 @@ fn list_settings<A: Allocator + Copy>(
 ) -> Result<Vec<u8, A>, Fault>
     ensures list { IfOk result (λ text. IsList image.now (Some settings.now) text.items) }
     ensures fault { IfErr result (IsListTextFault image.now (Some settings.now)) }
-    ensures names { (cause : Fault) → cause ≢ Fault.Memory
-        → IsListTextFault image.now (Some settings.now) cause
-        → MatchResult result (λ _. ⊥) (λ fault. (fault ≡ cause) ⊎ (fault ≡ Fault.Memory)) }
+    ensures names { NamesEach Fault.Memory (IsListTextFault image.now (Some settings.now)) result }
 {
-    let store = open_image(alloc, image)?;
-    let schema = read_schema(alloc, heap, settings)?;
-    let text = lines_on(alloc, &store, &schema)?;
+    let opened = open_with_settings(alloc, heap, image, settings)?;
+    let text = lines_on(alloc, &opened.store, &opened.schema)?;
     Ok(text)
 }
 

@@ -1,5 +1,5 @@
 //! The commands that look at an image with the settings of a later firmware.
-ghost use Rattle.std.specs.Prelude.{◌≡◌, ◌≢◌, ◌⊎◌, ◌<◌, ◌≤◌, ◌+◌, ◌++◌, IfOk, IfErr, OnOk, MatchResult, length};
+ghost use Rattle.std.specs.Prelude.{◌≡◌, ◌<◌, ◌≤◌, ◌+◌, ◌++◌, IfOk, IfErr, OnOk, length};
 ghost use Rattle.std.specs.List.{All};
 ghost use Rattle.ee_core.specs.State.{state_of};
 ghost use Rattle.ee_settings.specs.Stale.{stale_in};
@@ -7,11 +7,12 @@ ghost use Rattle.ee_settings.specs.Tidying.{IsSpentAmong, unnamed_in};
 ghost use Rattle.ee_settings.specs.declared.stale.Stale.{Stale};
 ghost use Rattle.ee_by_name.specs.SecondSchema.{AreStaleLines, IsStaleTextFault, IsTidied, IsTidiedImage, IsTidyImageFault, stale_line, stale_lines, tidied_text};
 ghost use Rattle.ee_image_store.specs.Opening.{StaysOn};
+ghost use Rattle.ee_faults.specs.Causes.{NamesEach};
 
-use super::settings::read_schema;
+use super::opening::open_with_settings;
 use ee_core::Variables;
 use ee_faults::Fault;
-use ee_image_store::{open_image, text_left};
+use ee_image_store::{ImageAndText, text_left};
 use ee_settings::{Schema, Stale, StaleFault, TidyFault};
 use ee_text::push_number;
 use std::alloc::{AllocError, Allocator, Global};
@@ -35,16 +36,12 @@ pub fn stale_text<A: Allocator + Copy>(
     ensures stale { IfOk result (λ text. AreStaleLines image.now settings.now text.items) }
     ensures fault { IfErr result (IsStaleTextFault image.now settings.now) }
     // No cause is passed over.
-    ensures names { (cause : Fault) → cause ≢ Fault.Memory
-        → IsStaleTextFault image.now settings.now cause
-        → MatchResult result (λ _. ⊥)
-        (λ fault. (fault ≡ cause) ⊎ (fault ≡ Fault.Memory)) }
+    ensures names { NamesEach Fault.Memory (IsStaleTextFault image.now settings.now) result }
 {
-    let store = open_image(alloc, image)?;
-    let schema = read_schema(alloc, heap, settings)?;
-    let stale = stale_on(alloc, &store, &schema)?;
+    let opened = open_with_settings(alloc, heap, image, settings)?;
+    let stale = stale_on(alloc, &opened.store, &opened.schema)?;
     let mut text = Vec::new(alloc);
-    push_stale(&mut text, &schema, stale.as_slice())?;
+    push_stale(&mut text, &opened.schema, stale.as_slice())?;
     Ok(text)
 }
 
@@ -64,23 +61,19 @@ pub fn tidy_image<A: Allocator + Copy>(
     heap: Global,
     image: &[u8],
     settings: &[u8],
-) -> Result<(Vec<u8, A>, Vec<u8, A>), Fault>
+) -> Result<ImageAndText<A>, Fault>
     ensures tidied { IfOk result (λ given.
-        IsTidiedImage image.now settings.now given.0.items given.1.items) }
+        IsTidiedImage image.now settings.now given.image.items given.text.items) }
     ensures fault { IfErr result (IsTidyImageFault image.now settings.now) }
     // No cause is passed over.
-    ensures names { (cause : Fault) → cause ≢ Fault.Memory
-        → IsTidyImageFault image.now settings.now cause
-        → MatchResult result (λ _. ⊥)
-        (λ fault. (fault ≡ cause) ⊎ (fault ≡ Fault.Memory)) }
+    ensures names { NamesEach Fault.Memory (IsTidyImageFault image.now settings.now) result }
 {
-    let mut store = open_image(alloc, image)?;
-    let schema = read_schema(alloc, heap, settings)?;
-    let count = tidy_on(&mut store, &schema)?;
-    let written = text_left(alloc, store)?;
+    let mut opened = open_with_settings(alloc, heap, image, settings)?;
+    let count = tidy_on(&mut opened.store, &opened.schema)?;
+    let image = text_left(alloc, opened.store)?;
     let mut text = Vec::new(alloc);
     push_tidied(&mut text, count)?;
-    Ok((written, text))
+    Ok(ImageAndText { image, text })
 }
 
 /// The stale entries of a store whose power stays on.

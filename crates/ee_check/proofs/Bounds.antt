@@ -1,5 +1,5 @@
 -- What the core of the proof gives: the laws of certificates.
-use Rattle.std.proofs.Common.{ℕ, ◌≡◌, ◌⊎◌, ◌+◌, ◌<◌, ◌≤◌, List, [], ◌∷◌, length, map, refl, sym, ◌∙◌, ap, subst, arith, inl, inr}
+use Rattle.std.proofs.Common.{ℕ, ◌≡◌, ◌⊎◌, ◌+◌, ◌<◌, ◌≤◌, List, [], ◌∷◌, length, map, refl, sym, ◌∙◌, ap, subst, arith, inl, inr, rules}
 use Rattle.ee_check.specs.declared.change.Change.{Change}
 use Rattle.ee_check.specs.declared.change.Change.TheVariants.{Write, Forget}
 use Rattle.ee_check.specs.declared.certificate.Stretch.{Stretch}
@@ -19,8 +19,7 @@ pub late_at_start : (start : Situation) (trace : List Change) → IsProper start
 late_at_start start trace proper = record { at = at_start start trace proper; behind = omega arith; fill = omega arith }
 
 first_later : (start : Situation) (trace : List Change) (stretches : List Stretch) → EachStretch start trace IsForced (first_place start) stretches → EndsLater 0 stretches
-first_later start trace [] each = tt
-first_later start trace (stretch ∷ stretches) each = each.0.rising
+first_later start trace stretches h1 = search rules
 
 -- ---- every schedule
 
@@ -58,16 +57,12 @@ keeps_along slots (Append (Write address) ∷ moves) s same held allowed =
 keeps_along slots (Append (Forget address) ∷ moves) s same held allowed =
     let grown = changed-le s.live (Forget address) in
     keeps_along slots moves (after_move s (Append (Forget address))) same (omega arith) allowed.1
-keeps_along slots (Carry (Write address) ∷ moves) s same held allowed =
-    let fits = allowed.0 in
-    (omega arith, keeps_along slots moves (after_move s (Carry (Write address))) same (omega arith) allowed.1)
-keeps_along slots (Carry (Forget address) ∷ moves) s same held allowed =
-    keeps_along slots moves (after_move s (Carry (Forget address))) same (omega arith) allowed.1
+keeps_along slots (Carry (Write address) ∷ moves) s same held allowed = search (rules, (keeps_along slots moves (after_move s (Carry (Write address))) same (omega arith) allowed.1))
+keeps_along slots (Carry (Forget address) ∷ moves) s same held allowed = search (rules, (keeps_along slots moves (after_move s (Carry (Forget address))) same (omega arith) allowed.1))
 
 pub schedules_keep_within_lem : (start : Situation) (trace : List Change) (moves : List Move) → IsProper start → IsSchedule start trace moves
     → KeepsWithin start.slots start.live trace
-schedules_keep_within_lem start trace moves proper schedule =
-    subst (KeepsWithin start.slots start.live) schedule.changes (keeps_along start.slots moves start refl proper.held schedule.allowed)
+schedules_keep_within_lem start trace moves proper schedule = search (rules, keeps_along)
 
 -- ---- the tight certificate
 
@@ -81,21 +76,10 @@ tight_are_certificates_lem start trace claim tight = record { header = tight.hea
 
 pub same_claim : (claim other : Claim) → claim.slots ≡ other.slots → claim.fill ≡ other.fill → claim.live ≡ other.live → claim.writes ≡ other.writes
     → claim.stretches ≡ other.stretches → claim ≡ other
-same_claim claim other slots fill live writes stretches =
-    let a : claim ≡ record claim { slots = other.slots } = ap (λ n. record claim { slots = n }) slots in
-    let b : record claim { slots = other.slots } ≡ record claim { slots = other.slots; fill = other.fill } = ap (λ n. record claim { slots = other.slots; fill = n }) fill in
-    let c : record claim { slots = other.slots; fill = other.fill } ≡ record other { writes = claim.writes; stretches = claim.stretches } =
-    ap (λ n. record other { live = n; writes = claim.writes; stretches = claim.stretches }) live in
-    let d : record other { writes = claim.writes; stretches = claim.stretches } ≡ record other { stretches = claim.stretches } =
-    ap (λ n. record other { writes = n; stretches = claim.stretches }) writes in
-    let e : record other { stretches = claim.stretches } ≡ other = ap (λ l. record other { stretches = l }) stretches in
-    a ∙ b ∙ c ∙ d ∙ e
+same_claim claim other slots fill live writes stretches = search rules
 
 pub one_is_tight_lem : (start : Situation) (trace : List Change) (claim other : Claim) → IsTight start trace claim → IsTight start trace other → claim ≡ other
-one_is_tight_lem start trace claim other tight too =
-    same_claim claim other (tight.header.slots ∙ sym too.header.slots) (tight.header.fill ∙ sym too.header.fill) (tight.header.live ∙ sym too.header.live)
-    (tight.header.writes ∙ sym too.header.writes)
-    (one_tight start trace (first_place start) claim.stretches other.stretches tight.stretches tight.fits too.stretches too.fits)
+one_is_tight_lem start trace claim other tight too = search (rules, same_claim, one_tight)
 
 pub some_is_tight_lem : (start : Situation) (trace : List Change) → IsProper start → KeepsWithin start.slots start.live trace → (claim : Claim) × IsTight start trace claim
 some_is_tight_lem start trace proper keeps =

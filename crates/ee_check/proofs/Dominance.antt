@@ -1,6 +1,6 @@
 -- No schedule gets by with fewer transfers than a certificate has stretches; and one that gets by with as many ends with as many slots used
 -- as the last stretch leaves and the changes after it take.
-use Rattle.std.proofs.Common.{◌≡◌, ℕ, ◌+◌, ◌-◌, ◌<◌, ◌≤◌, ◌⊎◌, List, [], ◌∷◌, length, suc, refl, sym, ◌∙◌, ap, arith, inl, inr}
+use Rattle.std.proofs.Common.{◌≡◌, ℕ, ◌+◌, ◌-◌, ◌<◌, ◌≤◌, ◌⊎◌, List, [], ◌∷◌, length, suc, refl, sym, ◌∙◌, ap, arith, inl, inr, rules}
 use Rattle.std.proofs.lemmas.Bool.{cases_lt}
 use Rattle.ee_check.specs.declared.change.Change.{Change}
 use Rattle.ee_check.specs.declared.certificate.Stretch.{Stretch}
@@ -65,8 +65,7 @@ count_now start trace s n to changes at e =
 
 pub ends_later : (start : Situation) (trace : List Change) (place : Place) (n : ℕ) (stretches : List Stretch)
     → EachStretch start trace IsForced place stretches → place.after ≡ n → EndsLater n stretches
-ends_later start trace place n [] each e = tt
-ends_later start trace place n (stretch ∷ stretches) each e = let h = each.0.rising in omega arith
+ends_later start trace place n stretches h1 h2 = search rules
 
 -- a change was appended to a free slot, or the store transferred
 abbrev Progresses : Situation → Situation → Situation → ℕ → ℕ → Type 0
@@ -75,22 +74,14 @@ Progresses start s t spent spent_then = ((spent_then ≡ spent) × (s.fill < sta
 -- no stretch ends with the change
 ahead_within : (start s t : Situation) (n spent spent_then passed : ℕ) (place : Place) → place.after ≤ n
     → Progresses start s t spent spent_then → IsAhead s n spent place passed → IsAhead t (n + 1) spent_then place passed
-ahead_within start s t n spent spent_then passed place behind (inl h) (inl more) = inl (omega arith)
-ahead_within start s t n spent spent_then passed place behind (inl h) (inr same) = inr (omega arith, omega arith)
-ahead_within start s t n spent spent_then passed place behind (inr h) (inl more) = inl (omega arith)
-ahead_within start s t n spent spent_then passed place behind (inr h) (inr same) = inl (omega arith)
+ahead_within start s t n spent spent_then passed place h1 h2 h3 = search rules
 
 -- a stretch ends with it
 ahead_at_end : (start : Situation) (trace : List Change) (s t : Situation) (n spent spent_then passed : ℕ) (place : Place) (stretch : Stretch)
     → place.after ≤ n → IsForced start trace place stretch → stretch.to ≡ n + 1
     → live_count start.live trace stretch.to ≤ t.fill
     → Progresses start s t spent spent_then → IsAhead s n spent place passed → IsAhead t (n + 1) spent_then (place_at start trace stretch.to) (passed + 1)
-ahead_at_end start trace s t n spent spent_then passed place stretch behind forced ends held (inl h) (inl more) =
-    elim (cases_lt (passed + 1) spent_then) [ inl a ↦ inl a | inr a ↦ inr (omega arith, omega arith) ]
-ahead_at_end start trace s t n spent spent_then passed place stretch behind forced ends held (inl h) (inr same) =
-    absurd (omega (arith, forced.forced, forced.from_is))
-ahead_at_end start trace s t n spent spent_then passed place stretch behind forced ends held (inr h) (inl more) = inl (omega arith)
-ahead_at_end start trace s t n spent spent_then passed place stretch behind forced ends held (inr h) (inr same) = inr (omega arith, omega arith)
+ahead_at_end start trace s t n spent spent_then passed place stretch h1 h2 h3 h4 h5 h6 = search (rules, cases_lt)
 
 -- from one change to the next
 next_bound : (start : Situation) (trace : List Change) (k used : ℕ) (s t : Situation) (n spent spent_then : ℕ) (changes : List Change)
@@ -143,27 +134,12 @@ next_bound start trace k used s t n spent spent_then changes at goes bound = by 
 -- one transfer more, with no change
 copied : (start : Situation) (trace : List Change) (k used : ℕ) (s t : Situation) (n spent : ℕ) → IsBound start trace k used s n spent
     → IsBound start trace k used t n (spent + 1)
-copied start trace k used s t n spent bound = record {
-  passed = bound.passed;
-  place = bound.place;
-  stretches = bound.stretches;
-  all = bound.all;
-  each = bound.each;
-  behind = bound.behind;
-  later = bound.later;
-  ahead = elim bound.ahead [ inl more ↦ inl (omega arith) | inr same ↦ inl (omega arith) ];
-  end = bound.end;
-}
+copied start trace k used s t n spent bound = search rules
 
 -- at the end no stretch is left
 at_end : (start : Situation) (trace : List Change) (k used : ℕ) (s : Situation) (n spent total : ℕ)
     → n ≡ length trace → IsBound start trace k used s n spent → spent ≡ total → Dominated k total used s.fill
-at_end start trace k used s n spent total ends bound e = by bound.stretches bound.all bound.each bound.later bound.end
-  where
-    by : (stretches : List Stretch) → bound.passed + length stretches ≡ k → EachStretch start trace IsForced bound.place stretches → EndsLater n stretches
-        → end_from start trace bound.place stretches ≡ used → Dominated k total used s.fill
-    by [] all each later end = elim bound.ahead [ inl more ↦ inl (omega arith) | inr same ↦ inr (omega arith, omega arith) ]
-    by (stretch ∷ stretches) all each later end = absurd (let h = each.0.within in omega arith)
+at_end start trace k used s n spent total ends bound e = search rules
 
 -- the core of it, by induction on the moves
 pub dominance : (start : Situation) (trace : List Change) (k used : ℕ) (moves : List Move) (s : Situation) (n spent total : ℕ)

@@ -1,5 +1,5 @@
 -- What stands behind a name, and the field there.
-use Rattle.std.proofs.Common.{◌≡◌, ◌≢◌, ℕ, ◌<◌, ◌^◌, ◌++◌, List, ◌∷◌, refl, sym, ◌∙◌, ap, subst, arith, inl, true, not, eqb, Option, Some, None, IfSome, IfNone, MatchOption, Bor}
+use Rattle.std.proofs.Common.{◌≡◌, ◌≢◌, ℕ, ◌<◌, ◌^◌, ◌++◌, List, ◌∷◌, refl, sym, ◌∙◌, ap, subst, arith, inl, true, not, eqb, Option, Some, None, IfSome, IfNone, MatchOption, Bor, rules}
 use Rattle.std.specs.Fmt.{decimal}
 use Rattle.std.specs.Option.{option_eq}
 use Rattle.std.proofs.lemmas.Bool.{eq-eqb}
@@ -8,12 +8,10 @@ use Rattle.ee_text.specs.Field.{IsField}
 use Rattle.ee_text.proofs.Public.{first_place, no_place, Lacks-decimal}
 
 pub some_part : {X : Type 0} (r : Option X) (N : Type 0) (F : X → Type 0) → MatchOption r N F → IfSome r F
-some_part (Some x) N F h = h
-some_part None N F h = tt
+some_part r N F h1 = search rules
 
 pub none_part : {X : Type 0} (r : Option X) (N : Type 0) (F : X → Type 0) → MatchOption r N F → IfNone r N
-none_part (Some x) N F h = tt
-none_part None N F h = h
+none_part r N F h1 = search rules
 
 -- the field before the first space, where a number stands there
 pub number_field : (text field : List ℕ) (tail : Option (Bor (List ℕ))) (n : ℕ) (rest : List ℕ) → IsField field

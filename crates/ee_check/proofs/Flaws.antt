@@ -1,11 +1,12 @@
 -- What the checker's walk shows: each stretch is forced, or a first one has a flaw, and not both.
-use Rattle.std.proofs.Common.{◌≡◌, ◌⊎◌, ℕ, ◌+◌, ◌-◌, ◌<◌, ◌≤◌, ◌++◌, List, [], ◌∷◌, length, take, drop, get_or, slice_range, suc, refl, sym, ◌∙◌, ap, subst, arith, inl, inr, Result, Ok, Err, IfOk, IfErr, MatchResult}
+use Rattle.std.proofs.Common.{◌≡◌, ◌⊎◌, ℕ, ◌+◌, ◌-◌, ◌<◌, ◌≤◌, ◌++◌, List, [], ◌∷◌, length, take, drop, get_or, slice_range, suc, sym, ◌∙◌, ap, subst, arith, inl, inr, Result, Ok, Err, IfOk, IfErr, MatchResult, rules}
+use Rattle.std.proofs.lemmas.Grind.{common_steps}
 use Rattle.std.proofs.Math.Seq.{take-add, drop-cons}
 use Rattle.std.proofs.lemmas.List.{take_more, take-append-drop, length-take-le}
 use Rattle.ee_check.specs.declared.change.Change.{Change}
 use Rattle.ee_check.specs.declared.certificate.Stretch.{Stretch}
 use Rattle.ee_check.specs.declared.checking.CheckFault.{CheckFault}
-use Rattle.ee_check.specs.declared.checking.CheckFault.TheVariants.{WrongStart, NotRising, WrongFrom, NotForced, Memory}
+use Rattle.ee_check.specs.declared.checking.CheckFault.TheVariants.{Memory}
 use Rattle.ee_check.specs.Live.{live_after}
 use Rattle.ee_check.specs.Schedule.{Situation, IsProper, Move, IsSchedule, cost}
 use Rattle.ee_check.specs.Certificate.{Claim, Place, first_place, place_at, last_place, IsForced, EachStretch, IsCertificateHeader, IsCertificate}
@@ -36,23 +37,7 @@ pub one_further : (start : Situation) (trace : List Change) (stretches : List St
     → IsSoFar start trace stretches n old → IsForced start trace old.place (get_or stretches n d)
     → new.live ≡ live_after old.live (slice_range trace old.place.after (get_or stretches n d).to)
     → new.place ≡ record { after = (get_or stretches n d).to; used = length new.live } → IsSoFar start trace stretches (n + 1) new
-one_further start trace stretches n d old new h so_far forced live place =
-    let stretch : Stretch = get_or stretches n d in
-    let more : take (n + 1) stretches ≡ take n stretches ++ stretch ∷ [] = take_more stretches n d h in
-    let rising : old.place.after < stretch.to = forced.rising in
-    let all : new.live ≡ live_after start.live (take stretch.to trace) =
-    live ∙ ap (λ l. live_after l (slice_range trace old.place.after stretch.to)) so_far.in_trace.live_is ∙ passed_live start.live trace old.place.after stretch.to (omega arith) in
-    let here : IsForced start trace (last_place start trace (first_place start) (take n stretches)) stretch = subst (λ p. IsForced start trace p stretch) so_far.place forced in
-    let at : new.place ≡ place_at start trace stretch.to = place ∙ ap (λ (l : List ℕ). (let p : Place = record { after = stretch.to; used = length l } in p)) all in
-    let after : new.place.after ≡ stretch.to = ap (λ p. p.after) at in
-    record {
-      forced = subst (EachStretch start trace IsForced (first_place start)) (sym more) (EachStretch-append start trace IsForced (first_place start) (take n stretches) stretch so_far.forced here);
-      place = at ∙ sym (last_place-append start trace (first_place start) (take n stretches) stretch) ∙ ap (last_place start trace (first_place start)) (sym more);
-      in_trace = record {
-        within = (let w = forced.within in omega arith);
-        live_is = all ∙ ap (λ m. live_after start.live (take m trace)) (sym after);
-      };
-    }
+one_further start trace stretches n d old new h so_far forced live place = grind (arith, common_steps, take_more, passed_live, EachStretch-append, last_place-append)
 
 -- a flaw that is met is the first
 pub flaw_met : (start : Situation) (trace : List Change) (stretches : List Stretch) (n count : ℕ) (d : Stretch) (walk : Walked) (fault : CheckFault)
@@ -75,32 +60,11 @@ flaw_met start trace stretches n count d walk fault h counted so_far flaw =
 
 no_flaw : (start : Situation) (trace : List Change) (place : Place) (stretch : Stretch) (n : ℕ) (fault : CheckFault)
     → IsForced start trace place stretch → IsFlaw start trace place stretch n fault → ⊥
-no_flaw start trace place stretch n WrongStart forced flaw = flaw
-no_flaw start trace place stretch n (NotRising m) forced flaw =
-    let a = forced.rising in let b = forced.within in elim flaw.1 [ inl h ↦ omega arith | inr h ↦ omega arith ]
-no_flaw start trace place stretch n (WrongFrom m) forced flaw = flaw.1.1 forced.from_is
-no_flaw start trace place stretch n (NotForced m) forced flaw = let a = forced.forced in let b = flaw.1.2 in omega arith
-no_flaw start trace place stretch n Memory forced flaw = flaw
+no_flaw start trace place stretch n fault h1 h2 = search rules
 
 one_flaw : (start : Situation) (trace : List Change) (place : Place) (stretch : Stretch) (n : ℕ) (fault other : CheckFault)
     → IsFlaw start trace place stretch n fault → IsFlaw start trace place stretch n other → fault ≡ other
-one_flaw start trace place stretch n WrongStart other h k = absurd h
-one_flaw start trace place stretch n Memory other h k = absurd h
-one_flaw start trace place stretch n (NotRising a) WrongStart h k = absurd k
-one_flaw start trace place stretch n (NotRising a) Memory h k = absurd k
-one_flaw start trace place stretch n (NotRising a) (NotRising b) h k = ap NotRising (h.0 ∙ sym k.0)
-one_flaw start trace place stretch n (NotRising a) (WrongFrom b) h k = absurd (elim h.1 [ inl x ↦ (let r = k.1.0 in omega arith) | inr x ↦ (let r = k.1.0 in omega arith) ])
-one_flaw start trace place stretch n (NotRising a) (NotForced b) h k = absurd (elim h.1 [ inl x ↦ (let r = k.1.0 in omega arith) | inr x ↦ (let r = k.1.0 in omega arith) ])
-one_flaw start trace place stretch n (WrongFrom a) WrongStart h k = absurd k
-one_flaw start trace place stretch n (WrongFrom a) Memory h k = absurd k
-one_flaw start trace place stretch n (WrongFrom a) (NotRising b) h k = absurd (elim k.1 [ inl x ↦ (let r = h.1.0 in omega arith) | inr x ↦ (let r = h.1.0 in omega arith) ])
-one_flaw start trace place stretch n (WrongFrom a) (WrongFrom b) h k = ap WrongFrom (h.0 ∙ sym k.0)
-one_flaw start trace place stretch n (WrongFrom a) (NotForced b) h k = absurd (h.1.1 k.1.1)
-one_flaw start trace place stretch n (NotForced a) WrongStart h k = absurd k
-one_flaw start trace place stretch n (NotForced a) Memory h k = absurd k
-one_flaw start trace place stretch n (NotForced a) (NotRising b) h k = absurd (elim k.1 [ inl x ↦ (let r = h.1.0 in omega arith) | inr x ↦ (let r = h.1.0 in omega arith) ])
-one_flaw start trace place stretch n (NotForced a) (WrongFrom b) h k = absurd (k.1.1 h.1.1)
-one_flaw start trace place stretch n (NotForced a) (NotForced b) h k = ap NotForced (h.0 ∙ sym k.0)
+one_flaw start trace place stretch n fault other h1 h2 = search rules
 
 -- ---- and so for a list of stretches, seen from its front
 
@@ -114,16 +78,12 @@ flawed_behind : (start : Situation) (trace : List Change) (place : Place) (n m :
     → EachStretch start trace IsForced place good → length good + n ≡ m → IsFlaw start trace (last_place start trace place good) bad m fault
     → Flawed start trace place n (good ++ bad ∷ more) fault
 unfolding Flawed
-flawed_behind start trace place n m [] more bad fault each e flaw =
-    inl (subst (λ k. IsFlaw start trace place bad k fault) (let h : m ≡ n = omega arith in h) flaw)
-flawed_behind start trace place n m (stretch ∷ good) more bad fault each e flaw =
-    inr (each.0, flawed_behind start trace (place_at start trace stretch.to) (n + 1) m good more bad fault each.1 (omega arith) flaw)
+flawed_behind start trace place n m [] more bad fault each e flaw = search rules
+flawed_behind start trace place n m (stretch ∷ good) more bad fault each e flaw = search (rules, (flawed_behind start trace (place_at start trace stretch.to) (n + 1) m good more bad fault each.1 (omega arith) flaw))
 
 first_is_flawed : (start : Situation) (trace : List Change) (stretches : List Stretch) (fault : CheckFault) → IsFirstFlaw start trace stretches fault
     → Flawed start trace (first_place start) 1 stretches fault
-first_is_flawed start trace stretches fault first =
-    subst (λ l. Flawed start trace (first_place start) 1 l fault) (sym first.stretches_are)
-    (flawed_behind start trace (first_place start) 1 (length first.good + 1) first.good first.more first.bad fault first.forced refl first.flaw)
+first_is_flawed start trace stretches fault first = search (rules, Flawed, flawed_behind)
 
 none_flawed : (start : Situation) (trace : List Change) (place : Place) (n : ℕ) (stretches : List Stretch) (fault : CheckFault)
     → EachStretch start trace IsForced place stretches → Flawed start trace place n stretches fault → ⊥
@@ -139,19 +99,14 @@ one_flawed start trace place n [] fault other h k = absurd h
 one_flawed start trace place n (stretch ∷ stretches) fault other (inl h) (inl k) = one_flaw start trace place stretch n fault other h k
 one_flawed start trace place n (stretch ∷ stretches) fault other (inl h) (inr k) = absurd (no_flaw start trace place stretch n fault k.0 h)
 one_flawed start trace place n (stretch ∷ stretches) fault other (inr h) (inl k) = absurd (no_flaw start trace place stretch n other h.0 k)
-one_flawed start trace place n (stretch ∷ stretches) fault other (inr h) (inr k) =
-    one_flawed start trace (place_at start trace stretch.to) (n + 1) stretches fault other h.1 k.1
+one_flawed start trace place n (stretch ∷ stretches) fault other (inr h) (inr k) = search (rules, (one_flawed start trace (place_at start trace stretch.to) (n + 1) stretches fault other h.1 k.1))
 
 -- ---- what the checker answers, where the header is right
 
 -- the stretches of a claim whose header is right have this flaw
 flaw_of_cause : (start : Situation) (trace : List Change) (claim : Claim) (cause : CheckFault) → IsCertificateHeader start trace claim → IsCause start trace claim cause
     → IsFirstFlaw start trace claim.stretches cause
-flaw_of_cause start trace claim WrongStart header cause = absurd (cause header)
-flaw_of_cause start trace claim (NotRising n) header cause = cause.1
-flaw_of_cause start trace claim (WrongFrom n) header cause = cause.1
-flaw_of_cause start trace claim (NotForced n) header cause = cause.1
-flaw_of_cause start trace claim Memory header cause = cause.1
+flaw_of_cause start trace claim cause h1 h2 = search rules
 
 abbrev pub Answers : Situation → List Change → Claim → Result ℕ CheckFault → Type 0
 Answers start trace claim r = IfOk r (λ k. EachStretch start trace IsForced (first_place start) claim.stretches × (k ≡ length claim.stretches))
@@ -161,16 +116,11 @@ Answers start trace claim r = IfOk r (λ k. EachStretch start trace IsForced (fi
 pub answers_for : (start : Situation) (trace : List Change) (claim : Claim) (stretches : List Stretch) (r : Result ℕ CheckFault) → stretches ≡ claim.stretches
     → IfOk r (λ k. EachStretch start trace IsForced (first_place start) stretches × (k ≡ length stretches))
     → IfErr r (λ fault. IsFirstFlaw start trace stretches fault ⊎ (fault ≡ Memory)) → Answers start trace claim r
-answers_for start trace claim stretches r e ok err = (
-  subst (λ l. IfOk r (λ k. EachStretch start trace IsForced (first_place start) l × (k ≡ length l))) e ok,
-  subst (λ l. IfErr r (λ fault. IsFirstFlaw start trace l fault ⊎ (fault ≡ Memory))) e err,
-)
+answers_for start trace claim stretches r e ok err = search rules
 
 pub bound_answered : (start : Situation) (trace : List Change) (claim : Claim) (r : Result ℕ CheckFault) → IsProper start → IsCertificateHeader start trace claim
     → Answers start trace claim r → IfOk r (λ k. (moves : List Move) → IsSchedule start trace moves → k ≤ cost moves)
-bound_answered start trace claim (Ok k) proper header answers =
-    λ moves schedule. let h = certificates_bound_schedules_lem start trace claim moves proper record { header = header; stretches = answers.0.0 } schedule in omega (arith, answers.0.1)
-bound_answered start trace claim (Err fault) proper header answers = tt
+bound_answered start trace claim r h1 h2 h3 = search (rules, certificates_bound_schedules_lem)
 
 pub certificate_answered : (start : Situation) (trace : List Change) (claim : Claim) (r : Result ℕ CheckFault) → Answers start trace claim r
     → IsCertificate start trace claim → MatchResult r (λ k. k ≡ length claim.stretches) (λ fault. fault ≡ Memory)

@@ -1,5 +1,5 @@
 -- The lines of a certificate's text: none has a line feed in it, so each is told from what follows.
-use Rattle.std.proofs.Common.{◌≡◌, ◌≢◌, ℕ, ◌++◌, List, refl, sym, ◌∙◌, arith, inl, codes}
+use Rattle.std.proofs.Common.{◌≡◌, ◌≢◌, ℕ, ◌++◌, List, refl, sym, ◌∙◌, arith, inl, codes, rules}
 use Rattle.std.specs.Fmt.{decimal}
 use Rattle.ee_text.specs.Field.{Lacks}
 use Rattle.ee_text.specs.Line.{IsLine, line_of}
@@ -12,20 +12,10 @@ number_lacks : (n : ℕ) → IsNumber n → Lacks 10 (decimal n)
 number_lacks n fits = Lacks-decimal 10 n (inl (omega arith)) fits
 
 pub heading_is_line : (slots fill live writes : ℕ) → IsNumber slots → IsNumber fill → IsNumber live → IsNumber writes → IsLine (heading slots fill live writes)
-heading_is_line slots fill live writes a b c d =
-    Lacks-append 10 (codes "slots ") (decimal slots ++ (codes " fill " ++ (decimal fill ++ (codes " live " ++ (decimal live ++ (codes " writes " ++ decimal writes)))))) refl
-    (Lacks-append 10 (decimal slots) (codes " fill " ++ (decimal fill ++ (codes " live " ++ (decimal live ++ (codes " writes " ++ decimal writes))))) (number_lacks slots a)
-    (Lacks-append 10 (codes " fill ") (decimal fill ++ (codes " live " ++ (decimal live ++ (codes " writes " ++ decimal writes)))) refl
-    (Lacks-append 10 (decimal fill) (codes " live " ++ (decimal live ++ (codes " writes " ++ decimal writes))) (number_lacks fill b)
-    (Lacks-append 10 (codes " live ") (decimal live ++ (codes " writes " ++ decimal writes)) refl
-    (Lacks-append 10 (decimal live) (codes " writes " ++ decimal writes) (number_lacks live c)
-    (Lacks-append 10 (codes " writes ") (decimal writes) refl (number_lacks writes d)))))))
+heading_is_line slots fill live writes a b c d = search (rules, Lacks-append, number_lacks)
 
 pub spelling_is_line : (stretch : Stretch) → IsStretch stretch → IsLine (stretch_text stretch)
-spelling_is_line stretch proper =
-    Lacks-append 10 (codes "to ") (decimal stretch.to ++ (codes " from " ++ decimal stretch.from)) refl
-    (Lacks-append 10 (decimal stretch.to) (codes " from " ++ decimal stretch.from) (number_lacks stretch.to proper.to)
-    (Lacks-append 10 (codes " from ") (decimal stretch.from) refl (number_lacks stretch.from proper.from)))
+spelling_is_line stretch proper = search (rules, Lacks-append, number_lacks)
 
 pub ending_is_line : (count : ℕ) → IsNumber count → IsLine (ending count)
 ending_is_line count fits = Lacks-append 10 (codes "transfers ") (decimal count) refl (number_lacks count fits)

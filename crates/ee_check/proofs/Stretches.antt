@@ -1,5 +1,5 @@
 -- Stretches, one more at the end.
-use Rattle.std.proofs.Common.{◌≡◌, ◌++◌, List, [], ◌∷◌, refl}
+use Rattle.std.proofs.Common.{◌≡◌, ◌++◌, List, [], ◌∷◌, refl, rules}
 use Rattle.ee_check.specs.declared.change.Change.{Change}
 use Rattle.ee_check.specs.declared.certificate.Stretch.{Stretch}
 use Rattle.ee_check.specs.Schedule.{Situation}
@@ -9,8 +9,7 @@ pub EachStretch-append : (start : Situation) (trace : List Change) (is : Situati
     (stretch : Stretch) → EachStretch start trace is place stretches → is start trace (last_place start trace place stretches) stretch
     → EachStretch start trace is place (stretches ++ stretch ∷ [])
 EachStretch-append start trace is place [] stretch each one = (one, tt)
-EachStretch-append start trace is place (first ∷ stretches) stretch each one =
-    (each.0, EachStretch-append start trace is (place_at start trace first.to) stretches stretch each.1 one)
+EachStretch-append start trace is place (first ∷ stretches) stretch each one = search (rules, (EachStretch-append start trace is (place_at start trace first.to) stretches stretch each.1 one))
 
 pub last_place-append : (start : Situation) (trace : List Change) (place : Place) (stretches : List Stretch) (stretch : Stretch)
     → last_place start trace place (stretches ++ stretch ∷ []) ≡ place_at start trace stretch.to

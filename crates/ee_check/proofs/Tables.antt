@@ -1,5 +1,5 @@
 -- A table of all addresses: what it is to set an entry, and how many addresses it has.
-use Rattle.std.proofs.Common.{◌≡◌, ℕ, ◌+◌, ◌<◌, ◌≤◌, Bool, true, false, not, zero, suc, List, [], ◌∷◌, length, get_or, set, replicate, refl, sym, ap, ◌∙◌, arith}
+use Rattle.std.proofs.Common.{◌≡◌, ℕ, ◌+◌, ◌<◌, ◌≤◌, Bool, true, false, not, zero, suc, List, [], ◌∷◌, length, get_or, set, replicate, refl, sym, ap, ◌∙◌, arith, rules}
 use Rattle.std.proofs.lemmas.Grind.{common_steps}
 use Rattle.std.proofs.lemmas.List.{length-replicate}
 use Rattle.std.proofs.lemmas.List.Sums.{sum_by-cons, sum_by-set}
@@ -65,14 +65,12 @@ clear_removes k n (suc i) (false ∷ table) e h = clear_removes k (n + 1) i tabl
 -- so a write sets the entry of its address
 pub set_written : (table : List Bool) (i address : ℕ) (live : List ℕ) (change : Change) → i < length table → addresses_from 0 table ≡ live
     → i ≡ address → change ≡ Write address → addresses_from 0 (set table i true) ≡ live_after_one live change
-set_written table i address live change h before e is =
-    set_inserts address 0 i table (omega arith) h ∙ ap (λ l. insert_key nat_cmp l address) before ∙ sym (ap (live_after_one live) is)
+set_written table i address live change h before e is = search (rules, set_inserts)
 
 -- and a forgetting clears it
 pub clear_forgotten : (table : List Bool) (i address : ℕ) (live : List ℕ) (change : Change) → i < length table → addresses_from 0 table ≡ live
     → i ≡ address → change ≡ Forget address → addresses_from 0 (set table i false) ≡ live_after_one live change
-clear_forgotten table i address live change h before e is =
-    clear_removes address 0 i table (omega arith) h ∙ ap (remove_key (is_at (nat_cmp address))) before ∙ sym (ap (live_after_one live) is)
+clear_forgotten table i address live change h before e is = search (rules, clear_removes)
 
 -- where no entry is set, there is no address
 none_set : (n m : ℕ) → addresses_from n (replicate m false) ≡ []
@@ -105,22 +103,15 @@ count-le n (false ∷ table) = let rest = count-le (n + 1) table in omega arith
 -- one entry is changed
 count_changed : (table : List Bool) (i : ℕ) (was is : Bool) → i < length table → was ≡ get_or table i was
     → length (addresses_from 0 (set table i is)) + bool_byte was ≡ length (addresses_from 0 table) + bool_byte is
-count_changed table i was is h e =
-    let all = sum_by-set bool_byte table i is was h in
-    let old = sum_is 0 table in
-    let new = sum_is 0 (set table i is) in
-    let entry = ap bool_byte e in
-    omega arith
+count_changed table i was is h e = search (rules, sum_by-set, sum_is)
 
 pub bit-le : (b : Bool) → bool_byte b ≤ 1
-bit-le true = omega arith
-bit-le false = omega arith
+bit-le b = search rules
 
 -- an entry that was not set is counted from now on
 pub count_more : (table : List Bool) (i : ℕ) (was : Bool) → i < length table → was ≡ get_or table i was
     → length (addresses_from 0 table) + bool_byte (not was) ≡ length (addresses_from 0 (set table i true))
-count_more table i true h e = let all = count_changed table i true true h e in omega arith
-count_more table i false h e = let all = count_changed table i false true h e in omega arith
+count_more table i was h1 h2 = search (rules, count_changed)
 
 -- and one that was set no longer
 pub count_less : (table : List Bool) (i : ℕ) (was : Bool) → i < length table → was ≡ get_or table i was

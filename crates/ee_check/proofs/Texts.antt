@@ -1,5 +1,6 @@
 -- A text is the text of one claim at most, or has one first bad line, and not both.
-use Rattle.std.proofs.Common.{◌≡◌, ◌≢◌, ◌⊎◌, ℕ, ◌+◌, ◌++◌, List, [], ◌∷◌, length, get_or, refl, sym, ◌∙◌, ap, subst, arith, append_assoc, inl, inr, codes}
+use Rattle.std.proofs.Common.{◌≡◌, ◌≢◌, ◌⊎◌, ℕ, ◌+◌, ◌++◌, List, [], ◌∷◌, length, get_or, refl, sym, ◌∙◌, ap, arith, append_assoc, inl, inr, rules}
+use Rattle.std.proofs.lemmas.Grind.{common_steps}
 use Rattle.std.specs.Fmt.{decimal}
 use Rattle.std.proofs.lemmas.Fmt.{decimal_injective}
 use Rattle.std.proofs.lemmas.List.{append-nil, append_cancel_left}
@@ -24,10 +25,7 @@ number_before m n x y fits suits e =
     (decimal_injective m n fits suits parts.0, parts.1)
 
 spelling_injective : (s t : Stretch) → IsStretch s → IsStretch t → stretch_text s ≡ stretch_text t → s ≡ t
-spelling_injective s t proper other e =
-    let to = number_before s.to t.to (codes "from " ++ decimal s.from) (codes "from " ++ decimal t.from) proper.to other.to (append_cancel_left (codes "to ") _ _ e) in
-    let from : s.from ≡ t.from = decimal_injective s.from t.from proper.from other.from (append_cancel_left (codes "from ") _ _ to.1) in
-    same_stretch s t to.0 from
+spelling_injective s t proper other e = search (rules, number_before, append_cancel_left, decimal_injective, same_stretch)
 
 -- a claim without its stretches
 headings : Claim → Claim → Type 0
@@ -35,18 +33,7 @@ headings c d = (c.slots ≡ d.slots) × (c.fill ≡ d.fill) × (c.live ≡ d.liv
 
 heading_injective : (c d : Claim) → IsClaim c → IsClaim d → heading c.slots c.fill c.live c.writes ≡ heading d.slots d.fill d.live d.writes → headings c d
 unfolding headings
-heading_injective c d proper other e =
-    let slots = number_before c.slots d.slots
-    (codes "fill " ++ (decimal c.fill ++ (codes " live " ++ (decimal c.live ++ (codes " writes " ++ decimal c.writes)))))
-    (codes "fill " ++ (decimal d.fill ++ (codes " live " ++ (decimal d.live ++ (codes " writes " ++ decimal d.writes)))))
-    proper.slots other.slots (append_cancel_left (codes "slots ") _ _ e) in
-    let fill = number_before c.fill d.fill
-    (codes "live " ++ (decimal c.live ++ (codes " writes " ++ decimal c.writes))) (codes "live " ++ (decimal d.live ++ (codes " writes " ++ decimal d.writes)))
-    proper.fill other.fill (append_cancel_left (codes "fill ") _ _ slots.1) in
-    let live = number_before c.live d.live (codes "writes " ++ decimal c.writes) (codes "writes " ++ decimal d.writes)
-    proper.live other.live (append_cancel_left (codes "live ") _ _ fill.1) in
-    let writes = decimal_injective c.writes d.writes proper.writes other.writes (append_cancel_left (codes "writes ") _ _ live.1) in
-    (slots.0, fill.0, live.0, writes)
+heading_injective c d proper other e = search (rules, number_before, append_cancel_left, decimal_injective)
 
 -- the last line is no stretch's
 last_is_no_stretch : (count : ℕ) (rest : List ℕ) → NoStretch (line_of (ending count) ++ rest)
@@ -62,10 +49,8 @@ pub record IsFront (text : List ℕ) (claim : Claim) (tail : List ℕ) : Type 0 
 same_stretches : (s t : List Stretch) (x y : List ℕ) → AreStretches s → AreStretches t → NoStretch x → NoStretch y
     → stretch_lines s ++ x ≡ stretch_lines t ++ y → (s ≡ t) × (x ≡ y)
 same_stretches [] [] x y proper other no_x no_y e = (refl, e)
-same_stretches [] (b ∷ t) x y proper other no_x no_y e =
-    absurd (no_x b (stretch_lines t ++ y) other.0 (e ∙ append_assoc (line_of (stretch_text b)) (stretch_lines t) y))
-same_stretches (a ∷ s) [] x y proper other no_x no_y e =
-    absurd (no_y a (stretch_lines s ++ x) proper.0 (sym e ∙ append_assoc (line_of (stretch_text a)) (stretch_lines s) x))
+same_stretches [] (b ∷ t) x y proper other no_x no_y e = grind (arith, common_steps)
+same_stretches (a ∷ s) [] x y proper other no_x no_y e = grind (arith, common_steps)
 same_stretches (a ∷ s) (b ∷ t) x y proper other no_x no_y e =
     let lines : line_of (stretch_text a) ++ (stretch_lines s ++ x) ≡ line_of (stretch_text b) ++ (stretch_lines t ++ y) =
     sym (append_assoc (line_of (stretch_text a)) (stretch_lines s) x) ∙ e ∙ append_assoc (line_of (stretch_text b)) (stretch_lines t) y in
@@ -76,8 +61,7 @@ same_stretches (a ∷ s) (b ∷ t) x y proper other no_x no_y e =
 
 stretch_lines-append : (s : List Stretch) (stretch : Stretch) → stretch_lines (s ++ stretch ∷ []) ≡ stretch_lines s ++ line_of (stretch_text stretch)
 stretch_lines-append [] stretch = append-nil (line_of (stretch_text stretch))
-stretch_lines-append (a ∷ s) stretch =
-    ap (λ l. line_of (stretch_text a) ++ l) (stretch_lines-append s stretch) ∙ sym (append_assoc (line_of (stretch_text a)) (stretch_lines s) (line_of (stretch_text stretch)))
+stretch_lines-append (a ∷ s) stretch = grind (arith, common_steps, (stretch_lines-append s stretch))
 
 AreStretches-append : (s : List Stretch) (stretch : Stretch) → AreStretches s → IsStretch stretch → AreStretches (s ++ stretch ∷ [])
 AreStretches-append [] stretch proper one = (one, tt)
@@ -86,11 +70,7 @@ AreStretches-append (a ∷ s) stretch proper one = (proper.0, AreStretches-appen
 -- one stretch more is read
 pub one_read : (text : List ℕ) (old new : List Stretch) (stretch : Stretch) (rest more : List ℕ) → text ≡ stretch_lines old ++ rest → AreStretches old
     → IsStretch stretch × (rest ≡ line_of (stretch_text stretch) ++ more) → new ≡ old ++ stretch ∷ [] → (text ≡ stretch_lines new ++ more) × AreStretches new
-one_read text old new stretch rest more lines proper found pushed =
-    let line : List ℕ = line_of (stretch_text stretch) in
-    let all : stretch_lines old ++ (line ++ more) ≡ stretch_lines new ++ more =
-    sym (append_assoc (stretch_lines old) line more) ∙ ap (λ l. l ++ more) (sym (stretch_lines-append old stretch) ∙ ap stretch_lines (sym pushed)) in
-    (lines ∙ ap (λ l. stretch_lines old ++ l) found.1 ∙ all, subst AreStretches (sym pushed) (AreStretches-append old stretch proper found.0))
+one_read text old new stretch rest more lines proper found pushed = grind (arith, common_steps, stretch_lines-append, AreStretches-append)
 
 claim_is_line : (claim : Claim) → IsClaim claim → IsLine (heading claim.slots claim.fill claim.live claim.writes)
 claim_is_line claim proper = heading_is_line claim.slots claim.fill claim.live claim.writes proper.slots proper.fill proper.live proper.writes
@@ -108,27 +88,17 @@ front_has_first : (text : List ℕ) (claim : Claim) (tail : List ℕ) → IsFron
 front_has_first text claim tail front none = none claim (stretch_lines claim.stretches ++ tail) front.proper front.text_is
 
 front_of_text : (text : List ℕ) (claim : Claim) → IsText text claim → IsFront text claim (last_line claim.stretches)
-front_of_text text claim is = record {
-  proper = is.proper;
-  text_is = is.text_is;
-  no_stretch = subst NoStretch (append-nil (last_line claim.stretches)) (last_is_no_stretch (length claim.stretches) []);
-}
+front_of_text text claim is = search (rules, append-nil, last_is_no_stretch)
 
 front_of_break : (text : List ℕ) (n : ℕ) (breaks : BreaksOff text n) → IsFront text breaks.claim breaks.rest
 front_of_break text n breaks = record { proper = breaks.proper; text_is = breaks.text_is; no_stretch = breaks.no_stretch }
 
 -- a whole text, and more
 text_and_more : (claim : Claim) (rest : List ℕ) → text_of claim ++ rest ≡ first_line claim ++ (stretch_lines claim.stretches ++ (last_line claim.stretches ++ rest))
-text_and_more claim rest =
-    append_assoc (first_line claim) (stretch_lines claim.stretches ++ last_line claim.stretches) rest
-    ∙ ap (λ l. first_line claim ++ l) (append_assoc (stretch_lines claim.stretches) (last_line claim.stretches) rest)
+text_and_more claim rest = grind (arith, common_steps)
 
 front_of_more : (text : List ℕ) (n : ℕ) (more : TextGoesOn text n) → IsFront text more.claim (last_line more.claim.stretches ++ more.rest)
-front_of_more text n more = record {
-  proper = more.proper;
-  text_is = more.text_is ∙ text_and_more more.claim more.rest;
-  no_stretch = last_is_no_stretch (length more.claim.stretches) more.rest;
-}
+front_of_more text n more = search (rules, text_and_more, last_is_no_stretch)
 
 -- ---- texts and bad lines
 
@@ -154,15 +124,13 @@ breaks_or_goes text m n breaks more =
 pub one_first_bad_line_lem : (text : List ℕ) (m n : ℕ) → IsFirstBadCertificateLine text m → IsFirstBadCertificateLine text n → m ≡ n
 one_first_bad_line_lem text m n (inl none) (inl too) = none.1 ∙ sym too.1
 one_first_bad_line_lem text m n (inl none) (inr (inl breaks)) = absurd (front_has_first text breaks.claim breaks.rest (front_of_break text n breaks) none.0)
-one_first_bad_line_lem text m n (inl none) (inr (inr more)) =
-    absurd (front_has_first text more.claim (last_line more.claim.stretches ++ more.rest) (front_of_more text n more) none.0)
+one_first_bad_line_lem text m n (inl none) (inr (inr more)) = grind (arith, common_steps, front_has_first, front_of_more)
 one_first_bad_line_lem text m n (inr (inl breaks)) (inl none) = absurd (front_has_first text breaks.claim breaks.rest (front_of_break text m breaks) none.0)
 one_first_bad_line_lem text m n (inr (inl breaks)) (inr (inl too)) =
     let same = one_front text breaks.claim too.claim breaks.rest too.rest (front_of_break text m breaks) (front_of_break text n too) in
     breaks.number ∙ ap (λ c. length c.stretches + 2) same.0 ∙ sym too.number
 one_first_bad_line_lem text m n (inr (inl breaks)) (inr (inr more)) = absurd (breaks_or_goes text m n breaks more)
-one_first_bad_line_lem text m n (inr (inr more)) (inl none) =
-    absurd (front_has_first text more.claim (last_line more.claim.stretches ++ more.rest) (front_of_more text m more) none.0)
+one_first_bad_line_lem text m n (inr (inr more)) (inl none) = grind (arith, common_steps, front_has_first, front_of_more)
 one_first_bad_line_lem text m n (inr (inr more)) (inr (inl breaks)) = absurd (breaks_or_goes text n m breaks more)
 one_first_bad_line_lem text m n (inr (inr more)) (inr (inr too)) =
     let same = one_front text more.claim too.claim (last_line more.claim.stretches ++ more.rest) (last_line too.claim.stretches ++ too.rest) (front_of_more text m more) (front_of_more text n too) in
@@ -172,39 +140,19 @@ one_first_bad_line_lem text m n (inr (inr more)) (inr (inr too)) =
 
 pub front_read : (text rest tail : List ℕ) (claim : Claim) → IsClaim claim → text ≡ first_line claim ++ rest → rest ≡ stretch_lines claim.stretches ++ tail → NoStretch tail
     → IsFront text claim tail
-front_read text rest tail claim proper head lines none =
-    record { proper = proper; text_is = head ∙ ap (λ l. first_line claim ++ l) lines; no_stretch = none }
+front_read text rest tail claim proper head lines none = search rules
 
 pub text_read : (text tail : List ℕ) (claim : Claim) → IsFront text claim tail → tail ≡ last_line claim.stretches → IsText text claim
-text_read text tail claim front last =
-    record { proper = front.proper; text_is = front.text_is ∙ ap (λ l. first_line claim ++ (stretch_lines claim.stretches ++ l)) last }
+text_read text tail claim front last = search rules
 
 -- what is wrong behind the front
 pub fault_behind : (text : List ℕ) (claim : Claim) (tail : List ℕ) (count : ℕ) (fault : TextFault) → IsFront text claim tail → count ≡ length claim.stretches
     → IsEndingFault tail count fault → IsCertificateTextFault text fault
-fault_behind text claim tail count (BadText n) front e (inl other) = inr (inl record {
-  claim = claim;
-  rest = tail;
-  proper = front.proper;
-  text_is = front.text_is;
-  no_stretch = front.no_stretch;
-  not_last = λ more. let h = other.0 more in subst (λ k. tail ≢ line_of (ending k) ++ more) e h;
-  number = omega (arith, other.1);
-})
-fault_behind text claim tail count (BadText n) front e (inr more) = inr (inr record {
-  claim = claim;
-  rest = more.0;
-  proper = front.proper;
-  text_is = front.text_is ∙ ap (λ l. first_line claim ++ (stretch_lines claim.stretches ++ l)) (more.1 ∙ ap (λ k. line_of (ending k) ++ more.0) e) ∙ sym (text_and_more claim more.0);
-  goes_on = more.2;
-  number = omega (arith, more.3);
-})
-fault_behind text claim tail count Memory front e wrong = absurd wrong
+fault_behind text claim tail count fault h1 h2 h3 = search (rules, text_and_more)
 
 -- every text is read
 pub text_answered : (text : List ℕ) (fault : TextFault) (claim : Claim) → IsCertificateTextFault text fault → IsText text claim → fault ≡ Memory
-text_answered text (BadText n) claim bad is = absurd (texts_are_good_lem text claim n is bad)
-text_answered text Memory claim bad is = refl
+text_answered text fault claim h1 h2 = search (rules, texts_are_good_lem)
 
 -- and every bad line is named
 pub bad_line_answered : (text : List ℕ) (fault : TextFault) (n : ℕ) → IsCertificateTextFault text fault → IsFirstBadCertificateLine text n → (fault ≡ BadText n) ⊎ (fault ≡ Memory)

@@ -1,11 +1,8 @@
 -- The tight certificate: there is one where the trace keeps within the slots, there is no other, and the store that transfers exactly when each
 -- slot is used meets it.
-use Rattle.std.proofs.Common.{◌≡◌, ℕ, ◌+◌, ◌-◌, ◌≤◌, List, [], ◌∷◌, length, map, refl, sym, ◌∙◌, ap, subst, arith, inl, inr}
+use Rattle.std.proofs.Common.{◌≡◌, ℕ, ◌+◌, ◌-◌, ◌≤◌, List, [], ◌∷◌, length, map, refl, sym, ◌∙◌, ap, subst, arith, inl, inr, rules}
 use Rattle.std.proofs.lemmas.Bool.{cases_lt}
-use Rattle.std.specs.Ordering.{nat_cmp}
-use Rattle.std.specs.BTreeMap.{is_at}
 use Rattle.ee_check.specs.declared.change.Change.{Change}
-use Rattle.ee_check.specs.declared.change.Change.TheVariants.{Write, Forget}
 use Rattle.ee_check.specs.declared.certificate.Stretch.{Stretch}
 use Rattle.ee_check.specs.Live.{live_after_one, KeepsWithin}
 use Rattle.ee_check.specs.Schedule.{Situation, Move, Copy, Append, Carry, IsAllowed, IsLate, after_move, after_moves, EachMove, changes_of, carried_at, cost}
@@ -23,8 +20,7 @@ pub record IsLateAt (start : Situation) (trace : List Change) (s : Situation) (n
 pub place_fits : (start : Situation) (trace : List Change) (place : Place) (stretches : List Stretch)
     → EachStretch start trace IsTightStretch place stretches → end_from start trace place stretches ≤ start.slots → place.used ≤ start.slots
 place_fits start trace place [] each fits = omega arith
-place_fits start trace place (stretch ∷ stretches) each fits =
-    let a = each.0.forced.rising in let b = each.0.tight in let c = each.0.forced.from_is in omega arith
+place_fits start trace place (stretch ∷ stretches) each fits = search rules
 
 -- one change more is appended, or carried
 pub late_append : (start : Situation) (trace : List Change) (s : Situation) (n : ℕ) (change : Change) (changes : List Change) (place : Place)
@@ -48,15 +44,13 @@ late_carry start trace s n to change changes place e late =
 -- what is live after a change has room, where the trace keeps within the slots
 pub change_fits : (s : Situation) (change : Change) (changes : List Change) → length s.live ≤ s.slots → KeepsWithin s.slots s.live (change ∷ changes)
     → (length (live_after_one s.live change) ≤ s.slots) × KeepsWithin s.slots (live_after_one s.live change) changes
-change_fits s (Write address) changes h keeps = (keeps.0, keeps.1)
-change_fits s (Forget address) changes h keeps = (let g = remove_key-le (is_at (nat_cmp address)) s.live in omega arith, keeps)
+change_fits s change changes h1 h2 = search (rules, remove_key-le)
 
 -- there is a tight certificate
 pub tight_from : (start : Situation) (trace : List Change) (changes : List Change) (s : Situation) (n : ℕ) (place : Place)
     → IsLateAt start trace s n changes place → s.fill ≤ s.slots → KeepsWithin s.slots s.live changes
     → (stretches : List Stretch) × EachStretch start trace IsTightStretch place stretches × (end_from start trace place stretches ≤ start.slots)
-tight_from start trace [] s n place late fits keeps =
-    ([], tt, let a = late.fill in let b = late.at.rest in let c = late.at.slots in let d = late.behind in omega arith)
+tight_from start trace [] s n place late fits keeps = search rules
 tight_from start trace (change ∷ changes) s n place late fits keeps =
     let next = change_fits s change changes (let h = late.at.held in omega arith) keeps in
     elim (cases_lt s.fill s.slots) [
@@ -74,20 +68,15 @@ tight_from start trace (change ∷ changes) s n place late fits keeps =
     ]
 
 pub same_stretch : (stretch other : Stretch) → stretch.to ≡ other.to → stretch.from ≡ other.from → stretch ≡ other
-same_stretch stretch other to from =
-    let first : stretch ≡ record stretch { to = other.to } = ap (λ n. record stretch { to = n }) to in
-    let second : record stretch { to = other.to } ≡ other = ap (λ n. record other { from = n }) from in
-    first ∙ second
+same_stretch stretch other to from = search rules
 
 -- and no other
 pub one_tight : (start : Situation) (trace : List Change) (place : Place) (stretches others : List Stretch)
     → EachStretch start trace IsTightStretch place stretches → end_from start trace place stretches ≤ start.slots
     → EachStretch start trace IsTightStretch place others → end_from start trace place others ≤ start.slots → stretches ≡ others
 one_tight start trace place [] [] each fits every suits = refl
-one_tight start trace place [] (other ∷ others) each fits every suits =
-    absurd (let a = every.0.tight in let b = every.0.forced.within in let c = every.0.forced.from_is in let d = every.0.forced.rising in omega arith)
-one_tight start trace place (stretch ∷ stretches) [] each fits every suits =
-    absurd (let a = each.0.tight in let b = each.0.forced.within in let c = each.0.forced.from_is in let d = each.0.forced.rising in omega arith)
+one_tight start trace place [] (other ∷ others) each fits every suits = search rules
+one_tight start trace place (stretch ∷ stretches) [] each fits every suits = search rules
 one_tight start trace place (stretch ∷ stretches) (other ∷ others) each fits every suits =
     let a = each.0.tight in let b = each.0.forced.from_is in let c = each.0.forced.rising in
     let d = every.0.tight in let f = every.0.forced.from_is in let g = every.0.forced.rising in
@@ -105,30 +94,21 @@ one_tight start trace place (stretch ∷ stretches) (other ∷ others) each fits
 -- when it does, a tight stretch ends
 ends_now : (start : Situation) (trace : List Change) (s : Situation) (n : ℕ) (changes : List Change) (place : Place) (stretch : Stretch)
     → IsLateAt start trace s n changes place → IsTightStretch start trace place stretch → s.fill ≡ s.slots → stretch.to ≡ n + 1
-ends_now start trace s n changes place stretch late tight full =
-    let a = tight.tight in let b = tight.forced.from_is in let c = tight.forced.rising in
-    let d = late.fill in let e = late.behind in let f = late.at.slots in omega arith
+ends_now start trace s n changes place stretch late tight full = search rules
 
 -- and it isn't the last change that has room
 one_is_left : (start : Situation) (trace : List Change) (s : Situation) (n : ℕ) (change : Change) (changes : List Change) (place : Place)
     → IsLateAt start trace s n (change ∷ changes) place → end_from start trace place [] ≤ start.slots → s.fill ≡ s.slots → ⊥
-one_is_left start trace s n change changes place late fits full =
-    let a = late.fill in let b = late.at.rest in let c = late.at.slots in let d = late.behind in omega arith
+one_is_left start trace s n change changes place late fits full = search rules
 
 -- what it carries has room
 carry_fits : (start : Situation) (trace : List Change) (s : Situation) (n : ℕ) (change : Change) (changes : List Change) (place : Place) (stretch : Stretch) (stretches : List Stretch)
     → IsLateAt start trace s n (change ∷ changes) place → stretch.to ≡ n + 1 → EachStretch start trace IsTightStretch (place_at start trace stretch.to) stretches
     → end_from start trace (place_at start trace stretch.to) stretches ≤ start.slots → length (live_after_one s.live change) ≤ s.slots
-carry_fits start trace s n change changes place stretch stretches late e each fits =
-    let here = late_carry start trace s n stretch.to change changes place e late in
-    let a = here.fill in
-    let b = place_fits start trace (place_at start trace stretch.to) stretches each fits in
-    let c = late.at.slots in
-    omega arith
+carry_fits start trace s n change changes place stretch stretches late e each fits = search (rules, late_carry, place_fits)
 
 carry_is_allowed : (s : Situation) (change : Change) → length (live_after_one s.live change) ≤ s.slots → IsAllowed s (Carry change)
-carry_is_allowed s (Write address) h = h
-carry_is_allowed s (Forget address) h = tt
+carry_is_allowed s change h1 = search rules
 
 -- it transfers where the tight stretches end
 pub late_meets : (start : Situation) (trace : List Change) (moves : List Move) (s : Situation) (n : ℕ) (place : Place) (stretches : List Stretch)
@@ -136,18 +116,14 @@ pub late_meets : (start : Situation) (trace : List Change) (moves : List Move) (
     → EachStretch start trace IsTightStretch place stretches → end_from start trace place stretches ≤ start.slots
     → (carried_at n moves ≡ map (λ stretch. stretch.to) stretches) × ((after_moves s moves).fill ≡ end_from start trace place stretches)
     × (cost moves ≡ length stretches) × EachMove IsAllowed s moves
-late_meets start trace [] s n place [] late bounded is_late each fits =
-    (refl, (let a = late.fill in let b = late.at.rest in omega arith), refl, tt)
-late_meets start trace [] s n place (stretch ∷ stretches) late bounded is_late each fits =
-    absurd (let a = each.0.tight in let b = each.0.forced.within in let c = each.0.forced.from_is in let d = each.0.forced.rising in
-    let e = late.fill in let f = late.at.rest in let g = late.at.slots in let h = late.behind in omega arith)
+late_meets start trace [] s n place [] late bounded is_late each fits = search rules
+late_meets start trace [] s n place (stretch ∷ stretches) late bounded is_late each fits = search rules
 late_meets start trace (Copy ∷ moves) s n place stretches late bounded is_late each fits = absurd is_late.0
 late_meets start trace (Append change ∷ moves) s n place stretches late bounded is_late each fits =
     let next = late_append start trace s n change (changes_of moves) place late in
     let more = late_meets start trace moves (after_move s (Append change)) (n + 1) place stretches next (omega (arith, is_late.0)) is_late.1 each fits in
     (more.0, more.1, more.2, (is_late.0, more.3))
-late_meets start trace (Carry change ∷ moves) s n place [] late bounded is_late each fits =
-    absurd (one_is_left start trace s n change (changes_of moves) place late fits is_late.0)
+late_meets start trace (Carry change ∷ moves) s n place [] late bounded is_late each fits = search (rules, one_is_left)
 late_meets start trace (Carry change ∷ moves) s n place (stretch ∷ stretches) late bounded is_late each fits =
     let e : stretch.to ≡ n + 1 = ends_now start trace s n (change ∷ changes_of moves) place stretch late each.0 is_late.0 in
     let room : length (live_after_one s.live change) ≤ s.slots = carry_fits start trace s n change (changes_of moves) place stretch stretches late e each.1 fits in

@@ -1,5 +1,6 @@
 -- What a walk through the live addresses and through the trace does, one step further.
-use Rattle.std.proofs.Common.{◌≡◌, ℕ, ◌+◌, ◌<◌, ◌++◌, List, [], ◌∷◌, length, take, get_or, refl, sym, ◌∙◌, ap, subst, append_assoc}
+use Rattle.std.proofs.Common.{◌≡◌, ℕ, ◌+◌, ◌<◌, ◌++◌, List, [], ◌∷◌, length, take, get_or, refl, ◌∙◌, ap, arith, rules}
+use Rattle.std.proofs.lemmas.Grind.{common_steps}
 use Rattle.std.proofs.lemmas.List.{take_more}
 use Rattle.std.specs.declared.cmp.Ordering.TheVariants.{Less, Greater}
 use Rattle.std.specs.Ordering.{nat_cmp, ordering_reverse}
@@ -28,10 +29,7 @@ insert_last (x ∷ xs) ys k sorted = rw (other_way x k (last_is_above x k xs ys 
 -- one address more is copied
 pub one_copied : (copy rest more live : List ℕ) (k : ℕ) → rest ≡ k ∷ more → (copy ++ rest ≡ live) × IsStrictlySortedBy nat_cmp (copy ++ rest)
     → (insert_key nat_cmp copy k ++ more ≡ live) × IsStrictlySortedBy nat_cmp (insert_key nat_cmp copy k ++ more)
-one_copied copy rest more live k e h =
-    let sorted : IsStrictlySortedBy nat_cmp (copy ++ k ∷ more) = subst (λ l. IsStrictlySortedBy nat_cmp (copy ++ l)) e h.1 in
-    let same : insert_key nat_cmp copy k ++ more ≡ copy ++ k ∷ more = ap (λ l. l ++ more) (insert_last copy more k sorted) ∙ append_assoc copy (k ∷ []) more in
-    (same ∙ ap (λ l. copy ++ l) (sym e) ∙ h.0, subst (IsStrictlySortedBy nat_cmp) (sym same) sorted)
+one_copied copy rest more live k e h = grind (arith, common_steps, insert_last)
 
 -- ---- changes in order
 
@@ -46,5 +44,4 @@ live_after_more live changes i d h = ap (live_after live) (take_more changes i d
 -- one change more is made
 pub one_made : (start live new : List ℕ) (changes : List Change) (i : ℕ) (change : Change) → i < length changes → live ≡ live_after start (take i changes)
     → change ≡ get_or changes i change → new ≡ live_after_one live change → new ≡ live_after start (take (i + 1) changes)
-one_made start live new changes i change h before is made =
-    made ∙ ap (λ l. live_after_one l change) before ∙ ap (λ c. live_after_one (live_after start (take i changes)) c) is ∙ sym (live_after_more start changes i change h)
+one_made start live new changes i change h before is made = search (rules, live_after_more)

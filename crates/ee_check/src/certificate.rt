@@ -1,3 +1,4 @@
+//! A claim that a trace takes so many transfers at least: stretches of it, each of which forces one.
 use std::alloc::{Allocator, Global};
 
 /// A part of a trace in which no store gets by without a transfer.

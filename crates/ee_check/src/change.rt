@@ -1,3 +1,4 @@
+//! The changes of a trace: which address is written or forgotten, and no values.
 ghost use Rattle.std.specs.Prelude.{◌≡◌, OnOk, OnErr};
 ghost use Rattle.ee_check.specs.Live.{live_after_one, live_after};
 

@@ -1,3 +1,4 @@
+//! The checker: each stretch of a certificate is judged where the one before it ends.
 ghost use Rattle.std.specs.Prelude.{◌≡◌, ◌⊎◌, ◌≤◌, List, IsTrue, ◌↔◌, IfOk, IfErr, MatchResult, length};
 ghost use Rattle.ee_check.specs.Schedule.{Move, IsSchedule, cost};
 ghost use Rattle.ee_check.specs.Start.{IsStart};

@@ -1,3 +1,4 @@
+//! The live addresses of a trace on its way: an ordered set, and a table once that pays.
 ghost use Rattle.std.specs.Prelude.{◌≡◌, [], length, IfOk, OnOk, OnErr};
 ghost use Rattle.ee_check.specs.Live.{live_after_one};
 ghost use Rattle.ee_check.specs.LiveSet.{addresses_in};
@@ -29,7 +30,7 @@ enum Form<A: Allocator> {
 pub struct LiveSet<A: Allocator = Global> {
     alloc: A,
     form: Form<A>,
-    // after how many changes more a set tries to become a table
+    /// After how many changes more a set tries to become a table.
     left: u64,
 }
 

@@ -1,3 +1,4 @@
+//! The live addresses as a table of all addresses, in which a change takes one look.
 ghost use Rattle.std.specs.Prelude.{◌≡◌, [], length, IfOk};
 ghost use Rattle.ee_check.specs.Live.{live_after_one};
 
@@ -14,7 +15,7 @@ const ENTRIES: usize = 65536;
 #[derive(Drop)]
 pub(crate) struct LiveTable<A: Allocator> {
     is_live: Vec<bool, A>,
-    // how many are
+    /// How many addresses are live.
     count: u64,
 }
 

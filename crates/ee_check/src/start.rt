@@ -1,3 +1,4 @@
+//! Where a trace starts: the slots of a set, how many are used, and which addresses are live.
 ghost use Rattle.std.specs.Prelude.{◌≡◌, IfOk};
 ghost use Rattle.std.specs.Option.{SomeIff};
 ghost use Rattle.ee_check.specs.Start.{IsStart};

@@ -1,3 +1,4 @@
+//! The checker's way through a trace, from the end of one stretch to the end of the next.
 ghost use Rattle.std.specs.Prelude.{◌≡◌, ◌≤◌, OnOk, IfOk, MatchResult, length, slice_range};
 ghost use Rattle.ee_check.specs.Live.{live_after};
 ghost use Rattle.ee_check.specs.Certificate.{first_place, IsForced};
@@ -14,9 +15,9 @@ use std::marker::Model;
 /// A walk through a trace, from the end of one stretch to the end of the next.
 #[derive(Drop)]
 pub(crate) struct Walk<A: Allocator> {
-    // how many changes are made
+    /// How many changes are made.
     after: u64,
-    // how many slots are used at least by a store that made no more transfers than it had to
+    /// How many slots are used at least by a store that made no more transfers than it had to.
     used: u64,
     live: LiveSet<A>,
 }

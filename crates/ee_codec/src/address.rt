@@ -1,3 +1,4 @@
+//! The name of a variable: any number of 16 bits but the least and the greatest.
 ghost use Rattle.std.specs.Prelude.{◌≡◌, ◌↔◌, IsSome, IfSome};
 ghost use Rattle.ee_codec.specs.Words.{IsAddress};
 

@@ -1,3 +1,4 @@
+//! The words of a page's header: the receive word, which names a generation, and the mark.
 ghost use Rattle.std.specs.Prelude.{◌≡◌, ◌<◌, ℕ, Some, IfSome};
 ghost use Rattle.ee_codec.specs.Words.{IsGeneration, receive};
 ghost use Rattle.ee_codec.specs.Reading.{mark_of, receive_of, SaysMark};

@@ -1,3 +1,4 @@
+//! The words of a slot: an address has a value from there on, or has none.
 ghost use Rattle.std.specs.Prelude.{◌≡◌};
 ghost use Rattle.ee_codec.specs.Words.{IsAddress, element, forgetting};
 ghost use Rattle.ee_codec.specs.Reading.{ends_in as word_ends_in, slot_of, SaysSlot};

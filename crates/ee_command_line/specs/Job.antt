@@ -143,8 +143,8 @@ AreWordsOf words (Stale image settings) = words ≡ codes "stale" ∷ image ∷ 
 AreWordsOf words (Tidy image settings) = words ≡ codes "tidy" ∷ image ∷ settings ∷ []
 AreWordsOf words (Listing image None) = words ≡ codes "list" ∷ image ∷ []
 AreWordsOf words (Listing image (Some settings)) = words ≡ codes "list" ∷ image ∷ settings ∷ []
-AreWordsOf words (Sizing page_words script cycles runs) =
-    words ≡ codes "size" ∷ decimal page_words ∷ script ∷ decimal cycles ∷ decimal runs ∷ []
+AreWordsOf words (Sizing page_size script cycles runs) =
+    words ≡ codes "size" ∷ decimal page_size ∷ script ∷ decimal cycles ∷ decimal runs ∷ []
 AreWordsOf words Help =
     (words ≡ codes "--help" ∷ []) ⊎ (words ≡ codes "-h" ∷ []) ⊎ (words ≡ codes "help" ∷ [])
 AreWordsOf words Version = words ≡ codes "--version" ∷ []

@@ -24,10 +24,10 @@ use Rattle.ee_check.specs.Fault.{IsCause}
 use Rattle.ee_check.specs.Schedule.{Situation}
 use Rattle.ee_check.specs.Text.{IsText, IsCertificateTextFault}
 use Rattle.ee_check.proofs.Public.{one_bad_line, one_text_lem, texts_are_good_lem}
-use Rattle.ee_plan.specs.Plan.{IsFirstNotFitting, IsPlanFault}
+use Rattle.ee_planner.specs.Plan.{IsFirstNotFitting, IsPlanFault}
 use Rattle.ee_plan.specs.Start.{AreLive, IsStartOf}
-use Rattle.ee_plan.specs.declared.planned.PlanFault.{PlanFault}
-use Rattle.ee_plan.specs.declared.planned.PlanFault.TheVariants as plan
+use Rattle.ee_planner.specs.declared.planned.PlanFault.{PlanFault}
+use Rattle.ee_planner.specs.declared.planned.PlanFault.TheVariants as plan
 use Rattle.ee_faults.specs.Fault.{fault_of_certificate, fault_of_check, fault_of_replay, fault_of_script}
 use Rattle.ee_commands.specs.Planning.{fault_of_plan}
 use Rattle.ee_faults.specs.declared.fault.Fault.{Fault}

@@ -13,11 +13,12 @@ use Rattle.ee_check.proofs.Public.{late_moves, late_stores_meet_it_lem}
 use Rattle.ee_check.specs.declared.change.Change.{Change}
 use Rattle.ee_check.specs.Live.{KeepsWithin}
 use Rattle.ee_check.specs.Schedule.{IsProper, Situation, cost}
-use Rattle.ee_plan.proofs.Public.{none_breaks, length_map, none_sorted}
-use Rattle.ee_plan.specs.Rounds.{IsDemand, fresh, repeated_trace}
+use Rattle.ee_planner.proofs.Public.{none_breaks}
+use Rattle.ee_plan.proofs.Public.{length_map, none_sorted}
+use Rattle.ee_planner.specs.Rounds.{IsDemand, fresh, repeated_trace}
 use Rattle.ee_plan.specs.Start.{AreLive, IsStartOf}
-use Rattle.ee_plan.specs.declared.demand.Demand.{Demand}
-use Rattle.ee_plan.specs.declared.demand.Demand.TheVariants.{Transfers, NotFitting}
+use Rattle.ee_planner.specs.declared.demand.Demand.{Demand}
+use Rattle.ee_planner.specs.declared.demand.Demand.TheVariants.{Transfers, NotFitting}
 use Rattle.ee_commands.specs.ToldSizes.{ForgetsLive, IsDemandOf, WearsAsTold, asked_by_calls, made_by_calls, wants_memory}
 use Rattle.ee_commands.specs.Sizing.{AreDemands, IsSized, erases_for, is_spent_by, most_transfers}
 use Rattle.ee_commands.proofs.AllMade.{all_made}

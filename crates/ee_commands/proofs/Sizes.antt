@@ -5,8 +5,8 @@ use Rattle.std.proofs.lemmas.List.{take_more, length-take-le, append-nil}
 use Rattle.ee_flash.specs.Size.{size_of, slot_count}
 use Rattle.ee_text.specs.Line.{line_of}
 use Rattle.ee_check.specs.declared.change.Change.{Change}
-use Rattle.ee_plan.specs.Rounds.{IsDemand, fresh}
-use Rattle.ee_plan.specs.declared.demand.Demand.{Demand}
+use Rattle.ee_planner.specs.Rounds.{IsDemand, fresh}
+use Rattle.ee_planner.specs.declared.demand.Demand.{Demand}
 use Rattle.ee_script.specs.declared.session.ScriptFault.{ScriptFault}
 use Rattle.ee_faults.specs.Fault.{fault_of_script}
 use Rattle.ee_faults.specs.declared.fault.Fault.{Fault}

@@ -13,10 +13,10 @@ use Rattle.ee_check.specs.Certificate.{Claim, IsCertificate, IsTight}
 use Rattle.ee_check.specs.Fault.{IsCause}
 use Rattle.ee_check.specs.Schedule.{IsSchedule, Move, Situation, cost}
 use Rattle.ee_check.specs.Text.{IsText, IsCertificateTextFault, text_of}
-use Rattle.ee_plan.specs.Plan.{IsPlanFault}
+use Rattle.ee_planner.specs.Plan.{IsPlanFault}
 use Rattle.ee_plan.specs.Start.{IsStartOf}
-use Rattle.ee_plan.specs.declared.planned.PlanFault.{PlanFault}
-use Rattle.ee_plan.specs.declared.planned.PlanFault.TheVariants as plan
+use Rattle.ee_planner.specs.declared.planned.PlanFault.{PlanFault}
+use Rattle.ee_planner.specs.declared.planned.PlanFault.TheVariants as plan
 use Rattle.ee_script.specs.declared.command.Command.{Command}
 use Rattle.ee_script.specs.declared.command.Command.TheVariants.{Arm, PowerOn}
 use Rattle.ee_script.specs.declared.session.ScriptFault.{ScriptFault}

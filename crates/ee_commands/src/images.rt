@@ -1,5 +1,5 @@
 //! The commands without a script.
-ghost use Rattle.std.specs.Prelude.{◌≡◌, ◌≢◌, ◌⊎◌, ◌<◌, ◌-◌, ◌++◌, IfOk, IfErr, MatchResult, Ok, OnOk, replicate, true};
+ghost use Rattle.std.specs.Prelude.{◌≡◌, ◌<◌, ◌-◌, ◌++◌, IfOk, IfErr, Ok, OnOk, replicate, true};
 ghost use Rattle.ee_text.specs.Line.{line_of};
 ghost use Rattle.ee_core.specs.Calls.{Cleans, ErasesLowest};
 ghost use Rattle.ee_core.specs.Runs.{Cleaned, IsWholeRun};
@@ -7,12 +7,13 @@ ghost use Rattle.ee_core.specs.State.{Wears, pending_pages, state_of, with_pendi
 ghost use Rattle.ee_image_store.specs.FileFaults.{IsReadingFault, IsOpeningFault};
 ghost use Rattle.ee_commands.specs.Images.{AreStates, IsCleaned, IsFormattedText, cleaned_text, state_lines, state_name, state_text};
 ghost use Rattle.ee_image_store.specs.Opening.{StaysOn};
+ghost use Rattle.ee_faults.specs.Causes.{NamesEach};
 
 use ee_core::Variables;
 use ee_faults::{Fault, File};
 use ee_flash::{Flash, Shape};
 use ee_image::read_image;
-use ee_image_store::{new_store, open_image, text_left};
+use ee_image_store::{ImageAndText, new_store, open_image, text_left};
 use ee_pages::{State, state_of as state_of_page};
 use ee_text::push_number;
 use std::alloc::{AllocError, Allocator};
@@ -42,22 +43,22 @@ pub fn format_image<A: Allocator + Copy>(alloc: A, shape: Shape) -> Result<Vec<u
 /// # Errors
 ///
 /// The image is no device's, or not legal; `Memory` can come in place of any answer.
-pub fn clean_image<A: Allocator + Copy>(
-    alloc: A,
-    image: &[u8],
-) -> Result<(Vec<u8, A>, Vec<u8, A>), Fault>
-    ensures cleaned { IfOk result (λ given. IsCleaned image.now given.0.items given.1.items) }
+pub fn clean_image<A: Allocator + Copy>(alloc: A, image: &[u8]) -> Result<ImageAndText<A>, Fault>
+    ensures cleaned { IfOk result
+        (λ given. IsCleaned image.now given.image.items given.text.items) }
     ensures fault { IfErr result (IsOpeningFault image.now) }
     // No cause is passed over.
-    ensures names { (cause : Fault) → cause ≢ Fault.Memory → IsOpeningFault image.now cause
-        → MatchResult result (λ _. ⊥) (λ fault. (fault ≡ cause) ⊎ (fault ≡ Fault.Memory)) }
+    ensures names { NamesEach Fault.Memory (IsOpeningFault image.now) result }
 {
     let mut store = open_image(alloc, image)?;
     let erased = clean_all(&mut store);
     let cleaned = text_left(alloc, store)?;
     let mut text = Vec::new(alloc);
     push_cleaned(&mut text, erased)?;
-    Ok((cleaned, text))
+    Ok(ImageAndText {
+        image: cleaned,
+        text,
+    })
 }
 
 /// The state of each page of the image that a text spells, a line for each page by rising page: `page
@@ -73,8 +74,7 @@ pub fn states_text<A: Allocator + Copy>(alloc: A, image: &[u8]) -> Result<Vec<u8
     ensures states { IfOk result (λ text. AreStates image.now text.items) }
     ensures fault { IfErr result (IsReadingFault image.now) }
     // No cause is passed over.
-    ensures names { (cause : Fault) → cause ≢ Fault.Memory → IsReadingFault image.now cause
-        → MatchResult result (λ _. ⊥) (λ fault. (fault ≡ cause) ⊎ (fault ≡ Fault.Memory)) }
+    ensures names { NamesEach Fault.Memory (IsReadingFault image.now) result }
 {
     let flash = match read_image(alloc, image) {
         Ok(flash) => flash,

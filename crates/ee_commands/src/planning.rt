@@ -1,10 +1,11 @@
 //! Plans of scripts on images, and the certificates that prove them.
-ghost use Rattle.std.specs.Prelude.{◌≡◌, ◌≢◌, ◌⊎◌, ◌++◌, ◌∷◌, [], IfErr, IfNone, IfOk, IfSome, MatchResult, OnOk};
+ghost use Rattle.std.specs.Prelude.{◌≡◌, ◌++◌, ◌∷◌, [], IfErr, IfNone, IfOk, IfSome, OnOk};
 ghost use Rattle.ee_text.specs.Line.{line_of};
 ghost use Rattle.ee_script.specs.Command.{command_text};
 ghost use Rattle.ee_script.specs.Script.{NoLineOf};
 ghost use Rattle.ee_commands.specs.Planning.{IsCheckingFault, IsPlanned, IsPlanningFault, IsProved, IsTask, IsTaskFault, IsTrace, IsTraceCommand, IsTraceFault, fault_of_plan, proved_text};
 ghost use Rattle.ee_image_store.specs.Trace.{trace_of};
+ghost use Rattle.ee_faults.specs.Causes.{NamesEach};
 
 use ee_check::{Change, Start, check, read_certificate, write_certificate};
 use ee_faults::Fault;
@@ -33,9 +34,7 @@ pub fn plan_script<A: Allocator + Copy>(
     ensures planned { IfOk result (λ text. IsPlanned image.now script.now text.items) }
     ensures fault { IfErr result (IsPlanningFault image.now script.now) }
     // No cause is passed over.
-    ensures names { (cause : Fault) → cause ≢ Fault.Memory
-        → IsPlanningFault image.now script.now cause
-        → MatchResult result (λ _. ⊥) (λ fault. (fault ≡ cause) ⊎ (fault ≡ Fault.Memory)) }
+    ensures names { NamesEach Fault.Memory (IsPlanningFault image.now script.now) result }
 {
     let (start, trace) = read_task(alloc, image, script)?;
     let plan = match plan(alloc, &start, &trace) {
@@ -68,9 +67,7 @@ pub fn check_script<A: Allocator + Copy>(
         (λ text. IsProved image.now script.now certificate.now text.items) }
     ensures fault { IfErr result (IsCheckingFault image.now script.now certificate.now) }
     // No cause is passed over.
-    ensures names { (cause : Fault) → cause ≢ Fault.Memory
-        → IsCheckingFault image.now script.now certificate.now cause
-        → MatchResult result (λ _. ⊥) (λ fault. (fault ≡ cause) ⊎ (fault ≡ Fault.Memory)) }
+    ensures names { NamesEach Fault.Memory (IsCheckingFault image.now script.now certificate.now) result }
 {
     let (start, trace) = read_task(alloc, image, script)?;
     let certificate = read_certificate(alloc, certificate)?;

@@ -1,10 +1,11 @@
 //! How large a part must be for a script that is made many times over.
-ghost use Rattle.std.specs.Prelude.{◌≡◌, ◌≢◌, ◌⊎◌, ◌+◌, ◌≤◌, ◌++◌, IfErr, IfOk, IsTrue, MatchResult, OnOk, length};
+ghost use Rattle.std.specs.Prelude.{◌≡◌, ◌+◌, ◌≤◌, ◌++◌, IfErr, IfOk, OnOk, length};
 ghost use Rattle.std.specs.List.{list_any};
 ghost use Rattle.ee_flash.specs.Size.{size_of, slot_count};
 ghost use Rattle.ee_text.specs.Line.{line_of};
-ghost use Rattle.ee_plan.specs.Rounds.{repeated_trace};
+ghost use Rattle.ee_planner.specs.Rounds.{repeated_trace};
 ghost use Rattle.ee_commands.specs.Sizing.{AreDemands, EachWears, IsSized, IsSizingFault, erases_for, fitting_text, is_enough, least_for, limit_for, not_fitting_text, numbers_text, size_lines, sizing_text, verdict};
+ghost use Rattle.ee_faults.specs.Causes.{NamesEach};
 
 use super::planning::read_trace;
 use ee_check::Change;
@@ -58,9 +59,7 @@ pub fn size_parts<A: Allocator + Copy>(
         IsSized words script.now cycles runs sizes.text.items sizes.some_enough) }
     ensures fault { IfErr result (IsSizingFault script.now) }
     // No cause is passed over.
-    ensures names { (cause : Fault) → cause ≢ Fault.Memory
-        → IsSizingFault script.now cause
-        → MatchResult result (λ _. ⊥) (λ fault. (fault ≡ cause) ⊎ (fault ≡ Fault.Memory)) }
+    ensures names { NamesEach Fault.Memory (IsSizingFault script.now) result }
 {
     let trace = read_trace(alloc, script)?;
     let rounds = rounds_of(alloc, trace, runs)?;

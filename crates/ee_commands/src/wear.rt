@@ -1,9 +1,10 @@
 //! How often each page of an image was erased.
-ghost use Rattle.std.specs.Prelude.{◌≡◌, ◌≢◌, ◌⊎◌, ◌++◌, Some, None, IfOk, IfErr, OnOk, MatchResult};
+ghost use Rattle.std.specs.Prelude.{◌≡◌, ◌++◌, Some, None, IfOk, IfErr, OnOk};
 ghost use Rattle.std.specs.Option.{option_map};
 ghost use Rattle.ee_text.specs.Line.{line_of};
 ghost use Rattle.ee_image_store.specs.FileFaults.{IsFileFault};
 ghost use Rattle.ee_commands.specs.Wear.{AreWearCountsOf, AreCountsSince, IsWear, IsWearFault, count_lines, count_text, ledger_text, total_text};
+ghost use Rattle.ee_faults.specs.Causes.{NamesEach};
 
 use ee_faults::{Fault, File};
 use ee_image::read_image;
@@ -32,9 +33,8 @@ pub fn wear_text<A: Allocator + Copy>(
     ensures fault { IfErr result
         (IsWearFault image.now (option_map (λ before. before.now) before.entry)) }
     // No cause is passed over.
-    ensures names { (cause : Fault) → cause ≢ Fault.Memory
-        → IsWearFault image.now (option_map (λ before. before.now) before.entry) cause
-        → MatchResult result (λ _. ⊥) (λ fault. (fault ≡ cause) ⊎ (fault ≡ Fault.Memory)) }
+    ensures names { NamesEach Fault.Memory
+        (IsWearFault image.now (option_map (λ before. before.now) before.entry)) result }
 {
     match before {
         None => whole_wear(alloc, image),

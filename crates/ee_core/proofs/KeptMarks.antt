@@ -78,8 +78,8 @@ cleaned_marked side erased old new formed sizes same others blank was = record {
 
 -- After one slot more the page of that slot is the last used one.
 live_now : (side : Side) (fill : ℕ) (mid new : Device) → new.size ≡ mid.size → fill_of (slots_of (set_of side new)) ≡ fill + 1 → IsReady mid side fill → KeepsMarks mid new → IsLiveMarked new side
-live_now side fill mid new sizes one_more ready marks =
-    let slot : fill_of (slots_of (set_of side new)) - 1 ≡ fill = omega (arith, one_more) in
+live_now side fill mid new sizes grown ready marks =
+    let slot : fill_of (slots_of (set_of side new)) - 1 ≡ fill = omega (arith, grown) in
     let last : last_used new side ≡ page_of_slot mid.size fill =
     ap (λ (size : Size). page_of_slot size (fill_of (slots_of (set_of side new)) - 1)) sizes ∙ ap (page_of_slot mid.size) slot in
     let first : first_page mid.size side ≡ first_page new.size side = ap (λ (size : Size). first_page size side) (sym sizes) in
@@ -90,7 +90,7 @@ live_now side fill mid new sizes one_more ready marks =
     }
 
 pub appended_marked : (side : Side) (fill : ℕ) (old mid new : Device) → IsFormed old → mid.size ≡ old.size → new.size ≡ mid.size → fill_of (slots_of (set_of side new)) ≡ fill + 1 → IsReady mid side fill → KeepsMarks mid new → IsSameSet (other side) old mid → IsSameSet (other side) mid new → IsMarked old side → IsMarked new side
-appended_marked side fill old mid new formed first_sizes second_sizes one_more ready marks first_same second_same was = record {
-  live = live_now side fill mid new second_sizes one_more ready marks;
+appended_marked side fill old mid new formed first_sizes second_sizes grown ready marks first_same second_same was = record {
+  live = live_now side fill mid new second_sizes grown ready marks;
   old = old_marks_stay (other side) old new formed (second_sizes ∙ first_sizes) (second_same ∙ first_same) was.old;
 }

@@ -71,18 +71,18 @@ module _ (old new : Device) (side : Side) (generation : ℕ) (live : IsLive old 
       ∙ sym (state_is old side generation live)
 
   pub shows_appended : (change : Change) (fill number : ℕ) → fill ≡ fill_of (slots_of (set_of side old)) → number ≡ number_of_change (state_of old).map change → new.size ≡ old.size → IsDrawn side new (with_change old.size fill number (picture_of side old)) → IsSameSet (other side) old new → ShowsAppended old change new side
-  shows_appended change fill number filled_set spelled sizes drawn same = record {
+  shows_appended change fill number filled spelled sizes drawn same = record {
     live_pages =
-        let there = subst (λ n. IsDrawn side new (with_change old.size n number (picture_of side old))) (filled_set ∙ sym fill_was) drawn in
+        let there = subst (λ n. IsDrawn side new (with_change old.size n number (picture_of side old))) (filled ∙ sym fill_was) drawn in
         subst (λ n. IsDrawn side new (with_change old.size (state_of old).fill n (picture_of side old))) spelled there;
     old_pages = same_drawn (other side) old new sizes same;
   }
 
   pub shows_cut_append : (change : Change) (fill number : ℕ) → fill ≡ fill_of (slots_of (set_of side old)) → number ≡ number_of_change (state_of old).map change → new.size ≡ old.size
       → IsDrawnPartly side new (picture_of side old) (with_change old.size fill number (picture_of side old)) → IsSameSet (other side) old new → ShowsCutAppend old change new side
-  shows_cut_append change fill number filled_set spelled sizes drawn same = record {
+  shows_cut_append change fill number filled spelled sizes drawn same = record {
     live_pages =
-        let there = subst (λ n. IsDrawnPartly side new (picture_of side old) (with_change old.size n number (picture_of side old))) (filled_set ∙ sym fill_was) drawn in
+        let there = subst (λ n. IsDrawnPartly side new (picture_of side old) (with_change old.size n number (picture_of side old))) (filled ∙ sym fill_was) drawn in
         subst (λ n. IsDrawnPartly side new (picture_of side old) (with_change old.size (state_of old).fill n (picture_of side old))) spelled there;
     old_pages = same_drawn (other side) old new sizes same;
   }

@@ -74,14 +74,14 @@ unchanged old new same = rw same (record { same_size = refl; live_is = refl; liv
 
 -- the same pages are live, the same wait, and none was erased
 pub stays : (old new : Device) → new.size ≡ old.size → live_of new ≡ live_of old → pending_pages new ≡ pending_pages old → new.wear ≡ old.wear → Ages false old new
-stays old new same_size live_is same_pending no_wear =
+stays old new sizes live_is same_pending no_wear =
     let wear : (page : ℕ) → wear_at new page ≡ wear_at old page = λ page. ap (λ (list : List ℕ). get_or list page 0) no_wear in
     record {
-      same_size = same_size;
+      same_size = sizes;
       live_is = live_is;
       live_page = λ side generation page live at. omega (arith, wear page);
       other_page = λ side generation page live at.
-          let now = named_in new side generation page (live_is ∙ live) (subst (λ (size : Size). IsPageOf size (other side) page) (sym same_size) at) in
+          let now = named_in new side generation page (live_is ∙ live) (subst (λ (size : Size). IsPageOf size (other side) page) (sym sizes) at) in
           let was = named_in old side generation page live at in
           let same : waits new page ≡ waits old page = sym now ∙ ap (times page) same_pending ∙ was in
           omega (arith, wear page, same);

@@ -273,11 +273,11 @@ page_of_either old new n at sizes h within drawn =
 pub pictures_tell_images_lem : PicturesTellImages
 pictures_tell_images_lem old new formed new_formed sizes drawn =
     let counts : page_count new.size ≡ page_count old.size = ap page_count sizes in
-    let words_of = ap (λ (size : Size). size.words) sizes in
+    let widths = ap (λ (size : Size). size.words) sizes in
     ext_get_or [] new.image old.image (omega (arith, formed.image_length, new_formed.image_length, counts)) (λ n h.
     let in_range : n < page_count new.size = omega (arith, h, new_formed.image_length) in
     let before : n < page_count old.size = omega (arith, in_range, counts) in
     let long = length-page_at new n new_formed in_range in
     let long_before = length-page_at old n formed before in
-    ext_get_or Erased (page_at new n) (page_at old n) (omega (arith, long, long_before, words_of)) (λ at within.
-    page_of_either old new n at sizes before (omega (arith, within, long, words_of)) drawn))
+    ext_get_or Erased (page_at new n) (page_at old n) (omega (arith, long, long_before, widths)) (λ at within.
+    page_of_either old new n at sizes before (omega (arith, within, long, widths)) drawn))

@@ -103,8 +103,8 @@ blank_startable device all = record {
 
 -- all that is asked is asked of the image
 pub same_image : (old new : Device) → new.size ≡ old.size → new.image ≡ old.image → IsStartable old → IsStartable new
-same_image old new same_size same startable = record {
-  uncommitted = λ side. ap committed_generation (as_it_was side old new same_size same) ∙ startable.uncommitted side;
+same_image old new sizes same startable = record {
+  uncommitted = λ side. ap committed_generation (as_it_was side old new sizes same) ∙ startable.uncommitted side;
   none_held = λ page at number behind held. startable.none_held page at number behind (ap (λ (image : List (List Word)). get_or (get_or image page []) at Erased) (sym same) ∙ held);
 }
 

@@ -50,7 +50,7 @@ KeepsMarks old new = (page : ℕ) (mark : Mark) → is_marked old page mark ≡ 
 
 -- each page but this one is as before
 abbrev pub IsSameBut : ℕ → Device → Device → Type 0
-IsSameBut map_after old new = (page : ℕ) → page ≢ map_after → page_at new page ≡ page_at old page
+IsSameBut changed old new = (page : ℕ) → page ≢ changed → page_at new page ≡ page_at old page
 
 -- the pages of a set are as before
 abbrev pub IsSameSet : Side → Device → Device → Type 0

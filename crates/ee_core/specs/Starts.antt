@@ -11,10 +11,11 @@ use Rattle.ee_core.specs.Openings.{IsCutFormat, IsCutOpening, IsFormatted, Opens
 use Rattle.ee_core.specs.State.{formatted_state, state_of}
 use Rattle.ee_core.specs.declared.opening.OpenFault.{OpenFault}
 use Rattle.ee_core.specs.declared.opening.OpenFault.TheVariants.{Scan, Cut}
+use Rattle.ee_flash.specs.declared.shape.TheConstants.{HEADER_WORDS}
 
 -- no word behind a page's header is held, whatever it would spell: each slot of both sets is erased or torn
 abbrev pub HoldsNone : Device → Type 0
-HoldsNone device = (page at number : ℕ) → 4 ≤ at → word_at device page at ≢ Held number
+HoldsNone device = (page at number : ℕ) → HEADER_WORDS ≤ at → word_at device page at ≢ Held number
 
 -- No set is committed, as a scan says by `Unformatted` or `NoLiveSet`, and no slot of either holds a word: no value was ever
 -- stored, or none is left.

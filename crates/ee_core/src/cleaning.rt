@@ -1,3 +1,4 @@
+//! The set that isn't live: how many of its pages wait to be erased, and the erasing of one.
 ghost use Rattle.std.specs.Prelude.{◌≡◌, ◌<◌, ◌≤◌, ◌⊎◌, ℕ, ◌+◌, [], ◌∷◌, IfNone, IfSome, OnErr, OnOk, false, true};
 ghost use Rattle.ee_flash.specs.Device.{IsOn, page_at};
 ghost use Rattle.ee_flash.specs.Power.{Ends};
@@ -79,7 +80,7 @@ pub(crate) fn erase_other<F: Flash>(
     Ok(())
 }
 
-// The lowest page of a set that is not blank, by its number in the device.
+/// The lowest page of a set that is not blank, by its number in the device.
 fn first_pending<F: Flash>(flash: &F, side: Side) -> Option<usize>
     ensures page { IfSome result (IsPageOf (F.device flash.now).size side) }
     ensures not_blank { IfSome result

@@ -1,3 +1,4 @@
+//! The copying of a transfer: the map after its change, written into the other set word by word.
 ghost use Rattle.std.specs.Prelude.{◌≡◌, ◌≢◌, ◌<◌, ◌≤◌, ℕ, ◌+◌, IfOk, IfSome, [], ◌∷◌, None, Ok, OnErr, OnOk, OnSome, length, slice_set};
 ghost use Rattle.ee_codec.specs.Words.{IsAddress, element};
 ghost use Rattle.ee_flash.specs.Power.{Ends};
@@ -66,8 +67,8 @@ impl LiveCursor for Cursor {
     }
 }
 
-// The next live address behind those that were given of a batch. Where all were, the batch becomes
-// the next one with an address.
+/// The next live address behind those that were given of a batch. Where all were, the batch becomes
+/// the next one with an address.
 fn next_given<F: Flash>(
     flash: &F,
     layout: &Layout,
@@ -138,8 +139,8 @@ pub(crate) fn fill_set<F: Flash, C: LiveCursor>(
     Ok(count)
 }
 
-// Writes a value that is put into the first slot of the other set; a forgetting takes no slot.
-// Gives the place of the next slot.
+/// Writes a value that is put into the first slot of the other set; a forgetting takes no slot.
+/// Gives the place of the next slot.
 fn put_first<F: Flash>(flash: &mut F, layout: &Layout, change: Change) -> Result<Place, Cut>
     requires opened { IsNewlyOpened (F.device flash.old) layout.now }
     ensures fills { Fills result (λ place. place.slot) (F.device flash.old) (F.device flash.new)
@@ -156,8 +157,8 @@ fn put_first<F: Flash>(flash: &mut F, layout: &Layout, change: Change) -> Result
     Ok(place)
 }
 
-// Copies each live address but this one to the other set, from this place on. Gives how many of its
-// slots are written then.
+/// Copies each live address but this one to the other set, from this place on. Gives how many of its
+/// slots are written then.
 fn copy_others<F: Flash, C: LiveCursor>(
     flash: &mut F,
     layout: &Layout,
@@ -186,8 +187,8 @@ fn copy_others<F: Flash, C: LiveCursor>(
     Ok(place.slot)
 }
 
-// Copies a live address to this place of the other set, unless it is the one that is not copied.
-// The place becomes that of the next free slot.
+/// Copies a live address to this place of the other set, unless it is the one that is not copied.
+/// The place becomes that of the next free slot.
 fn copy_one<F: Flash>(
     flash: &mut F,
     layout: &Layout,
@@ -217,8 +218,8 @@ fn copy_one<F: Flash>(
     Ok(())
 }
 
-// Writes a change into this place of the other set, its first free slot. A further page gets its
-// receive word first. The place becomes that of the next slot.
+/// Writes a change into this place of the other set, its first free slot. A further page gets its
+/// receive word first. The place becomes that of the next slot.
 fn stage<F: Flash>(
     flash: &mut F,
     layout: &Layout,
@@ -247,7 +248,7 @@ fn stage<F: Flash>(
     Ok(())
 }
 
-// Gives the page of this place of the other set the receive word, if it has none.
+/// Gives the page of this place of the other set the receive word, if it has none.
 fn receive<F: Flash>(flash: &mut F, layout: &Layout, place: Place) -> Result<(), Cut>
     requires at { IsOpenAt (F.device flash.old) layout.now place }
     requires free { place.slot < slot_count (F.device flash.old).size }
@@ -267,7 +268,7 @@ fn receive<F: Flash>(flash: &mut F, layout: &Layout, place: Place) -> Result<(),
     Ok(())
 }
 
-// Programs a change into this place of the other set, its first free slot.
+/// Programs a change into this place of the other set, its first free slot.
 fn put_in<F: Flash>(flash: &mut F, layout: &Layout, place: Place, change: Change) -> Result<(), Cut>
     requires at { IsOpenAt (F.device flash.old) layout.now place }
     requires free { place.slot < slot_count (F.device flash.old).size }
@@ -287,7 +288,7 @@ fn put_in<F: Flash>(flash: &mut F, layout: &Layout, place: Place, change: Change
     Ok(())
 }
 
-// The place of the first slot of the other set.
+/// The place of the first slot of the other set.
 fn first_place<F: Flash>(flash: &F, layout: &Layout) -> Place
     ensures first { result.slot ≡ 0 }
     ensures stands { Stands (F.device flash.now).size (other_of layout.now.side) result }
@@ -299,8 +300,8 @@ fn first_place<F: Flash>(flash: &F, layout: &Layout) -> Place
     }
 }
 
-// Goes on to the next slot of the other set: one further in the page, or the first one of the next
-// page. Behind the set's last slot it is in no page of the set.
+/// Goes on to the next slot of the other set: one further in the page, or the first one of the next
+/// page. Behind the set's last slot it is in no page of the set.
 fn step<F: Flash>(flash: &F, layout: &Layout, place: &mut Place)
     requires free { place.old.slot < slot_count (F.device flash.now).size }
     requires stands { Stands (F.device flash.now).size (other_of layout.now.side) place.old }

@@ -1,6 +1,8 @@
+//! The call for whenever a device is switched on: it opens the store, or makes the first one.
 ghost use Rattle.std.specs.Prelude.{◌≡◌, ◌≢◌, ◌<◌, ◌≤◌, ℕ, IfErr, IfOk, false, true};
 ghost use Rattle.ee_flash.specs.Device.{IsOn, word_at};
 ghost use Rattle.ee_flash.specs.Size.{page_count};
+ghost use Rattle.ee_flash.specs.declared.shape.TheConstants.{HEADER_WORDS};
 ghost use Rattle.ee_pages.specs.Layout.{IsScanFault};
 ghost use Rattle.ee_core.specs.Openings.{IsFormatted};
 ghost use Rattle.ee_core.specs.Starts.{HoldsNone, IsCutStart, IsStartable, StartFails, Starts};
@@ -41,7 +43,7 @@ pub fn start<F: Flash + Drop>(flash: F) -> Result<Store<F>, (F, OpenFault)>
     start_anew(flash)
 }
 
-// Whether a device of which a scan says this can be started.
+/// Whether a device of which a scan says this can be started.
 fn is_startable<F: Flash>(flash: &F, fault: ScanFault) -> bool
     requires { IsScanFault (F.device flash.now) fault }
     ensures yes { result ≡ true → IsStartable (F.device flash.now) }
@@ -55,7 +57,7 @@ fn is_startable<F: Flash>(flash: &F, fault: ScanFault) -> bool
     }
 }
 
-// Whether no word behind a page's header can be read.
+/// Whether no word behind a page's header can be read.
 fn holds_none<F: Flash>(flash: &F) -> bool
     ensures yes { result ≡ true → HoldsNone (F.device flash.now) }
     ensures no { result ≡ false → ¬ HoldsNone (F.device flash.now) }
@@ -68,12 +70,12 @@ fn holds_none<F: Flash>(flash: &F) -> bool
     true
 }
 
-// Whether a word behind the header of a page can be read.
+/// Whether a word behind the header of a page can be read.
 fn page_holds<F: Flash>(flash: &F, page: usize) -> bool
     requires { page < page_count (F.device flash.now).size }
-    ensures yes { result ≡ true → (at : ℕ) × (number : ℕ) × (4 ≤ at)
+    ensures yes { result ≡ true → (at : ℕ) × (number : ℕ) × (HEADER_WORDS ≤ at)
         × (word_at (F.device flash.now) page at ≡ Word.Held number) }
-    ensures no { result ≡ false → (at number : ℕ) → 4 ≤ at
+    ensures no { result ≡ false → (at number : ℕ) → HEADER_WORDS ≤ at
         → at < (F.device flash.now).size.words
         → word_at (F.device flash.now) page at ≢ Word.Held number }
 {
@@ -85,7 +87,7 @@ fn page_holds<F: Flash>(flash: &F, page: usize) -> bool
     false
 }
 
-// Makes the first store.
+/// Makes the first store.
 fn start_anew<F: Flash + Drop>(flash: F) -> Result<Store<F>, (F, OpenFault)>
     requires on { IsOn (F.device flash) }
     requires startable { IsStartable (F.device flash) }

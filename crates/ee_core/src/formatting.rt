@@ -1,3 +1,4 @@
+//! A store with nothing in it: what is written is erased, and the first set becomes the live one.
 ghost use Rattle.std.specs.Prelude.{◌≡◌, ◌⊎◌, ℕ, IfOk, [], OnErr, OnOk, true};
 ghost use Rattle.std.specs.List.{All};
 ghost use Rattle.ee_flash.specs.Device.{IsOn};
@@ -50,7 +51,7 @@ pub(crate) fn write_format<F: Flash>(flash: &mut F) -> Result<Layout, Cut>
     })
 }
 
-// Erases each page that is not blank, by rising page.
+/// Erases each page that is not blank, by rising page.
 fn erase_all<F: Flash>(flash: &mut F) -> Result<(), Cut>
     ensures blank { OnOk result (All (λ page. is_blank page ≡ true) (F.device flash.new).image) }
     ensures wear { OnOk result (Wears (not_blank_pages (F.device flash.old))

@@ -2,9 +2,9 @@
 //! outcomes, with power cuts in the contract of each call.
 //!
 //! `specs/State.antt` says what a store is to its users, `specs/Changes.antt` and `specs/Calls.antt`
-//! what each call answers and leaves, cuts included, `specs/Openings.antt` and `specs/Starts.antt` how a store comes to be,
-//! `specs/Finished.antt` which marks an opening sets, and `specs/Picture.antt` how the image is drawn
-//! that a call leaves.
+//! what each call answers and leaves, cuts included, `specs/Openings.antt` and `specs/Starts.antt`
+//! how a store comes to be, `specs/Finished.antt` which marks an opening sets, and
+//! `specs/Picture.antt` how the image is drawn that a call leaves.
 //!
 //! The layers above may use: the contract of `Variables`, which is one relation for each call over
 //! the device before and after; `open`, `format` and `start`; that a store's image is legal, always;

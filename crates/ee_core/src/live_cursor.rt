@@ -1,3 +1,4 @@
+//! What a transfer copies by: a way over the live addresses, of which each store has its own.
 ghost use Rattle.std.specs.Prelude.{◌≡◌, IfSome, OnSome};
 ghost use Rattle.ee_codec.specs.Words.{IsAddress};
 ghost use Rattle.ee_pages.specs.Layout.{IsLayout};

@@ -1,3 +1,4 @@
+//! The marks that a transfer or a cut left to set: pages used up, the page in use, pages to be erased.
 ghost use Rattle.std.specs.Prelude.{◌≡◌, ◌<◌, ◌≤◌, ℕ, ◌+◌, ◌-◌, OnErr, OnOk, false, not, true};
 ghost use Rattle.ee_flash.specs.Power.{Ends};
 ghost use Rattle.ee_flash.specs.Device.{page_at};
@@ -36,7 +37,7 @@ pub fn finish<F: Flash>(flash: &mut F, layout: &Layout) -> Result<(), Cut>
     Ok(())
 }
 
-// Marks the pages of the live set: those before the last used one, and that one.
+/// Marks the pages of the live set: those before the last used one, and that one.
 fn mark_live_set<F: Flash>(flash: &mut F, layout: &Layout) -> Result<(), Cut>
     requires { IsLayout (F.device flash.old) layout.now }
     ensures stays { Stays (F.device flash.old)
@@ -67,7 +68,7 @@ fn mark_live_set<F: Flash>(flash: &mut F, layout: &Layout) -> Result<(), Cut>
     Ok(())
 }
 
-// Marks the pages of the other set that are not blank.
+/// Marks the pages of the other set that are not blank.
 fn mark_old_set<F: Flash>(flash: &mut F, layout: &Layout) -> Result<(), Cut>
     requires { IsLayout (F.device flash.old) layout.now }
     ensures stays { Stays (F.device flash.old)
@@ -128,7 +129,7 @@ pub(crate) fn mark_live<F: Flash>(
     Ok(())
 }
 
-// Marks a page of the other set, which is not blank, as one that may be erased.
+/// Marks a page of the other set, which is not blank, as one that may be erased.
 fn mark_old<F: Flash>(flash: &mut F, layout: &Layout, page: usize) -> Result<(), Cut>
     requires layout { IsLayout (F.device flash.old) layout.now }
     requires page { IsPageOf (F.device flash.old).size (other_of layout.now.side) page }

@@ -1,3 +1,4 @@
+//! A transfer: the other set is erased, opened and filled, and one mark makes it the live one.
 ghost use Rattle.std.specs.Prelude.{◌≡◌, ◌<◌, ◌≤◌, ◌⊎◌, ℕ, ◌+◌, IfOk, List, [], OnErr, OnOk, true};
 ghost use Rattle.std.specs.List.{All};
 ghost use Rattle.ee_codec.specs.Words.{IsGeneration};
@@ -67,8 +68,8 @@ pub(crate) fn transfer<F: Flash, C: LiveCursor>(
     Ok(())
 }
 
-// Moves the map, with a change, to the other set, and makes that one live. Gives how many slots it
-// takes there.
+/// Moves the map, with a change, to the other set, and makes that one live. Gives how many slots it
+/// takes there.
 fn move_map<F: Flash, C: LiveCursor>(
     flash: &mut F,
     layout: &Layout,
@@ -102,7 +103,7 @@ fn move_map<F: Flash, C: LiveCursor>(
     Ok(count)
 }
 
-// Erases each page of the other set that is not blank, by rising page.
+/// Erases each page of the other set that is not blank, by rising page.
 fn clear<F: Flash>(flash: &mut F, layout: &Layout) -> Result<(), Cut>
     requires { IsLayout (F.device flash.old) layout.now }
     ensures keeps { KeepsLiveSet (F.device flash.old)
@@ -132,7 +133,7 @@ fn clear<F: Flash>(flash: &mut F, layout: &Layout) -> Result<(), Cut>
     Ok(())
 }
 
-// Gives the first page of the other set, which is blank, the receive word of the next generation.
+/// Gives the first page of the other set, which is blank, the receive word of the next generation.
 fn open_set<F: Flash>(flash: &mut F, layout: &Layout) -> Result<(), Cut>
     requires layout { IsLayout (F.device flash.old) layout.now }
     requires generation { IsGeneration (layout.now.generation + 1) }
@@ -156,7 +157,7 @@ fn open_set<F: Flash>(flash: &mut F, layout: &Layout) -> Result<(), Cut>
     Ok(())
 }
 
-// Makes the other set, which is filled, the live one.
+/// Makes the other set, which is filled, the live one.
 fn commit<F: Flash>(flash: &mut F, layout: &Layout) -> Result<(), Cut>
     requires layout { IsLayout (F.device flash.old) layout.now }
     requires generation { IsGeneration (layout.now.generation + 1) }

@@ -1,3 +1,4 @@
+//! How a store comes to be: opened from a legal image, or made anew on any device.
 ghost use Rattle.std.specs.Prelude.{◌≡◌, ℕ, IfErr, IfOk, OnErr, OnOk};
 ghost use Rattle.ee_flash.specs.Device.{IsOn};
 ghost use Rattle.ee_flash.specs.Power.{Ends};

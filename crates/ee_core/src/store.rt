@@ -1,3 +1,4 @@
+//! The store without an index: it knows where the live set is and how far it is used, and reads the rest.
 ghost use Rattle.std.specs.Bool.{MatchBool};
 ghost use Rattle.std.specs.Prelude.{◌≡◌, ◌≢◌, ◌<◌, IfErr, IfOk, IfSome, OnErr, OnOk};
 ghost use Rattle.ee_codec.specs.Words.{IsAddress};

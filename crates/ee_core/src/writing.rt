@@ -1,3 +1,4 @@
+//! The appending of a change: where its slot begins a further page, two marks come first.
 ghost use Rattle.std.specs.Prelude.{◌≡◌, ◌<◌, ◌⊎◌, ℕ, ◌+◌, IfOk, OnErr, OnOk};
 ghost use Rattle.ee_flash.specs.Power.{Ends};
 ghost use Rattle.ee_flash.specs.Size.{slot_count};
@@ -63,8 +64,8 @@ pub(crate) fn append<F: Flash>(
     Ok(())
 }
 
-// Marks the page of the first free slot as the one that is used, if it is a further one, and the
-// page before it as used up.
+/// Marks the page of the first free slot as the one that is used, if it is a further one, and the
+/// page before it as used up.
 #[inline(always)]
 fn open_page<F: Flash>(flash: &mut F, layout: &Layout) -> Result<(), Cut>
     requires layout { IsLayout (F.device flash.old) layout.now }
@@ -94,7 +95,7 @@ fn open_page<F: Flash>(flash: &mut F, layout: &Layout) -> Result<(), Cut>
     Ok(())
 }
 
-// Programs a change into the first free slot of the live set, and gives the page of that slot.
+/// Programs a change into the first free slot of the live set, and gives the page of that slot.
 #[inline(always)]
 fn push<F: Flash>(flash: &mut F, layout: &Layout, change: Change) -> Result<usize, Cut>
     requires layout { IsLayout (F.device flash.old) layout.now }

@@ -1,3 +1,4 @@
+//! Why bytes aren't read as a dump, and why a device has none.
 use std::alloc::AllocError;
 
 /// Why bytes aren't read as a dump.

@@ -70,7 +70,7 @@ All-left_page list rest words each =
     rw (get_or-left_page list rest words at below) (λ value held.
     elim (left_word-cases (get_or list at rest) (get_or words at Erased)) [
       | inl old ↦ All-get_or IsBelowAllOnes words at Erased below each value (sym old ∙ held)
-      | inr (inl with_page_erased) ↦ cc
+      | inr (inl erased) ↦ cc
       | inr (inr torn) ↦ cc
     ]))
 
@@ -114,8 +114,8 @@ whole_page size cells page filled in_range =
 
 -- an erase of a whole page, as two changes one after another, is the step
 pub after_whole_erase : (page : ℕ) (old first new : Listed) → page_of_fates [] After (page_at old.device page) ≡ replicate old.device.size.words Erased → first ≡ record old { device = with_page page (page_of_fates [] After (page_at old.device page)) old.device } → new ≡ record first { device = with_page_worn page first.device } → new ≡ record old { device = with_page_erased page old.device }
-after_whole_erase page old first new blank is_first is_new =
-    rw is_new (rw is_first (ap (λ (words : List Word). let now : Listed = record old { device = with_page_worn page (with_page page words old.device) } in now) blank))
+after_whole_erase page old first new blank is_begun is_new =
+    rw is_new (rw is_begun (ap (λ (words : List Word). let now : Listed = record old { device = with_page_worn page (with_page page words old.device) } in now) blank))
 
 -- a step that is cut, once it has begun
 pub after_cut : (step : Step) (list : Bor (List Left)) (old begun new : Listed) → begun ≡ record old { fates = drop 1 old.fates } → new ≡ record begun { device = device_after_fate step (Cut list) begun.device } → new.device ≡ device_after_fate step (Cut list) old.device

@@ -1,2 +1,3 @@
 pub mod ReplayFault
 pub mod Fault
+pub mod Causes

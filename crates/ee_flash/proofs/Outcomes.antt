@@ -123,7 +123,7 @@ page_below (Erase page) old new formed may left =
     let as_long = left.0.as_long in
     elim (left.0.each at) [
       | inl same ↦ All-get_or IsBelowAllOnes (page_at old page) at Erased (omega arith) (formed.below_all_ones page [] in_range) value (sym same ∙ held)
-      | inr (inl with_page_erased) ↦ cc
+      | inr (inl erased) ↦ cc
       | inr (inr torn) ↦ cc
     ])
 

@@ -1,5 +1,6 @@
 -- How large a device is.
 use Rattle.std.specs.Prelude.{◌≤◌, ℕ, ◌-◌, ◌*◌}
+use Rattle.ee_flash.specs.declared.shape.TheConstants.{HEADER_WORDS}
 
 -- the pages of each of the two sets, and the words of a page
 pub record Size : Type 0 where
@@ -23,4 +24,4 @@ page_count size = 2 * size.pages
 
 -- the slots of a set: the words of its pages behind the four of each header
 abbrev pub slot_count : Size → ℕ
-slot_count size = size.pages * (size.words - 4)
+slot_count size = size.pages * (size.words - HEADER_WORDS)

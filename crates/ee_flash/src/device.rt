@@ -1,3 +1,4 @@
+//! The flash device as the layers above know it: words are programmed, pages erased, and power is cut.
 ghost use Rattle.std.specs.Prelude.{◌<◌, ◌≡◌, ◌⊎◌, OnErr, OnOk, true};
 ghost use Rattle.ee_flash.specs.Device.{Device, IsBelowAllOnes, IsFormed, IsOn, all_ones, wear_at, word_at};
 ghost use Rattle.ee_flash.specs.Size.{page_count};

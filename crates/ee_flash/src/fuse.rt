@@ -1,3 +1,4 @@
+//! A cut that is to come: how many steps pass before it, and what it leaves of the words of its step.
 ghost use Rattle.std.specs.Prelude.{◌<◌, ◌≡◌};
 ghost use Rattle.ee_flash.specs.Device.{IsBelowAllOnes, all_ones};
 ghost use Rattle.ee_flash.specs.Fuse.{left_at, left_page, left_word};
@@ -44,7 +45,7 @@ impl Tear {
         }
     }
 
-    // What a cut erase leaves of the word at this place of its page.
+    /// What a cut erase leaves of the word at this place of its page.
     fn erased(self, at: usize, word: Word) -> Word
         ensures { result ≡ left_at self at word }
     {

@@ -1,3 +1,4 @@
+//! The flash device in memory: its words, the wears of its pages, and a fuse that may cut a step.
 ghost use Rattle.std.specs.Bool.{MatchBool};
 ghost use Rattle.std.specs.Prelude.{true, ◌<◌, ◌≤◌, ◌*◌, ◌≡◌, ◌⊎◌, ◌+◌, ◌↔◌, IfErr, IfNone, IfOk, IfSome, IsTrue, OnErr, OnOk, is_ok, replicate, vec_len};
 ghost use Rattle.std.specs.List.{All};
@@ -26,7 +27,7 @@ pub enum CellFault {
 #[derive(Drop)]
 pub struct MemFlash<A: Allocator = Global> {
     shape: Shape,
-    // The words of the first page, then those of the second, and so on.
+    /// The words of the first page, then those of the second, and so on.
     cells: Vec<Word, A>,
     wear: Vec<u64, A>,
     cuts: u64,
@@ -126,8 +127,8 @@ impl<A: Allocator> MemFlash<A> {
         self.steps
     }
 
-    // How a step begins: it is counted, and cut if the fuse says so. While power is off nothing
-    // changes.
+    /// How a step begins: it is counted, and cut if the fuse says so. While power is off nothing
+    /// changes.
     fn begin(&mut self) -> Result<Option<Tear>, Cut>
         ensures off { OnErr result (IsOff (device_of self.old)) }
         ensures untouched { OnErr result (memory_of self.new ≡ memory_of self.old) }
@@ -155,7 +156,7 @@ impl<A: Allocator> MemFlash<A> {
         Ok(Some(fuse.tear))
     }
 
-    // The place of a page's first word among the cells.
+    /// The place of a page's first word among the cells.
     fn page_start(&self, page: usize) -> usize
         requires { page < page_count self.now.shape }
         ensures value { result ≡ page * self.now.shape.words }
@@ -164,7 +165,7 @@ impl<A: Allocator> MemFlash<A> {
         page * self.shape.words()
     }
 
-    // Puts a word in a place, whatever was there.
+    /// Puts a word in a place, whatever was there.
     fn set_word(&mut self, page: usize, at: usize, word: Word)
         requires page_in_range { page < page_count self.old.shape }
         requires place_in_range { at < self.old.shape.words }
@@ -176,7 +177,7 @@ impl<A: Allocator> MemFlash<A> {
         self.cells[start + at] = word;
     }
 
-    // Counts an erase of a page.
+    /// Counts an erase of a page.
     fn wear_out(&mut self, page: usize)
         requires { page < page_count self.old.shape }
         ensures { memory_of self.new
@@ -185,7 +186,7 @@ impl<A: Allocator> MemFlash<A> {
         self.wear[page] = self.wear[page].saturating_add(1);
     }
 
-    // Leaves a page as an erase with this tear does, a whole one where it is `Done`.
+    /// Leaves a page as an erase with this tear does, a whole one where it is `Done`.
     fn tear_page(&mut self, page: usize, tear: Tear)
         requires { page < page_count self.old.shape }
         ensures left { let left = left_page tear (page_at (device_of self.old) page) in
@@ -205,14 +206,14 @@ impl<A: Allocator> MemFlash<A> {
     }
 }
 
-// Whether the word is held at `u64::MAX`.
+/// Whether the word is held at `u64::MAX`.
 fn is_all_ones(word: Word) -> bool
     ensures { MatchBool result (word ≡ Word.Held all_ones) (IsBelowAllOnes word) }
 {
     matches!(word, Word::Held(u64::MAX))
 }
 
-// The index of the first word that is held at `u64::MAX`.
+/// The index of the first word that is held at `u64::MAX`.
 fn first_all_ones(words: &[Word]) -> Option<usize>
     ensures found { IfSome result (IsFirstAllOnes words.now) }
     ensures none { IfNone result (All IsBelowAllOnes words.now) }
@@ -255,7 +256,7 @@ impl<A: Allocator> Flash for MemFlash<A> {
         self.cells[self.page_start(page) + at]
     }
 
-    // As of any device, and besides exactly what the fuse says.
+    /// As of any device, and besides exactly what the fuse says.
     fn program(&mut self, page: usize, at: usize, value: u64) -> Result<(), Cut>
         requires page_in_range { page < page_count (device_of self.old).size }
         requires place_in_range { at < (device_of self.old).size.words }
@@ -280,7 +281,7 @@ impl<A: Allocator> Flash for MemFlash<A> {
         }
     }
 
-    // As of any device, and besides exactly what the fuse says.
+    /// As of any device, and besides exactly what the fuse says.
     fn erase(&mut self, page: usize) -> Result<(), Cut>
         requires { page < page_count (device_of self.old).size }
         ensures on { OnOk result (IsOn (device_of self.old)) }
@@ -317,7 +318,7 @@ impl<A: Allocator> Flash for MemFlash<A> {
         }
     }
 
-    // As of any device, and the fuse stays.
+    /// As of any device, and the fuse stays.
     fn power_on(&mut self)
         ensures { memory_of self.new
             ≡ with_device (record (device_of self.old) { on = true }) (memory_of self.old) }

@@ -1,3 +1,4 @@
+//! How large a device is: two sets of as many pages, and each page a header and slots.
 ghost use Rattle.std.specs.Prelude.{◌≤◌, ◌≡◌, SomeIff};
 ghost use Rattle.ee_flash.specs.Size.{IsWithinLimits, size_of, slot_count};
 

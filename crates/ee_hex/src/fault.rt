@@ -1,3 +1,4 @@
+//! Why a text isn't read as Intel HEX.
 use std::alloc::AllocError;
 
 /// Why a text isn't read.

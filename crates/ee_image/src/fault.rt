@@ -1,3 +1,4 @@
+//! Why a text isn't read as an image.
 use std::alloc::AllocError;
 
 /// Why a text isn't read as an image.

@@ -36,7 +36,7 @@ pub(crate) fn push_word<A: Allocator>(out: &mut Vec<u8, A>, word: Word) -> Resul
     }
 }
 
-// The word that sixteen digits at the front of a text spell, and what stands behind them.
+/// The word that sixteen digits at the front of a text spell, and what stands behind them.
 fn leading_held(text: &[u8]) -> Option<(Word, &[u8])>
     ensures found { IfSome result (λ parts. IsBelowAllOnes parts.0
         × (text.now ≡ word_text parts.0 ++ parts.1.now)) }
@@ -48,8 +48,8 @@ fn leading_held(text: &[u8]) -> Option<(Word, &[u8])>
     Some((Word::Held(read_digits(digits)?), behind))
 }
 
-// The number, below `u64::MAX`, that sixteen digits spell. `hex` takes upper case too, so the text is
-// compared with what would be written.
+/// The number, below `u64::MAX`, that sixteen digits spell. `hex` takes upper case too, so the text is
+/// compared with what would be written.
 fn read_digits(text: &[u8; 16]) -> Option<u64>
     ensures found { IfSome result (λ value. (value < all_ones) × (text.now ≡ digits value)) }
     ensures only { (value : ℕ) → value < all_ones → text.now ≡ digits value
@@ -62,7 +62,7 @@ fn read_digits(text: &[u8; 16]) -> Option<u64>
     Some(value)
 }
 
-// The sixteen digits of a number.
+/// The sixteen digits of a number.
 fn digits_of(value: u64) -> [u8; 16]
     ensures { result ≡ digits value }
 {

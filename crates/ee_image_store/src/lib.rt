@@ -1,5 +1,5 @@
-//! What the commands of `ee` on images share: the store that is opened of an image's text, and the text
-//! that is left of a device.
+//! What the commands of `ee` on images share: the store that is opened of an image's text, the text that
+//! is left of a device, and what a command gives that changes an image.
 //!
 //! `specs/Opening.antt` says what is opened and what is left, `specs/FileFaults.antt` why nothing is, as
 //! the program tells it, `specs/Machine.antt` is the report machine, which answers a script's commands,
@@ -12,4 +12,4 @@
 
 mod opening;
 
-pub use opening::{new_store, open_image, text_left, text_of};
+pub use opening::{ImageAndText, new_store, open_image, text_left, text_of};

@@ -9,7 +9,18 @@ use ee_faults::ReplayFault;
 use ee_flash::{Flash, MemFlash, Shape};
 use ee_image::{read_image, write_image};
 use ee_pages::ScanFault;
-use std::alloc::{AllocError, Allocator};
+use std::alloc::{AllocError, Allocator, Global};
+
+/// What a command gives that changes an image.
+///
+/// Source: ours.
+#[derive(Debug, Drop)]
+pub struct ImageAndText<A: Allocator = Global> {
+    /// The text of the image that is left.
+    pub image: Vec<u8, A>,
+    /// What there is to print.
+    pub text: Vec<u8, A>,
+}
 
 /// The store of the image that a text spells, in memory.
 pub fn open_image<A: Allocator + Copy>(

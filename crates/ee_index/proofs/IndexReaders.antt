@@ -111,7 +111,7 @@ hides_no_more (Some named) passed found left sorted hides =
 -- where a cursor stands before it gives the next entry: behind one that is hidden, if there is one
 before_next : (slots : List Word) (hidden after : Option ℕ) (entries left : List (ℕ × ℕ)) (found : ℕ × ℕ) → IsLeft slots hidden after entries → IsNextShown hidden entries (Some found) left
     → IsLeft slots hidden after (found ∷ left) × (is_first hidden found.0 ≡ false)
-before_next slots hidden after entries left found so_far (inl (shown_index, is)) = (subst (λ (entries : List (ℕ × ℕ)). IsLeft slots hidden after entries) is so_far, shown_index)
+before_next slots hidden after entries left found so_far (inl (shown, is)) = (subst (λ (entries : List (ℕ × ℕ)). IsLeft slots hidden after entries) is so_far, shown)
 before_next slots hidden after entries left found so_far (inr (passed, hides, is)) =
     let all = subst (λ (entries : List (ℕ × ℕ)). IsLeft slots hidden after entries) is so_far in
     (left_behind_hidden slots hidden after passed (found ∷ left) all hides, hides_no_more hidden passed found left all.ordered hides)

@@ -1,3 +1,4 @@
+//! The index: the slot in which each live address stands, and what is read by it.
 ghost use Rattle.std.specs.Prelude.{◌≡◌, ◌<◌, ◌+◌, ℕ, IfOk, IfSome, OnOk, [], ◌∷◌, None, Some, false, slice_index_or, true};
 ghost use Rattle.std.specs.List.{All};
 ghost use Rattle.ee_codec.specs.Words.{IsAddress};
@@ -44,7 +45,7 @@ pub(crate) fn read_index<F: Flash, A: Allocator + Copy>(
     Ok(index)
 }
 
-// Enters what the slot of this number says.
+/// Enters what the slot of this number says.
 fn enter<A: Allocator + Copy>(
     index: &mut Index<A>,
     number: usize,
@@ -84,7 +85,7 @@ pub(crate) fn renumber<A: Allocator>(index: &mut Index<A>, first: Option<Address
     });
 }
 
-// The slot of the next address: `first` has the first slot, and each other takes the next number.
+/// The slot of the next address: `first` has the first slot, and each other takes the next number.
 fn next_number(numbers: &mut Range<usize>, first: Option<Address>, address: Address) -> usize
     ensures first { is_first first address ≡ true → (result ≡ 0) × (numbers.new ≡ numbers.old) }
     ensures other { is_first first address ≡ false → numbers.old.start < numbers.old.end
@@ -111,7 +112,7 @@ pub(crate) fn value_in<F: Flash>(flash: &F, layout: &Layout, number: usize) -> u
     }
 }
 
-// The first address of an index above `after`, or of all if `after` is `None`, with its slot.
+/// The first address of an index above `after`, or of all if `after` is `None`, with its slot.
 fn first_above<A: Allocator>(index: &Index<A>, after: Option<Address>) -> Option<(Address, usize)>
     ensures { IsNextLive (slot_for index.now.entries) (above_of after) result }
 {
@@ -125,7 +126,7 @@ fn first_above<A: Allocator>(index: &Index<A>, after: Option<Address>) -> Option
     }
 }
 
-// The bound at which a reader of the map begins.
+/// The bound at which a reader of the map begins.
 fn start_above(after: Option<Address>) -> Bound<Address>
     ensures { result ≡ bound_above after }
 {
@@ -235,7 +236,7 @@ impl<'a> LiveCursor for IndexCursor<'a> {
     }
 }
 
-// The next entry that is not hidden.
+/// The next entry that is not hidden.
 fn next_shown(
     entries: &mut Iter<'_, Address, usize>,
     hidden: Option<Address>,
@@ -251,7 +252,7 @@ fn next_shown(
     Some((*address, *number))
 }
 
-// The next entry.
+/// The next entry.
 fn next_left(entries: &mut Iter<'_, Address, usize>) -> Option<(Address, usize)>
     ensures none { result ≡ None → entries.old ≡ [] }
     ensures some { IfSome result (λ found. entries.old ≡ found ∷ entries.new) }

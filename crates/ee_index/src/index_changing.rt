@@ -1,3 +1,4 @@
+//! Changes with an index: room in it is made before the first step, and it follows without memory.
 ghost use Rattle.std.specs.Prelude.{◌≡◌, ◌<◌, ◌⊎◌, ℕ, IfOk, OnErr, OnOk, None, Some, is_some, true};
 ghost use Rattle.ee_codec.specs.Words.{IsAddress};
 ghost use Rattle.ee_flash.specs.Device.{IsOn};
@@ -119,7 +120,7 @@ pub(crate) fn move_indexed<F: Flash, A: Allocator>(
     Ok(())
 }
 
-// Takes an address that is forgotten from an index, and gives the one that is put.
+/// Takes an address that is forgotten from an index, and gives the one that is put.
 fn leave<A: Allocator>(index: &mut Index<A>, change: &Change) -> Option<Address>
     ensures first { result ≡ put_of (meant change.now) }
     ensures left { (address : ℕ) → slot_for index.new.entries address

@@ -1,3 +1,4 @@
+//! The store with an index: a read is one look in it and one word of the flash.
 ghost use Rattle.std.specs.Bool.{MatchBool};
 ghost use Rattle.std.specs.Prelude.{◌≡◌, ◌≢◌, ◌<◌, ◌-◌, IfErr, IfOk, IfSome, MatchOption, OnErr, OnOk, length};
 ghost use Rattle.ee_codec.specs.Words.{IsAddress};
@@ -68,8 +69,8 @@ pub struct Kept<A: Allocator = Global> {
 }
 
 impl<A: Allocator> Kept<A> {
-    /// How many used slots a look for the value of an address would go through, from the newest back to the one that has it:
-    /// all, if none has.
+    /// How many used slots a look for the value of an address would go through, from the newest back to the one that
+    /// has it: all, if none has.
     pub fn looks_for(&self, address: Address) -> usize
         ensures { MatchOption (slot_for self.now.index.entries address)
             (result ≡ self.now.layout.fill)

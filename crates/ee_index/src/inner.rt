@@ -1,5 +1,5 @@
-//! The parts of a store with an index, for `ee_replay` alone, which arms the device in memory that a store keeps, makes an
-//! index for a store that is open, and gives it back.
+//! The parts of a store with an index, for `ee_replay` alone, which arms the device in memory that a store keeps, makes
+//! an index for a store that is open, and gives it back.
 ghost use Rattle.std.specs.Prelude.{◌≡◌, IfErr, IfOk};
 ghost use Rattle.ee_flash.specs.Device.{IsOn};
 

@@ -126,8 +126,8 @@ module _ (start : Device) (listed : List ListedStep) (count : ℕ) (room : count
       ∙ ap (λ (device : Device). device.wear) (one_more_step steps (Erase page) start))
 
 -- the items of a wear after one was counted
-pub worn_items : (items seen read : List ℕ) (page with_page_worn : ℕ) → seen ≡ items → read ≡ items → with_page_worn ≡ min (get_or read page 0 + 1) all_ones → refill (length items) items (set seen page with_page_worn) ≡ set items page (one_more (get_or items page 0))
-worn_items items seen read page with_page_worn is_seen is_read is_worn = search (rules, length-set, take_at)
+pub worn_items : (items seen read : List ℕ) (page worn : ℕ) → seen ≡ items → read ≡ items → worn ≡ min (get_or read page 0 + 1) all_ones → refill (length items) items (set seen page worn) ≡ set items page (one_more (get_or items page 0))
+worn_items items seen read page worn is_seen is_read is_worn = search (rules, length-set, take_at)
 
 -- the word that a number with its flag means
 pub decoded_at : (words flags : List ℕ) (place : ℕ) → place < length words → place < length flags → get_or (cells_of words flags) place Erased ≡ word_of_number (get_or words place 0) (get_or flags place 0)

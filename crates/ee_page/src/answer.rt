@@ -1,3 +1,4 @@
+//! What a call answers, and the numbers by which its caller is told.
 ghost use Rattle.std.specs.Prelude.{◌≡◌};
 
 use ee_pages::ScanFault;

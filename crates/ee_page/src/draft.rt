@@ -1,3 +1,4 @@
+//! A device that lists the steps that it is asked for, in place of taking them.
 ghost use Rattle.std.specs.Prelude.{◌<◌, ◌≤◌, ◌≡◌, ◌⊎◌, ◌*◌, OnErr, OnOk, length, take, true};
 ghost use Rattle.std.specs.List.{All};
 ghost use Rattle.ee_flash.specs.Device.{IsBelowAllOnes, all_ones};
@@ -51,11 +52,11 @@ pub(crate) struct DraftFlash<'w, 'l, K: Lent> {
     words: &'w [u64],
     flags: &'w [u8],
     listed: &'l mut [ListedStep],
-    // How many steps of the list are listed.
+    /// How many steps of the list are listed.
     count: usize,
-    // How often each page was erased, by a step that found no place in the list too.
+    /// How often each page was erased, by a step that found no place in the list too.
     wear: ArrayVec<u64, GREATEST_PAGES>,
-    // How many steps found none.
+    /// How many steps found none.
     cuts: u64,
     on: bool,
     lent: PhantomData<K>,
@@ -91,7 +92,7 @@ pub(crate) fn decode(number: u64, flag: u8) -> Word
     Word::Held(number)
 }
 
-// The wears of a device's pages, copied.
+/// The wears of a device's pages, copied.
 fn wear_of(wears: &[u64]) -> ArrayVec<u64, GREATEST_PAGES>
     requires { length wears.now ≤ 128 }
     ensures { result.items ≡ wears.now }

@@ -1,3 +1,4 @@
+//! A request, drafted: a store is made or opened on a draft and asked, and its steps are listed.
 ghost use Rattle.std.specs.Prelude.{◌≡◌, ◌≢◌};
 ghost use Rattle.ee_flash.specs.Device.{IsOn};
 ghost use Rattle.ee_page.specs.Calls.{Answers, AnswersOpen, Drafts, cuts_after};
@@ -32,8 +33,8 @@ pub(crate) fn draft<'w, 'l, K: Lent>(
     draft.ended(answer)
 }
 
-// Asks a device for what is requested: it is formatted, or its store is opened first. A cut of power
-// says that the list is too short.
+/// Asks a device for what is requested: it is formatted, or its store is opened first. A cut of power
+/// says that the list is too short.
 #[tactic(auto, using(crate::proofs::AnsweredCalls::opened_first))]
 fn ask<F: Flash + Drop>(flash: F, request: Request<Address>) -> (F, Answer)
     requires { IsOn (F.device flash) }
@@ -59,7 +60,7 @@ fn ask<F: Flash + Drop>(flash: F, request: Request<Address>) -> (F, Answer)
     }
 }
 
-// Asks a store that was opened. It is on and keeps no index, so it answers neither `Off` nor `Memory`.
+/// Asks a store that was opened. It is on and keeps no index, so it answers neither `Off` nor `Memory`.
 fn ask_open<F: Flash + Drop>(store: &mut Store<F>, request: Request<Address>) -> Answer
     requires on { IsOn store.old }
     requires opened { request ≢ Request.Format }

@@ -1,3 +1,4 @@
+//! The calls that may change a store, as the module exports them.
 ghost use Rattle.ee_flash.specs.Size.{size_of};
 ghost use Rattle.ee_page.specs.Exports.{MakesCall};
 ghost use Rattle.ee_page.specs.Mirror.{mirror_of};
@@ -127,7 +128,7 @@ pub extern "C" fn ee_clean(
     make_call(pages, page_words, words, flags, wears, listed, request)
 }
 
-// Makes a call: it judges the shape first, and then the address.
+/// Makes a call: it judges the shape first, and then the address.
 #[tactic(auto, using(crate::proofs::AnsweredCalls::shape_refused, crate::proofs::AnsweredCalls::address_refused))]
 fn make_call(
     pages: usize,

@@ -1,3 +1,4 @@
+//! A step as it is listed.
 ghost use Rattle.std.specs.Prelude.{◌≡◌, ◌<◌};
 ghost use Rattle.ee_flash.specs.Step.{Erase};
 ghost use Rattle.ee_flash.specs.Device.{all_ones};

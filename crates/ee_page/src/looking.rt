@@ -1,3 +1,4 @@
+//! What a look finds in a store: an address with its value, or how far the store is used.
 ghost use Rattle.std.specs.Prelude.{◌≡◌};
 ghost use Rattle.ee_page.specs.Looks.{AreStoreCounts, IsNext, IsValueRead};
 ghost use Rattle.ee_page.specs.Mirror.{IsMirror, mirrored_device};
@@ -165,7 +166,7 @@ pub(crate) fn look_up<'w, 'l, K: Lent>(
     (found, listed)
 }
 
-// Looks an address up in any device.
+/// Looks an address up in any device.
 fn find<F: Flash>(flash: &F, address: Address) -> Found
     ensures { IsValueRead (F.device flash.now) address result }
 {
@@ -203,7 +204,7 @@ pub(crate) fn look_on<'w, 'l, K: Lent>(
     (found, listed)
 }
 
-// Looks for the next address in any device.
+/// Looks for the next address in any device.
 fn find_next<F: Flash>(flash: &F, after: Option<Address>) -> Found
     ensures { IsNext (F.device flash.now) (above_of after) result }
 {
@@ -240,7 +241,7 @@ pub(crate) fn count<'w, 'l, K: Lent>(
     (found, listed)
 }
 
-// Counts what is used in any device.
+/// Counts what is used in any device.
 fn find_counts<F: Flash>(flash: &F) -> Counts
     ensures { AreStoreCounts (F.device flash.now) result }
 {

@@ -1,3 +1,4 @@
+//! The calls that look at a store and take no step, as the module exports them.
 ghost use Rattle.std.specs.Prelude.{◌<◌};
 ghost use Rattle.ee_codec.specs.Words.{IsAddress};
 ghost use Rattle.ee_flash.specs.Size.{size_of};

@@ -1,3 +1,4 @@
+//! A call's mirror, before and after: its shape is judged, and then the list is played on it.
 ghost use Rattle.std.specs.Prelude.{◌≡◌, ◌≤◌, SomeIff, false, length, take, true};
 ghost use Rattle.std.specs.List.{All};
 ghost use Rattle.ee_flash.specs.Endurance.{CanTakeAll};

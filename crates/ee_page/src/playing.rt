@@ -1,3 +1,4 @@
+//! The playing of a list: its steps are taken on the mirror, in order.
 ghost use Rattle.std.specs.Prelude.{◌<◌, ◌≤◌, ◌≡◌, ◌+◌, ◌*◌, List, length, ℕ};
 ghost use Rattle.ee_flash.specs.Device.{all_ones};
 ghost use Rattle.ee_flash.specs.Endurance.{CanTakeAll};
@@ -33,7 +34,7 @@ pub(crate) fn play(
     }
 }
 
-// Takes one step on a mirror.
+/// Takes one step on a mirror.
 fn take_step(shape: Shape, words: &mut [u64], flags: &mut [u8], wears: &mut [u64], step: ListedStep)
     requires mirror { IsMirror shape words.old flags.old wears.old }
     requires may { CanTake (step_listed_so step) (mirrored_device shape words.old flags.old wears.old) }
@@ -48,7 +49,7 @@ fn take_step(shape: Shape, words: &mut [u64], flags: &mut [u8], wears: &mut [u64
     }
 }
 
-// Programs a word of a mirror.
+/// Programs a word of a mirror.
 fn program(shape: Shape, words: &mut [u64], flags: &mut [u8], page: usize, at: usize, value: u64)
     requires words { length words.old ≡ page_count shape * shape.words }
     requires flags { length flags.old ≡ page_count shape * shape.words }
@@ -65,7 +66,7 @@ fn program(shape: Shape, words: &mut [u64], flags: &mut [u8], page: usize, at: u
     flags[place] = 0;
 }
 
-// Erases a page of a mirror.
+/// Erases a page of a mirror.
 fn erase(shape: Shape, words: &mut [u64], flags: &mut [u8], wears: &mut [u64], page: usize)
     requires mirror { IsMirror shape words.old flags.old wears.old }
     requires page_in_range { page < page_count shape }

@@ -1,3 +1,4 @@
+//! What a caller asks of a store, before and after its address was judged.
 ghost use Rattle.std.specs.Prelude.{SomeIff};
 ghost use Rattle.ee_page.specs.Exports.{IsProperRequest};
 

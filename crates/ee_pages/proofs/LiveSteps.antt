@@ -29,20 +29,20 @@ use Rattle.ee_pages.proofs.SlotWrites.{IsSlotWritten, change_written, changes, t
 same_commit : (old new : List (List Word)) → word_of new 0 0 ≡ word_of old 0 0 → word_of new 0 1 ≡ word_of old 0 1 → committed_generation new ≡ committed_generation old
 same_commit old new receive mark = rw (receive, mark) refl
 
-module _ (side : Side) (old new : Device) (generation : ℕ) (live : IsLive old side generation) (formed : IsFormed new) (same_size : new.size ≡ old.size) (apart : set_of (other side) new ≡ set_of (other side) old) where
+module _ (side : Side) (old new : Device) (generation : ℕ) (live : IsLive old side generation) (formed : IsFormed new) (sizes : new.size ≡ old.size) (apart : set_of (other side) new ≡ set_of (other side) old) where
   -- the set is live still, if its first page commits it as before and the table is obeyed
   live_after : committed_generation (set_of side new) ≡ committed_generation (set_of side old) → IsObeyed old.size generation (set_of side new) → IsLive new side generation
   live_after commit obeyed = record {
     formed = formed;
     live = same_live side old new commit apart ∙ live.live;
-    allowed = subst (λ size. IsObeyed size generation (set_of side new)) (sym same_size) obeyed;
+    allowed = subst (λ size. IsObeyed size generation (set_of side new)) (sym sizes) obeyed;
   }
 
   -- and then it is as it was, if its slots are
   keeps : committed_generation (set_of side new) ≡ committed_generation (set_of side old) → IsObeyed old.size generation (set_of side new) → slots_of (set_of side new) ≡ slots_of (set_of side old) → KeepsLiveSet old new side generation
   keeps commit obeyed same = record {
     live = live_after commit obeyed;
-    same_size = same_size;
+    same_size = sizes;
     same_slots = same;
     same_fill = ap fill_of same;
     same_map = λ address. ap (λ slots. meaning slots address) same;
@@ -54,7 +54,7 @@ module _ (side : Side) (old new : Device) (generation : ℕ) (live : IsLive old 
   takes : (slot : ℕ) (word : Word) (map : Map) → IsSlotWritten old generation slot word (set_of side old) (set_of side new) → ((address : ℕ) → meaning (slots_of (set_of side new)) address ≡ map address) → TakesSlot old new side generation map
   takes slot word map written means = record {
     live = live_after (same_commit (set_of side old) (set_of side new) (written.headers 0 0 (omega arith)) (written.headers 0 1 (omega arith))) written.obeyed;
-    same_size = same_size;
+    same_size = sizes;
     one_more = omega (arith, written.one_more);
     map_is = means;
   }

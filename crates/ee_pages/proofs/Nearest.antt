@@ -362,10 +362,10 @@ module _ (room : ℕ) where
 
   -- one slot more
   pub one_slot : (above : ℕ) (slots : List Word) (slot : ℕ) (word : Word) (named : Option Named) (list after : List Named) → slot < length slots → word ≡ get_or slots slot Erased → named ≡ slot_names (slot_of word) → list ≡ take room (with_each_named above (take slot slots) []) → after ≡ take room (noted_above above named list) → after ≡ take room (with_each_named above (take (slot + 1) slots) [])
-  one_slot above slots slot word named list after within is names before with_named =
+  one_slot above slots slot word named list after within is names before noted =
       let start = with_each_named above (take slot slots) [] in
       let said = slot_names (slot_of (get_or slots slot Erased)) in
-      with_named
+      noted
       ∙ ap (λ (new : Option Named). take room (noted_above above new list)) (names ∙ ap (λ (w : Word). slot_names (slot_of w)) is)
       ∙ ap (λ (l : List Named). take room (noted_above above said l)) before
       ∙ few-noted_above room above said start

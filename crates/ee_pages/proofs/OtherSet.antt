@@ -134,13 +134,13 @@ commits_by side device formed = rw (first_word side device 0 formed, first_word 
 
 -- so the live set is live still, where the other one commits as it did, or not at all
 pub keeps_live : (side : Side) (old new : Device) (generation : ℕ) → IsLive old side generation → IsFormed new → new.size ≡ old.size → set_of side new ≡ set_of side old → (committed_generation (set_of (other side) new) ≡ committed_generation (set_of (other side) old)) ⊎ (committed_generation (set_of (other side) new) ≡ None) → KeepsLiveSet old new side generation
-keeps_live side old new generation live formed same_size same after = record {
+keeps_live side old new generation live formed sizes same after = record {
   live = record {
     formed = formed;
     live = live_stays side old new generation same after live.live;
-    allowed = λ page place in_range within. ap (λ (pages : List (List Word)). is_allowed_at new.size generation pages page place) same ∙ ap (λ size. is_allowed_at size generation (set_of side old) page place) same_size ∙ live.allowed page place (omega (arith, ap (λ size. size.pages) same_size)) (omega (arith, ap (λ size. size.words) same_size));
+    allowed = λ page place in_range within. ap (λ (pages : List (List Word)). is_allowed_at new.size generation pages page place) same ∙ ap (λ size. is_allowed_at size generation (set_of side old) page place) sizes ∙ live.allowed page place (omega (arith, ap (λ size. size.pages) sizes)) (omega (arith, ap (λ size. size.words) sizes));
   };
-  same_size = same_size;
+  same_size = sizes;
   same_slots = ap slots_of same;
   same_fill = ap (λ (pages : List (List Word)). fill_of (slots_of pages)) same;
   same_map = λ address. ap (λ (pages : List (List Word)). meaning (slots_of pages) address) same;

@@ -14,11 +14,12 @@ use Rattle.ee_pages.specs.Sets.{fill_of, first_page, other, page_of_slot, place_
 use Rattle.ee_pages.specs.declared.side.Side.{Side}
 use Rattle.ee_pages.specs.declared.state.Mark.{Mark}
 use Rattle.ee_pages.specs.declared.state.Mark.TheVariants.{Active, Valid}
+use Rattle.ee_flash.specs.declared.shape.TheConstants.{HEADER_WORDS}
 
 -- an active or valid mark of a page of the set, with every slot before that page written
 pub record IsMarkBehind (device : Device) (side : Side) (page : ℕ) (mark : Mark) : Type 0 where
   pub in_range : page < device.size.pages
-  pub behind : page * (device.size.words - 4) ≤ fill_of (slots_of (set_of side device))
+  pub behind : page * (device.size.words - HEADER_WORDS) ≤ fill_of (slots_of (set_of side device))
   pub active_or_valid : (mark ≡ Active) ⊎ (mark ≡ Valid)
 
 -- every outcome of programming such a mark keeps the live set, and the other set as it was

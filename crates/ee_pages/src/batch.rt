@@ -1,4 +1,6 @@
+//! The next live addresses, as many as are found in one look through the slots.
 ghost use Rattle.std.specs.Prelude.{◌≡◌, ◌≤◌, ◌<◌, ◌+◌, ◌-◌, ◌*◌, ◌∷◌, ◌++◌, ℕ, [], IfNone, IfSome, None, Some, length, take};
+ghost use Rattle.ee_flash.specs.declared.shape.TheConstants.{HEADER_WORDS};
 ghost use Rattle.std.specs.List.{All};
 ghost use Rattle.ee_codec.specs.Reading.{slot_of};
 ghost use Rattle.ee_codec.specs.Words.{IsAddress};
@@ -66,7 +68,7 @@ pub fn next_batch<F: Flash>(
     batch.found.keep_living();
 }
 
-// The number above which a batch begins.
+/// The number above which a batch begins.
 fn number_of(after: Option<Address>) -> u16
     ensures { result ≡ above_of after }
 {
@@ -76,8 +78,8 @@ fn number_of(after: Option<Address>) -> u16
     }
 }
 
-// Puts in the next addresses above this one of which a slot says something, each with what the last
-// one says.
+/// Puts in the next addresses above this one of which a slot says something, each with what the last
+/// one says.
 fn gather<F: Flash>(flash: &F, side: Side, above: u16, nearest: &mut Batch)
     requires { nearest.old.named ≡ [] }
     ensures { let slots = slots_of (set_of side (F.device flash.now)) in
@@ -88,22 +90,22 @@ fn gather<F: Flash>(flash: &F, side: Side, above: u16, nearest: &mut Batch)
     }
 }
 
-// Notes what the slots of a page say, behind those of the pages before.
+/// Notes what the slots of a page say, behind those of the pages before.
 fn gather_page<F: Flash>(flash: &F, side: Side, page: usize, above: u16, nearest: &mut Batch)
     requires page_in_range { page < (F.device flash.now).size.pages }
     requires before { let device = F.device flash.now in nearest.old.named
         ≡ take BATCH (with_each_named above
-        (take (page * (device.size.words - 4)) (slots_of (set_of side device))) []) }
+        (take (page * (device.size.words - HEADER_WORDS)) (slots_of (set_of side device))) []) }
     ensures { let device = F.device flash.now in nearest.new.named
         ≡ take BATCH (with_each_named above
-        (take ((page + 1) * (device.size.words - 4)) (slots_of (set_of side device))) []) }
+        (take ((page + 1) * (device.size.words - HEADER_WORDS)) (slots_of (set_of side device))) []) }
 {
     for slot in 0..flash.shape().words() - HEADER_WORDS {
         note(above, page_slot(flash, side, page, slot), nearest);
     }
 }
 
-// Notes what a word says, if it is of an address above this one.
+/// Notes what a word says, if it is of an address above this one.
 fn note(above: u16, word: Word, nearest: &mut Batch)
     requires rising { IsRising above nearest.old.named }
     requires few { length nearest.old.named ≤ BATCH }
@@ -118,7 +120,7 @@ fn note(above: u16, word: Word, nearest: &mut Batch)
     note_named(above, named(word), nearest);
 }
 
-// The only address of which a word can say something, and 0 if there is none.
+/// The only address of which a word can say something, and 0 if there is none.
 fn ending_of(word: Word) -> u16
     ensures { (name : Named) → slot_names (slot_of word) ≡ Some name → name.0 ≡ result }
 {
@@ -128,7 +130,7 @@ fn ending_of(word: Word) -> u16
     }
 }
 
-// The address of which a word says something, with what it says.
+/// The address of which a word says something, with what it says.
 fn named(word: Word) -> Option<(Address, Option<u32>)>
     ensures { result ≡ slot_names (slot_of word) }
 {
@@ -139,7 +141,7 @@ fn named(word: Word) -> Option<(Address, Option<u32>)>
     }
 }
 
-// Notes what is named, if it is an address above this one.
+/// Notes what is named, if it is an address above this one.
 fn note_named(above: u16, named: Option<(Address, Option<u32>)>, nearest: &mut Batch)
     requires rising { IsRising above nearest.old.named }
     requires few { length nearest.old.named ≤ BATCH }
@@ -150,7 +152,7 @@ fn note_named(above: u16, named: Option<(Address, Option<u32>)>, nearest: &mut B
     }
 }
 
-// Notes what is said of an address, if it is above this one.
+/// Notes what is said of an address, if it is above this one.
 fn note_said(above: u16, address: Address, said: Option<u32>, nearest: &mut Batch)
     requires rising { IsRising above nearest.old.named }
     requires few { length nearest.old.named ≤ BATCH }
@@ -166,8 +168,8 @@ fn note_said(above: u16, address: Address, said: Option<u32>, nearest: &mut Batc
     }
 }
 
-// Puts an address in its place, over what was noted of it; where there is no room the last one
-// falls out.
+/// Puts an address in its place, over what was noted of it; where there is no room the last one
+/// falls out.
 fn put(nearest: &mut Batch, place: usize, address: Address, said: Option<u32>)
     requires place { IsPlace address nearest.old.named place }
     requires within { place ≤ length nearest.old.named }

@@ -1,3 +1,4 @@
+//! The room of a batch: up to `BATCH` addresses with their values, and while it is filled some with none.
 ghost use Rattle.std.specs.Prelude.{◌≡◌, ◌≢◌, ◌<◌, ◌≤◌, ◌+◌, ◌==◌, ℕ, List, [], ◌∷◌, ◌++◌, IfNone, IfSome, None, false, insert, length, slice_index_or, slice_set, take, true};
 ghost use Rattle.std.specs.List.{All};
 ghost use Rattle.ee_codec.specs.Words.{IsAddress};
@@ -17,7 +18,7 @@ pub const BATCH: usize = 16;
 #[derive(Drop)]
 pub struct Batch {
     items: [(Address, u32); BATCH],
-    // Which of them have a value.
+    /// Which of them have a value.
     lives: [bool; BATCH],
     len: usize,
 }
@@ -92,15 +93,15 @@ impl Batch {
         self.len += 1;
     }
 
-    // Takes all addresses out.
+    /// Takes all addresses out.
     pub(crate) fn clear(&mut self)
         ensures { self.new.named ≡ [] }
     {
         self.len = 0;
     }
 
-    // How many of the addresses, which rise, are below this one. It looks from the last down, since
-    // most addresses are above all.
+    /// How many of the addresses, which rise, are below this one. It looks from the last down, since
+    /// most addresses are above all.
     pub(crate) fn place_of(&self, address: Address) -> usize
         requires { (above : ℕ) × IsRising above self.now.named }
         ensures place { IsPlace address self.now.named result }
@@ -109,7 +110,7 @@ impl Batch {
         place_in(&self.items[..self.len], address)
     }
 
-    // Whether this address stands at this place.
+    /// Whether this address stands at this place.
     pub(crate) fn has(&self, place: usize, address: Address) -> bool
         ensures yes { result ≡ true → (place < length self.now.named)
             × ((slice_index_or self.now.named place (0, None)).0 ≡ address) }
@@ -119,7 +120,7 @@ impl Batch {
         place < self.len && self.items[place].0.get() == address.get()
     }
 
-    // Says this of the address at this place.
+    /// Says this of the address at this place.
     pub(crate) fn set(&mut self, place: usize, address: Address, said: Option<u32>)
         requires within { place < length self.old.named }
         requires room { place < BATCH }
@@ -129,7 +130,7 @@ impl Batch {
         self.lives[place] = said.is_some();
     }
 
-    // Puts an address in at this place. Where there is no room the last one falls out.
+    /// Puts an address in at this place. Where there is no room the last one falls out.
     pub(crate) fn insert(&mut self, place: usize, address: Address, said: Option<u32>)
         requires within { place ≤ length self.old.named }
         requires room { place < BATCH }
@@ -141,7 +142,7 @@ impl Batch {
         self.len = end;
     }
 
-    // The last address, where there is no room for one more.
+    /// The last address, where there is no room for one more.
     pub(crate) fn last_if_full(&self) -> Option<Address>
         ensures none { IfNone result (length self.now.named < BATCH) }
         ensures full { IfSome result (λ last. length self.now.named ≡ BATCH) }
@@ -155,7 +156,7 @@ impl Batch {
         Some(last)
     }
 
-    // Whether there is no room for one more, and the last address is below this number.
+    /// Whether there is no room for one more, and the last address is below this number.
     pub(crate) fn ends_before(&self, number: u16) -> bool
         ensures full { result ≡ true → length self.now.named ≡ BATCH }
         ensures last { (above : ℕ) → result ≡ true → last_named above self.now.named < number }
@@ -166,7 +167,7 @@ impl Batch {
         }
     }
 
-    // Keeps those that have a value.
+    /// Keeps those that have a value.
     pub(crate) fn keep_living(&mut self)
         ensures items { self.new.items ≡ living self.old.named }
         ensures proper { All (λ found. IsAddress found.0) self.new.items }
@@ -175,7 +176,7 @@ impl Batch {
     }
 }
 
-// One more, up to the room of a batch.
+/// One more, up to the room of a batch.
 fn one_more(count: usize) -> usize
     requires { count ≤ BATCH }
     ensures room { count < BATCH → result ≡ count + 1 }
@@ -186,7 +187,7 @@ fn one_more(count: usize) -> usize
     if count < BATCH { count + 1 } else { BATCH }
 }
 
-// How many of these addresses, which rise, are below this one.
+/// How many of these addresses, which rise, are below this one.
 fn place_in(rising: &[(Address, u32)], address: Address) -> usize
     requires { (above : ℕ) × IsRising above rising.now }
     ensures place { IsPlace address rising.now result }
@@ -199,8 +200,8 @@ fn place_in(rising: &[(Address, u32)], address: Address) -> usize
     place
 }
 
-// Puts an item in at this place of a list, and moves what stands from there on to before `end` one
-// further; the last of these falls out.
+/// Puts an item in at this place of a list, and moves what stands from there on to before `end` one
+/// further; the last of these falls out.
 fn put_in<T: Copy>(list: &mut [T], place: usize, end: usize, item: T)
     requires place { place ≤ end }
     requires end { end ≤ length list.old }
@@ -214,7 +215,7 @@ fn put_in<T: Copy>(list: &mut [T], place: usize, end: usize, item: T)
     }
 }
 
-// Moves those of the first `count` that have a value to the front, and says how many there are.
+/// Moves those of the first `count` that have a value to the front, and says how many there are.
 fn keep(items: &mut [(Address, u32)], lives: &[bool], count: usize) -> usize
     requires items { count ≤ length items.old }
     requires lives { count ≤ length lives.now }
@@ -234,7 +235,7 @@ fn keep(items: &mut [(Address, u32)], lives: &[bool], count: usize) -> usize
     kept
 }
 
-// Puts an address with its value at this place.
+/// Puts an address with its value at this place.
 fn put_at(items: &mut [(Address, u32)], place: usize, address: Address, value: u32)
     requires { place < length items.old }
     ensures items { items.new ≡ slice_set items.old place (address, value) }

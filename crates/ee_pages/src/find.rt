@@ -1,7 +1,9 @@
+//! The scan: where the live set of a legal image is and how far it is used, or why an image isn't legal.
 ghost use Rattle.std.specs.Bool.{MatchBool};
 ghost use Rattle.std.specs.Prelude.{◌≡◌, ◌<◌, ◌≤◌, ◌↔◌, ℕ, ◌+◌, ◌*◌, ◌-◌, slice_index_or, IfErr, IfNone, IfOk, IfSome, IsTrue, None, Some, false, is_ok, true};
 ghost use Rattle.ee_codec.specs.Words.{IsGeneration};
 ghost use Rattle.ee_flash.specs.Size.{slot_count};
+ghost use Rattle.ee_flash.specs.declared.shape.TheConstants.{HEADER_WORDS};
 ghost use Rattle.ee_pages.specs.Layout.{IsFirstForeign, IsLayout, IsScanFault, IsUnformatted};
 ghost use Rattle.ee_pages.specs.Legal.{IsLegal, is_allowed_at};
 ghost use Rattle.ee_pages.specs.Page.{is_written as written};
@@ -75,7 +77,7 @@ pub fn scan<F: Flash>(flash: &F) -> Result<Layout, ScanFault>
     }
 }
 
-// Whether every word of the device is erased.
+/// Whether every word of the device is erased.
 fn is_unformatted<F: Flash>(flash: &F) -> bool
     ensures { MatchBool result
         (IsUnformatted (F.device flash.now)) (¬ IsUnformatted (F.device flash.now)) }
@@ -88,7 +90,7 @@ fn is_unformatted<F: Flash>(flash: &F) -> bool
     true
 }
 
-// The live set and its generation.
+/// The live set and its generation.
 fn live_set<F: Flash>(flash: &F) -> Result<(Side, u32), ScanFault>
     requires { ¬ IsUnformatted (F.device flash.now) }
     ensures live { IfOk result (λ live. live_of (F.device flash.now) ≡ Some live) }
@@ -115,8 +117,8 @@ fn live_set<F: Flash>(flash: &F) -> Result<(Side, u32), ScanFault>
     }
 }
 
-// How many slots of a set stand before the first erased one. Page by page, since finding a slot by its
-// number takes a division.
+/// How many slots of a set stand before the first erased one. Page by page, since finding a slot by its
+/// number takes a division.
 fn count_front<F: Flash>(flash: &F, side: Side) -> usize
     ensures front { result ≡ front (slots_of (set_of side (F.device flash.now))) }
     ensures within { result ≤ slot_count (F.device flash.now).size }
@@ -132,16 +134,16 @@ fn count_front<F: Flash>(flash: &F, side: Side) -> usize
     shape.slots()
 }
 
-// How many slots of a page of a set stand before the first erased one of them.
+/// How many slots of a page of a set stand before the first erased one of them.
 fn front_of_page<F: Flash>(flash: &F, side: Side, page: usize) -> usize
     requires page_in_range { page < (F.device flash.now).size.pages }
-    ensures within { result ≤ (F.device flash.now).size.words - 4 }
+    ensures within { result ≤ (F.device flash.now).size.words - HEADER_WORDS }
     ensures before { let device = F.device flash.now in (k : ℕ) → k < result
         → written (slice_index_or (slots_of (set_of side device))
-        (page * (device.size.words - 4) + k) Word.Erased) ≡ true }
-    ensures erased { let device = F.device flash.now in result < device.size.words - 4
+        (page * (device.size.words - HEADER_WORDS) + k) Word.Erased) ≡ true }
+    ensures erased { let device = F.device flash.now in result < device.size.words - HEADER_WORDS
         → written (slice_index_or (slots_of (set_of side device))
-        (page * (device.size.words - 4) + result) Word.Erased) ≡ false }
+        (page * (device.size.words - HEADER_WORDS) + result) Word.Erased) ≡ false }
 {
     let slots = flash.shape().words() - HEADER_WORDS;
     for slot in 0..slots {
@@ -152,8 +154,8 @@ fn front_of_page<F: Flash>(flash: &F, side: Side, page: usize) -> usize
     slots
 }
 
-// The first word of a live set, by page and then place, that may not stand there. The page is
-// counted from the set's first.
+/// The first word of a live set, by page and then place, that may not stand there. The page is
+/// counted from the set's first.
 fn first_foreign<F: Flash>(
     flash: &F,
     side: Side,
@@ -176,7 +178,7 @@ fn first_foreign<F: Flash>(
     None
 }
 
-// The first word of a page of a live set that may not stand there.
+/// The first word of a page of a live set that may not stand there.
 fn foreign_in_page<F: Flash>(
     flash: &F,
     side: Side,

@@ -1,7 +1,9 @@
+//! What the slots of a live set say: values, the next live address, how many are live, how many torn.
 ghost use Rattle.std.specs.Prelude.{◌≡◌, ◌<◌, ◌≤◌, ◌+◌, ◌-◌, ◌*◌, ℕ, IfSome, drop, slice_index_or, take, true};
 ghost use Rattle.ee_codec.specs.Reading.{ends_in as word_ends_in};
 ghost use Rattle.ee_codec.specs.Words.{IsAddress};
 ghost use Rattle.ee_flash.specs.Size.{slot_count};
+ghost use Rattle.ee_flash.specs.declared.shape.TheConstants.{HEADER_WORDS};
 ghost use Rattle.ee_pages.specs.Layout.{IsLayout};
 ghost use Rattle.ee_pages.specs.Meaning.{IsNextLive, above_of, latest_in, live_in, meaning, says as word_says};
 ghost use Rattle.ee_pages.specs.Sets.{set_of, slots_of, torn_of};
@@ -116,14 +118,14 @@ pub fn torn_slots<F: Flash>(flash: &F, layout: &Layout) -> usize
     torn
 }
 
-// How many slots are torn up to the end of a page of a set, where this many are torn before it. Page
-// by page, since finding a slot by its number takes a division.
+/// How many slots are torn up to the end of a page of a set, where this many are torn before it. Page
+/// by page, since finding a slot by its number takes a division.
 fn torn_through<F: Flash>(flash: &F, side: Side, page: usize, before: usize) -> usize
     requires page_in_range { page < (F.device flash.now).size.pages }
     requires before { let device = F.device flash.now in before
-        ≡ torn_of (take (page * (device.size.words - 4)) (slots_of (set_of side device))) }
+        ≡ torn_of (take (page * (device.size.words - HEADER_WORDS)) (slots_of (set_of side device))) }
     ensures { let device = F.device flash.now in result
-        ≡ torn_of (take ((page + 1) * (device.size.words - 4)) (slots_of (set_of side device))) }
+        ≡ torn_of (take ((page + 1) * (device.size.words - HEADER_WORDS)) (slots_of (set_of side device))) }
 {
     let mut torn = before;
     for slot in 0..flash.shape().words() - HEADER_WORDS {
@@ -134,8 +136,8 @@ fn torn_through<F: Flash>(flash: &F, side: Side, page: usize, before: usize) -> 
     torn
 }
 
-// What the first `used` slots of a page of a set say of an address: the newest that says something
-// counts.
+/// What the first `used` slots of a page of a set say of an address: the newest that says something
+/// counts.
 fn said_in_page<F: Flash>(
     flash: &F,
     side: Side,
@@ -144,8 +146,8 @@ fn said_in_page<F: Flash>(
     address: Address,
 ) -> Option<Option<u32>>
     requires page_in_range { page < (F.device flash.now).size.pages }
-    requires used_in_range { used ≤ (F.device flash.now).size.words - 4 }
-    ensures { let before = page * ((F.device flash.now).size.words - 4) in
+    requires used_in_range { used ≤ (F.device flash.now).size.words - HEADER_WORDS }
+    ensures { let before = page * ((F.device flash.now).size.words - HEADER_WORDS) in
         let slots = slots_of (set_of side (F.device flash.now)) in
         result ≡ latest_in (take used (drop before slots)) address }
 {
@@ -157,7 +159,7 @@ fn said_in_page<F: Flash>(
     None
 }
 
-// What a word says of an address: nothing, or that it has a value or none from here on.
+/// What a word says of an address: nothing, or that it has a value or none from here on.
 fn says(word: Word, address: Address) -> Option<Option<u32>>
     ensures { result ≡ word_says word address }
 {
@@ -168,8 +170,8 @@ fn says(word: Word, address: Address) -> Option<Option<u32>>
     said(word)
 }
 
-// What a word says of the address that it ends in. It stays out of the loop that asks for an
-// address, which runs over most words and is short without it.
+/// What a word says of the address that it ends in. It stays out of the loop that asks for an
+/// address, which runs over most words and is short without it.
 #[inline(never)]
 fn said(word: Word) -> Option<Option<u32>>
     ensures { (address : ℕ) → word_ends_in word address ≡ true → result ≡ word_says word address }

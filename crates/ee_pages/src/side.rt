@@ -1,6 +1,8 @@
+//! The two sets of a device, and the places of their pages, words and slots.
 ghost use Rattle.std.specs.Prelude.{◌≡◌, ◌<◌, ◌+◌, ◌-◌, ◌*◌, IfSome, slice_index_or};
 ghost use Rattle.ee_codec.specs.Words.{IsGeneration};
 ghost use Rattle.ee_flash.specs.Size.{slot_count};
+ghost use Rattle.ee_flash.specs.declared.shape.TheConstants.{HEADER_WORDS};
 ghost use Rattle.ee_pages.specs.Sets.{committed_generation as commits, first_page as first, other as other_of, set_of, slots_of, word_of};
 
 use ee_codec::{MarkRead, read_mark, read_receive};
@@ -41,7 +43,7 @@ pub fn first_page<F: Flash>(flash: &F, side: Side) -> usize
     }
 }
 
-// The word at a place of a page of a set.
+/// The word at a place of a page of a set.
 pub(crate) fn set_word<F: Flash>(flash: &F, side: Side, page: usize, at: usize) -> Word
     requires page_in_range { page < (F.device flash.now).size.pages }
     requires place_in_range { at < (F.device flash.now).size.words }
@@ -50,17 +52,17 @@ pub(crate) fn set_word<F: Flash>(flash: &F, side: Side, page: usize, at: usize) 
     flash.word(first_page(flash, side) + page, at)
 }
 
-// The slot of this number of a page of a set, both counted from 0.
+/// The slot of this number of a page of a set, both counted from 0.
 pub(crate) fn page_slot<F: Flash>(flash: &F, side: Side, page: usize, slot: usize) -> Word
     requires page_in_range { page < (F.device flash.now).size.pages }
-    requires slot_in_range { slot < (F.device flash.now).size.words - 4 }
+    requires slot_in_range { slot < (F.device flash.now).size.words - HEADER_WORDS }
     ensures { let slots = slots_of (set_of side (F.device flash.now)) in
-        result ≡ slice_index_or slots (page * ((F.device flash.now).size.words - 4) + slot) Word.Erased }
+        result ≡ slice_index_or slots (page * ((F.device flash.now).size.words - HEADER_WORDS) + slot) Word.Erased }
 {
     set_word(flash, side, page, HEADER_WORDS + slot)
 }
 
-// The slot of this number of a set, counted from 0.
+/// The slot of this number of a set, counted from 0.
 pub(crate) fn set_slot<F: Flash>(flash: &F, side: Side, slot: usize) -> Word
     requires { slot < slot_count (F.device flash.now).size }
     ensures { result ≡ slice_index_or (slots_of (set_of side (F.device flash.now))) slot Word.Erased }
@@ -69,7 +71,7 @@ pub(crate) fn set_slot<F: Flash>(flash: &F, side: Side, slot: usize) -> Word
     page_slot(flash, side, slot / slots, slot % slots)
 }
 
-// The generation with which a set is committed.
+/// The generation with which a set is committed.
 pub(crate) fn committed<F: Flash>(flash: &F, side: Side) -> Option<u32>
     ensures generation { result ≡ commits (set_of side (F.device flash.now)) }
     ensures proper { IfSome result IsGeneration }

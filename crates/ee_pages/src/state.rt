@@ -1,3 +1,4 @@
+//! What a page's header says: the last word of it that is written names the state.
 ghost use Rattle.std.specs.Prelude.{◌≡◌, ◌<◌, ℕ};
 ghost use Rattle.ee_flash.specs.Device.{page_at};
 ghost use Rattle.ee_flash.specs.Size.{page_count};
@@ -73,14 +74,14 @@ pub fn is_blank<F: Flash>(flash: &F, page: usize) -> bool
     true
 }
 
-// Whether something was programmed into the word, whole or torn.
+/// Whether something was programmed into the word, whole or torn.
 pub(crate) fn is_written(word: Word) -> bool
     ensures { result ≡ written word }
 {
     !matches!(word, Word::Erased)
 }
 
-// Whether a program of the word, or an erase of its page, was cut.
+/// Whether a program of the word, or an erase of its page, was cut.
 pub(crate) fn is_torn(word: Word) -> bool
     ensures { result ≡ torn word }
 {

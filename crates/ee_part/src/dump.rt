@@ -1,9 +1,10 @@
 //! Images from dumps, and dumps from images.
-ghost use Rattle.std.specs.Prelude.{◌≡◌, ◌≢◌, ◌⊎◌, IfErr, IfOk, MatchResult};
+ghost use Rattle.std.specs.Prelude.{◌≡◌, IfErr, IfOk};
 ghost use Rattle.ee_flash.specs.Memory.{device_of};
 ghost use Rattle.ee_dump.specs.Dump.{IsDump, IsImport};
 ghost use Rattle.ee_part.specs.Faults.{IsDeviceFault, IsExportFault, IsImportFault, fault_of_dump, fault_of_write};
 ghost use Rattle.ee_part.specs.Moving.{IsExported, IsImported};
+ghost use Rattle.ee_faults.specs.Causes.{NamesEach};
 
 use crate::image::read_part;
 use ee_dump::{DumpFault, WriteFault, read_dump, write_dump};
@@ -29,8 +30,7 @@ pub fn import_image<A: Allocator + Copy>(
     ensures imported { IfOk result (λ image. IsImported shape dump.now image.items) }
     ensures fault { IfErr result (IsImportFault shape dump.now) }
     // No cause is passed over.
-    ensures names { (cause : Fault) → cause ≢ Fault.Memory → IsImportFault shape dump.now cause
-        → MatchResult result (λ _. ⊥) (λ fault. (fault ≡ cause) ⊎ (fault ≡ Fault.Memory)) }
+    ensures names { NamesEach Fault.Memory (IsImportFault shape dump.now) result }
 {
     let flash = match read_dump(alloc, shape, dump) {
         Ok(flash) => flash,
@@ -52,8 +52,7 @@ pub fn export_image<A: Allocator + Copy>(alloc: A, image: &[u8]) -> Result<Vec<u
     ensures exported { IfOk result (λ dump. IsExported image.now dump.items) }
     ensures fault { IfErr result (IsExportFault image.now) }
     // No cause is passed over.
-    ensures names { (cause : Fault) → cause ≢ Fault.Memory → IsExportFault image.now cause
-        → MatchResult result (λ _. ⊥) (λ fault. (fault ≡ cause) ⊎ (fault ≡ Fault.Memory)) }
+    ensures names { NamesEach Fault.Memory (IsExportFault image.now) result }
 {
     let flash = read_part(alloc, image)?;
     dump_of(alloc, &flash)

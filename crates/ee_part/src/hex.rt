@@ -1,7 +1,8 @@
 //! Images from Intel HEX, and Intel HEX from images.
-ghost use Rattle.std.specs.Prelude.{◌≡◌, ◌≢◌, ◌⊎◌, ◌↔◌, IfErr, IfOk, IsTrue, MatchResult};
+ghost use Rattle.std.specs.Prelude.{◌≡◌, ◌↔◌, IfErr, IfOk, IsTrue};
 ghost use Rattle.ee_dump.specs.Dump.{dump_length};
 ghost use Rattle.ee_part.specs.Hex.{PartFits, IsHexExportFault, IsHexExported, IsHexImportFault, IsHexImported, fault_of_hex};
+ghost use Rattle.ee_faults.specs.Causes.{NamesEach};
 
 use crate::dump::{dump_of, import_image};
 use crate::image::read_part;
@@ -29,8 +30,7 @@ pub fn import_hex<A: Allocator + Copy>(
     ensures imported { IfOk result (λ image. IsHexImported shape base hex.now image.items) }
     ensures fault { IfErr result (IsHexImportFault shape base hex.now) }
     // No cause is passed over.
-    ensures names { (cause : Fault) → cause ≢ Fault.Memory → IsHexImportFault shape base hex.now cause
-        → MatchResult result (λ _. ⊥) (λ fault. (fault ≡ cause) ⊎ (fault ≡ Fault.Memory)) }
+    ensures names { NamesEach Fault.Memory (IsHexImportFault shape base hex.now) result }
 {
     if !fits(base, shape) {
         return Err(Fault::Base);
@@ -59,8 +59,7 @@ pub fn export_hex<A: Allocator + Copy>(
     ensures exported { IfOk result (λ hex. IsHexExported image.now base hex.items) }
     ensures fault { IfErr result (IsHexExportFault image.now base) }
     // No cause is passed over.
-    ensures names { (cause : Fault) → cause ≢ Fault.Memory → IsHexExportFault image.now base cause
-        → MatchResult result (λ _. ⊥) (λ fault. (fault ≡ cause) ⊎ (fault ≡ Fault.Memory)) }
+    ensures names { NamesEach Fault.Memory (IsHexExportFault image.now base) result }
 {
     let flash = read_part(alloc, image)?;
     if !fits(base, flash.shape()) {

@@ -1,8 +1,9 @@
 //! The devices that the commands work on.
-ghost use Rattle.std.specs.Prelude.{◌≡◌, ◌≢◌, ◌⊎◌, IfErr, IfOk, MatchResult};
+ghost use Rattle.std.specs.Prelude.{IfErr, IfOk};
 ghost use Rattle.ee_flash.specs.Memory.{device_of};
 ghost use Rattle.ee_image_store.specs.Opening.{SpellsDevice};
 ghost use Rattle.ee_image_store.specs.FileFaults.{IsReadingFault};
+ghost use Rattle.ee_faults.specs.Causes.{NamesEach};
 
 use ee_faults::{Fault, File};
 use ee_flash::MemFlash;
@@ -13,8 +14,7 @@ use std::alloc::Allocator;
 pub(crate) fn read_part<A: Allocator + Copy>(alloc: A, image: &[u8]) -> Result<MemFlash<A>, Fault>
     ensures read { IfOk result (λ flash. SpellsDevice image.now (device_of flash)) }
     ensures fault { IfErr result (IsReadingFault image.now) }
-    ensures names { (cause : Fault) → cause ≢ Fault.Memory → IsReadingFault image.now cause
-        → MatchResult result (λ _. ⊥) (λ fault. (fault ≡ cause) ⊎ (fault ≡ Fault.Memory)) }
+    ensures names { NamesEach Fault.Memory (IsReadingFault image.now) result }
 {
     match read_image(alloc, image) {
         Ok(flash) => Ok(flash),

@@ -1,5 +1,5 @@
 //! The command that tells what an image shows.
-ghost use Rattle.std.specs.Prelude.{◌≡◌, ◌≢◌, ◌<◌, ◌⊎◌, ◌++◌, ◌==◌, ℕ, false, if◌then◌else◌, codes, length, slice_index_or, Ok, Err, Some, None, IfOk, IfErr, IfSome, OnOk, MatchOption, MatchResult};
+ghost use Rattle.std.specs.Prelude.{◌≡◌, ◌<◌, ◌++◌, ◌==◌, ℕ, false, if◌then◌else◌, codes, length, slice_index_or, Ok, Err, Some, None, IfOk, IfErr, IfSome, OnOk, MatchOption};
 ghost use Rattle.ee_text.specs.Line.{line_of};
 ghost use Rattle.ee_flash.specs.Size.{page_count};
 ghost use Rattle.ee_codec.specs.Words.{IsAddress};
@@ -8,6 +8,7 @@ ghost use Rattle.ee_pages.specs.Meaning.{live_in, meaning};
 ghost use Rattle.ee_pages.specs.Page.{is_torn as torn};
 ghost use Rattle.ee_image_store.specs.FileFaults.{IsReadingFault};
 ghost use Rattle.ee_part.specs.Inspecting.{AreFindings, AreSpoken, IsInspected, doubt_line, doubt_lines, each_below, found_lines, gives_to, is_before, live_slots, parts_text, place_name, scan_words, set_number, set_text, slots_text, speaks_of, torn_line, torn_lines, up_to_last, usage_in};
+ghost use Rattle.ee_faults.specs.Causes.{NamesEach};
 
 use crate::image::read_part;
 use ee_codec::{Slot, read_slot};
@@ -36,8 +37,7 @@ pub fn inspect_text<A: Allocator + Copy>(alloc: A, image: &[u8]) -> Result<Vec<u
     ensures inspected { IfOk result (λ text. IsInspected image.now text.items) }
     ensures fault { IfErr result (IsReadingFault image.now) }
     // No cause is passed over.
-    ensures names { (cause : Fault) → cause ≢ Fault.Memory → IsReadingFault image.now cause
-        → MatchResult result (λ _. ⊥) (λ fault. (fault ≡ cause) ⊎ (fault ≡ Fault.Memory)) }
+    ensures names { NamesEach Fault.Memory (IsReadingFault image.now) result }
 {
     let flash = read_part(alloc, image)?;
     let text = findings(alloc, &flash)?;

@@ -1,5 +1,5 @@
 -- The live addresses of a store, one after another.
-use Rattle.std.proofs.Common.{◌≡◌, ◌≢◌, IfOk, Result, Ok, Err, inl, inr, ℕ, ◌-◌, ◌*◌, ◌<◌, ◌≤◌, Option, Some, None, List, [], ◌∷◌, ◌++◌, length, length-append, refl, sym, subst, ◌∙◌, arith, rules}
+use Rattle.std.proofs.Common.{◌≡◌, ◌≢◌, IfOk, Result, Ok, Err, inl, inr, ℕ, ◌-◌, ◌*◌, ◌<◌, ◌≤◌, Option, Some, None, List, [], ◌∷◌, ◌++◌, length, length-append, sym, subst, ◌∙◌, arith, rules}
 use Rattle.std.proofs.Math.Nat.{mul-le-mul}
 use Rattle.std.proofs.lemmas.Bool.{cases_lt, cases_eq}
 use Rattle.std.proofs.lemmas.Cmp.{nat_cmp_total}
@@ -13,7 +13,7 @@ use Rattle.std.specs.BTreeSet.{BTreeSet, IsFromIterResult}
 use Rattle.ee_codec.specs.Words.{IsAddress}
 use Rattle.ee_pages.specs.Meaning.{AreLiveThrough, AreNextLive, IsNextLive, IsNoneLive, Map, last_of, live_in, live_to}
 use Rattle.ee_pages.proofs.Public.{gap_to, last_below, live_to-end, live_to-next, live_to-zero, live_within_fill}
-use Rattle.ee_pages.specs.Sets.{live_of, set_of, slots_of}
+use Rattle.ee_pages.specs.Sets.{live_of}
 use Rattle.ee_pages.specs.declared.side.Side.{Side}
 use Rattle.ee_flash.specs.Device.{Device}
 use Rattle.ee_flash.specs.Size.{slot_count}
@@ -88,8 +88,7 @@ none_more map above to live so_far none = search (rules, cases_lt, gap_to)
 -- a whole batch
 pub through_batch : (map : Map) (found : List (ℕ × ℕ)) (above to : ℕ) (live : List ℕ) → AreLiveTo map above live → All (λ (one : ℕ × ℕ). IsAddress one.0) found → AreLiveThrough map above found (Some to)
     → AreLiveTo map to (with_addresses live found)
-through_batch map found above to live so_far proper batch =
-    none_more map (last_of above found) to (with_addresses live found) (batch_more map found above live so_far proper batch.next) batch.rest
+through_batch map found above to live so_far proper batch = search (rules, none_more, batch_more)
 
 all_live : (map : Map) (above : ℕ) (live : List ℕ) → AreLiveTo map above live → IsNextLive map above None → AreLive map live
 all_live map above live so_far none = search (rules, cases_lt)
@@ -114,13 +113,11 @@ set_of_ascending (Err refused) live ascending built = tt
 
 -- what is so of the addresses is so of the set that is built of them
 pub as_built : {E : Type 0} (Q : List ℕ → Type 0) (set : Result (BTreeSet ℕ) E) (live : List ℕ) → Q live → IfOk set (λ set. set.keys ≡ live) → IfOk set (λ set. Q set.keys)
-as_built Q (Ok set) live is same = subst Q (sym same) is
-as_built Q (Err refused) live is same = tt
+as_built Q set live h1 h2 = search rules
 
 -- 0 is no address, and has no value in any image
 zero_in_state : (device : Device) (found : Option (Side × ℕ)) → (state_in device found).map 0 ≡ None
-zero_in_state device None = refl
-zero_in_state device (Some live) = meaning-zero (slots_of (set_of live.0 device))
+zero_in_state device found = search (rules, meaning-zero)
 
 pub zero_has_none : (device : Device) → (state_of device).map 0 ≡ None
 zero_has_none device = zero_in_state device (live_of device)

@@ -1,8 +1,8 @@
 -- The live addresses as a list: what a change makes of it, and how many they are.
-use Rattle.std.proofs.Common.{◌≡◌, ◌≢◌, ◌⊎◌, inl, inr, ℕ, ◌+◌, ◌<◌, Option, Some, None, List, [], ◌∷◌, length, refl, sym, subst, ◌∙◌, arith, false, rules}
+use Rattle.std.proofs.Common.{◌≡◌, ◌≢◌, ◌⊎◌, inl, inr, ℕ, ◌+◌, ◌<◌, Option, Some, None, List, [], ◌∷◌, length, refl, sym, subst, ◌∙◌, arith, rules}
 use Rattle.std.proofs.lemmas.Bool.{cases_lt, cases_eq}
 use Rattle.std.proofs.lemmas.Grind.{common_steps}
-use Rattle.std.proofs.lemmas.List.Elements.{All-from_recursion, All-contains, All-cons, All-head, All-nil, All-tail, All-weaker, Contains-append_right, recursion_from_All}
+use Rattle.std.proofs.lemmas.List.Elements.{All-from_recursion, All-contains, All-cons, All-head, All-nil, All-tail, All-weaker, Contains-append_right}
 use Rattle.std.proofs.lemmas.Map.Keys.{sorted_head, sorted_tail}
 use Rattle.std.proofs.lemmas.Map.Views.{All-insert_key, All-remove_key}
 use Rattle.std.specs.declared.cmp.Ordering.TheVariants.{Less}
@@ -12,7 +12,6 @@ use Rattle.std.specs.Ordering.{nat_cmp}
 use Rattle.std.specs.BTreeMap.{is_at}
 use Rattle.std.specs.BTreeSet.{insert_key}
 use Rattle.std.specs.Set.{remove_key}
-use Rattle.std.proofs.lemmas.Cmp.{ranked}
 use Rattle.ee_codec.specs.Words.{IsAddress}
 use Rattle.ee_pages.specs.Meaning.{IsNextLive, Map, Put, live_in, live_to}
 use Rattle.ee_pages.specs.Meaning as meaning
@@ -20,39 +19,8 @@ use Rattle.ee_pages.proofs.Public.{gap_to, live_to-next, live_to-zero}
 use Rattle.ee_check.specs.declared.change.Change.TheVariants.{Forget, Write}
 use Rattle.ee_check.specs.Live.{live_after_one}
 use Rattle.ee_check.proofs.Public.{greater, same, smaller}
+use Rattle.ee_planner.proofs.Public.{from_less, insert_sorted, not_at, remove_sorted}
 use Rattle.ee_plan.specs.Start.{AreLive}
-
--- ---- numbers in ascending order
-
--- a removal passes any other number
-pub not_at : (k x : ℕ) → (k ≡ x → ⊥) → is_at (nat_cmp k) x ≡ false
-not_at k x apart = search (rules, cases_lt, greater, smaller)
-
-pub from_less : (a b : ℕ) → nat_cmp a b ≡ Less → a < b
-from_less a b h = ranked a b Less (sym h)
-
--- what is above a number is above a smaller one
-above_both : (k x : ℕ) (xs : List ℕ) → k < x → AllByRecursion (λ y. nat_cmp x y ≡ Less) xs
-    → AllByRecursion (λ y. nat_cmp k y ≡ Less) xs
-above_both k x [] h above = tt
-above_both k x (y ∷ ys) h above =
-    (smaller k y (let g : x < y = from_less x y above.0 in omega arith), above_both k x ys h above.1)
-
-pub insert_sorted : (xs : List ℕ) (k : ℕ) → IsStrictlySortedBy nat_cmp xs → IsStrictlySortedBy nat_cmp (insert_key nat_cmp xs k)
-unfolding IsStrictlySortedBy
-insert_sorted [] k sorted = (tt, tt)
-insert_sorted (x ∷ xs) k sorted = elim (cases_lt k x) [
-  | inl before ↦ rw (smaller k x before) ((smaller k x before, above_both k x xs before sorted.0), sorted)
-  | inr behind ↦ elim (cases_eq k x) [
-    | inl here ↦ rw (same k x here) sorted
-    | inr apart ↦
-        let later : x < k = omega arith in
-        let P = λ (y : ℕ). nat_cmp x y ≡ Less in
-        let beyond : All P xs = All-from_recursion P xs sorted.0 in
-        let above : All P (insert_key nat_cmp xs k) = All-insert_key nat_cmp k P xs beyond (smaller x k later) in
-        rw (greater k x later) (recursion_from_All P (insert_key nat_cmp xs k) above, insert_sorted xs k sorted.1)
-  ]
-]
 
 -- ---- what a list contains
 
@@ -132,19 +100,6 @@ not_first x a xs apart h = elim (contains_cases x a xs h) [ inl here ↦ absurd 
 none_below : (k : ℕ) (xs : List ℕ) → AllByRecursion (λ y. nat_cmp k y ≡ Less) xs → All (λ y. y ≢ k) xs
 none_below k xs above = grind (arith, common_steps, from_less)
 
-pub remove_sorted : (xs : List ℕ) (k : ℕ) → IsStrictlySortedBy nat_cmp xs
-    → IsStrictlySortedBy nat_cmp (remove_key (is_at (nat_cmp k)) xs)
-unfolding IsStrictlySortedBy
-remove_sorted [] k sorted = tt
-remove_sorted (x ∷ xs) k sorted = elim (cases_eq k x) [
-  | inl here ↦ rw (same k x here) sorted.1
-  | inr apart ↦
-      let P = λ (y : ℕ). nat_cmp x y ≡ Less in
-      let left = remove_key (is_at (nat_cmp k)) xs in
-      let above : All P left = All-remove_key (is_at (nat_cmp k)) P xs (All-from_recursion P xs sorted.0) in
-      rw (not_at k x apart) (recursion_from_All P left above, remove_sorted xs k sorted.1)
-]
-
 remove_keeps : (xs : List ℕ) (k a : ℕ) → (a ≡ k → ⊥) → Contains xs a → Contains (remove_key (is_at (nat_cmp k)) xs) a
 remove_keeps [] k a other h = h
 remove_keeps (x ∷ xs) k a other h = elim (cases_eq k x) [
@@ -193,12 +148,10 @@ live_after_forget map live address are =
 -- ---- how many are live
 
 value_or_none : (found : Option ℕ) → found ≢ None → (value : ℕ) × (found ≡ Some value)
-value_or_none None some = absurd (some refl)
-value_or_none (Some value) some = (value, refl)
+value_or_none found h1 = search rules
 
 none_or_value : (found : Option ℕ) → (found ≡ None) ⊎ (found ≢ None)
-none_or_value None = inl refl
-none_or_value (Some value) = inr (λ e. cc)
+none_or_value found = search rules
 
 -- the live addresses above this one
 record AreAbove (map : Map) (above : ℕ) (live : List ℕ) : Type 0 where
@@ -210,21 +163,7 @@ record AreAbove (map : Map) (above : ℕ) (live : List ℕ) : Type 0 where
 
 first_is_next : (map : Map) (above x value : ℕ) (xs : List ℕ) → AreAbove map above (x ∷ xs) → map x ≡ Some value
     → IsNextLive map above (Some (x, value))
-first_is_next map above x value xs are is = (
-  All-head (λ address. above < address) x xs are.higher,
-  is,
-  λ k low high. elim (none_or_value (map k)) [
-    | inl none ↦ none
-    | inr some ↦ absurd (elim (contains_cases x k xs (are.all k low some)) [
-      | inl here ↦ omega arith
-      | inr behind ↦
-          let P = λ (y : ℕ). nat_cmp x y ≡ Less in
-          let beyond : All P xs = All-from_recursion P xs (sorted_head nat_cmp x xs are.ascending) in
-          let g : x < k = from_less x k (All-contains P xs k beyond behind) in
-          omega arith
-    ])
-  ],
-)
+first_is_next map above x value xs are is = search (rules, All-head, none_or_value, contains_cases, All-from_recursion, sorted_head, from_less, All-contains)
 
 others_above : (map : Map) (above x : ℕ) (xs : List ℕ) → AreAbove map above (x ∷ xs) → AreAbove map x xs
 others_above map above x xs are =

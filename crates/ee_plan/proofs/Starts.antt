@@ -73,8 +73,7 @@ start_moves : (slots pages : ℕ) (old : State) (start : Situation) (change : Ch
     → AreLive (meaning.map_after meant old.map) (live_after_one start.live change)
     → IsStartOf slots old start
     → IsStartOf slots (moved_state pages meant old) (after_move start (Carry change))
-start_moves slots pages old start change meant live is =
-    record { slots_are = is.slots_are; fill_is = sym (live_count_is _ _ live); are_live = live }
+start_moves slots pages old start change meant live is = search (rules, live_count_is)
 
 -- a forgetting leaves no more live addresses than before
 pub forgetting_fits : (start : Situation) (address : ℕ) → IsProper start → length (live_after_one start.live (changes.Forget address)) ≤ start.slots

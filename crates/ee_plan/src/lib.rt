@@ -1,50 +1,21 @@
-//! The plan of a trace: how few transfers it takes, at which changes, and how much room they leave.
+//! The door to plans: the planner of `ee_planner`, what a store gives a trace to start from, and what holds
+//! of every schedule on a device.
 //!
-//! The planner is the store that transfers exactly when each slot is used, without a flash: it keeps the
-//! live addresses and how many slots are used, and notes a stretch of the tight certificate where it would
-//! transfer. A change is one insertion or removal, and in a long trace one look at a table.
-//!
-//! The layer above calls `plan`. Its contract has the whole promise: the certificate is tight, some
-//! schedule reaches it, and wherever the trace is broken off, the moments so far are those of the tight
-//! certificate, which no schedule betters. `start_of` gives what a store gives a trace to start from: its
-//! slots, how many are used, and the live addresses.
-//!
-//! `Rounds` answers the same of a trace that is made many times over, on a set that starts empty: the
-//! length of its tight certificate, for any number of slots, without writing the trace out.
+//! Certificates and plans stand on no flash; here is what they have to do with one. `start_of` gives a store's
+//! slots, how many are used, and the live addresses; `laws` say how often a page is erased.
 //!
 //! # What is proved
 //!
-//! Want of memory aside, `plan` gives the tight certificate of any trace that keeps within the
-//! slots, with its positions, its size and the room that it leaves (`planned`), and names the first
-//! change that doesn't fit (`refused`, `fits`, `names`). Some schedule reaches it (`reached`), and
-//! the checker accepts it (`certificate`). Wherever the trace is broken off, the plan's moments so
-//! far are those of the tight certificate of what was made of it, and each schedule makes more
-//! transfers, or as many and ends with no more slots free (`best`). `start_of` gives a store's
-//! slots, fill and live addresses, of any `Variables`. `Rounds` answers of a trace that is made
-//! many times over, without writing it out: `demand` gives the length of the tight certificate of
-//! the whole long trace on a set that starts empty, so that some schedule transfers as often and
-//! none less, or names the first change that doesn't fit (`demand`, `fits`, `names`); `changes`
-//! tells how many all rounds have. `laws`: where no schedule makes fewer than K transfers, each of
-//! them erases the first page of one set K / 2 times, whatever its steps are
+//! `start_of` gives a store's slots, fill and live addresses, of any `Variables`. `laws`: where no schedule makes
+//! fewer than K transfers, each of them erases the first page of one set K / 2 times, whatever its steps are
 //! (`fewest_transfers_wear`). So where a store's calls made no more transfers, each erases its most
 //! worn page as often as they erased theirs, or once less (`fewest_moves_last`), and as often where
 //! no clean step erased a page, and at the start no page of the other set waited, or its first page
 //! did (`fewest_moves_last_as_long`).
 #![tactic(auto)]
 
-mod counting;
-mod counts;
-mod demand;
-mod late_store;
 pub mod laws;
-mod planned;
-mod planning;
-mod rounds;
 mod starting;
-mod walking;
 
-pub use demand::{Demand, RoundsFault};
-pub use planned::{Plan, PlanFault};
-pub use planning::plan;
-pub use rounds::Rounds;
+pub use ee_planner::{Demand, Plan, PlanFault, Rounds, RoundsFault, plan};
 pub use starting::start_of;

@@ -40,7 +40,7 @@ pub fn start_of<A: Allocator + Copy, V: Variables>(
     Ok(start)
 }
 
-// The addresses that have a value.
+/// The addresses that have a value.
 fn live_addresses<A: Allocator + Copy, V: Variables>(
     alloc: A,
     store: &V,
@@ -62,7 +62,7 @@ fn live_addresses<A: Allocator + Copy, V: Variables>(
     }
 }
 
-// Puts these addresses, which come with values, behind the others.
+/// Puts these addresses, which come with values, behind the others.
 fn push_each<A: Allocator>(
     live: &mut Vec<Address, A>,
     found: &[(Address, u32)],
@@ -75,7 +75,7 @@ fn push_each<A: Allocator>(
     Ok(())
 }
 
-// The set of these addresses. They rise, so it is built in one go.
+/// The set of these addresses. They rise, so it is built in one go.
 fn set_of<A: Allocator + Copy>(
     alloc: A,
     rising: Vec<Address, A>,

@@ -1,9 +1,9 @@
+//! The jobs of the program: files are read whole, then the work is done, and what it gives is written.
 ghost use Rattle.std.specs.Prelude.{◌≡◌};
 
-use super::locks::FileLocks;
-use super::saving::save;
 use ee_command_line::{HELP, Job, VERSION, job, read_whole, write_whole};
 use ee_faults::{Fault, File, fault_line, status_of};
+use ee_files::{FileLocks, save};
 use ee_flash::Shape;
 use ee_shell::{
     Language, apply_values, check_script, clean_image, export_hex, export_image, format_image,
@@ -230,7 +230,7 @@ fn set_file<R: FileLocks + Print + AllocGlobal>(
     let before = read_file(rt, File::Image, image)?;
     let table = read_file(rt, File::Settings, settings)?;
     let (alloc, heap) = (rt.alloc(), rt.alloc());
-    let (written, text) = set_setting(
+    let set = set_setting(
         alloc,
         heap,
         before.as_slice(),
@@ -238,8 +238,8 @@ fn set_file<R: FileLocks + Print + AllocGlobal>(
         name,
         value,
     )?;
-    write_image(rt, image, Some(before.as_slice()), written.as_slice())?;
-    print(rt, text.as_slice())
+    write_image(rt, image, Some(before.as_slice()), set.image.as_slice())?;
+    print(rt, set.text.as_slice())
 }
 
 /// Gives settings of an image the values of a file, and writes the image in its place.
@@ -253,15 +253,15 @@ fn apply_file<R: FileLocks + Print + AllocGlobal>(
     let table = read_file(rt, File::Settings, settings)?;
     let given = read_file(rt, File::Values, values)?;
     let (alloc, heap) = (rt.alloc(), rt.alloc());
-    let (written, text) = apply_values(
+    let applied = apply_values(
         alloc,
         heap,
         before.as_slice(),
         table.as_slice(),
         given.as_slice(),
     )?;
-    write_image(rt, image, Some(before.as_slice()), written.as_slice())?;
-    print(rt, text.as_slice())
+    write_image(rt, image, Some(before.as_slice()), applied.image.as_slice())?;
+    print(rt, applied.text.as_slice())
 }
 
 /// Prints the constants of settings, in Rust or in C.
@@ -335,9 +335,9 @@ fn tell_states<R: Files + Print + AllocGlobal>(rt: &R, image: &str) -> Result<()
 /// number.
 fn clean_file<R: FileLocks + Print + AllocGlobal>(rt: &R, image: &str) -> Result<(), Fault> {
     let before = read_file(rt, File::Image, image)?;
-    let (cleaned, text) = clean_image(rt.alloc(), before.as_slice())?;
-    write_image(rt, image, Some(before.as_slice()), cleaned.as_slice())?;
-    print(rt, text.as_slice())
+    let cleaned = clean_image(rt.alloc(), before.as_slice())?;
+    write_image(rt, image, Some(before.as_slice()), cleaned.image.as_slice())?;
+    print(rt, cleaned.text.as_slice())
 }
 
 /// Prints the settings whose stored value in an image isn't in their range.
@@ -363,9 +363,9 @@ fn tidy_file<R: FileLocks + Print + AllocGlobal>(
     let before = read_file(rt, File::Image, image)?;
     let table = read_file(rt, File::Settings, settings)?;
     let (alloc, heap) = (rt.alloc(), rt.alloc());
-    let (tidied, text) = tidy_image(alloc, heap, before.as_slice(), table.as_slice())?;
-    write_image(rt, image, Some(before.as_slice()), tidied.as_slice())?;
-    print(rt, text.as_slice())
+    let tidied = tidy_image(alloc, heap, before.as_slice(), table.as_slice())?;
+    write_image(rt, image, Some(before.as_slice()), tidied.image.as_slice())?;
+    print(rt, tidied.text.as_slice())
 }
 
 /// Prints what each address of an image has, with the names of settings where their file is named.

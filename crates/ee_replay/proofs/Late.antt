@@ -19,7 +19,8 @@ use Rattle.ee_script.specs.declared.command.Command.{Command}
 use Rattle.ee_script.specs.declared.command.Command.TheVariants.{Write, Read, Forget, Clean, Arm, PowerOn}
 use Rattle.ee_image_store.specs.Machine.{MachineStep}
 use Rattle.ee_image_store.specs.Trace.{AreFewest, TraceFits, ForgetsWhatIsHeld, NoneEndsWithMoreRoom, accepted_commands, moved_at, moves, map_changes, trace_of}
-use Rattle.ee_plan.proofs.Public.{keeps_more, keeps_tail, live_after_forget, live_after_put, appends, forgetting_fits, length_map, moves_on, not_full, start_stays, stays, write_fits}
+use Rattle.ee_planner.proofs.Public.{keeps_more, keeps_tail}
+use Rattle.ee_plan.proofs.Public.{live_after_forget, live_after_put, appends, forgetting_fits, length_map, moves_on, not_full, start_stays, stays, write_fits}
 
 -- ---- a run
 

@@ -16,9 +16,10 @@ use Rattle.ee_check.specs.Certificate.{IsCertificateHeader, IsTight}
 use Rattle.ee_check.specs.Live.{live_after_one}
 use Rattle.ee_check.specs.Schedule.{Append, Carry, IsProper, Situation, after_move}
 use Rattle.ee_check.proofs.Public.{changed-le}
-use Rattle.ee_plan.specs.LateStore.{HasMade}
+use Rattle.ee_planner.specs.LateStore.{HasMade}
 use Rattle.ee_plan.specs.Start.{AreLive, IsStartOf}
-use Rattle.ee_plan.proofs.Public.{made_more, made_none, live_after_forget, live_after_put, whole_tight, appends, forgetting_fits, moves_on, start_stays, write_fits}
+use Rattle.ee_planner.proofs.Public.{made_more, made_none, whole_tight}
+use Rattle.ee_plan.proofs.Public.{live_after_forget, live_after_put, appends, forgetting_fits, moves_on, start_stays, write_fits}
 use Rattle.ee_script.specs.Run.{Run}
 use Rattle.ee_script.specs.Script.{AreCommands}
 use Rattle.ee_script.specs.Whole.{IsAnswered}
@@ -54,7 +55,7 @@ record IsHeld (old : Held) (command : Command) (answer : Answer) (new : Held) : 
   notes_are : new.notes ≡ notes_after answer (state_of new.device).fill old.notes
 
 abbrev held_at : Noted → Held
-held_at notes_after = record { device = notes_after.point.device; notes = notes_after.notes }
+held_at noted = record { device = noted.point.device; notes = noted.notes }
 
 -- ---- one change
 
@@ -261,7 +262,7 @@ one_stretch answer fill n notes answers = (n, refl)
 
 stretches_are : (old new : Noted) (commands : List Command) (answers : List Answer) (n : ℕ) → Run Records old commands answers new
     → length new.notes.stretches ≡ length (moved_at n answers) + length old.notes.stretches
-stretches_are old new [] [] n run = let same = ap (λ (notes_after : Noted). length notes_after.notes.stretches) run in omega arith
+stretches_are old new [] [] n run = let same = ap (λ (noted : Noted). length noted.notes.stretches) run in omega arith
 stretches_are old new [] (answer ∷ answers) n run = absurd run
 stretches_are old new (command ∷ commands) [] n run = absurd run
 stretches_are old new (command ∷ commands) (answer ∷ answers) n run =
@@ -334,8 +335,8 @@ cut_append_counted old new change notes sized (inr (inr made)) counted = one_slo
 
 cut_move_counted : (old new : Device) (change : meaning.Change) (notes : Notes) → new.size ≡ old.size → (state_of old).fill ≡ slot_count old.size
     → IsAccepted (slot_count old.size) (state_of old) change → IsCutMove old.size.pages (state_of old) change (state_of new) → IsCounted old notes → IsCounted new notes
-cut_move_counted old new change notes sized used accepted_commands (inl kept) counted = search rules
-cut_move_counted old new change notes sized used accepted_commands (inr made) counted = search (rules, count_turn)
+cut_move_counted old new change notes sized used accepted (inl kept) counted = search rules
+cut_move_counted old new change notes sized used accepted (inr made) counted = search (rules, count_turn)
 
 pub counted_cut : (old new : Device) (change : meaning.Change) (notes : Notes) → IsCutChange old change new → IsCounted old notes → IsCounted new (notes_after Cut 0 notes)
 counted_cut old new change notes cut counted =

@@ -49,13 +49,13 @@ module _ (old : Device) (new : Point) (text lines : List ℕ) (notes : Notes) (r
   -- how the desk stands at the end
   line_is : (ended : List ℕ) → new.device.size ≡ old.size → ended ≡ lines ++ desk_line (slot_count new.device.size) new.serving (state_of new.device) (length notes.stretches)
       → ended ≡ lines ++ desk_line (slot_count old.size) new.serving (state_of new.device) (moves run.answered.answers)
-  line_is ended same_size end = cc
+  line_is ended sizes end = cc
 
   -- after a cut
   cut_report : (ended reported : List ℕ) → new.device.size ≡ old.size
       → ended ≡ lines ++ desk_line (slot_count new.device.size) new.serving (state_of new.device) (length notes.stretches)
       → reported ≡ ended ++ codes "no certificate\n" → reported ≡ cut_report_text (slot_count old.size) run.answered.answers (desk_of new)
-  cut_report ended reported same_size end all = all_parts ended reported _ (codes "no certificate\n") (line_is ended same_size end) all
+  cut_report ended reported sizes end all = all_parts ended reported _ (codes "no certificate\n") (line_is ended sizes end) all
 
   -- and where no line was cut
   module _ (start : Situation) (is : IsStartOf (slot_count old.size) (state_of old) start) (proper : IsProper start) (plain : was_cut run.answered.answers ≡ false) where

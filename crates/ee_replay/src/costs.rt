@@ -27,21 +27,21 @@ const MOVING: u64 = 5;
 /// and with each read, as often as the addresses in it can be halved.
 const READING: u64 = 3;
 
-/// An index is made when looking has cost so many times what it may cost, so that it takes no more than a tenth of what the
-/// lines before it took.
+/// An index is made when looking has cost so many times what it may cost, so that it takes no more than a tenth of what
+/// the lines before it took.
 const TIMES: u64 = 10;
 
 /// What looking through the slots costs and what an index costs, from line to line.
 #[derive(Clone, Copy)]
 pub(crate) struct Costs {
     has_index: bool,
-    // How much more looking has cost than an index would have; where there is one, how much it may lose yet.
+    /// How much more looking has cost than an index would have; where there is one, how much it may lose yet.
     ahead: u64,
-    // and how much that may come to
+    /// How much that may come to.
     most: u64,
-    // how often an index lost its reserve
+    /// How often an index lost its reserve.
     losses: u32,
-    // how many reads go by before one is measured, and how many went by for it
+    /// How many reads go by before one is measured, and how many went by for it.
     left: u32,
     apart: u32,
     dice: u32,
@@ -143,8 +143,8 @@ impl Costs {
         making(fill).saturating_add(self.reserve(fill))
     }
 
-    /// What an index may lose against looking before it is given back: half of what its making costs, and twice as much each
-    /// time that this was too little, for a move may be still to come that makes up for it.
+    /// What an index may lose against looking before it is given back: half of what its making costs, and twice as much
+    /// each time that this was too little, for a move may be still to come that makes up for it.
     fn reserve(&self, fill: usize) -> u64 {
         (making(fill) / 2).saturating_mul(1 << self.losses.min(32))
     }

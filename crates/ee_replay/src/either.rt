@@ -20,8 +20,8 @@ use ee_index::{IndexedFault, IndexedStore, inner as indexed};
 use ee_script::Answer;
 use std::alloc::{Allocator, Global};
 
-/// Variables in a store of either kind. It is opened without an index, gets one when that pays, and gives it back when it no
-/// longer does, or when power is cut. Where memory for an index is refused it goes on without.
+/// Variables in a store of either kind. It is opened without an index, gets one when that pays, and gives it back when
+/// it no longer does, or when power is cut. Where memory for an index is refused it goes on without.
 #[derive(Drop)]
 pub(crate) enum EitherStore<F: Arming, A: Allocator = Global> {
     /// Without an index.

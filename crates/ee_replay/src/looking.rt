@@ -2,6 +2,7 @@
 //! the store that is chosen by it keeps the contract of `Variables`.
 ghost use Rattle.std.specs.Prelude.{◌<◌, ◌≤◌, ◌-◌};
 ghost use Rattle.ee_flash.specs.Size.{page_count};
+ghost use Rattle.ee_flash.specs.declared.shape.TheConstants.{HEADER_WORDS};
 
 use ee_codec::{Address, Slot, ends_in, read_slot};
 use ee_flash::{Flash, HEADER_WORDS};
@@ -30,7 +31,7 @@ pub(crate) fn count_live<F: Flash, A: Allocator>(
 
 /// How many slots are used in the page behind so many pages of the live set.
 fn used_behind<F: Flash>(flash: &F, layout: &Layout, pages: usize) -> usize
-    ensures { result ≤ (F.device flash.now).size.words - 4 }
+    ensures { result ≤ (F.device flash.now).size.words - HEADER_WORDS }
 {
     let slots = flash.shape().words() - HEADER_WORDS;
     let before = pages.saturating_mul(slots);
@@ -45,7 +46,7 @@ fn count_in_page<F: Flash, A: Allocator>(
     told: &mut Told<A>,
 ) -> usize
     requires page_in_range { page < page_count (F.device flash.now).size }
-    requires used_in_range { used ≤ (F.device flash.now).size.words - 4 }
+    requires used_in_range { used ≤ (F.device flash.now).size.words - HEADER_WORDS }
 {
     let mut live: usize = 0;
     for at in (HEADER_WORDS..HEADER_WORDS + used).rev() {
@@ -106,7 +107,7 @@ pub(crate) fn looks_for<F: Flash>(flash: &F, layout: &Layout, address: Address) 
 /// How many used slots of a page it goes through, and whether it ends there.
 fn looks_in_page<F: Flash>(flash: &F, page: usize, used: usize, address: Address) -> (usize, bool)
     requires page_in_range { page < page_count (F.device flash.now).size }
-    requires used_in_range { used ≤ (F.device flash.now).size.words - 4 }
+    requires used_in_range { used ≤ (F.device flash.now).size.words - HEADER_WORDS }
 {
     let mut passed: usize = 0;
     for at in (HEADER_WORDS..HEADER_WORDS + used).rev() {

@@ -14,13 +14,13 @@ use std::marker::Model;
 /// each move, and none for anything else.
 #[derive(Drop)]
 pub(crate) struct Notes<A: Allocator = Global> {
-    // how many they are
+    /// How many they are.
     changes: u64,
-    // how many slots were used where the stretch that goes on began
+    /// How many slots were used where the stretch that goes on began.
     from: u64,
-    // the stretches that have ended
+    /// The stretches that have ended.
     stretches: Vec<Stretch, A>,
-    // whether power was cut
+    /// Whether power was cut.
     cut: bool,
 }
 

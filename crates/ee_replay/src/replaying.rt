@@ -1,19 +1,32 @@
 //! Scripts on images.
-ghost use Rattle.std.specs.Prelude.{◌≡◌, ◌≢◌, ◌⊎◌, ℕ, List, IfOk, IfErr, MatchResult, Some};
+ghost use Rattle.std.specs.Prelude.{◌≡◌, ◌⊎◌, ℕ, List, IfOk, IfErr, MatchResult, Some};
+ghost use Rattle.ee_flash.specs.Device.{Device};
+ghost use Rattle.ee_flash.specs.Size.{slot_count};
+ghost use Rattle.ee_check.specs.Schedule.{IsProper};
+ghost use Rattle.ee_core.specs.State.{state_of};
+ghost use Rattle.ee_plan.specs.Start.{IsStartOf};
 ghost use Rattle.ee_script.specs.Script.{IsFirstBadCommandLine};
+ghost use Rattle.ee_replay.specs.Desk.{point_of_desk};
+ghost use Rattle.ee_replay.specs.Serving.{IsTraced};
 ghost use Rattle.ee_replay.specs.Replaying.{IsReplayFault, IsReplayed, IsRunFault, IsRunOn, IsTried};
 ghost use Rattle.ee_replay.specs.Reading.{IsGiven, IsNotAnswered, IsReaderFault};
 ghost use Rattle.ee_image_store.specs.Opening.{HasStore, IsOpenFault, StaysOn};
+ghost use Rattle.ee_faults.specs.Causes.{NamesEach};
 
 use super::either::EitherStore;
 use super::opening::{Opened, open_as};
-use super::reporting::{answer_on, answer_reader_on};
+use super::reporting::report_on;
+use super::serving::Server;
+use ee_check::Start;
+use ee_command_line::MOST_READS;
 use ee_core::Store;
 use ee_faults::ReplayFault;
 use ee_flash::{MemFlash, Shape};
 use ee_image_store::{new_store, open_image, text_of};
 use ee_index::IndexedStore;
-use std::alloc::{Allocator, Global};
+use ee_plan::start_of;
+use ee_script::{answer_reader, answer_script};
+use std::alloc::{AllocError, Allocator, Global};
 use std::io::Read;
 
 /// What a script leaves: the image as text, and the report.
@@ -45,10 +58,7 @@ pub fn replay<A: Allocator + Copy>(
         IsReplayed image.now script.now replayed.image.items replayed.report.items) }
     ensures fault { IfErr result (IsReplayFault image.now script.now) }
     // No cause is passed over.
-    ensures names { (cause : ReplayFault) → cause ≢ ReplayFault.Memory
-        → IsReplayFault image.now script.now cause
-        → MatchResult result (λ _. ⊥)
-        (λ fault. (fault ≡ cause) ⊎ (fault ≡ ReplayFault.Memory)) }
+    ensures names { NamesEach ReplayFault.Memory (IsReplayFault image.now script.now) result }
 {
     let store = open_as::<A, EitherStore<MemFlash<A>, A>>(alloc, image)?;
     match run_on(alloc, store, script) {
@@ -75,10 +85,7 @@ pub fn replay_indexed<A: Allocator + Copy>(
         IsReplayed image.now script.now replayed.image.items replayed.report.items) }
     ensures fault { IfErr result (IsReplayFault image.now script.now) }
     // No cause is passed over.
-    ensures names { (cause : ReplayFault) → cause ≢ ReplayFault.Memory
-        → IsReplayFault image.now script.now cause
-        → MatchResult result (λ _. ⊥)
-        (λ fault. (fault ≡ cause) ⊎ (fault ≡ ReplayFault.Memory)) }
+    ensures names { NamesEach ReplayFault.Memory (IsReplayFault image.now script.now) result }
 {
     replay_as::<A, IndexedStore<MemFlash<A>, A>>(alloc, image, script)
 }
@@ -93,14 +100,10 @@ fn replay_as<A: Allocator + Copy, S: Opened<MemFlash<A>, A>>(
         IsReplayed image.now script.now replayed.image.items replayed.report.items) }
     ensures fault { IfErr result (IsReplayFault image.now script.now) }
     // No cause is passed over.
-    ensures names { (cause : ReplayFault) → cause ≢ ReplayFault.Memory
-        → IsReplayFault image.now script.now cause
-        → MatchResult result (λ _. ⊥)
-        (λ fault. (fault ≡ cause) ⊎ (fault ≡ ReplayFault.Memory)) }
+    ensures names { NamesEach ReplayFault.Memory (IsReplayFault image.now script.now) result }
 {
     let store = open_as::<A, S>(alloc, image)?;
-    let replayed = run_on(alloc, store, script)?;
-    Ok(replayed)
+    run_on(alloc, store, script)
 }
 
 /// `replay` of a script that a reader gives in pieces. The image is opened before the first read; what
@@ -125,9 +128,7 @@ pub fn replay_reader<A: Allocator + Copy, R: Read>(
     ensures fault { IfErr result
         (IsReaderFault (R.remaining reader.old) (R.remaining reader.new) image.now) }
     // No cause against the image is passed over.
-    ensures names { (cause : ReplayFault) → cause ≢ ReplayFault.Memory
-        → IsOpenFault image.now cause → MatchResult result (λ _. ⊥)
-        (λ fault. (fault ≡ cause) ⊎ (fault ≡ ReplayFault.Memory)) }
+    ensures names { NamesEach ReplayFault.Memory (IsOpenFault image.now) result }
     // A bad line is never passed over.
     ensures bad { (script : List ℕ) (n : ℕ) → R.remaining reader.old ≡ Some script
         → HasStore image.now → IsFirstBadCommandLine script n → MatchResult result (λ _. ⊥)
@@ -176,9 +177,12 @@ fn run_on<A: Allocator + Copy, S: Opened<MemFlash<A>, A>>(
         IsRunOn (S.device store) script.now replayed.image.items replayed.report.items) }
     ensures fault { IfErr result (IsRunFault script.now) }
 {
-    let (flash, report) = answer_on(alloc, store, script)?;
-    let image = text_of(alloc, &flash)?;
-    Ok(Replayed { image, report })
+    let store = store.settled_to_count(alloc);
+    let start = start_of(alloc, &store)?;
+    let server = Server::new(alloc, store);
+    let (server, lines) = answer_script(alloc, server, script)?;
+    let replayed = left_by(alloc, server, &start, lines)?;
+    Ok(replayed)
 }
 
 /// The same of a script that a reader gives.
@@ -194,7 +198,31 @@ fn run_reader<A: Allocator + Copy, S: Opened<MemFlash<A>, A>, R: Read>(
     ensures fault { IfErr result
         (IsNotAnswered (R.remaining reader.old) (R.remaining reader.new)) }
 {
-    let (flash, report) = answer_reader_on(alloc, store, reader)?;
-    let image = text_of(alloc, &flash)?;
+    let store = store.settled_to_count(alloc);
+    let start = start_of(alloc, &store)?;
+    let server = Server::new(alloc, store);
+    let (server, lines) = answer_reader(alloc, server, reader, MOST_READS)?;
+    let replayed = left_by(alloc, server, &start, lines)?;
+    Ok(replayed)
+}
+
+/// The image and the report that a script leaves: `start` is what its trace began from, `lines` are those of
+/// its answers.
+fn left_by<A: Allocator + Copy, S: Opened<MemFlash<A>, A>, B: Allocator>(
+    alloc: A,
+    server: Server<S, A>,
+    start: &Start<B>,
+    lines: Vec<u8, A>,
+) -> Result<Replayed<A>, AllocError>
+    ensures { IfOk result (λ replayed. (old : Device) (script : List ℕ)
+        → IsTraced old script (point_of_desk S.device server.desk) server.notes lines.items
+        → IsStartOf (slot_count old.size) (state_of old) start.now → IsProper start.now
+        → StaysOn old
+        → IsRunOn old script replayed.image.items replayed.report.items) }
+{
+    let Server { desk, notes, .. } = server;
+    let desk = desk.settled_to_count(alloc);
+    let report = report_on(start, notes, &desk, lines)?;
+    let image = text_of(alloc, &desk.into_flash())?;
     Ok(Replayed { image, report })
 }

@@ -1,89 +1,29 @@
 //! The whole report of a script: its answers, how the desk stands at the end, and the certificate that
 //! no store could have moved its live set less often.
-ghost use Rattle.std.specs.Prelude.{◌≡◌, ◌⊎◌, ◌++◌, ℕ, List, [], IfOk, IfErr, MatchResult, OnOk, codes, decimal, false, true};
+ghost use Rattle.std.specs.Prelude.{◌≡◌, ◌++◌, ℕ, List, IfOk, OnOk, codes, decimal, false, true};
 ghost use Rattle.ee_check.specs.Schedule.{IsProper};
 ghost use Rattle.ee_check.specs.Text.{text_of};
 ghost use Rattle.ee_flash.specs.Device.{Device, IsOn};
-ghost use Rattle.ee_flash.specs.Memory.{device_of};
 ghost use Rattle.ee_flash.specs.Size.{slot_count};
 ghost use Rattle.ee_plan.specs.Start.{IsStartOf};
-ghost use Rattle.ee_script.specs.Reading.{IsStreamFault};
-ghost use Rattle.ee_script.specs.Script.{IsFirstBadCommandLine};
-ghost use Rattle.ee_script.specs.Whole.{IsScriptFault};
-ghost use Rattle.ee_core.specs.Points.{Point};
 ghost use Rattle.ee_core.specs.State.{state_of};
-ghost use Rattle.ee_replay.specs.Desk.{IsLegalDesk, point_of_desk};
+ghost use Rattle.ee_replay.specs.Desk.{point_of_desk};
 ghost use Rattle.ee_replay.specs.Report.{desk_line, end_line};
-ghost use Rattle.ee_replay.specs.Reading.{IsGiven};
-ghost use Rattle.ee_replay.specs.Serving.{IsServed, IsSound, IsTraced, claim_noted};
+ghost use Rattle.ee_replay.specs.Serving.{IsServed, IsTraced, claim_noted};
 ghost use Rattle.ee_image_store.specs.Opening.{StaysOn};
 
 use super::desk::Desk;
 use super::noting::Notes;
 use super::opening::Opened;
-use super::serving::{Traced, trace_on, trace_reader};
 use ee_check::{Start, write_certificate};
 use ee_core::Variables;
 use ee_flash::MemFlash;
-use ee_plan::start_of;
-use ee_script::{ScriptFault, StreamFault};
 use ee_text::push_number_behind;
 use std::alloc::{AllocError, Allocator};
-use std::io::Read;
-
-/// Answers a script, from a store on a device that is on and on which no cut is to come, and gives the
-/// device and the report: a line for each line of the script, a line on how the desk stands, and the
-/// certificate that no store makes the changes that were accepted with fewer moves, or after a cut
-/// that there is none.
-pub(crate) fn answer_on<A: Allocator + Copy, S: Opened<MemFlash<A>, A>>(
-    alloc: A,
-    store: S,
-    script: &[u8],
-) -> Result<(MemFlash<A>, Vec<u8, A>), ScriptFault>
-    requires { StaysOn (S.device store) }
-    ensures served { IfOk result (λ done. (last : Point) × (device_of done.0 ≡ last.device)
-        × IsSound last × IsServed (S.device store) script.now last done.1.items) }
-    ensures fault { IfErr result (IsScriptFault script.now) }
-    // A bad line is never passed over.
-    ensures bad { (n : ℕ) → IsFirstBadCommandLine script.now n
-        → MatchResult result (λ _. ⊥)
-        (λ fault. (fault ≡ ScriptFault.BadLine n) ⊎ (fault ≡ ScriptFault.Memory)) }
-{
-    let store = store.settled_to_count(alloc);
-    let start = start_of(alloc, &store)?;
-    let left = trace_on(alloc, store, script)?;
-    let Traced { desk, notes, lines } = left;
-    let desk = desk.settled_to_count(alloc);
-    let report = report_on(&start, notes, &desk, lines)?;
-    Ok((desk.into_flash(), report))
-}
-
-/// The same of a script that a reader gives. Of the script no more is kept than one unfinished line.
-pub(crate) fn answer_reader_on<A: Allocator + Copy, S: Opened<MemFlash<A>, A>, R: Read>(
-    alloc: A,
-    store: S,
-    reader: &mut R,
-) -> Result<(MemFlash<A>, Vec<u8, A>), StreamFault>
-    requires { StaysOn (S.device store) }
-    ensures served { IfOk result (λ done. (script : List ℕ)
-        × IsGiven (R.remaining reader.old) (R.remaining reader.new) script
-        × (last : Point) × (device_of done.0 ≡ last.device)
-        × IsSound last × IsServed (S.device store) script last done.1.items) }
-    ensures fault { IfErr result
-        (IsStreamFault (R.remaining reader.old) (R.remaining reader.new)) }
-{
-    let store = store.settled_to_count(alloc);
-    let start = start_of(alloc, &store)?;
-    let left = trace_reader(alloc, store, reader)?;
-    let Traced { desk, notes, lines } = left;
-    let desk = desk.settled_to_count(alloc);
-    let report = report_on(&start, notes, &desk, lines)?;
-    Ok((desk.into_flash(), report))
-}
 
 /// The whole report: the lines of the answers, how the desk stands, and the certificate of what was
 /// noted, if power was not cut.
-fn report_on<A: Allocator + Copy, B: Allocator, S: Opened<MemFlash<A>, A>>(
+pub(crate) fn report_on<A: Allocator + Copy, B: Allocator, S: Opened<MemFlash<A>, A>>(
     start: &Start<B>,
     notes: Notes<A>,
     desk: &Desk<S, A>,

@@ -1,34 +1,30 @@
-//! Scripts at a desk: what serves a script's commands, and the answers to a whole one.
-ghost use Rattle.std.specs.Prelude.{◌≡◌, ◌⊎◌, ℕ, List, IfOk, IfErr, MatchResult};
-ghost use Rattle.ee_script.specs.Script.{IsFirstBadCommandLine};
-ghost use Rattle.ee_script.specs.Whole.{IsScriptFault};
+//! What serves a script's commands at a desk.
+ghost use Rattle.std.specs.Prelude.{◌≡◌, IfOk};
 ghost use Rattle.ee_script.specs.declared.command.Command.TheVariants.{Write, Read, Forget, Clean, Arm, PowerOn};
-ghost use Rattle.ee_script.specs.Reading.{IsStreamFault};
 ghost use Rattle.ee_core.specs.Finished.{IsStore};
 ghost use Rattle.ee_core.specs.State.{state_of};
-ghost use Rattle.ee_replay.specs.Desk.{IsLegalDesk, IsLegalSo, point_of_desk};
-ghost use Rattle.ee_replay.specs.Reading.{IsGiven};
-ghost use Rattle.ee_replay.specs.Serving.{Attends, IsCounted, IsTraced, no_notes, notes_after, serving_on};
+ghost use Rattle.ee_replay.specs.Desk.{IsLegalSo, point_of_desk};
+ghost use Rattle.ee_replay.specs.Serving.{Attends, IsCounted, no_notes, notes_after, serving_on};
 ghost use Rattle.ee_image_store.specs.Opening.{StaysOn};
 
 use super::desk::Desk;
 use super::noting::Notes;
 use super::opening::Opened;
 use ee_codec::Address;
-use ee_command_line::MOST_READS;
 use ee_core::{ForgetFault, Off, Variables, WriteFault};
 use ee_flash::{Fuse, MemFlash};
-use ee_script::{Answer, Command, ScriptFault, Serve, StreamFault, answer_reader, answer_script};
+use ee_script::{Answer, Command, Serve};
 use std::alloc::{AllocError, Allocator, Global};
-use std::io::Read;
 use std::mem::replace;
 
 /// A desk, and what is noted of the changes that the store on it accepted.
 #[derive(Drop)]
-struct Server<S: Opened<MemFlash<A>, A>, A: Allocator + Copy = Global> {
+pub(crate) struct Server<S: Opened<MemFlash<A>, A>, A: Allocator + Copy = Global> {
     alloc: A,
-    desk: Desk<S, A>,
-    notes: Notes<A>,
+    /// The device, with a store open on it or without.
+    pub(crate) desk: Desk<S, A>,
+    /// How many changes were accepted, the stretches of their certificate, and whether power was cut.
+    pub(crate) notes: Notes<A>,
     ghost legal: { IsLegalSo desk },
     ghost counted: { IsCounted (point_of_desk S.device desk).device notes },
 }
@@ -37,7 +33,7 @@ impl<S: Opened<MemFlash<A>, A>, A: Allocator + Copy> Server<S, A> {
     ghost use Rattle.ee_replay.specs.Serving.{Records, with_notes};
 
     /// What serves with this store, before the first command.
-    fn new(alloc: A, store: S) -> Server<S, A>
+    pub(crate) fn new(alloc: A, store: S) -> Server<S, A>
         requires on { StaysOn (S.device store) }
         requires legal { IsStore (S.device store) }
         ensures point { point_of_desk S.device result.desk ≡ serving_on (S.device store) }
@@ -193,72 +189,4 @@ impl<S: Opened<MemFlash<A>, A>, A: Allocator + Copy> Serve for Server<S, A> {
             Command::PowerOn => self.power_on(),
         }
     }
-}
-
-impl<S: Opened<MemFlash<A>, A>, A: Allocator + Copy> Server<S, A> {
-    /// The desk and what was noted at the end, with the lines of the answers.
-    fn into_traced(self, lines: Vec<u8, A>) -> Traced<S, A>
-        ensures point { point_of_desk S.device result.desk ≡ point_of_desk S.device self.desk }
-        ensures legal { IsLegalDesk result.desk }
-        ensures notes { result.notes ≡ self.notes }
-        ensures lines { result.lines ≡ lines }
-    {
-        let Server { desk, notes, .. } = self;
-        Traced { desk, notes, lines }
-    }
-}
-
-/// What a script left: the desk, what is noted of the changes that were accepted on it, and the lines
-/// of the answers.
-#[derive(Drop)]
-pub(crate) struct Traced<S: Variables + Drop, A: Allocator = Global> {
-    /// The device, with a store open on it or without.
-    pub(crate) desk: Desk<S, A>,
-    /// How many changes were accepted, the stretches of their certificate, and whether power was cut.
-    pub(crate) notes: Notes<A>,
-    /// A line for each line of the script.
-    pub(crate) lines: Vec<u8, A>,
-}
-
-/// Answers each line of a script, from a store on a device that is on, and on which no cut is to come.
-pub(crate) fn trace_on<A: Allocator + Copy, S: Opened<MemFlash<A>, A>>(
-    alloc: A,
-    store: S,
-    script: &[u8],
-) -> Result<Traced<S, A>, ScriptFault>
-    requires on { StaysOn (S.device store) }
-    requires legal { IsStore (S.device store) }
-    ensures traced { IfOk result (λ left. IsTraced (S.device store) script.now
-        (point_of_desk S.device left.desk) left.notes left.lines.items) }
-    ensures bare { IfOk result (λ left. IsLegalDesk left.desk) }
-    ensures fault { IfErr result (IsScriptFault script.now) }
-    // A bad line is never passed over.
-    ensures bad { (n : ℕ) → IsFirstBadCommandLine script.now n
-        → MatchResult result (λ _. ⊥)
-        (λ fault. (fault ≡ ScriptFault.BadLine n) ⊎ (fault ≡ ScriptFault.Memory)) }
-{
-    let server = Server::new(alloc, store);
-    let (server, lines) = answer_script(alloc, server, script)?;
-    Ok(server.into_traced(lines))
-}
-
-/// The same of a script that a reader gives.
-pub(crate) fn trace_reader<A: Allocator + Copy, S: Opened<MemFlash<A>, A>, R: Read>(
-    alloc: A,
-    store: S,
-    reader: &mut R,
-) -> Result<Traced<S, A>, StreamFault>
-    requires on { StaysOn (S.device store) }
-    requires legal { IsStore (S.device store) }
-    ensures traced { IfOk result (λ left. (script : List ℕ)
-        × IsGiven (R.remaining reader.old) (R.remaining reader.new) script
-        × IsTraced (S.device store) script
-        (point_of_desk S.device left.desk) left.notes left.lines.items) }
-    ensures bare { IfOk result (λ left. IsLegalDesk left.desk) }
-    ensures fault { IfErr result
-        (IsStreamFault (R.remaining reader.old) (R.remaining reader.new)) }
-{
-    let server = Server::new(alloc, store);
-    let (server, lines) = answer_reader(alloc, server, reader, MOST_READS)?;
-    Ok(server.into_traced(lines))
 }

@@ -1,3 +1,4 @@
+//! The answers to a script, one line of its report each.
 ghost use Rattle.std.specs.Prelude.{◌≡◌, [], ◌∷◌, ◌++◌, OnErr, OnOk};
 ghost use Rattle.ee_script.specs.Answer.{GrowsByFront, report};
 

@@ -1,3 +1,4 @@
+//! The commands of a script, one line of it each.
 use ee_codec::Address;
 use ee_flash::Fuse;
 

@@ -1,3 +1,4 @@
+//! The reading of a script's line: each command has one spelling, and no other line is read.
 ghost use Rattle.std.specs.Prelude.{◌≡◌, ◌+◌, ◌<◌, ◌^◌, ◌++◌, ◌∷◌, ℕ, List, Some, IfNone, IfSome, IsSomeAnd, decimal, codes};
 ghost use Rattle.ee_codec.specs.Words.{IsAddress, IsValue};
 ghost use Rattle.ee_text.specs.Line.{line_of};

@@ -1,3 +1,4 @@
+//! A script that comes in pieces: each line is answered as soon as it has come.
 ghost use Rattle.std.specs.Prelude.{◌≡◌, ◌+◌, ◌<◌, ◌++◌, [], length, IfErr, IfOk, MatchResult, OnOk};
 ghost use Rattle.std.specs.Bool.{OnFalse, OnTrue};
 ghost use Rattle.ee_text.specs.Line.{IsLine, line_of};

@@ -1,3 +1,4 @@
+//! A script answered to its end, given as one text or by a reader.
 ghost use Rattle.std.specs.Prelude.{◌≡◌, ◌⊎◌, ℕ, List, IfOk, IfErr, MatchResult, Some};
 ghost use Rattle.ee_script.specs.Script.{IsFirstBadCommandLine};
 ghost use Rattle.ee_script.specs.Whole.{IsAnswered, IsScriptFault};

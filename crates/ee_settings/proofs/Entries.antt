@@ -4,7 +4,7 @@ use Rattle.std.proofs.lemmas.Bool.{cases_lt}
 use Rattle.std.proofs.lemmas.List.{get_or_default}
 use Rattle.std.proofs.lemmas.List.Elements.{Contains-push_cases}
 use Rattle.toml.specs.Data.{Data}
-use Rattle.ee_settings.specs.File.{fields_of_numbers, IsTableOf, AreEntriesOf, BreaksFirst, Entry, GivesSetting, IsEntryOf, IsFirstFault, IsSchemaFault, IsSchemaOf, IsTaken, Rule, Name, Field, Range, Address}
+use Rattle.ee_settings.specs.File.{fields_of_numbers, IsTableOf, AreEntriesOf, BreaksFirst, Entry, GivesSetting, IsEntryOf, IsFirstFault, IsSchemaFault, IsSchemaOf, IsTaken, Rule}
 use Rattle.ee_settings.specs.Setting.{AreProper, HaveOwnAddresses, IsName, Setting}
 use Rattle.ee_settings.specs.declared.numbers.Fields.{Fields}
 use Rattle.ee_settings.specs.declared.numbers.Numbers.{Numbers}
@@ -58,11 +58,7 @@ first_fault rule all before after entry settings number at split count good h = 
 
 pub fault_named : (fault : SchemaFault) (all before after : List Entry) (entry : Entry) (settings : List Setting) (number : ℕ) → all ≡ before ++ entry ∷ after → number ≡ length settings + 1 → IsSchemaOf before settings
     → GivesSetting settings number entry (Err fault) → IsSchemaFault all fault
-fault_named (fault.BadName at) all before after entry settings number split count good h = first_fault Name all before after entry settings number at split count good h
-fault_named (fault.BadField at) all before after entry settings number split count good h = first_fault Field all before after entry settings number at split count good h
-fault_named (fault.BadRange at) all before after entry settings number split count good h = first_fault Range all before after entry settings number at split count good h
-fault_named (fault.SameAddress at) all before after entry settings number split count good h = first_fault Address all before after entry settings number at split count good h
-fault_named fault.Memory all before after entry settings number split count good h = tt
+fault_named fault all before after entry settings number h1 h2 h3 h4 = search (rules, first_fault)
 
 -- a proper name and the numbers that stand under it make the entry's setting
 pub entry_is : (name : List ℕ) (tree : Data) (fields : Fields) (numbers : Numbers) → IsName name → IsTableOf tree fields → fields ≡ fields_of_numbers numbers → AreProper numbers

@@ -4,7 +4,6 @@ use Rattle.std.proofs.lemmas.Grind.{common_steps}
 use Rattle.std.specs.List.{All, AllByRecursion, Contains}
 use Rattle.std.specs.List.Sorted.{IsStrictlySortedBy}
 use Rattle.std.specs.Prelude.{◌||◌, slice_get}
-use Rattle.std.specs.Cmp.{nat_cmp_is}
 use Rattle.std.proofs.lemmas.Bool.{cases_eq, eqb-true}
 use Rattle.std.proofs.lemmas.List.Elements.{All-append, All-cons, All-head, All-nil, All-tail, All-weaker, Contains-append_left, Contains-append_right}
 use Rattle.ee_codec.specs.Words.{IsAddress}
@@ -33,8 +32,7 @@ later n setting settings address (Some named) other h = (suc h.0, h.1, (let e = 
 first_or_later : (b : Bool) (n : ℕ) (setting : Setting) (settings : List Setting) (address : ℕ) → (setting.numbers.address == address) ≡ b
     → IsNamedAt (n + 1) settings address (named_from (n + 1) settings address)
     → IsNamedAt n (setting ∷ settings) address (cond b (Some (n, setting.numbers)) (named_from (n + 1) settings address))
-first_or_later true n setting settings address here more = (0, setting, omega arith, refl, refl, eqb-true setting.numbers.address address here)
-first_or_later false n setting settings address other more = later n setting settings address (named_from (n + 1) settings address) other more
+first_or_later b n setting settings address h1 h2 = search (rules, eqb-true, later)
 
 named_at : (n : ℕ) (settings : List Setting) (address : ℕ) → IsNamedAt n settings address (named_from n settings address)
 named_at n [] address = refl
@@ -43,25 +41,17 @@ named_at n (setting ∷ settings) address = first_or_later (setting.numbers.addr
 -- ---- what is said of one address
 
 entry_is : (settings : List Setting) (entry k : ℕ) (setting : Setting) → entry ≡ 1 + k → slice_get settings k ≡ Some setting → entry_of settings entry ≡ Some setting
-entry_is settings zero k setting is here = absurd (omega (arith, is))
-entry_is settings (suc index) k setting is here = ap (slice_get settings) (omega (arith, is)) ∙ here
+entry_is settings entry k setting h1 h2 = search rules
 
 said_of : (settings : List Setting) (stored : Map) (address : ℕ) (named : Option (ℕ × Numbers)) (value : Option ℕ) → IsAddress address → IsNamedAt 1 settings address named → stored address ≡ value
     → All (IsListedSo settings stored) (listed_of address named value)
-said_of settings stored address None None proper at holds = All-nil (IsListedSo settings stored)
-said_of settings stored address None (Some value) proper at holds =
-    All-cons (IsListedSo settings stored) (record { address = address; entry = None; held = Value value }) [] (proper, (at, value, holds, refl)) (All-nil (IsListedSo settings stored))
-said_of settings stored address (Some named) None proper at holds = search (rules, entry_is)
-said_of settings stored address (Some named) (Some value) proper at holds = search (rules, entry_is)
+said_of settings stored address named value h1 h2 h3 = search (rules, All-nil, All-cons, entry_is)
 
 abbrev IsAt : ℕ → Listed → Type 0
 IsAt address listed = listed.address ≡ address
 
 at_address : (address : ℕ) (named : Option (ℕ × Numbers)) (value : Option ℕ) → All (IsAt address) (listed_of address named value)
-at_address address None None = All-nil (IsAt address)
-at_address address None (Some value) = All-cons (IsAt address) (record { address = address; entry = None; held = Value value }) [] refl (All-nil (IsAt address))
-at_address address (Some named) None = All-cons (IsAt address) (record { address = address; entry = Some named.0; held = Default named.1.default }) [] refl (All-nil (IsAt address))
-at_address address (Some named) (Some value) = All-cons (IsAt address) (record { address = address; entry = Some named.0; held = held_by named.1 value }) [] refl (All-nil (IsAt address))
+at_address address named value = search (rules, All-nil, All-cons)
 
 -- the address is among them
 abbrev IsFound : ℕ → List Listed → Type 0
@@ -105,15 +95,11 @@ less_with : (n : ℕ) (listeds more : List Listed) → AllByRecursion (λ y. nat
     → AllByRecursion (λ y. nat_cmp n y ≡ Less) (map (λ (listed : Listed). listed.address) (listeds ++ more))
 less_with n (listed ∷ listeds) more h later = (h.0, less_with n listeds more h.1 later)
 less_with n [] [] h later = tt
-less_with n [] (listed ∷ more) h later =
-    (sym (nat_cmp_is n listed.address Less (All-head (λ (one : Listed). n < one.address) listed more later)), less_with n [] more tt (All-tail (λ (one : Listed). n < one.address) listed more later))
+less_with n [] (listed ∷ more) h later = search (rules, All-head, later, All-tail, (less_with n [] more tt (All-tail (λ (one : Listed). n < one.address) listed more later)))
 
 last_rising : (address : ℕ) (named : Option (ℕ × Numbers)) (value : Option ℕ) → IsStrictlySortedBy nat_cmp (map (λ (listed : Listed). listed.address) (listed_of address named value))
 unfolding IsStrictlySortedBy
-last_rising address None None = tt
-last_rising address None (Some value) = (tt, tt)
-last_rising address (Some named) None = (tt, tt)
-last_rising address (Some named) (Some value) = (tt, tt)
+last_rising address named value = search rules
 
 rising_with : (address : ℕ) (listeds more : List Listed) → All (λ (listed : Listed). listed.address < address) listeds → IsStrictlySortedBy nat_cmp (map (λ (listed : Listed). listed.address) listeds)
     → All (IsAt address) more → IsStrictlySortedBy nat_cmp (map (λ (listed : Listed). listed.address) more) → IsStrictlySortedBy nat_cmp (map (λ (listed : Listed). listed.address) (listeds ++ more))

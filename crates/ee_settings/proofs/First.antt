@@ -7,8 +7,8 @@ use Rattle.std.specs.List.Sorted.{IsStrictlySortedBy}
 use Rattle.toml.specs.Data.{Members}
 use Rattle.ee_settings.proofs.Names.{names_as_entries}
 use Rattle.ee_settings.proofs.Once.{breaks_none, entries_once, fields_once, split_settings}
-use Rattle.ee_settings.specs.File.{Address, AreEntriesOf, BreaksFirst, Entry, Field, GivesSchema, HaveRisingKeys, IsFirstFault, Name, Range, Rule, entries_of, fields_of_numbers}
-use Rattle.ee_settings.specs.Setting.{HaveOwnAddresses, HaveRisingNames, IsName, Setting}
+use Rattle.ee_settings.specs.File.{Address, AreEntriesOf, BreaksFirst, Entry, Field, GivesSchema, HaveRisingKeys, IsFirstFault, Name, Range, Rule, entries_of}
+use Rattle.ee_settings.specs.Setting.{HaveOwnAddresses, HaveRisingNames, Setting}
 use Rattle.ee_settings.specs.declared.fault.SchemaFault.{SchemaFault}
 use Rattle.ee_settings.specs.declared.fault.SchemaFault.TheVariants as fault
 
@@ -46,22 +46,7 @@ same_front (x ∷ before) (y ∷ other) entry more after rest h same = search (r
 
 -- an entry breaks one rule first
 one_rule : (r q : Rule) (earlier : List Setting) (entry : Entry) → BreaksFirst r earlier entry → BreaksFirst q earlier entry → r ≡ q
-one_rule Name Name earlier entry h k = refl
-one_rule Name Field earlier entry h k = absurd (h k.0)
-one_rule Name Range earlier entry h k = absurd (h k.0)
-one_rule Name Address earlier entry h k = absurd (h (subst (λ name. IsName name) k.1.name k.1.proper.name))
-one_rule Field Name earlier entry h k = absurd (k h.0)
-one_rule Field Field earlier entry h k = refl
-one_rule Field Range earlier entry h k = absurd (h.1 k.1 k.2)
-one_rule Field Address earlier entry h k = absurd (h.1 (fields_of_numbers k.0.numbers) k.1.numbers)
-one_rule Range Name earlier entry h k = absurd (k h.0)
-one_rule Range Field earlier entry h k = absurd (k.1 h.1 h.2)
-one_rule Range Range earlier entry h k = refl
-one_rule Range Address earlier entry h k = absurd (h.3 k.0.numbers k.1.proper.numbers (fields_once entry.1 h.1 (fields_of_numbers k.0.numbers) h.2 k.1.numbers))
-one_rule Address Name earlier entry h k = absurd (k (subst (λ name. IsName name) h.1.name h.1.proper.name))
-one_rule Address Field earlier entry h k = absurd (k.1 (fields_of_numbers h.0.numbers) h.1.numbers)
-one_rule Address Range earlier entry h k = absurd (k.3 h.0.numbers h.1.proper.numbers (fields_once entry.1 k.1 (fields_of_numbers h.0.numbers) k.2 h.1.numbers))
-one_rule Address Address earlier entry h k = refl
+one_rule r q earlier entry h1 h2 = search (rules, fields_once)
 
 -- no entry that breaks a rule stands before another first fault
 never_earlier : (entries : List Entry) (n m : ℕ) (r q : Rule) → HaveRisingKeys entries → (h : IsFirstFault entries n r) (k : IsFirstFault entries m q) → ¬ (length h.before < length k.before)

@@ -8,11 +8,10 @@ use Rattle.ee_flash.specs.Power.{GoesOn}
 use Rattle.ee_pages.specs.Meaning.{AreNextLive, Forget, Map, map_after}
 use Rattle.ee_core.proofs.Public.{goes_on_both, goes_on_same, forget-other}
 use Rattle.ee_core.specs.Calls.{Forgets}
-use Rattle.ee_core.specs.State.{State, state_of}
+use Rattle.ee_core.specs.State.{state_of}
 use Rattle.ee_core.specs.declared.variables.ForgetFault.{ForgetFault}
 use Rattle.ee_core.specs.declared.variables.ForgetFault.TheVariants as forget
 use Rattle.ee_core.specs.declared.variables.Written.{Written}
-use Rattle.ee_core.specs.declared.variables.Written.TheVariants.{Appended, Moved}
 use Rattle.ee_settings.specs.Setting.{Setting, has_address}
 use Rattle.ee_settings.specs.Tidying.{ForgetsEach, Stops, StopsForgetting, unnamed_of}
 use Rattle.ee_settings.specs.declared.fault.TidyFault.{TidyFault}
@@ -21,24 +20,20 @@ use Rattle.ee_settings.specs.declared.fault.TidyFault.TheVariants as tidy
 -- ---- one forgetting
 
 pub map_without : (old new : Device) (address : ℕ) (written : Written) → Forgets old address (Ok written) new → (state_of new).map ≡ map_after (Forget address) (state_of old).map
-map_without old new address Appended done = ap (λ (state : State). state.map) done.state_is
-map_without old new address Moved done = ap (λ (state : State). state.map) done.state_is
+map_without old new address written h1 = search rules
 
 forgetting_goes_on : (old new : Device) (address : ℕ) (written : Written) → Forgets old address (Ok written) new → GoesOn old new
-forgetting_goes_on old new address Appended done = done.goes_on
-forgetting_goes_on old new address Moved done = done.goes_on
+forgetting_goes_on old new address written h1 = search rules
 
 -- ---- a run of them
 
 pub each_later : (front more : List ℕ) (old mid new : Device) → ForgetsEach front old mid → ForgetsEach more mid new → ForgetsEach (front ++ more) old new
 each_later [] more old mid new first second = subst (λ (device : Device). ForgetsEach more device new) first second
-each_later (address ∷ front) more old mid new first second =
-    (first.0, first.1, first.2, each_later front more first.1 mid new first.3 second)
+each_later (address ∷ front) more old mid new first second = search (rules, (each_later front more first.1 mid new first.3 second))
 
 pub each_goes_on : (addresses : List ℕ) (old new : Device) → ForgetsEach addresses old new → GoesOn old new
 each_goes_on [] old new done = subst (λ (device : Device). GoesOn old device) (sym done) (goes_on_same old)
-each_goes_on (address ∷ addresses) old new done =
-    goes_on_both old done.1 new (forgetting_goes_on old done.1 address done.0 done.2) (each_goes_on addresses done.1 new done.3)
+each_goes_on (address ∷ addresses) old new done = search (rules, goes_on_both, forgetting_goes_on, (each_goes_on addresses done.1 new done.3))
 
 pub each_stays_on : (addresses : List ℕ) (old new : Device) → IsOn old → ForgetsEach addresses old new → IsOn new
 each_stays_on addresses old new on done = (each_goes_on addresses old new done).same_power ∙ on
@@ -46,11 +41,7 @@ each_stays_on addresses old new on done = (each_goes_on addresses old new done).
 -- an address that is none of them has what it had
 pub each_keeps : (addresses : List ℕ) (old new : Device) (address : ℕ) → ForgetsEach addresses old new → All (λ one. one ≢ address) addresses → (state_of new).map address ≡ (state_of old).map address
 each_keeps [] old new address done others = ap (λ (device : Device). (state_of device).map address) done
-each_keeps (one ∷ addresses) old new address done others =
-    let apart : one ≢ address = All-head (λ a. a ≢ address) one addresses others in
-    each_keeps addresses done.1 new address done.3 (All-tail (λ a. a ≢ address) one addresses others)
-    ∙ ap (λ (map : Map). map address) (map_without old done.1 one done.0 done.2)
-    ∙ forget-other (state_of old).map one address (λ e. apart (sym e))
+each_keeps (one ∷ addresses) old new address done others = search (rules, All-head, All-tail, map_without, forget-other, (each_keeps addresses done.1 new address done.3 (All-tail (λ a. a ≢ address) one addresses others)))
 
 -- ---- where one stops
 
@@ -69,11 +60,7 @@ at_later : (front addresses rest : List ℕ) (fault : ForgetFault) (old mid new 
 at_later front addresses rest fault old mid new done stops = grind (arith, common_steps, each_later)
 
 pub stops_later : (front addresses rest all : List ℕ) (fault : TidyFault) (old mid new : Device) → all ≡ front ++ (addresses ++ rest) → ForgetsEach front old mid → Stops addresses mid fault new → Stops all old fault new
-stops_later front addresses rest all tidy.Off old mid new split done stops = stops
-stops_later front addresses rest all tidy.Spent old mid new split done stops =
-    subst (λ l. StopsForgetting l forget.Spent old new) (sym split) (at_later front addresses rest forget.Spent old mid new done stops)
-stops_later front addresses rest all tidy.Cut old mid new split done stops =
-    subst (λ l. StopsForgetting l forget.Cut old new) (sym split) (at_later front addresses rest forget.Cut old mid new done stops)
+stops_later front addresses rest all fault old mid new h1 h2 h3 = search (rules, at_later)
 
 -- ---- live addresses above one that was looked at
 

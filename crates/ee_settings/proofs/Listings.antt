@@ -70,11 +70,7 @@ pub record IsListedFrom (settings : List Setting) (map : Map) (listed : List Lis
 
 module _ (settings : List Setting) (map : Map) (listed : List Listed) (names : List (ℕ × (ℕ × Numbers))) (values : List (ℕ × ℕ)) (so_far : IsListedFrom settings map listed names values) where
   pub all_listed : lower_of (first_address names) (first_address values) ≡ None → listed ≡ listed_to settings map 65534
-  all_listed none =
-      let ended = none_lower names values none in
-      let unnamed = rw ended.0 at so_far.names_left in
-      let free = rw ended.1 at so_far.values_left in
-      so_far.so_far ∙ nothing_added settings map (so_far.from - 1) 65534 (omega (arith, so_far.within)) (search (rules, unnamed)) (search (rules, free))
+  all_listed none = search (rules, none_lower, nothing_added)
 
   pub one_listed : (address : ℕ) (all : List Listed) → IsLowest address names values → 0 < address → address < 65535
       → all ≡ listed ++ listed_of address (first_at address names) (first_at address values) → IsListedFrom settings map all (behind_at address names) (behind_at address values)

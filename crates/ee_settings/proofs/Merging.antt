@@ -1,5 +1,5 @@
 -- What is left of a map's entries while they are gone over by rising address.
-use Rattle.std.proofs.Common.{◌≡◌, ◌∙◌, ◌<◌, ◌≤◌, ◌+◌, ℕ, Option, Some, None, List, [], ◌∷◌, length, refl, sym, ap, arith, nat_cmp, rules}
+use Rattle.std.proofs.Common.{◌≡◌, ◌∙◌, ◌<◌, ◌≤◌, ◌+◌, ℕ, Option, Some, None, List, [], ◌∷◌, length, sym, ap, arith, nat_cmp, rules}
 use Rattle.std.proofs.lemmas.Bool.{cases_eq, cases_lt}
 use Rattle.std.proofs.lemmas.Grind.{common_steps}
 use Rattle.std.proofs.lemmas.List.Elements.{All-head, All-weaker}
@@ -46,20 +46,16 @@ module _ {T : Type 0} (map : ℕ → Option T) where
   left_first tree entries is ordered same = rw is (left_from 0 tree.entries ordered (search rules) (λ address above. ap (λ (f : ℕ → Option T). f address) (sym same)))
 
   pub left_above : (from : ℕ) (entries : List (ℕ × T)) → AreEntriesFrom map from entries → BeginFrom from entries
-  left_above from [] left = tt
-  left_above from (entry ∷ more) left = left.0
+  left_above from entries h1 = search rules
 
   pub none_below : (from address : ℕ) (entries : List (ℕ × T)) → AreEntriesFrom map from entries → BeginFrom address entries → (other : ℕ) → from ≤ other → other < address → map other ≡ None
-  none_below from address [] left least other above low = left other above
-  none_below from address (entry ∷ more) left least other above low = left.1 other above (omega (arith, low, least))
+  none_below from address entries h1 h2 other h3 h4 = search rules
 
   pub first_found : (from address : ℕ) (entries : List (ℕ × T)) → AreEntriesFrom map from entries → BeginFrom address entries → from ≤ address → first_at address entries ≡ map address
-  first_found from address [] left least above = sym (left address above)
-  first_found from address (entry ∷ more) left least above = search (rules, cases_eq, left.1, left.2)
+  first_found from address entries h1 h2 h3 = search (rules, cases_eq)
 
   pub left_behind : (from address : ℕ) (entries : List (ℕ × T)) → AreEntriesFrom map from entries → BeginFrom address entries → from ≤ address → AreEntriesFrom map (address + 1) (behind_at address entries)
-  left_behind from address [] left least above = λ other high. left other (omega (arith, above, high))
-  left_behind from address (entry ∷ more) left least above = search (rules, cases_eq, left.1, left.2, left.3)
+  left_behind from address entries h1 h2 h3 = search (rules, cases_eq)
 
 -- ---- of two maps
 
@@ -71,13 +67,7 @@ pub record IsLowest {S T : Type 0} (address : ℕ) (one : List (ℕ × S)) (othe
   pub shorter : length (behind_at address one) + length (behind_at address other) < length one + length other
 
 pub lower_lowest : {S T : Type 0} (address : ℕ) (one : List (ℕ × S)) (other : List (ℕ × T)) → lower_of (first_address one) (first_address other) ≡ Some address → IsLowest address one other
-lower_lowest address [] [] e = absurd (cc e)
-lower_lowest address [] (y ∷ other) e = search (rules, common_steps, e)
-lower_lowest address (x ∷ one) [] e = search (rules, common_steps, e)
-lower_lowest address (x ∷ one) (y ∷ other) e = search (rules, cases_lt, e)
+lower_lowest address one other h1 = search (rules, cases_lt)
 
 pub none_lower : {S T : Type 0} (one : List (ℕ × S)) (other : List (ℕ × T)) → lower_of (first_address one) (first_address other) ≡ None → (one ≡ []) × (other ≡ [])
-none_lower [] [] e = (refl, refl)
-none_lower [] (y ∷ other) e = absurd (cc e)
-none_lower (x ∷ one) [] e = absurd (cc e)
-none_lower (x ∷ one) (y ∷ other) e = grind (arith, common_steps, e)
+none_lower one other h1 = search rules

@@ -3,7 +3,7 @@ use Rattle.std.proofs.Common.{◌≡◌, ◌≢◌, ◌∙◌, ◌<◌, ◌+◌,
 use Rattle.std.proofs.Math.ListN.{get_or-append}
 use Rattle.std.proofs.Math.Seq.{get_or-append_seam}
 use Rattle.std.proofs.lemmas.List.{length-append}
-use Rattle.toml.specs.Data.{Data, Members, array, boolean, datetime, float, integer, string, table}
+use Rattle.toml.specs.Data.{Data, Members}
 use Rattle.ee_settings.proofs.Names.{later_differs}
 use Rattle.ee_settings.specs.File.{Address, AreEntriesOf, BreaksFirst, Entry, Field, GivesSchema, IsEntryOf, IsFirstFault, IsSchemaOf, IsTableOf, IsTaken, Name, Range, Rule, entries_of, fields_of_numbers}
 use Rattle.ee_settings.specs.Setting.{HaveOwnAddresses, HaveRisingNames, IsName, Setting}
@@ -26,18 +26,10 @@ same_numbers one other p q r s = numbers_by one.address one.min one.max one.defa
 
 -- a table holds four numbers in one way
 pub fields_once : (tree : Data) (one other : Fields) → IsTableOf tree one → IsTableOf tree other → one ≡ other
-fields_once (string s) one other h k = absurd h
-fields_once (integer z) one other h k = absurd h
-fields_once (float x) one other h k = absurd h
-fields_once (boolean b) one other h k = absurd h
-fields_once (datetime d) one other h k = absurd h
-fields_once (array ds) one other h k = absurd h
-fields_once (table ms) one other h k =
-    same_fields one other (cc (h.address, k.address)) (cc (h.min, k.min)) (cc (h.max, k.max)) (cc (h.default, k.default))
+fields_once tree one other h1 h2 = search (rules, same_fields)
 
 pub spelled_once : (one other : Numbers) → fields_of_numbers one ≡ fields_of_numbers other → one ≡ other
-spelled_once one other e =
-    same_numbers one other (cc (ap (λ (f : Fields). f.address) e)) (cc (ap (λ (f : Fields). f.min) e)) (cc (ap (λ (f : Fields). f.max) e)) (cc (ap (λ (f : Fields). f.default) e))
+spelled_once one other e = search (rules, same_numbers)
 
 setting_by : (a c : List ℕ) (b d : Numbers) → a ≡ c → b ≡ d → ◌≡◌ {A = Setting} (record { name = a; numbers = b }) (record { name = c; numbers = d })
 setting_by a c b d p q = rw (p, q)
@@ -86,8 +78,7 @@ pub breaks_none : (rule : Rule) (first last : List Setting) (setting : Setting) 
 breaks_none Name first last setting entry rising own here broken = broken (subst (λ name. IsName name) here.name here.proper.name)
 breaks_none Field first last setting entry rising own here broken = broken.1 (fields_of_numbers setting.numbers) here.numbers
 breaks_none Range first last setting entry rising own here broken = broken.3 setting.numbers here.proper.numbers (fields_once entry.1 broken.1 (fields_of_numbers setting.numbers) broken.2 here.numbers)
-breaks_none Address first last setting entry rising own here broken =
-    never_taken first last setting rising own (subst (λ (s : Setting). IsTaken first s.numbers.address) (entry_once entry broken.0 setting broken.1 here) broken.2)
+breaks_none Address first last setting entry rising own here broken = search (rules, never_taken, entry_once)
 
 pub no_first_fault : (entries : List Entry) (settings : List Setting) (number : ℕ) (rule : Rule) → IsSchemaOf entries settings → HaveRisingNames settings → ¬ IsFirstFault entries number rule
 no_first_fault entries settings number rule schema rising h =

@@ -1,10 +1,9 @@
 -- Stale entries, one setting after another.
-use Rattle.std.proofs.Common.{◌≡◌, ◌+◌, ◌<◌, ◌≤◌, ℕ, Bool, true, false, cond, List, [], ◌∷◌, ◌++◌, Option, Some, None, length, map, drop, get_or, refl, sym, arith, suc, zero, nat_cmp, Less, rules}
+use Rattle.std.proofs.Common.{◌≡◌, ◌+◌, ◌<◌, ◌≤◌, ℕ, Bool, true, false, cond, List, [], ◌∷◌, ◌++◌, Option, Some, None, length, map, drop, get_or, refl, arith, suc, zero, nat_cmp, Less, rules}
 use Rattle.std.proofs.lemmas.Grind.{common_steps}
 use Rattle.std.specs.List.{All, AllByRecursion, Contains}
 use Rattle.std.specs.List.Sorted.{IsStrictlySortedBy}
 use Rattle.std.specs.Prelude.{slice_get}
-use Rattle.std.specs.Cmp.{nat_cmp_is}
 use Rattle.std.proofs.lemmas.Bool.{cases_lt}
 use Rattle.std.proofs.lemmas.Bool.Decides.{nat_tests}
 use Rattle.std.proofs.lemmas.List.Elements.{All-append, All-cons, All-head, All-nil, All-tail, All-weaker, Contains-append_right}
@@ -41,14 +40,7 @@ IsStaleAt n stored settings stale =
     × (stored setting.numbers.address ≡ Some stale.value) × ¬ IsInRange setting.numbers stale.value
 
 first_stale : (n : ℕ) (stored : Map) (setting : Setting) (settings : List Setting) (value : Option ℕ) → stored setting.numbers.address ≡ value → All (IsStaleAt n stored (setting ∷ settings)) (stale_at n setting.numbers value)
-first_stale n stored setting settings None is = All-nil (IsStaleAt n stored (setting ∷ settings))
-first_stale n stored setting settings (Some value) is = by_test (is_in_range setting.numbers value) refl
-  where
-    by_test : (b : Bool) → is_in_range setting.numbers value ≡ b → All (IsStaleAt n stored (setting ∷ settings)) (cond b [] (record { entry = n; value = value } ∷ []))
-    by_test true e = All-nil (IsStaleAt n stored (setting ∷ settings))
-    by_test false e =
-        All-cons (IsStaleAt n stored (setting ∷ settings)) (record { entry = n; value = value }) []
-        (0, setting, omega arith, refl, is, not_in_range setting.numbers value e) (All-nil (IsStaleAt n stored (setting ∷ settings)))
+first_stale n stored setting settings value h1 = search (rules, All-nil, All-cons, not_in_range)
 
 one_later : (n : ℕ) (stored : Map) (setting : Setting) (settings : List Setting) (stale : Stale) → IsStaleAt (n + 1) stored settings stale → IsStaleAt n stored (setting ∷ settings) stale
 one_later n stored setting settings stale h = (suc h.0, h.1, (let e = h.2 in omega arith), h.3, h.4, h.5)
@@ -70,10 +62,7 @@ told : (n k value : ℕ) (stored : Map) (settings : List Setting) (setting : Set
     → Contains (stale_from n stored settings) (record { entry = n + k; value = value })
 told n k value stored [] setting here is out = absurd (let wrong : ◌≡◌ {A = Option Setting} None (Some setting) = here in cc wrong)
 told n zero value stored (first ∷ settings) setting here is out = search (rules, told_here)
-told n (suc k) value stored (first ∷ settings) setting here is out =
-    let e : n + suc k ≡ n + 1 + k = omega arith in
-    rw e (Contains-append_right (stale_at n first.numbers (stored first.numbers.address)) (stale_from (n + 1) stored settings) (record { entry = n + 1 + k; value = value })
-    (told (n + 1) k value stored settings setting here is out))
+told n (suc k) value stored (first ∷ settings) setting here is out = search (rules, Contains-append_right, (told (n + 1) k value stored settings setting here is out))
 
 told_entry : (entry value : ℕ) (stored : Map) (settings : List Setting) (setting : Setting) → entry_of settings entry ≡ Some setting → stored setting.numbers.address ≡ Some value → is_in_range setting.numbers value ≡ false
     → Contains (stale_in stored settings) (record { entry = entry; value = value })
@@ -86,8 +75,7 @@ told_entry (suc k) value stored settings setting here is out =
 
 entry_less : (n : ℕ) (stales : List Stale) → All (λ (stale : Stale). n < stale.entry) stales → AllByRecursion (λ y. nat_cmp n y ≡ Less) (map (λ (stale : Stale). stale.entry) stales)
 entry_less n [] later = tt
-entry_less n (stale ∷ stales) later =
-    (sym (nat_cmp_is n stale.entry Less (All-head (λ (s : Stale). n < s.entry) stale stales later)), entry_less n stales (All-tail (λ (s : Stale). n < s.entry) stale stales later))
+entry_less n (stale ∷ stales) later = search (rules, All-head, All-tail, (entry_less n stales (All-tail (λ (s : Stale). n < s.entry) stale stales later)))
 
 rising_with : (n : ℕ) (numbers : Numbers) (value : Option ℕ) (rest : List Stale) → All (λ (stale : Stale). n < stale.entry) rest → IsStrictlySortedBy nat_cmp (map (λ (stale : Stale). stale.entry) rest)
     → IsStrictlySortedBy nat_cmp (map (λ (stale : Stale). stale.entry) (stale_at n numbers value ++ rest))
@@ -102,11 +90,7 @@ rising_with n numbers (Some value) rest later rising = by_test (is_in_range numb
 rising_from : (n : ℕ) (stored : Map) (settings : List Setting) → IsStrictlySortedBy nat_cmp (map (λ (stale : Stale). stale.entry) (stale_from n stored settings))
 unfolding IsStrictlySortedBy
 rising_from n stored [] = tt
-rising_from n stored (setting ∷ settings) =
-    rising_with n setting.numbers (stored setting.numbers.address) (stale_from (n + 1) stored settings)
-    (All-weaker (λ (stale : Stale). (n + 1 ≤ stale.entry) × (stale.entry < n + 1 + length settings)) (λ (stale : Stale). n < stale.entry) (λ stale within. let low = within.0 in omega arith) (stale_from (n + 1) stored settings)
-    (stale_within stored settings (n + 1)))
-    (rising_from (n + 1) stored settings)
+rising_from n stored (setting ∷ settings) = search (rules, rising_with, All-weaker, stale_within, (rising_from (n + 1) stored settings))
 
 pub stale_exact : (settings : List Setting) (stored : Map) → IsStaleExact settings stored
 stale_exact settings stored = record {

@@ -1,5 +1,5 @@
 -- Only proper addresses have values.
-use Rattle.std.proofs.Common.{◌≡◌, ◌⊎◌, ℕ, Bool, true, false, cond, Option, Some, None, List, [], ◌∷◌, refl, ap, rules}
+use Rattle.std.proofs.Common.{◌≡◌, ◌⊎◌, ℕ, Bool, false, cond, Option, Some, None, List, [], ◌∷◌, refl, ap, rules}
 use Rattle.std.specs.Prelude.{◌&&◌, ◌==◌, ◌/◌, ◌%◌, ◌^◌, nat_lt}
 use Rattle.std.proofs.lemmas.Bool.{cases_eq, cases_lt, ne_eqb}
 use Rattle.std.proofs.lemmas.Bool.Decides.{nat_tests}
@@ -8,9 +8,8 @@ use Rattle.ee_codec.specs.declared.slot.Slot.{Slot}
 use Rattle.ee_codec.specs.declared.slot.Slot.TheVariants.{Element, Forgotten, Foreign}
 use Rattle.ee_flash.specs.Device.{Device}
 use Rattle.ee_flash.specs.declared.word.Word.{Word}
-use Rattle.ee_flash.specs.declared.word.Word.TheVariants.{Erased, Held, Torn}
-use Rattle.ee_pages.specs.Meaning.{latest_in, says, slot_says, value_said}
-use Rattle.ee_pages.specs.Sets.{live_of, set_of, slots_of}
+use Rattle.ee_pages.specs.Meaning.{latest_in, says, slot_says}
+use Rattle.ee_pages.specs.Sets.{live_of}
 use Rattle.ee_pages.specs.declared.side.Side.{Side}
 use Rattle.ee_core.specs.State.{state_in, state_of}
 
@@ -28,26 +27,21 @@ forgotten_other : (named value address : ℕ) → (named ≡ address → ⊥) �
 forgotten_other named value address other = ap (λ (b : Bool). cond b (Some None) None) (ne_eqb named address other)
 
 one_of : (first second : Bool) (element forgotten : Slot) (address : ℕ) → slot_says element address ≡ None → slot_says forgotten address ≡ None → slot_says (cond first element (cond second forgotten Foreign)) address ≡ None
-one_of true second element forgotten address e f = e
-one_of false true element forgotten address e f = f
-one_of false false element forgotten address e f = refl
+one_of first second element forgotten address h1 h2 = search rules
 
 parts_outside : (named value : ℕ) (first second : Bool) (address : ℕ) → is_proper address ≡ false
     → slot_says (cond (is_proper named && first) (Element named value) (cond (is_proper named && second) (Forgotten named value) Foreign)) address ≡ None
 parts_outside named value first second address outside = search (rules, cases_eq, element_other, forgotten_other, one_of)
 
 says_outside : (word : Word) (address : ℕ) → is_proper address ≡ false → says word address ≡ None
-says_outside Erased address outside = refl
-says_outside Torn address outside = refl
-says_outside (Held number) address outside = parts_outside (number % 2 ^ 16) (number / 2 ^ 32) (number / 2 ^ 16 % 2 ^ 16 == 0) (number / 2 ^ 16 % 2 ^ 16 == 1) address outside
+says_outside word address h1 = search (rules, parts_outside)
 
 latest_outside : (slots : List Word) (address : ℕ) → is_proper address ≡ false → latest_in slots address ≡ None
 latest_outside [] address outside = refl
 latest_outside (slot ∷ slots) address outside = rw (says_outside slot address outside, latest_outside slots address outside) refl
 
 in_state : (device : Device) (live : Option (Side × ℕ)) (address : ℕ) → is_proper address ≡ false → (state_in device live).map address ≡ None
-in_state device None address outside = refl
-in_state device (Some live) address outside = ap value_said (latest_outside (slots_of (set_of live.0 device)) address outside)
+in_state device live address h1 = search (rules, latest_outside)
 
 pub none_outside : (device : Device) (address : ℕ) → ¬ IsAddress address → (state_of device).map address ≡ None
 none_outside device address outside = in_state device (live_of device) address (not_proper address outside)

@@ -8,7 +8,6 @@ use Rattle.ee_pages.proofs.Public.{put_there}
 use Rattle.ee_core.specs.Calls.{Writes}
 use Rattle.ee_core.specs.State.{state_of}
 use Rattle.ee_core.specs.declared.variables.Written.{Written}
-use Rattle.ee_core.specs.declared.variables.Written.TheVariants.{Appended, Moved}
 use Rattle.ee_settings.specs.Calls.{IsNamed}
 use Rattle.ee_settings.specs.Setting.{HaveOwnAddresses, IsInRange, Setting, reading_in, reading_of}
 use Rattle.ee_settings.specs.declared.numbers.Numbers.{Numbers}
@@ -37,5 +36,4 @@ addresses_apart settings own name setting other named inside ne e = ne (ap (λ (
 
 -- whether a write appended or moved, the map has the value
 pub written_map : (old new : Device) (address value : ℕ) (written : Written) → Writes old address value (Ok written) new → (state_of new).map ≡ map_after (Put address value) (state_of old).map
-written_map old new address value Appended w = ap (λ s. s.map) w.state_is
-written_map old new address value Moved w = ap (λ s. s.map) w.state_is
+written_map old new address value written h1 = search rules

@@ -23,8 +23,7 @@ one_further map last next value is address = grind (arith, common_steps, cases_e
 
 pub batch_put : (map : Map) (found : List (ℕ × ℕ)) (last : ℕ) → AreNextLive map last found → with_found found (map_to map last) ≡ map_to map (last_of last found)
 batch_put map [] last next = refl
-batch_put map (first ∷ more) last next =
-    ap (with_found more) (fun_ext (one_further map last first.0 first.1 next.0)) ∙ batch_put map more first.0 next.1
+batch_put map (first ∷ more) last next = search (rules, fun_ext, one_further, (batch_put map more first.0 next.1))
 
 -- where no more have a value up to an address
 none_further : (map : Map) (last through : ℕ) → IsNoneLive map last (Some through) → (address : ℕ) → map_to map last address ≡ map_to map through address

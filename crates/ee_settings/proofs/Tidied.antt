@@ -1,5 +1,5 @@
 -- How far a store is tidied: within a batch of live addresses, and from batch to batch.
-use Rattle.std.proofs.Common.{◌≡◌, ◌≢◌, ◌∙◌, ◌+◌, ◌<◌, ◌≤◌, ℕ, Bool, true, false, cond, Option, Some, None, List, [], ◌∷◌, ◌++◌, length, take, drop, get_or, sym, ap, subst, arith, length-append, append_assoc, Ok, Err, rules}
+use Rattle.std.proofs.Common.{◌≡◌, ◌≢◌, ◌∙◌, ◌+◌, ◌<◌, ◌≤◌, ℕ, Bool, cond, Option, Some, None, List, [], ◌∷◌, ◌++◌, length, take, drop, get_or, sym, ap, subst, arith, length-append, append_assoc, Ok, Err, rules}
 use Rattle.std.specs.List.{All}
 use Rattle.std.proofs.lemmas.List.{drop_more}
 use Rattle.std.proofs.lemmas.List.Elements.{All-cons, All-nil}
@@ -37,12 +37,10 @@ module _ (settings : List Setting) (found : List (ℕ × ℕ)) (n forgotten : �
   one_lives none = let some : (state_of now).map one.0 ≡ Some one.1 = next.0.1 in cc
 
   of_one : (b : Bool) (address : ℕ) → one.0 < address → All (λ a. a ≢ address) (cond b [] (one.0 ∷ []))
-  of_one true address high = All-nil (λ a. a ≢ address)
-  of_one false address high = All-cons (λ a. a ≢ address) one.0 [] (λ e. omega arith) (All-nil (λ a. a ≢ address))
+  of_one b address h1 = search (rules, All-nil, All-cons)
 
   at_most_one : (b : Bool) → length (cond b [] (one.0 ∷ [])) ≤ 1
-  at_most_one true = omega arith
-  at_most_one false = omega arith
+  at_most_one b = search rules
 
   pub batch_further : (new : Device) (more : ℕ) → more ≡ length (unnamed_of settings one.0) → ForgetsEach (unnamed_of settings one.0) now new → InBatch settings found (n + 1) (forgotten + more) old new
   batch_further new more counted made =

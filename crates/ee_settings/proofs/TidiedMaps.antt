@@ -1,5 +1,5 @@
 -- What tidying leaves of the map, and when the store is spent in it.
-use Rattle.std.proofs.Common.{◌≡◌, ◌⊎◌, ◌∙◌, ◌-◌, ◌<◌, ◌≤◌, ℕ, Bool, true, false, cond, not, is_some, Option, Some, None, List, [], ◌∷◌, ◌++◌, length, map, inl, inr, refl, sym, ap, subst, append_assoc, arith, suc, zero, Result, Ok, Err, rules}
+use Rattle.std.proofs.Common.{◌≡◌, ◌⊎◌, ◌∙◌, ◌-◌, ◌<◌, ◌≤◌, ℕ, Bool, true, false, cond, Option, Some, None, List, [], ◌∷◌, ◌++◌, length, map, inl, inr, refl, sym, ap, subst, append_assoc, arith, suc, zero, Result, Ok, Err, rules}
 use Rattle.std.proofs.lemmas.Grind.{common_steps}
 use Rattle.std.specs.Prelude.{◌&&◌}
 use Rattle.std.specs.List.{All, Contains, flat_map}
@@ -29,13 +29,7 @@ use Rattle.ee_settings.specs.declared.fault.TidyFault.TheVariants as tidy
 -- ---- the addresses that no setting has
 
 low : (settings : List Setting) (values : Map) (b : Bool) (address : ℕ) → is_unnamed settings values address ≡ b → All (λ a. has_address settings a ≡ false) (cond b (address ∷ []) [])
-low settings values false address is = All-nil (λ a. has_address settings a ≡ false)
-low settings values true address is = All-cons (λ a. has_address settings a ≡ false) address [] (free (has_address settings address) (is_some (values address)) is) (All-nil (λ a. has_address settings a ≡ false))
-  where
-    free : (named live : Bool) → (live && not named) ≡ true → named ≡ false
-    free false live e = refl
-    free true true e = cc
-    free true false e = cc
+low settings values b address h1 = search (rules, All-nil, All-cons)
 
 -- none of them is a setting's
 unnamed_free : (settings : List Setting) (values : Map) (n : ℕ) → All (λ a. has_address settings a ≡ false) (unnamed_to settings values n)
@@ -44,9 +38,7 @@ unnamed_free settings values (suc n) = grind (arith, common_steps, unnamed_to-su
 
 free_front : (settings : List Setting) (front rest : List ℕ) → All (λ a. has_address settings a ≡ false) (front ++ rest) → All (λ a. has_address settings a ≡ false) front
 free_front settings [] rest free = All-nil (λ a. has_address settings a ≡ false)
-free_front settings (address ∷ front) rest free =
-    All-cons (λ a. has_address settings a ≡ false) address front (All-head (λ a. has_address settings a ≡ false) address (front ++ rest) free)
-    (free_front settings front rest (All-tail (λ a. has_address settings a ≡ false) address (front ++ rest) free))
+free_front settings (address ∷ front) rest free = search (rules, All-cons, All-head, All-tail, (free_front settings front rest (All-tail (λ a. has_address settings a ≡ false) address (front ++ rest) free)))
 
 free_one : (settings : List Setting) (front rest : List ℕ) (address : ℕ) → All (λ a. has_address settings a ≡ false) (front ++ address ∷ rest) → has_address settings address ≡ false
 free_one settings [] rest address free = All-head (λ a. has_address settings a ≡ false) address rest free
@@ -93,10 +85,7 @@ cut_takes settings old new formed stops =
 
 pub takes_unnamed : (settings : List Setting) (old new : Device) (answer : Result ℕ TidyFault) → IsFormed old → Tidies settings old answer new → (address : ℕ)
     → ((state_of new).map address ≡ (state_of old).map address) ⊎ ((has_address settings address ≡ false) × ((state_of new).map address ≡ None))
-takes_unnamed settings old new (Ok count) formed done = each_takes settings (unnamed_in settings (state_of old).map) old new (unnamed_free settings (state_of old).map 65534) done.2
-takes_unnamed settings old new (Err tidy.Off) formed done = takes_none settings (state_of old).map (state_of new).map (ap (λ (device : Device). (state_of device).map) done.1)
-takes_unnamed settings old new (Err tidy.Spent) formed done = spent_takes settings old new formed done
-takes_unnamed settings old new (Err tidy.Cut) formed done = cut_takes settings old new formed done
+takes_unnamed settings old new answer h1 h2 = search (rules, each_takes, unnamed_free, takes_none, spent_takes, cut_takes)
 
 -- ---- readings
 
@@ -180,8 +169,7 @@ as_run settings old new count done = search (rules, each_as_run)
 -- ---- the states, and when the store is spent
 
 state_after : (old new : Device) (address : ℕ) (written : Written) → Forgets old address (Ok written) new → state_of new ≡ after_forgetting old.size address (state_of old)
-state_after old new address Appended done = search (rules, ne_eqb)
-state_after old new address Moved done = search (rules, eq-eqb)
+state_after old new address written h1 = search (rules, ne_eqb, eq-eqb)
 
 same_size : (old new : Device) (address : ℕ) (written : Written) → Forgets old address (Ok written) new → new.size ≡ old.size
 same_size old new address Appended done = done.goes_on.same_size
@@ -210,8 +198,7 @@ never_spent (address ∷ addresses) old new done (inr later) =
     never_spent addresses done.1 new done.3 (subst (λ size. IsSpentAmong size addresses (state_of done.1)) (sym (same_size old done.1 address done.0 done.2)) state)
 
 pub spent_among : (settings : List Setting) (old new : Device) → Tidies settings old (Err tidy.Spent) new → IsSpentAmong old.size (unnamed_in settings (state_of old).map) (state_of old)
-spent_among settings old new stops =
-    subst (λ l. IsSpentAmong old.size l (state_of old)) (sym stops.addresses_are) (spent_here stops.front stops.rest stops.address old stops.last stops.forgotten stops.stopped.2)
+spent_among settings old new stops = search (rules, spent_here)
 
 pub none_spent : (settings : List Setting) (old new : Device) (count : ℕ) → Tidies settings old (Ok count) new → ¬ IsSpentAmong old.size (unnamed_in settings (state_of old).map) (state_of old)
 none_spent settings old new count done = never_spent (unnamed_in settings (state_of old).map) old new done.2

@@ -1,5 +1,5 @@
 -- Every table is a schema or has a first fault: each rule can be told of each entry.
-use Rattle.std.proofs.Common.{◌≡◌, ◌≢◌, ◌⊎◌, ℕ, ℤ, pos, negsuc, zero, suc, ◌+◌, ◌<◌, Bool, true, false, List, [], ◌∷◌, ◌++◌, length, get_or, refl, sym, ap, ◌∙◌, subst, arith, inl, inr, codes, append_assoc, Option, Some, None, Ok, Err, rules}
+use Rattle.std.proofs.Common.{◌≡◌, ◌≢◌, ◌⊎◌, ℕ, ℤ, pos, negsuc, suc, ◌+◌, ◌<◌, Bool, true, List, [], ◌∷◌, ◌++◌, length, get_or, refl, sym, ap, ◌∙◌, subst, arith, inl, inr, codes, append_assoc, Option, Some, None, Ok, Err, rules}
 use Rattle.std.proofs.lemmas.Bool.{cases_eq, cases_lt}
 use Rattle.std.proofs.lemmas.List.{append-nil}
 use Rattle.toml.specs.Data.{Data, Members, array, boolean, datetime, float, get_member, integer, string, table}
@@ -19,8 +19,7 @@ use Rattle.ee_settings.proofs.Once.{same_fields, spelled_once}
 -- ---- the rules, each by itself
 
 told_true : (b : Bool) → (b ≡ true) ⊎ ¬ (b ≡ true)
-told_true true = inl refl
-told_true false = inr (λ e. cc)
+told_true b = search rules
 
 told_number : (found : Option Data) → ((z : ℤ) × (found ≡ Some (integer z))) ⊎ ((z : ℤ) → found ≢ Some (integer z))
 told_number None = inr (λ z e. cc)
@@ -97,8 +96,7 @@ told_range fields =
 
 taken_at : (setting : Setting) (earlier : List Setting) (address : ℕ) (other : Setting) (at : ℕ) → at < length (setting ∷ earlier) → get_or (setting ∷ earlier) at other ≡ other
     → other.numbers.address ≡ address → (setting.numbers.address ≡ address) ⊎ IsTaken earlier address
-taken_at setting earlier address other zero inside is same = inl (ap (λ (s : Setting). s.numbers.address) is ∙ same)
-taken_at setting earlier address other (suc at) inside is same = inr (other, (at, omega arith, is), same)
+taken_at setting earlier address other at h1 h2 h3 = search rules
 
 told_taken : (earlier : List Setting) (address : ℕ) → IsTaken earlier address ⊎ ¬ IsTaken earlier address
 told_taken [] address = inr (λ taken. let h = taken.1.1 in omega arith)

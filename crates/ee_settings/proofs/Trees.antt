@@ -1,8 +1,8 @@
 -- A table's members, as the code's map has them and as the definitions do.
-use Rattle.std.proofs.Common.{◌≡◌, ◌∙◌, suc, ℤ, List, [], ◌∷◌, ◌++◌, length, map, Option, Some, None, option_and_then, String, Global, Bor, string_bytes, refl, ap, sym}
+use Rattle.std.proofs.Common.{◌≡◌, ◌∙◌, suc, ℤ, List, [], ◌∷◌, ◌++◌, length, map, Option, Some, option_and_then, String, Global, Bor, string_bytes, refl, ap, sym, rules}
 use Rattle.std.proofs.lemmas.List.{map-append}
 use Rattle.std.specs.Map.Iter.{deref_pair}
-use Rattle.toml.specs.Data.{Data, as_integer, table, string, integer, float, boolean, datetime, array}
+use Rattle.toml.specs.Data.{Data, as_integer, integer}
 use Rattle.toml.specs.View.{view, members_view}
 use Rattle.toml.specs.declared.value.Value.{Value}
 use Rattle.ee_settings.specs.File.{Entry, entries_of}
@@ -21,14 +21,7 @@ entries_counted (e ∷ es) = ap suc (entries_counted es)
 
 -- where a whole number stands
 pub integer_found : (found : Option Data) (z : ℤ) → option_and_then as_integer found ≡ Some z → found ≡ Some (integer z)
-integer_found None z h = cc
-integer_found (Some (string s)) z h = cc
-integer_found (Some (integer y)) z h = cc
-integer_found (Some (float x)) z h = cc
-integer_found (Some (boolean b)) z h = cc
-integer_found (Some (datetime d)) z h = cc
-integer_found (Some (array ds)) z h = cc
-integer_found (Some (table ms)) z h = cc
+integer_found found z h1 = search rules
 
 pub whole_found : (found : Option Data) (z y : ℤ) → option_and_then as_integer found ≡ Some z → y ≡ z → found ≡ Some (integer y)
 whole_found found z y h e = integer_found found z h ∙ ap (λ x. Some (integer x)) (sym e)

@@ -1,5 +1,5 @@
 -- The live addresses that no setting has, gathered by rising address.
-use Rattle.std.proofs.Common.{◌≡◌, ◌≢◌, ◌∙◌, ◌+◌, ◌-◌, ◌<◌, ◌≤◌, ℕ, Bool, true, false, cond, not, is_some, Option, Some, None, List, [], ◌∷◌, ◌++◌, length, take, drop, get_or, refl, sym, ap, arith, suc, zero, length-append, append_assoc, rules}
+use Rattle.std.proofs.Common.{◌≡◌, ◌≢◌, ◌∙◌, ◌+◌, ◌-◌, ◌<◌, ◌≤◌, ℕ, Bool, false, cond, not, is_some, Option, Some, None, List, [], ◌∷◌, ◌++◌, length, take, drop, get_or, refl, sym, ap, arith, suc, zero, length-append, append_assoc, rules}
 use Rattle.std.specs.Prelude.{◌&&◌}
 use Rattle.std.specs.List.{All}
 use Rattle.std.proofs.lemmas.Grind.{common_steps, flat_map-append}
@@ -70,8 +70,7 @@ begins_with settings map n m low =
 -- ---- one address, and a batch of them
 
 turned : (b : Bool) (address : ℕ) → if_so (not b) address ≡ cond b [] (address ∷ [])
-turned true address = refl
-turned false address = refl
+turned b address = search rules
 
 next_one : (settings : List Setting) (map : Map) (above address value : ℕ) → IsNextLive map above (Some (address, value)) → unnamed_to settings map address ≡ unnamed_to settings map above ++ unnamed_of settings address
 next_one settings map above address value next =
@@ -103,8 +102,7 @@ batch_all settings map above found below live =
 -- ---- how many, and where
 
 so_few : (b : Bool) (address : ℕ) → length (if_so b address) ≤ 1
-so_few true address = omega arith
-so_few false address = omega arith
+so_few b address = search rules
 
 pub few : (settings : List Setting) (map : Map) (n : ℕ) → length (unnamed_to settings map n) ≤ n
 few settings map zero = rw (unnamed_to-zero settings map) (omega arith)
@@ -113,22 +111,19 @@ few settings map (suc n) = search (rules, length-append, so_few, unnamed_to-suc,
 -- ---- those that were found lie up to the last one
 
 low_of : (b : Bool) (address last : ℕ) → address ≤ last → All (λ a. a ≤ last) (cond b [] (address ∷ []))
-low_of true address last low = All-nil (λ a. a ≤ last)
-low_of false address last low = All-cons (λ a. a ≤ last) address [] low (All-nil (λ a. a ≤ last))
+low_of b address last h1 = search (rules, All-nil, All-cons)
 
 among_low : (settings : List Setting) (map : Map) (above : ℕ) (found : List (ℕ × ℕ)) → AreNextLive map above found → All (λ a. a ≤ last_of above found) (unnamed_among settings found)
 among_low settings map above [] next = All-nil (λ a. a ≤ above)
 among_low settings map above (first ∷ more) next = search (rules, last_rises, low_of, (among_low settings map first.0 more next.1))
 
 pub among_others : (settings : List Setting) (map : Map) (above address : ℕ) (found : List (ℕ × ℕ)) → AreNextLive map above found → last_of above found < address → All (λ a. a ≢ address) (unnamed_among settings found)
-among_others settings map above address found next high =
-    All-weaker (λ a. a ≤ last_of above found) (λ a. a ≢ address) (λ a low e. omega arith) (unnamed_among settings found) (among_low settings map above found next)
+among_others settings map above address found next high = search (rules, All-weaker, among_low)
 
 -- ---- a batch of one map in another that says the same from there on
 
 none_same : (map other : Map) (above : ℕ) (through : Option ℕ) → ((address : ℕ) → above < address → other address ≡ map address) → IsNoneLive map above through → IsNoneLive other above through
-none_same map other above None same none = λ address high. same address high ∙ none address high
-none_same map other above (Some to) same none = (none.0, λ address high low. same address high ∙ none.1 address high low)
+none_same map other above through h1 h2 = search rules
 
 pub live_same : (map other : Map) (above : ℕ) (found : List (ℕ × ℕ)) (through : Option ℕ) → ((address : ℕ) → above < address → other address ≡ map address) → AreLiveThrough map above found through → AreLiveThrough other above found through
 live_same map other above found through same live = search (rules, last_rises, none_same, still_next)

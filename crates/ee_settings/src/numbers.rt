@@ -1,3 +1,4 @@
+//! The numbers of a setting: its address, its range and its default, and what a stored value is to them.
 ghost use Rattle.std.specs.Prelude.{◌≡◌, IfSome, IfNone, option_and_then};
 ghost use Rattle.toml.specs.Data.{as_integer, get_member};
 ghost use Rattle.toml.specs.View.{table_view, view};

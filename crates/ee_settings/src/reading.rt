@@ -1,3 +1,4 @@
+//! What a setting reads as: a stored value in its range, else its default.
 /// What a setting reads as.
 ///
 /// Source: ours.

@@ -1,3 +1,4 @@
+//! The schema: settings by name, as a table spells them, each of which is read and set in a store.
 ghost use Rattle.std.specs.Prelude.{◌≡◌};
 ghost use Rattle.toml.specs.View.{table_view};
 ghost use Rattle.ee_settings.specs.Calls.{Gets, Sets};

@@ -1,3 +1,4 @@
+//! One setting: its name, by the rules of names, and its numbers.
 ghost use Rattle.std.specs.Prelude.{◌≡◌};
 ghost use Rattle.std.specs.List.{list_all};
 ghost use Rattle.ee_settings.specs.Setting.{begins_with_letter, is_name, is_name_byte, is_letter};

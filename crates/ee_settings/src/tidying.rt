@@ -1,3 +1,4 @@
+//! Tidying: each address that has a value and that no setting has is forgotten.
 ghost use Rattle.std.specs.Prelude.{◌≡◌, ◌≢◌, ℕ, None, IfOk, IfErr, OnOk, length};
 ghost use Rattle.ee_flash.specs.Device.{IsOn};
 ghost use Rattle.ee_pages.specs.Meaning.{AreNextLive};

@@ -58,5 +58,6 @@ pub use ee_commands::{
     PartSizes, check_script, clean_image, format_image, plan_script, size_parts, states_text,
     wear_text,
 };
+pub use ee_image_store::ImageAndText;
 pub use ee_part::{export_hex, export_image, import_hex, import_image, inspect_text};
 pub use ee_replay::{Replayed, replay, replay_indexed, replay_reader, try_script};

@@ -171,11 +171,11 @@ pub front_is_worth : (bytes digits : List ℕ) (word count bits value : ℕ) →
 front_is_worth bytes digits word count bits value long same is front gone worth =
     let values = map as_digit bytes in
     let as_long : length values ≡ 8 = length-map bytes as_digit ∙ long in
-    let word_of : word ≡ number_from_digits 256 values = is ∙ ap (from_be_bytes w64) same ∙ word_is values as_long in
+    let word_gives : word ≡ number_from_digits 256 values = is ∙ ap (from_be_bytes w64) same ∙ word_is values as_long in
     let bytes_gone : bits ≡ 8 * (8 - count) = omega (arith, gone) in
     let few : length (map digit_value (take count bytes)) ≤ 8 = omega (arith, length-map (take count bytes) digit_value, length-take count bytes, long) in
     let shift : word / 2 ^ bits ≡ number_from_digits 256 (map digit_value (take count bytes)) =
-    ap (λ n. n / 2 ^ bits) word_of ∙ ap (λ k. number_from_digits 256 values / 2 ^ k) bytes_gone
+    ap (λ n. n / 2 ^ bits) word_gives ∙ ap (λ k. number_from_digits 256 values / 2 ^ k) bytes_gone
     ∙ shifted values (as_digits_below bytes) (8 - count) count (omega (arith, front.within, long, as_long)) ∙ ap (number_from_digits 256) (sym front.values) in
     record {
       within = front.within;

@@ -12,8 +12,8 @@ const MOST_DIGITS: usize = 19;
 /// So many bytes are read at once.
 const LANES: usize = 8;
 
-// What the digits at the front of a text are worth, and how many they are. None where they are so
-// many that 64 bits may not hold what they are worth.
+/// What the digits at the front of a text are worth, and how many they are. None where they are so
+/// many that 64 bits may not hold what they are worth.
 #[inline(always)]
 pub(crate) fn leading_digits(text: &[u8]) -> Option<(u64, usize)>
     ensures found { IfSome result (λ parts. IsWorth text.now parts.1 parts.0
@@ -27,7 +27,7 @@ pub(crate) fn leading_digits(text: &[u8]) -> Option<(u64, usize)>
     digits_behind(text, value, count)
 }
 
-// The same, where the first `count` digits are read already, and worth `value`.
+/// The same, where the first `count` digits are read already, and worth `value`.
 #[inline(always)]
 fn digits_behind(text: &[u8], value: u64, count: usize) -> Option<(u64, usize)>
     requires worth { IsWorth text.now count value }
@@ -43,7 +43,7 @@ fn digits_behind(text: &[u8], value: u64, count: usize) -> Option<(u64, usize)>
     Some((value, count))
 }
 
-// The same of a text so short that no digit has to be tried for an overflow.
+/// The same of a text so short that no digit has to be tried for an overflow.
 #[inline(always)]
 fn few_digits(text: &[u8], value: u64, count: usize) -> (u64, usize)
     requires short { length text.now ≤ 19 }
@@ -64,8 +64,8 @@ fn few_digits(text: &[u8], value: u64, count: usize) -> (u64, usize)
     (value, count)
 }
 
-// What the digits at the front are worth, and how many they are, as far as the first eight bytes
-// say. None are read where there are fewer bytes.
+/// What the digits at the front are worth, and how many they are, as far as the first eight bytes
+/// say. None are read where there are fewer bytes.
 #[inline(always)]
 fn first_digits(text: &[u8]) -> (u64, usize)
     ensures worth { IsWorth text.now result.1 result.0 }
@@ -78,8 +78,8 @@ fn first_digits(text: &[u8]) -> (u64, usize)
     }
 }
 
-// The same of eight bytes. What each is worth as a digit makes a byte of a word, the first the
-// highest one, so that a shift to the right leaves the digits at the front.
+/// The same of eight bytes. What each is worth as a digit makes a byte of a word, the first the
+/// highest one, so that a shift to the right leaves the digits at the front.
 #[inline(always)]
 fn eight_bytes(bytes: &[u8; LANES]) -> (u64, usize)
     ensures worth { IsWorth bytes.now result.1 result.0 }
@@ -94,7 +94,7 @@ fn eight_bytes(bytes: &[u8; LANES]) -> (u64, usize)
     (worth_of(word >> (64 - 8 * count)), count)
 }
 
-// What each byte is worth as a digit: more than 9 where it is none.
+/// What each byte is worth as a digit: more than 9 where it is none.
 #[inline(always)]
 fn as_digits(bytes: &[u8; LANES]) -> u8x8
     ensures { result ≡ map (λ byte. (byte + 208) % 256) bytes.now }
@@ -102,7 +102,7 @@ fn as_digits(bytes: &[u8; LANES]) -> u8x8
     u8x8::from_array(*bytes) - u8x8::splat(b'0')
 }
 
-// How many of the eight are digits, from the front.
+/// How many of the eight are digits, from the front.
 #[inline(always)]
 fn front_len(digits: u8x8) -> usize
     requires { length digits ≡ 8 }
@@ -117,9 +117,9 @@ fn front_len(digits: u8x8) -> usize
     }
 }
 
-// What digits are worth that are the bytes of a word, the last the lowest one, with zeros in front.
-// Each two bytes, h * 256 + l, become h * 10 + l. Then each two of these pairs become one number,
-// and then the two numbers that are left.
+/// What digits are worth that are the bytes of a word, the last the lowest one, with zeros in front.
+/// Each two bytes, h * 256 + l, become h * 10 + l. Then each two of these pairs become one number,
+/// and then the two numbers that are left.
 #[inline(always)]
 fn worth_of(word: u64) -> u64
     ensures { (digits : List ℕ) → length digits ≤ 8 → AllBelowBase 10 digits

@@ -6,14 +6,15 @@
 //! so, and what is spelled so is read. Nothing here allocates but `push_number` and `push_number_behind`.
 //!
 //! The layers above read with `next_line`, `Fields` or `next_field`, `number` and `leading_number`. They write with
-//! `push_number`, `push_number_behind` and std's `extend_from_slice`. Their proofs may use the lemmas of `proofs/`: `Joining`,
-//! `LineFeeds`, `NumberText`, `Parting` and `Lacking`. The module `laws` says what they come to.
+//! `push_number`, `push_number_behind` and std's `extend_from_slice`. Their proofs may use the lemmas of `proofs/`:
+//! `Joining`, `LineFeeds`, `NumberText`, `Parting` and `Lacking`. The module `laws` says what they come to.
 //!
 //! # What is proved
 //!
 //! `number`, `number_up_to`, `Fields::of`, `next_field`, `next_line` read exactly what is spelled
 //! so (`found`, `only`, and their like), `push_number` writes it or leaves its buffer as it was
-//! (`ok`, `err`), `push_number_behind` with words before it; `laws`: numbers, rows of fields and texts of lines are told apart by their bytes.
+//! (`ok`, `err`), `push_number_behind` with words before it; `laws`: numbers, rows of fields and texts
+//! of lines are told apart by their bytes.
 #![tactic(auto)]
 
 mod cuts;

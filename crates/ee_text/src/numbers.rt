@@ -78,7 +78,7 @@ pub fn push_number_behind<A: Allocator>(
     push_number(out, n)
 }
 
-// What the digits are worth. None where a byte is no digit, or the number is above `u64::MAX`.
+/// What the digits are worth. None where a byte is no digit, or the number is above `u64::MAX`.
 #[tactic(auto, using(crate::proofs::Digits::too_large, crate::proofs::Digits::whole))]
 fn value_of_digits(digits: &[u8]) -> Option<u64>
     ensures { SomeIff result (AllDigits 10 digits.now × (digits_value 10 digits.now < 2 ^ 64)) (digits_value 10 digits.now) }
@@ -94,7 +94,7 @@ fn value_of_digits(digits: &[u8]) -> Option<u64>
     Some(value)
 }
 
-// Whether there are digits, with no zero in front of others.
+/// Whether there are digits, with no zero in front of others.
 #[inline(always)]
 fn is_plain(digits: &[u8]) -> bool
     ensures plain { OnTrue result ((0 < length digits.now)

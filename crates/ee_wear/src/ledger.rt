@@ -1,3 +1,4 @@
+//! The ledger: how often each page was erased, of a device or between two looks at it.
 ghost use Rattle.std.specs.Prelude.{◌≡◌, ◌<◌, ◌≤◌, IfErr, IfOk, OnOk, length, slice_index, sum};
 ghost use Rattle.std.specs.List.{All, Contains};
 ghost use Rattle.ee_wear.specs.Counts.{IsLedger, greatest_of, least_of};
@@ -17,7 +18,7 @@ use std::marker::Model;
 /// Source: ours.
 #[derive(Drop)]
 pub struct Ledger<A: Allocator = Global> {
-    // By rising page.
+    /// By rising page.
     counts: Vec<u64, A>,
 }
 

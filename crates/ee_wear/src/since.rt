@@ -1,3 +1,4 @@
+//! Why two ledgers have no difference, and the first page whose wear fell.
 ghost use Rattle.std.specs.Prelude.{◌≡◌, IfSome, IfNone, length};
 ghost use Rattle.ee_wear.specs.Since.{IsFirstFallen, NoneFell};
 
@@ -27,7 +28,7 @@ impl From<AllocError> for SinceFault {
     }
 }
 
-// The first page that has less wear now than before.
+/// The first page that has less wear now than before.
 pub(crate) fn first_fallen(before: &[u64], now: &[u64]) -> Option<usize>
     requires { length now.now ≡ length before.now }
     ensures found { IfSome result (IsFirstFallen before.now now.now) }

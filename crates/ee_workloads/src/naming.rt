@@ -84,8 +84,9 @@ fn program(
 ) -> Result<Vec<u8>, Fault> {
     let header = header_text(alloc, alloc, schema, Language::C)?;
     digest.take(header.as_slice());
-    let (image, applied) = apply_values(alloc, alloc, image, schema, values)?;
-    digest.take(applied.as_slice());
+    let applied = apply_values(alloc, alloc, image, schema, values)?;
+    digest.take(applied.text.as_slice());
+    let image = applied.image;
     let listed = list_text(alloc, alloc, image.as_slice(), Some(schema))?;
     digest.take(listed.as_slice());
     let gain = get_setting(alloc, alloc, image.as_slice(), schema, "channel_7_gain")?;
@@ -103,7 +104,7 @@ fn update(
 ) -> Result<Vec<u8>, Fault> {
     let stale = stale_text(alloc, alloc, image, schema)?;
     digest.take(stale.as_slice());
-    let (image, tidied) = tidy_image(alloc, alloc, image, schema)?;
-    digest.take(tidied.as_slice());
-    Ok(image)
+    let tidied = tidy_image(alloc, alloc, image, schema)?;
+    digest.take(tidied.text.as_slice());
+    Ok(tidied.image)
 }

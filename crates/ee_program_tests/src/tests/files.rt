@@ -3,7 +3,7 @@
 use super::trail::{Tracked, Trail};
 use crate::tests::{same, same_at};
 use ee_fakes::images::{CLEANED, ONE_MOVE};
-use ee_program::FileLocks;
+use ee_files::FileLocks;
 use std::fs::{self, Permissions};
 use std::os::unix::fs::{PermissionsExt, symlink};
 use std::process::Abort;

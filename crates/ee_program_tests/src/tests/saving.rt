@@ -2,7 +2,7 @@
 use super::trail::{Tracked, Trail};
 use crate::tests::{same, same_at};
 use ee_fakes::images::{CLEANED, FORMATTED, ONE_MOVE, TWO_MOVES};
-use ee_program::{FileLocks, SaveFault, save};
+use ee_files::{FileLocks, SaveFault, save};
 use std::fs;
 use std::process::Abort;
 use std::rt::Files;

@@ -1,7 +1,8 @@
 //! A runtime for tests: the host's files, with each call noted, an empty input, and outputs that are kept. One call may fail,
 //! the disk may be full, and before one call another run may save.
 use ee_fakes::images::{ONE_MOVE, TWO_MOVES};
-use ee_program::{FileLocks, SaveFault, run, save};
+use ee_files::{FileLocks, SaveFault, save};
+use ee_program::run;
 use std::alloc::{AllocError, Allocator, Global};
 use std::cell::{Cell, RefCell};
 use std::fmt::Display;

@@ -27,11 +27,11 @@ overflow_add-written g c =
     let all : c.len-entries.result ≡ length c.args.table.now.entries = c.len-entries.ensures.len in
     let few : c.loop-name.written ≤ length (map seen (map deref_pair c.loop-name.yielded)) = few_applied c.args.schema.now (map seen (map deref_pair c.loop-name.yielded)) _ _ c.loop-name.written c.loop-name.invariant.taken in
     let gone = as_many c.loop-name.yielded in
-    let one : c.in_ok-more.more ≤ 1 = few_taken c.args.schema.now _ _ _ c.in_ok-more.more c.in_ok-more.ensures.taken in
+    let one : c.in_ok-written.field-0 ≤ 1 = few_taken c.args.schema.now _ _ _ c.in_ok-written.field-0 c.in_ok-written.ensures.taken in
     omega arith
 
-pub returns-in_err-more-clause-stopped : goal.returns-in_err-more-clause-stopped
-returns-in_err-more-clause-stopped g c =
+pub returns-in_err-written-clause-stopped : goal.returns-in_err-written-clause-stopped
+returns-in_err-written-clause-stopped g c =
     let start : c.into_iter-name-iterator.result ≡ c.args.table.now.entries = search rules in
     let so_far = rest_so_far deref_pair c.loop-name.yielded c.into_iter-name-iterator.result c.loop-name.name-iterator c.loop-name.yielded_by in
     let more = rest_more deref_pair c.loop-name.name-iterator c.next.new.self c.next.result (c.in-Some.name, c.in-Some.value) c.in-Some.is c.next.ensures.steps in
@@ -41,9 +41,9 @@ returns-in_err-more-clause-stopped g c =
     let gone = as_many c.loop-name.yielded in
     let number : c.loop-name.number + 1 ≡ length (map seen (map deref_pair c.loop-name.yielded)) + 1 = omega arith in
     let p = err_from_is_err_and c.from_residual.result c.from_residual.ensures.1 in rw (p.1, p.2) (entry_refused c.args.schema.now _ (map seen (map deref_pair c.loop-name.yielded)) (map seen c.next.new.self) c.as_str.result.now (string_bytes c.in-Some.name.now) (view c.in-Some.value.now)
-    (g.V.Variables.device c.args.store.now) (g.V.Variables.device c.loop-name.store) c.loop-name.written (c.loop-name.number + 1) c.in_err-more.field-0.0
+    (g.V.Variables.device c.args.store.now) (g.V.Variables.device c.loop-name.store) c.loop-name.written (c.loop-name.number + 1) c.in_err-written.field-0.0
     (split_entries c.args.table.now.entries (map deref_pair c.loop-name.yielded) c.next.new.self (c.in-Some.name.now, c.in-Some.value.now) whole)
-    named number c.loop-name.invariant.taken c.in_err-more.ensures.refused)
+    named number c.loop-name.invariant.taken c.in_err-written.ensures.refused)
 
 pub loop-name-preserved : goal.loop-name-preserved
 loop-name-preserved g c =
@@ -54,9 +54,9 @@ loop-name-preserved g c =
     record {
       number = number;
       taken = entry_taken c.args.schema.now (map seen (map deref_pair c.loop-name.yielded)) _ c.as_str.result.now (string_bytes c.in-Some.name.now) (view c.in-Some.value.now)
-          (g.V.Variables.device c.args.store.now) (g.V.Variables.device c.loop-name.store) (g.V.Variables.device c.take_entry.new.store) c.loop-name.written c.in_ok-more.more
-          (gone_more c.loop-name.yielded (c.in-Some.name, c.in-Some.value)) named c.loop-name.invariant.taken c.in_ok-more.ensures.taken;
-      stays_on = (taken_keeps c.args.schema.now (g.V.Variables.device c.loop-name.store) (g.V.Variables.device c.take_entry.new.store) _ c.in_ok-more.more c.loop-name.invariant.stays_on c.in_ok-more.ensures.taken).0;
+          (g.V.Variables.device c.args.store.now) (g.V.Variables.device c.loop-name.store) (g.V.Variables.device c.take_entry.new.store) c.loop-name.written c.in_ok-written.field-0
+          (gone_more c.loop-name.yielded (c.in-Some.name, c.in-Some.value)) named c.loop-name.invariant.taken c.in_ok-written.ensures.taken;
+      stays_on = (taken_keeps c.args.schema.now (g.V.Variables.device c.loop-name.store) (g.V.Variables.device c.take_entry.new.store) _ c.in_ok-written.field-0 c.loop-name.invariant.stays_on c.in_ok-written.ensures.taken).0;
     }
 
 pub returns-clause-applied : goal.returns-clause-applied

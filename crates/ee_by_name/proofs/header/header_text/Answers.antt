@@ -1,5 +1,6 @@
 use Rattle.std.proofs.Common.{inr, refl, rules}
 use Rattle.std.proofs.lemmas.Result.{err_from_is_err_and}
+use Rattle.ee_text.proofs.Public.{error_passed_on}
 use Rattle.ee_by_name.proofs.Named.{settings_good}
 use Rattle.ee_by_name.proofs.header.header_text.Goals as goal
 
@@ -14,3 +15,6 @@ returns-clause-header g c = record { settings = c.in_ok-schema.schema; spelled =
 pub returns-clause-names : goal.returns-clause-names
 returns-clause-names g c = λ cause some applies.
     settings_good c.args.settings.now c.in_ok-schema.schema cause c.in_ok-schema.ensures.spelled some applies
+
+pub returns-in_err-schema-clause-names : goal.returns-in_err-schema-clause-names
+returns-in_err-schema-clause-names g c = λ cause some applies. error_passed_on _ _ _ _ c.from_residual.ensures.1 (c.in_err-schema.ensures.names cause some applies)

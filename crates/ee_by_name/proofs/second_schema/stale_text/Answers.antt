@@ -1,37 +1,24 @@
 use Rattle.std.proofs.Common.{◌∙◌, ◌≤◌, ◌<◌, ◌+◌, inl, inr, refl, length, rules, subst, sym}
-use Rattle.std.proofs.lemmas.Result.{err_from_is_err_and}
 use Rattle.std.specs.List.{All}
 use Rattle.ee_text.proofs.Public.{error_passed_on, passed_on}
 use Rattle.ee_settings.proofs.Public.{stale_within}
 use Rattle.ee_settings.specs.declared.stale.Stale.{Stale}
 use Rattle.ee_core.specs.State.{state_of}
 use Rattle.ee_image_store.proofs.Public.{no_memory_to_open}
-use Rattle.ee_by_name.proofs.TidiedImages.{are_stale_lines, stale_good, stale_unopened, stale_unspelled}
+use Rattle.ee_by_name.proofs.TidiedImages.{are_stale_lines}
 use Rattle.ee_by_name.proofs.second_schema.stale_text.Goals as goal
 
-pub returns-in_err-store-clause-names : goal.returns-in_err-store-clause-names
-returns-in_err-store-clause-names g c = λ cause some applies.
-    let p = err_from_is_err_and c.from_residual.result c.from_residual.ensures.1 in
-    rw p.1 (stale_unopened c.args.image.now c.args.settings.now c.in_err-store.field-0.0 p.0 cause c.in_err-store.ensures.fault p.2 some applies)
-
-pub returns-in_err-schema-clause-fault : goal.returns-in_err-schema-clause-fault
-returns-in_err-schema-clause-fault g c =
-    let opened = c.in_ok-store.ensures.opened in
-    passed_on _ _ _ c.from_residual-in_err-schema.ensures.1 (inr ((opened.device, opened.old), c.in_err-schema.ensures.fault))
-
-pub returns-in_err-schema-clause-names : goal.returns-in_err-schema-clause-names
-returns-in_err-schema-clause-names g c = λ cause some applies.
-    error_passed_on _ _ _ _ c.from_residual-in_err-schema.ensures.1 (stale_unspelled c.args.image.now c.args.settings.now _ c.in_err-schema.field-0.0 cause c.in_ok-store.ensures.opened c.in_err-schema.ensures.names some applies)
+pub returns-in_err-opened-clause-names : goal.returns-in_err-opened-clause-names
+returns-in_err-opened-clause-names g c = λ cause some applies. error_passed_on _ _ _ _ c.from_residual.ensures.1 (c.in_err-opened.ensures.names cause some applies)
 
 pub returns-clause-names : goal.returns-clause-names
-returns-clause-names g c = λ cause some applies.
-    stale_good c.args.image.now c.args.settings.now c.in_ok-store.store c.in_ok-schema.schema cause c.in_ok-store.ensures.opened c.in_ok-schema.ensures.spelled some applies
+returns-clause-names g c = λ cause some applies. c.in_ok-opened.ensures.names cause some applies
 
 pub push_stale-requires : goal.push_stale-requires
 push_stale-requires g c =
-    let settings = c.in_ok-schema.schema in
+    let settings = c.in_ok-opened.opened.schema in
     subst (All (λ (one : Stale). (1 ≤ one.entry) × (one.entry < 1 + length settings))) (sym (c.as_slice.ensures.value ∙ c.in_ok-stale.ensures))
-    (stale_within (state_of c.in_ok-store.store).map settings 1)
+    (stale_within (state_of c.in_ok-opened.opened.store).map settings 1)
 
 pub returns-in_err-stale-clause-fault : goal.returns-in_err-stale-clause-fault
 returns-in_err-stale-clause-fault g c = passed_on _ _ _ c.from_residual-in_err-stale.ensures.1 (inl (no_memory_to_open c.args.image.now))
@@ -41,7 +28,7 @@ returns-in_err-push_stale-clause-fault g c = passed_on _ _ _ c.from_residual-in_
 
 pub returns-clause-stale : goal.returns-clause-stale
 returns-clause-stale g c =
-    are_stale_lines c.args.image.now c.args.settings.now _ c.in_ok-store.store c.in_ok-schema.schema c.in_ok-store.ensures.opened c.in_ok-schema.ensures.spelled (search rules)
+    are_stale_lines c.args.image.now c.args.settings.now _ c.in_ok-opened.opened.store c.in_ok-opened.opened.schema c.in_ok-opened.ensures.opened c.in_ok-opened.ensures.spelled (search rules)
 
 pub returns-in_err-stale-clause-names : goal.returns-in_err-stale-clause-names
 returns-in_err-stale-clause-names g c = λ cause some applies. error_passed_on _ _ _ _ c.from_residual-in_err-stale.ensures.1 (inr refl)

@@ -38,14 +38,14 @@ pub returns-clause-new_pages : goal.returns-clause-new_pages
 returns-clause-new_pages g c =
     let old = g.F.Flash.device c.args.flash.now in
     let opened = g.F.Flash.device c.open_set.new.flash in
-    let filled_set = g.F.Flash.device c.fill_set.new.flash in
+    let filled = g.F.Flash.device c.fill_set.new.flash in
     let new = g.F.Flash.device c.commit.new.flash in
     let side = c.args.layout.now.side in
     let generation = c.args.layout.now.generation + 1 in
     let keeps = keeps_both old (g.F.Flash.device c.clear.new.flash) opened side c.args.layout.now.generation c.in_ok-clear.ensures.keeps c.in_ok-open_set.ensures.keeps in
     let same : map_in side opened ≡ map_in side old = fun_ext keeps.same_map in
     let holds = c.in_ok-count.ensures.fills.adds.new_pages [] refl c.in_ok-open_set.ensures.holds in
-    let held = commits (other_of side) filled_set new generation (moved_words (meant c.args.change) (map_in side opened)) c.in_ok-count.ensures.fills.keeps.live.formed c.in_ok-commit.ensures.committed.same_size c.in_ok-commit.ensures.sets holds in
+    let held = commits (other_of side) filled new generation (moved_words (meant c.args.change) (map_in side opened)) c.in_ok-count.ensures.fills.keeps.live.formed c.in_ok-commit.ensures.committed.same_size c.in_ok-commit.ensures.sets holds in
     subst (λ (map : Map). IsCommittedWith new (other_of side) generation (moved_words (meant c.args.change) map)) same held
 
 pub returns-clause-live_pages : goal.returns-clause-live_pages
@@ -53,18 +53,18 @@ returns-clause-live_pages g c =
     let old = g.F.Flash.device c.args.flash.now in
     let cleared = g.F.Flash.device c.clear.new.flash in
     let opened = g.F.Flash.device c.open_set.new.flash in
-    let filled_set = g.F.Flash.device c.fill_set.new.flash in
+    let filled = g.F.Flash.device c.fill_set.new.flash in
     let new = g.F.Flash.device c.commit.new.flash in
     let side = c.args.layout.now.side in
     let first = c.in_ok-clear.ensures.keeps.same_size in
     let second = c.in_ok-open_set.ensures.keeps.same_size in
     let third = c.in_ok-count.ensures.fills.keeps.same_size in
     let last = c.in_ok-commit.ensures.committed.same_size in
-    drawn_both side old filled_set new (third ∙ second ∙ first) last
-    (drawn_both side old opened filled_set (second ∙ first) third
+    drawn_both side old filled new (third ∙ second ∙ first) last
+    (drawn_both side old opened filled (second ∙ first) third
     (drawn_both side old cleared opened first second (same_drawn side old cleared first c.in_ok-clear.ensures.live_pages) c.open_set.ensures.live_pages)
     c.in_ok-count.ensures.fills.adds.live_pages)
-    (same_drawn side filled_set new last c.in_ok-commit.ensures.same_set)
+    (same_drawn side filled new last c.in_ok-commit.ensures.same_set)
 
 pub returns-in_err-clear-clause-moves : goal.returns-in_err-clear-clause-moves
 returns-in_err-clear-clause-moves g c =

@@ -1,4 +1,5 @@
-use Rattle.std.proofs.Common.{◌≡◌, ◌∙◌, ap, refl, rules, sym, true}
+use Rattle.std.proofs.Common.{◌≡◌, ◌∙◌, refl, rules, sym, true, arith}
+use Rattle.std.proofs.lemmas.Grind.{common_steps}
 use Rattle.toml.specs.View.{view}
 use Rattle.ee_settings.proofs.Addresses.{none_taken, taken_found}
 use Rattle.ee_settings.proofs.Entries.{entry_is, entry_made}
@@ -17,8 +18,4 @@ returns-then-has g c =
     )
 
 pub returns : goal.returns
-returns g c =
-    let named : is_name c.args.name.now ≡ true = search rules in
-    entry_made c.args.earlier.now (c.args.name.now, view c.args.value.now) c.new.result _ (c.new.ensures ∙ ap (λ n. record { name = n; numbers = c.in-Some-checked.numbers }) c.in-Ok.ensures.ok)
-    (entry_is c.args.name.now (view c.args.value.now) c.in-Some.fields c.in-Some-checked.numbers named c.in-Some.ensures.found c.in-Some-checked.ensures.found c.in-Some-checked.ensures.proper)
-    (none_taken c.args.earlier.now c.in-Some-checked.numbers.address (sym c.has.ensures ∙ c.if-has.false))
+returns g c = grind (arith, common_steps, entry_made, entry_is, none_taken)

@@ -17,9 +17,7 @@ listed-init g c =
     }
 
 pub listed-smaller : goal.listed-smaller
-listed-smaller g c =
-    let least : IsLowest c.in-Some.address c.listed.names c.listed.values = lower_lowest c.in-Some.address c.listed.names c.listed.values (search rules) in
-    rw (c.take-name.ensures.left, c.take-value.ensures.left) least.shorter
+listed-smaller g c = search (rules, IsLowest, lower_lowest)
 
 pub listed-preserved : goal.listed-preserved
 listed-preserved g c =

@@ -1,4 +1,4 @@
-use Rattle.std.proofs.Common.{◌∙◌, Option, ℕ, arith, subst}
+use Rattle.std.proofs.Common.{◌∙◌, Option, ℕ, arith, subst, rules}
 use Rattle.ee_pages.specs.Meaning.{AreLiveThrough, above_of}
 use Rattle.ee_core.specs.State.{state_of}
 use Rattle.ee_settings.proofs.Stored.{none_yet, put_all, put_through}
@@ -21,8 +21,4 @@ stored-preserved g c =
     }
 
 pub returns-in_default : goal.returns-in_default
-returns-in_default g c =
-    let map = (state_of (g.V.Variables.device c.args.store.now)).map in
-    let found = c.next_batch-batch.result.found.items in
-    let batch = subst (λ (through : Option ℕ). AreLiveThrough map (above_of c.stored.after) found through) c.in_default.is c.next_batch-batch.ensures.live in
-    c.in_ok-insert_each.ensures ∙ rw (c.as_slice.ensures.value, c.stored.invariant.so_far) (put_all map found (above_of c.stored.after) batch)
+returns-in_default g c = search (rules, put_all)

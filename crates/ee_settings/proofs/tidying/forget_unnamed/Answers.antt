@@ -4,10 +4,7 @@ use Rattle.ee_settings.proofs.Tidied.{batch_further, batch_stops, one_lives}
 use Rattle.ee_settings.proofs.tidying.forget_unnamed.Goals as goal
 
 pub forget_one-requires-clause-live : goal.forget_one-requires-clause-live
-forget_one-requires-clause-live g c =
-    let so_far = c.loop-address.invariant in
-    let lives = one_lives c.args.settings.now c.args.found.now c.loop-address.address-index c.loop-address.forgotten _ _ c.loop-address-item.result so_far c.loop-address-test.true c.loop-address-item.is in
-    search (rules, lives)
+forget_one-requires-clause-live g c = search (rules, one_lives)
 
 pub returns-in_err-forgotten-clause-stopped : goal.returns-in_err-forgotten-clause-stopped
 returns-in_err-forgotten-clause-stopped g c =

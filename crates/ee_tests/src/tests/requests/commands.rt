@@ -10,10 +10,10 @@ use ee_flash::Shape;
 use ee_image::read_image;
 use ee_pages::ScanFault;
 use ee_shell::{
-    Language, Replayed, apply_values, check_script, clean_image, export_hex, export_image,
-    format_image, get_setting, header_text, import_hex, import_image, inspect_text, list_text,
-    plan_script, replay, replay_indexed, replay_reader, set_setting, size_parts, stale_text,
-    states_text, tidy_image, try_script, wear_text,
+    ImageAndText, Language, Replayed, apply_values, check_script, clean_image, export_hex,
+    export_image, format_image, get_setting, header_text, import_hex, import_image, inspect_text,
+    list_text, plan_script, replay, replay_indexed, replay_reader, set_setting, size_parts,
+    stale_text, states_text, tidy_image, try_script, wear_text,
 };
 use std::alloc::{Allocator, Global};
 use std::cell::Cell;
@@ -30,12 +30,12 @@ fn gives<A: Allocator>(given: Result<Vec<u8, A>, Fault>, wanted: &[u8]) -> Optio
 
 // Whether this image and this text were given.
 fn gives_both<A: Allocator>(
-    given: Result<(Vec<u8, A>, Vec<u8, A>), Fault>,
+    given: Result<ImageAndText<A>, Fault>,
     image: &[u8],
     text: &[u8],
 ) -> Option<bool> {
     match given {
-        Ok((left, told)) => Some(left.as_slice() == image && told.as_slice() == text),
+        Ok(left) => Some(left.image.as_slice() == image && left.text.as_slice() == text),
         Err(Fault::Memory) => None,
         Err(_) => Some(false),
     }
@@ -347,7 +347,7 @@ fn change_of<'m>(
     command: Change,
     heap: Global,
     alloc: &'m Refusing<Global>,
-) -> Result<(Bytes<'m>, Bytes<'m>), Fault> {
+) -> Result<ImageAndText<&'m Refusing<Global>>, Fault> {
     match command {
         Change::Clean => clean_image(alloc, ONE_MOVE),
         Change::Set => set_setting(alloc, heap, FORMATTED, VOLUME, "volume", 10),

@@ -1,4 +1,6 @@
 // Made by firmware/rust/erase from crates/ee_core/src/change.rt. Change that file.
+//! A change of the map, and the word that spells it.
+
 use crate::ee_codec::{Address, element_word, forget_word};
 
 /// A change of the map.

@@ -1,4 +1,6 @@
 // Made by firmware/rust/erase from crates/ee_core/src/changing.rt. Change that file.
+//! The making of a change that nothing refuses: appended where a slot is free, else with a transfer.
+
 use crate::ee_core::change::Change;
 use crate::ee_core::copying::Cursor;
 use crate::ee_core::live_cursor::LiveCursor;

@@ -1,4 +1,6 @@
 // Made by firmware/rust/erase from crates/ee_core/src/cleaning.rt. Change that file.
+//! The set that isn't live: how many of its pages wait to be erased, and the erasing of one.
+
 use crate::ee_flash::{Cut, Flash};
 use crate::ee_pages::{Layout, Side, first_page, is_blank as page_is_blank};
 
@@ -22,7 +24,7 @@ pub(crate) fn erase_other<F: Flash>(
     Ok(())
 }
 
-// The lowest page of a set that is not blank, by its number in the device.
+/// The lowest page of a set that is not blank, by its number in the device.
 fn first_pending<F: Flash>(flash: &F, side: Side) -> Option<usize> {
     let first = first_page(flash, side);
     for page in first..first + flash.shape().pages() {

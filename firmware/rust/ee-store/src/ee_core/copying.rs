@@ -1,4 +1,6 @@
 // Made by firmware/rust/erase from crates/ee_core/src/copying.rt. Change that file.
+//! The copying of a transfer: the map after its change, written into the other set word by word.
+
 use crate::ee_core::change::Change;
 use crate::ee_core::live_cursor::LiveCursor;
 use crate::ee_codec::Address;
@@ -31,8 +33,8 @@ impl LiveCursor for Cursor {
     }
 }
 
-// The next live address behind those that were given of a batch. Where all were, the batch becomes
-// the next one with an address.
+/// The next live address behind those that were given of a batch. Where all were, the batch becomes
+/// the next one with an address.
 fn next_given<F: Flash>(
     flash: &F,
     layout: &Layout,
@@ -80,8 +82,8 @@ pub(crate) fn fill_set<F: Flash, C: LiveCursor>(
     Ok(count)
 }
 
-// Writes a value that is put into the first slot of the other set; a forgetting takes no slot.
-// Gives the place of the next slot.
+/// Writes a value that is put into the first slot of the other set; a forgetting takes no slot.
+/// Gives the place of the next slot.
 fn put_first<F: Flash>(flash: &mut F, layout: &Layout, change: Change) -> Result<Place, Cut> {
     let mut place = first_place(flash, layout);
     if let Change::Forget { .. } = change {
@@ -91,8 +93,8 @@ fn put_first<F: Flash>(flash: &mut F, layout: &Layout, change: Change) -> Result
     Ok(place)
 }
 
-// Copies each live address but this one to the other set, from this place on. Gives how many of its
-// slots are written then.
+/// Copies each live address but this one to the other set, from this place on. Gives how many of its
+/// slots are written then.
 fn copy_others<F: Flash, C: LiveCursor>(
     flash: &mut F,
     layout: &Layout,
@@ -107,8 +109,8 @@ fn copy_others<F: Flash, C: LiveCursor>(
     Ok(place.slot)
 }
 
-// Copies a live address to this place of the other set, unless it is the one that is not copied.
-// The place becomes that of the next free slot.
+/// Copies a live address to this place of the other set, unless it is the one that is not copied.
+/// The place becomes that of the next free slot.
 fn copy_one<F: Flash>(
     flash: &mut F,
     layout: &Layout,
@@ -124,8 +126,8 @@ fn copy_one<F: Flash>(
     Ok(())
 }
 
-// Writes a change into this place of the other set, its first free slot. A further page gets its
-// receive word first. The place becomes that of the next slot.
+/// Writes a change into this place of the other set, its first free slot. A further page gets its
+/// receive word first. The place becomes that of the next slot.
 fn stage<F: Flash>(
     flash: &mut F,
     layout: &Layout,
@@ -140,19 +142,19 @@ fn stage<F: Flash>(
     Ok(())
 }
 
-// Gives the page of this place of the other set the receive word, if it has none.
+/// Gives the page of this place of the other set the receive word, if it has none.
 fn receive<F: Flash>(flash: &mut F, layout: &Layout, place: Place) -> Result<(), Cut> {
     mark(flash, place.page, Mark::Receive(layout.generation + 1))?;
     Ok(())
 }
 
-// Programs a change into this place of the other set, its first free slot.
+/// Programs a change into this place of the other set, its first free slot.
 fn put_in<F: Flash>(flash: &mut F, layout: &Layout, place: Place, change: Change) -> Result<(), Cut> {
     flash.program(place.page, place.at, change.word())?;
     Ok(())
 }
 
-// The place of the first slot of the other set.
+/// The place of the first slot of the other set.
 fn first_place<F: Flash>(flash: &F, layout: &Layout) -> Place {
     Place {
         slot: 0,
@@ -161,8 +163,8 @@ fn first_place<F: Flash>(flash: &F, layout: &Layout) -> Place {
     }
 }
 
-// Goes on to the next slot of the other set: one further in the page, or the first one of the next
-// page. Behind the set's last slot it is in no page of the set.
+/// Goes on to the next slot of the other set: one further in the page, or the first one of the next
+/// page. Behind the set's last slot it is in no page of the set.
 fn step<F: Flash>(flash: &F, layout: &Layout, place: &mut Place) {
     place.slot += 1;
     place.at += 1;

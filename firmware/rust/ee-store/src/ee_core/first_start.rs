@@ -1,4 +1,6 @@
 // Made by firmware/rust/erase from crates/ee_core/src/first_start.rt. Change that file.
+//! The call for whenever a device is switched on: it opens the store, or makes the first one.
+
 use crate::ee_core::formatting::write_format;
 use crate::ee_core::opening::{OpenFault, open};
 use crate::ee_core::store::Store;
@@ -30,7 +32,7 @@ pub fn start<F: Flash>(flash: F) -> Result<Store<F>, (F, OpenFault)> {
     start_anew(flash)
 }
 
-// Whether a device of which a scan says this can be started.
+/// Whether a device of which a scan says this can be started.
 fn is_startable<F: Flash>(flash: &F, fault: ScanFault) -> bool {
     match fault {
         ScanFault::Unformatted => true,
@@ -40,7 +42,7 @@ fn is_startable<F: Flash>(flash: &F, fault: ScanFault) -> bool {
     }
 }
 
-// Whether no word behind a page's header can be read.
+/// Whether no word behind a page's header can be read.
 fn holds_none<F: Flash>(flash: &F) -> bool {
     for page in 0..2 * flash.shape().pages() {
         if page_holds(flash, page) {
@@ -50,7 +52,7 @@ fn holds_none<F: Flash>(flash: &F) -> bool {
     true
 }
 
-// Whether a word behind the header of a page can be read.
+/// Whether a word behind the header of a page can be read.
 fn page_holds<F: Flash>(flash: &F, page: usize) -> bool {
     for at in HEADER_WORDS..flash.shape().words() {
         if let Word::Held(_) = flash.word(page, at) {
@@ -60,7 +62,7 @@ fn page_holds<F: Flash>(flash: &F, page: usize) -> bool {
     false
 }
 
-// Makes the first store.
+/// Makes the first store.
 fn start_anew<F: Flash>(flash: F) -> Result<Store<F>, (F, OpenFault)> {
     let mut flash = flash;
     match write_format(&mut flash) {

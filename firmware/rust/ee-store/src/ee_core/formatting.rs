@@ -1,4 +1,6 @@
 // Made by firmware/rust/erase from crates/ee_core/src/formatting.rt. Change that file.
+//! A store with nothing in it: what is written is erased, and the first set becomes the live one.
+
 use crate::ee_flash::{Cut, Flash};
 use crate::ee_pages::{Layout, Mark, Side, is_blank as page_is_blank, mark};
 
@@ -16,7 +18,7 @@ pub(crate) fn write_format<F: Flash>(flash: &mut F) -> Result<Layout, Cut> {
     })
 }
 
-// Erases each page that is not blank, by rising page.
+/// Erases each page that is not blank, by rising page.
 fn erase_all<F: Flash>(flash: &mut F) -> Result<(), Cut> {
     for page in 0..2 * flash.shape().pages() {
         if !page_is_blank(flash, page) {

@@ -1,4 +1,6 @@
 // Made by firmware/rust/erase from crates/ee_core/src/live_cursor.rt. Change that file.
+//! What a transfer copies by: a way over the live addresses, of which each store has its own.
+
 use crate::ee_codec::Address;
 use crate::ee_flash::Flash;
 use crate::ee_pages::Layout;

@@ -1,4 +1,6 @@
 // Made by firmware/rust/erase from crates/ee_core/src/marking.rt. Change that file.
+//! The marks that a transfer or a cut left to set: pages used up, the page in use, pages to be erased.
+
 use crate::ee_flash::{Cut, Flash};
 use crate::ee_pages::{Layout, Mark, first_page, is_blank as page_is_blank, mark};
 
@@ -11,7 +13,7 @@ pub fn finish<F: Flash>(flash: &mut F, layout: &Layout) -> Result<(), Cut> {
     Ok(())
 }
 
-// Marks the pages of the live set: those before the last used one, and that one.
+/// Marks the pages of the live set: those before the last used one, and that one.
 fn mark_live_set<F: Flash>(flash: &mut F, layout: &Layout) -> Result<(), Cut> {
     let first = first_page(flash, layout.side);
     for page in first..layout.current {
@@ -21,7 +23,7 @@ fn mark_live_set<F: Flash>(flash: &mut F, layout: &Layout) -> Result<(), Cut> {
     Ok(())
 }
 
-// Marks the pages of the other set that are not blank.
+/// Marks the pages of the other set that are not blank.
 fn mark_old_set<F: Flash>(flash: &mut F, layout: &Layout) -> Result<(), Cut> {
     let first = first_page(flash, layout.side.other());
     for page in first..first + flash.shape().pages() {
@@ -43,7 +45,7 @@ pub(crate) fn mark_live<F: Flash>(
     Ok(())
 }
 
-// Marks a page of the other set, which is not blank, as one that may be erased.
+/// Marks a page of the other set, which is not blank, as one that may be erased.
 fn mark_old<F: Flash>(flash: &mut F, layout: &Layout, page: usize) -> Result<(), Cut> {
     mark(flash, page, Mark::Erasing)?;
     Ok(())

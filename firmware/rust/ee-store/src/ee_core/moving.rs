@@ -1,4 +1,6 @@
 // Made by firmware/rust/erase from crates/ee_core/src/moving.rt. Change that file.
+//! A transfer: the other set is erased, opened and filled, and one mark makes it the live one.
+
 use crate::ee_core::change::Change;
 use crate::ee_core::cleaning::erase_other;
 use crate::ee_core::copying::fill_set;
@@ -28,8 +30,8 @@ pub(crate) fn transfer<F: Flash, C: LiveCursor>(
     Ok(())
 }
 
-// Moves the map, with a change, to the other set, and makes that one live. Gives how many slots it
-// takes there.
+/// Moves the map, with a change, to the other set, and makes that one live. Gives how many slots it
+/// takes there.
 fn move_map<F: Flash, C: LiveCursor>(
     flash: &mut F,
     layout: &Layout,
@@ -43,7 +45,7 @@ fn move_map<F: Flash, C: LiveCursor>(
     Ok(count)
 }
 
-// Erases each page of the other set that is not blank, by rising page.
+/// Erases each page of the other set that is not blank, by rising page.
 fn clear<F: Flash>(flash: &mut F, layout: &Layout) -> Result<(), Cut> {
     let first = first_page(flash, layout.side.other());
     for page in first..first + flash.shape().pages() {
@@ -54,14 +56,14 @@ fn clear<F: Flash>(flash: &mut F, layout: &Layout) -> Result<(), Cut> {
     Ok(())
 }
 
-// Gives the first page of the other set, which is blank, the receive word of the next generation.
+/// Gives the first page of the other set, which is blank, the receive word of the next generation.
 fn open_set<F: Flash>(flash: &mut F, layout: &Layout) -> Result<(), Cut> {
     let first = first_page(flash, layout.side.other());
     mark(flash, first, Mark::Receive(layout.generation + 1))?;
     Ok(())
 }
 
-// Makes the other set, which is filled, the live one.
+/// Makes the other set, which is filled, the live one.
 fn commit<F: Flash>(flash: &mut F, layout: &Layout) -> Result<(), Cut> {
     let first = first_page(flash, layout.side.other());
     mark(flash, first, Mark::Active)?;

@@ -1,4 +1,6 @@
 // Made by firmware/rust/erase from crates/ee_core/src/store.rt. Change that file.
+//! The store without an index: it knows where the live set is and how far it is used, and reads the rest.
+
 use crate::ee_core::change::Change;
 use crate::ee_core::changing::make_change;
 use crate::ee_core::cleaning::{clean, count_pending};

@@ -1,4 +1,6 @@
 // Made by firmware/rust/erase from crates/ee_core/src/writing.rt. Change that file.
+//! The appending of a change: where its slot begins a further page, two marks come first.
+
 use crate::ee_core::change::Change;
 use crate::ee_core::marking::mark_live;
 use crate::ee_flash::{Cut, Flash, HEADER_WORDS};
@@ -19,8 +21,8 @@ pub(crate) fn append<F: Flash>(
     Ok(())
 }
 
-// Marks the page of the first free slot as the one that is used, if it is a further one, and the
-// page before it as used up.
+/// Marks the page of the first free slot as the one that is used, if it is a further one, and the
+/// page before it as used up.
 #[inline(always)]
 fn open_page<F: Flash>(flash: &mut F, layout: &Layout) -> Result<(), Cut> {
     let slots = flash.shape().words() - HEADER_WORDS;
@@ -32,7 +34,7 @@ fn open_page<F: Flash>(flash: &mut F, layout: &Layout) -> Result<(), Cut> {
     Ok(())
 }
 
-// Programs a change into the first free slot of the live set, and gives the page of that slot.
+/// Programs a change into the first free slot of the live set, and gives the page of that slot.
 #[inline(always)]
 fn push<F: Flash>(flash: &mut F, layout: &Layout, change: Change) -> Result<usize, Cut> {
     let slots = flash.shape().words() - HEADER_WORDS;

@@ -1,4 +1,6 @@
 // Made by firmware/rust/erase from crates/ee_pages/src/batch.rt. Change that file.
+//! The next live addresses, as many as are found in one look through the slots.
+
 use crate::ee_pages::batch_items::{BATCH, Batch};
 use crate::ee_pages::find::Layout;
 use crate::ee_pages::side::{Side, page_slot};
@@ -47,7 +49,7 @@ pub fn next_batch<F: Flash>(
     batch.found.keep_living();
 }
 
-// The number above which a batch begins.
+/// The number above which a batch begins.
 fn number_of(after: Option<Address>) -> u16 {
     match after {
         None => 0,
@@ -55,22 +57,22 @@ fn number_of(after: Option<Address>) -> u16 {
     }
 }
 
-// Puts in the next addresses above this one of which a slot says something, each with what the last
-// one says.
+/// Puts in the next addresses above this one of which a slot says something, each with what the last
+/// one says.
 fn gather<F: Flash>(flash: &F, side: Side, above: u16, nearest: &mut Batch) {
     for page in 0..flash.shape().pages() {
         gather_page(flash, side, page, above, nearest);
     }
 }
 
-// Notes what the slots of a page say, behind those of the pages before.
+/// Notes what the slots of a page say, behind those of the pages before.
 fn gather_page<F: Flash>(flash: &F, side: Side, page: usize, above: u16, nearest: &mut Batch) {
     for slot in 0..flash.shape().words() - HEADER_WORDS {
         note(above, page_slot(flash, side, page, slot), nearest);
     }
 }
 
-// Notes what a word says, if it is of an address above this one.
+/// Notes what a word says, if it is of an address above this one.
 fn note(above: u16, word: Word, nearest: &mut Batch) {
     // Asked first, since most words are of an address that has no place in a batch.
     let ending = ending_of(word);
@@ -80,7 +82,7 @@ fn note(above: u16, word: Word, nearest: &mut Batch) {
     note_named(above, named(word), nearest);
 }
 
-// The only address of which a word can say something, and 0 if there is none.
+/// The only address of which a word can say something, and 0 if there is none.
 fn ending_of(word: Word) -> u16 {
     match word {
         Word::Held(number) => (number & 0xffff) as u16,
@@ -88,7 +90,7 @@ fn ending_of(word: Word) -> u16 {
     }
 }
 
-// The address of which a word says something, with what it says.
+/// The address of which a word says something, with what it says.
 fn named(word: Word) -> Option<(Address, Option<u32>)> {
     match read_slot(word) {
         Slot::Element { address, value } => Some((address, Some(value))),
@@ -97,14 +99,14 @@ fn named(word: Word) -> Option<(Address, Option<u32>)> {
     }
 }
 
-// Notes what is named, if it is an address above this one.
+/// Notes what is named, if it is an address above this one.
 fn note_named(above: u16, named: Option<(Address, Option<u32>)>, nearest: &mut Batch) {
     if let Some((address, said)) = named {
         note_said(above, address, said, nearest);
     }
 }
 
-// Notes what is said of an address, if it is above this one.
+/// Notes what is said of an address, if it is above this one.
 fn note_said(above: u16, address: Address, said: Option<u32>, nearest: &mut Batch) {
     if address.get() <= above {
         return;
@@ -115,8 +117,8 @@ fn note_said(above: u16, address: Address, said: Option<u32>, nearest: &mut Batc
     }
 }
 
-// Puts an address in its place, over what was noted of it; where there is no room the last one
-// falls out.
+/// Puts an address in its place, over what was noted of it; where there is no room the last one
+/// falls out.
 fn put(nearest: &mut Batch, place: usize, address: Address, said: Option<u32>) {
     if nearest.has(place, address) {
         nearest.set(place, address, said);

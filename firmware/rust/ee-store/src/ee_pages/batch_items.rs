@@ -1,4 +1,6 @@
 // Made by firmware/rust/erase from crates/ee_pages/src/batch_items.rt. Change that file.
+//! The room of a batch: up to `BATCH` addresses with their values, and while it is filled some with none.
+
 use crate::ee_codec::Address;
 
 /// How many addresses a batch has room for.
@@ -10,7 +12,7 @@ pub const BATCH: usize = 16;
 /// Source: ours.
 pub struct Batch {
     items: [(Address, u32); BATCH],
-    // Which of them have a value.
+    /// Which of them have a value.
     lives: [bool; BATCH],
     len: usize,
 }
@@ -52,29 +54,29 @@ impl Batch {
         self.len += 1;
     }
 
-    // Takes all addresses out.
+    /// Takes all addresses out.
     pub(crate) fn clear(&mut self) {
         self.len = 0;
     }
 
-    // How many of the addresses, which rise, are below this one. It looks from the last down, since
-    // most addresses are above all.
+    /// How many of the addresses, which rise, are below this one. It looks from the last down, since
+    /// most addresses are above all.
     pub(crate) fn place_of(&self, address: Address) -> usize {
         place_in(&self.items[..self.len], address)
     }
 
-    // Whether this address stands at this place.
+    /// Whether this address stands at this place.
     pub(crate) fn has(&self, place: usize, address: Address) -> bool {
         place < self.len && self.items[place].0.get() == address.get()
     }
 
-    // Says this of the address at this place.
+    /// Says this of the address at this place.
     pub(crate) fn set(&mut self, place: usize, address: Address, said: Option<u32>) {
         self.items[place] = (address, said.unwrap_or(0));
         self.lives[place] = said.is_some();
     }
 
-    // Puts an address in at this place. Where there is no room the last one falls out.
+    /// Puts an address in at this place. Where there is no room the last one falls out.
     pub(crate) fn insert(&mut self, place: usize, address: Address, said: Option<u32>) {
         let end = one_more(self.len);
         put_in(&mut self.items, place, end, (address, said.unwrap_or(0)));
@@ -82,7 +84,7 @@ impl Batch {
         self.len = end;
     }
 
-    // The last address, where there is no room for one more.
+    /// The last address, where there is no room for one more.
     pub(crate) fn last_if_full(&self) -> Option<Address> {
         if self.len < BATCH {
             return None;
@@ -91,7 +93,7 @@ impl Batch {
         Some(last)
     }
 
-    // Whether there is no room for one more, and the last address is below this number.
+    /// Whether there is no room for one more, and the last address is below this number.
     pub(crate) fn ends_before(&self, number: u16) -> bool {
         match self.last_if_full() {
             None => false,
@@ -99,18 +101,18 @@ impl Batch {
         }
     }
 
-    // Keeps those that have a value.
+    /// Keeps those that have a value.
     pub(crate) fn keep_living(&mut self) {
         self.len = keep(&mut self.items, &self.lives, self.len);
     }
 }
 
-// One more, up to the room of a batch.
+/// One more, up to the room of a batch.
 fn one_more(count: usize) -> usize {
     if count < BATCH { count + 1 } else { BATCH }
 }
 
-// How many of these addresses, which rise, are below this one.
+/// How many of these addresses, which rise, are below this one.
 fn place_in(rising: &[(Address, u32)], address: Address) -> usize {
     let mut place = rising.len();
     while place > 0 && address.get() <= rising[place - 1].0.get() {
@@ -119,8 +121,8 @@ fn place_in(rising: &[(Address, u32)], address: Address) -> usize {
     place
 }
 
-// Puts an item in at this place of a list, and moves what stands from there on to before `end` one
-// further; the last of these falls out.
+/// Puts an item in at this place of a list, and moves what stands from there on to before `end` one
+/// further; the last of these falls out.
 fn put_in<T: Copy>(list: &mut [T], place: usize, end: usize, item: T) {
     let mut carried = item;
     for at in place..end {
@@ -130,7 +132,7 @@ fn put_in<T: Copy>(list: &mut [T], place: usize, end: usize, item: T) {
     }
 }
 
-// Moves those of the first `count` that have a value to the front, and says how many there are.
+/// Moves those of the first `count` that have a value to the front, and says how many there are.
 fn keep(items: &mut [(Address, u32)], lives: &[bool], count: usize) -> usize {
     let mut kept = 0;
     for place in 0..count {
@@ -143,7 +145,7 @@ fn keep(items: &mut [(Address, u32)], lives: &[bool], count: usize) -> usize {
     kept
 }
 
-// Puts an address with its value at this place.
+/// Puts an address with its value at this place.
 fn put_at(items: &mut [(Address, u32)], place: usize, address: Address, value: u32) {
     items[place] = (address, value);
 }

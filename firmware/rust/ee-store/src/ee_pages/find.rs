@@ -1,4 +1,6 @@
 // Made by firmware/rust/erase from crates/ee_pages/src/find.rt. Change that file.
+//! The scan: where the live set of a legal image is and how far it is used, or why an image isn't legal.
+
 use crate::ee_pages::side::{Side, committed, first_page, page_slot, set_word};
 use crate::ee_pages::state::{is_blank, is_written};
 use crate::ee_pages::table::is_allowed;
@@ -63,7 +65,7 @@ pub fn scan<F: Flash>(flash: &F) -> Result<Layout, ScanFault> {
     }
 }
 
-// Whether every word of the device is erased.
+/// Whether every word of the device is erased.
 fn is_unformatted<F: Flash>(flash: &F) -> bool {
     for page in 0..2 * flash.shape().pages() {
         if !is_blank(flash, page) {
@@ -73,7 +75,7 @@ fn is_unformatted<F: Flash>(flash: &F) -> bool {
     true
 }
 
-// The live set and its generation.
+/// The live set and its generation.
 fn live_set<F: Flash>(flash: &F) -> Result<(Side, u32), ScanFault> {
     match (
         committed(flash, Side::First),
@@ -94,8 +96,8 @@ fn live_set<F: Flash>(flash: &F) -> Result<(Side, u32), ScanFault> {
     }
 }
 
-// How many slots of a set stand before the first erased one. Page by page, since finding a slot by its
-// number takes a division.
+/// How many slots of a set stand before the first erased one. Page by page, since finding a slot by its
+/// number takes a division.
 fn count_front<F: Flash>(flash: &F, side: Side) -> usize {
     let shape = flash.shape();
     let slots = shape.words() - HEADER_WORDS;
@@ -108,7 +110,7 @@ fn count_front<F: Flash>(flash: &F, side: Side) -> usize {
     shape.slots()
 }
 
-// How many slots of a page of a set stand before the first erased one of them.
+/// How many slots of a page of a set stand before the first erased one of them.
 fn front_of_page<F: Flash>(flash: &F, side: Side, page: usize) -> usize {
     let slots = flash.shape().words() - HEADER_WORDS;
     for slot in 0..slots {
@@ -119,8 +121,8 @@ fn front_of_page<F: Flash>(flash: &F, side: Side, page: usize) -> usize {
     slots
 }
 
-// The first word of a live set, by page and then place, that may not stand there. The page is
-// counted from the set's first.
+/// The first word of a live set, by page and then place, that may not stand there. The page is
+/// counted from the set's first.
 fn first_foreign<F: Flash>(
     flash: &F,
     side: Side,
@@ -135,7 +137,7 @@ fn first_foreign<F: Flash>(
     None
 }
 
-// The first word of a page of a live set that may not stand there.
+/// The first word of a page of a live set that may not stand there.
 fn foreign_in_page<F: Flash>(
     flash: &F,
     side: Side,

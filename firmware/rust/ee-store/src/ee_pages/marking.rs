@@ -1,4 +1,6 @@
 // Made by firmware/rust/erase from crates/ee_pages/src/marking.rt. Change that file.
+//! A mark as a step: none where its word is written.
+
 use crate::ee_pages::state::{Mark, is_written};
 use crate::ee_codec::{MARK, receive_word};
 use crate::ee_flash::{Cut, Flash};

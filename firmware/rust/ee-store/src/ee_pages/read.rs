@@ -1,4 +1,6 @@
 // Made by firmware/rust/erase from crates/ee_pages/src/read.rt. Change that file.
+//! What the slots of a live set say: values, the next live address, how many are live, how many torn.
+
 use crate::ee_pages::batch::{LiveBatch, next_batch};
 use crate::ee_pages::find::Layout;
 use crate::ee_pages::side::{Side, first_page, page_slot, set_slot};
@@ -87,8 +89,8 @@ pub fn torn_slots<F: Flash>(flash: &F, layout: &Layout) -> usize {
     torn
 }
 
-// How many slots are torn up to the end of a page of a set, where this many are torn before it. Page
-// by page, since finding a slot by its number takes a division.
+/// How many slots are torn up to the end of a page of a set, where this many are torn before it. Page
+/// by page, since finding a slot by its number takes a division.
 fn torn_through<F: Flash>(flash: &F, side: Side, page: usize, before: usize) -> usize {
     let mut torn = before;
     for slot in 0..flash.shape().words() - HEADER_WORDS {
@@ -99,8 +101,8 @@ fn torn_through<F: Flash>(flash: &F, side: Side, page: usize, before: usize) -> 
     torn
 }
 
-// What the first `used` slots of a page of a set say of an address: the newest that says something
-// counts.
+/// What the first `used` slots of a page of a set say of an address: the newest that says something
+/// counts.
 fn said_in_page<F: Flash>(
     flash: &F,
     side: Side,
@@ -116,7 +118,7 @@ fn said_in_page<F: Flash>(
     None
 }
 
-// What a word says of an address: nothing, or that it has a value or none from here on.
+/// What a word says of an address: nothing, or that it has a value or none from here on.
 fn says(word: Word, address: Address) -> Option<Option<u32>> {
     // Asked first, since most words are of another address.
     if !ends_in(word, address) {
@@ -125,8 +127,8 @@ fn says(word: Word, address: Address) -> Option<Option<u32>> {
     said(word)
 }
 
-// What a word says of the address that it ends in. It stays out of the loop that asks for an
-// address, which runs over most words and is short without it.
+/// What a word says of the address that it ends in. It stays out of the loop that asks for an
+/// address, which runs over most words and is short without it.
 #[inline(never)]
 fn said(word: Word) -> Option<Option<u32>> {
     match read_slot(word) {

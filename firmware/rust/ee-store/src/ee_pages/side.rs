@@ -1,4 +1,6 @@
 // Made by firmware/rust/erase from crates/ee_pages/src/side.rt. Change that file.
+//! The two sets of a device, and the places of their pages, words and slots.
+
 use crate::ee_codec::{MarkRead, read_mark, read_receive};
 use crate::ee_flash::{Flash, HEADER_WORDS, Word};
 
@@ -33,23 +35,23 @@ pub fn first_page<F: Flash>(flash: &F, side: Side) -> usize {
     }
 }
 
-// The word at a place of a page of a set.
+/// The word at a place of a page of a set.
 pub(crate) fn set_word<F: Flash>(flash: &F, side: Side, page: usize, at: usize) -> Word {
     flash.word(first_page(flash, side) + page, at)
 }
 
-// The slot of this number of a page of a set, both counted from 0.
+/// The slot of this number of a page of a set, both counted from 0.
 pub(crate) fn page_slot<F: Flash>(flash: &F, side: Side, page: usize, slot: usize) -> Word {
     set_word(flash, side, page, HEADER_WORDS + slot)
 }
 
-// The slot of this number of a set, counted from 0.
+/// The slot of this number of a set, counted from 0.
 pub(crate) fn set_slot<F: Flash>(flash: &F, side: Side, slot: usize) -> Word {
     let slots = flash.shape().words() - HEADER_WORDS;
     page_slot(flash, side, slot / slots, slot % slots)
 }
 
-// The generation with which a set is committed.
+/// The generation with which a set is committed.
 pub(crate) fn committed<F: Flash>(flash: &F, side: Side) -> Option<u32> {
     match read_mark(set_word(flash, side, 0, 1)) {
         MarkRead::Present => read_receive(set_word(flash, side, 0, 0)),

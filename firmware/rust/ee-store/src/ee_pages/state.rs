@@ -1,4 +1,6 @@
 // Made by firmware/rust/erase from crates/ee_pages/src/state.rt. Change that file.
+//! What a page's header says: the last word of it that is written names the state.
+
 use crate::ee_flash::{Flash, Word};
 
 /// What a page's header says of it. A torn mark counts as present.
@@ -63,12 +65,12 @@ pub fn is_blank<F: Flash>(flash: &F, page: usize) -> bool {
     true
 }
 
-// Whether something was programmed into the word, whole or torn.
+/// Whether something was programmed into the word, whole or torn.
 pub(crate) fn is_written(word: Word) -> bool {
     !matches!(word, Word::Erased)
 }
 
-// Whether a program of the word, or an erase of its page, was cut.
+/// Whether a program of the word, or an erase of its page, was cut.
 pub(crate) fn is_torn(word: Word) -> bool {
     matches!(word, Word::Torn)
 }

@@ -1,24 +1,26 @@
 // Made by firmware/rust/erase from crates/ee_pages/src/table.rt. Change that file.
+//! Which word may stand in which place of a live set: what makes an image legal.
+
 use crate::ee_pages::state::is_written;
 use crate::ee_codec::{MarkRead, Slot, read_mark, read_slot, receive_word};
 use crate::ee_flash::{HEADER_WORDS, Shape, Word};
 
-// The places of a live set, by what may stand in them.
+/// The places of a live set, by what may stand in them.
 #[derive(Clone, Copy)]
 pub(crate) enum Place {
-    // The first page's receive and active words, which commit the set.
+    /// The first page's receive and active words, which commit the set.
     Committing,
-    // The receive word of a further page.
+    /// The receive word of a further page.
     Receiving,
-    // A further page's active word, and any page's valid word.
+    /// A further page's active word, and any page's valid word.
     Marking,
-    // Any page's erasing word.
+    /// Any page's erasing word.
     Erasing,
-    // Any word behind a header.
+    /// Any word behind a header.
     InSlot,
 }
 
-// The place of a word of a set.
+/// The place of a word of a set.
 fn place_of(page: usize, at: usize) -> Place {
     if at > 3 {
         Place::InSlot
@@ -35,7 +37,7 @@ fn place_of(page: usize, at: usize) -> Place {
     }
 }
 
-// Whether the word may stand in the place of a live set of this generation.
+/// Whether the word may stand in the place of a live set of this generation.
 fn fits(generation: u32, place: Place, word: Word) -> bool {
     match place {
         Place::Committing => true,
@@ -49,8 +51,8 @@ fn fits(generation: u32, place: Place, word: Word) -> bool {
     }
 }
 
-// Whether the word fits its place, and is erased if a slot before it is: `written` slots stand
-// before the first erased one.
+/// Whether the word fits its place, and is erased if a slot before it is: `written` slots stand
+/// before the first erased one.
 pub(crate) fn is_allowed(
     shape: Shape,
     generation: u32,

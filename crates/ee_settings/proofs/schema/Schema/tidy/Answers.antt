@@ -13,12 +13,7 @@ forgetting-init g c =
     tidying_begins c.args.self.now (g.V.Variables.device c.args.store.now) on
 
 pub overflow_add-forgotten : goal.overflow_add-forgotten
-overflow_add-forgotten g c =
-    let found = c.next_batch-batch.result.found.items in
-    let among : unnamed_among c.settings.result.now c.as_slice.result.now ≡ unnamed_among c.args.self.now c.next_batch-batch.result.found.items = rw (c.settings.ensures, c.as_slice.ensures.value) refl in
-    let few : c.forgetting.forgotten + c.in_ok-forgotten.field-0 < 65535 = few_so_far c.args.self.now (above_of c.forgetting.after) c.forgetting.forgotten _ _ found c.forgetting.invariant c.next_batch-batch.ensures.proper c.in_ok-forgotten.field-0
-    (c.in_ok-forgotten.ensures.count ∙ ap length among) c.next_batch-batch.ensures.live.next in
-    omega arith
+overflow_add-forgotten g c = search (rules, few_so_far)
 
 pub returns-in_err-forgotten : goal.returns-in_err-forgotten
 returns-in_err-forgotten g c =

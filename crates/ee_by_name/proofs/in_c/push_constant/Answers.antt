@@ -1,8 +1,0 @@
-use Rattle.std.proofs.Common.{append_assoc, rules}
-use Rattle.std.proofs.lemmas.Result.{on_ok_weaker}
-use Rattle.ee_by_name.specs.Header.{c_constant}
-use Rattle.ee_by_name.proofs.in_c.push_constant.Goals as goal
-
-pub returns : goal.returns
-unfolding c_constant
-returns g c = on_ok_weaker c.writeln.result (λ here. search (rules, append_assoc)) c.writeln.ensures.bytes

@@ -1,0 +1,157 @@
+//! The settings as constants of a program, in C or in Rust.
+ghost use Rattle.std.specs.Prelude.{◌≡◌, ◌++◌, IfOk, OnOk, string_bytes};
+ghost use Rattle.std.specs.List.{flat_map};
+ghost use Rattle.ee_by_name.specs.Header.{c_header, constant, constants, row, rust_header, rust_list};
+
+use crate::header::Language;
+use ee_settings::{Numbers, Setting};
+use std::alloc::{AllocError, Allocator};
+
+/// The header of these settings in C.
+pub(crate) fn c_header<A: Allocator + Copy>(
+    alloc: A,
+    settings: &[Setting<A>],
+) -> Result<String<A>, AllocError>
+    ensures { IfOk result (λ text. string_bytes text ≡ c_header settings.now) }
+{
+    let mut out = String::new(alloc);
+    out.push_str(
+        "/* Made by `ee header` from a file of settings. */\n\
+         #ifndef EE_SETTINGS_H\n\
+         #define EE_SETTINGS_H\n",
+    )?;
+    push_each_constant(alloc, &mut out, settings, Language::C)?;
+    out.push_str("\n#define EE_SETTINGS(SETTING)")?;
+    push_rows(alloc, &mut out, settings, Language::C)?;
+    out.push_str("\n\n#endif\n")?;
+    Ok(out)
+}
+
+/// The header of these settings in Rust.
+pub(crate) fn rust_header<A: Allocator + Copy>(
+    alloc: A,
+    settings: &[Setting<A>],
+) -> Result<String<A>, AllocError>
+    ensures { IfOk result (λ text. string_bytes text ≡ rust_header settings.now) }
+{
+    let mut out = String::new(alloc);
+    out.push_str("// Made by `ee header --rust` from a file of settings.\n")?;
+    push_each_constant(alloc, &mut out, settings, Language::Rust)?;
+    push_list(&mut out, settings.len() as u64)?;
+    push_rows(alloc, &mut out, settings, Language::Rust)?;
+    out.push_str("];\n")?;
+    Ok(out)
+}
+
+/// Writes the constants of each setting. After an error there may be a part of them.
+fn push_each_constant<A: Allocator + Copy>(
+    alloc: A,
+    out: &mut String<A>,
+    settings: &[Setting<A>],
+    language: Language,
+) -> Result<(), AllocError>
+    ensures { OnOk result (string_bytes out.new
+        ≡ string_bytes out.old ++ flat_map (constants language) settings.now) }
+{
+    for setting in settings {
+        push_constants(alloc, out, setting, language)?;
+    }
+    Ok(())
+}
+
+/// Writes the constants of a setting. After an error there may be a part of them.
+fn push_constants<A: Allocator + Copy>(
+    alloc: A,
+    out: &mut String<A>,
+    setting: &Setting<A>,
+    language: Language,
+) -> Result<(), AllocError>
+    ensures { OnOk result
+        (string_bytes out.new ≡ string_bytes out.old ++ constants language setting.now) }
+{
+    let capitals = setting.name().to_ascii_uppercase(alloc)?;
+    let name = capitals.as_str();
+    let numbers = setting.numbers();
+    let address = u32::from(numbers.address.get());
+    out.push_str("\n")?;
+    push_constant(out, name, "ADDRESS", "u16", address, language)?;
+    push_constant(out, name, "LEAST", "u32", numbers.min, language)?;
+    push_constant(out, name, "MOST", "u32", numbers.max, language)?;
+    push_constant(out, name, "DEFAULT", "u32", numbers.default, language)?;
+    Ok(())
+}
+
+/// Writes a constant; `class` is its type in Rust. After an error there may be a part of it.
+fn push_constant<A: Allocator>(
+    out: &mut String<A>,
+    name: &str,
+    kind: &str,
+    class: &str,
+    number: u32,
+    language: Language,
+) -> Result<(), AllocError>
+    ensures { OnOk result (string_bytes out.new
+        ≡ string_bytes out.old ++ constant language name.now kind.now class.now number) }
+{
+    match language {
+        Language::C => writeln!(out, "#define EE_{name}_{kind} {number}u"),
+        Language::Rust => writeln!(out, "pub const {name}_{kind}: {class} = {number};"),
+    }
+}
+
+/// Writes how a list of so many rows begins in Rust. After an error there may be a part of it.
+fn push_list<A: Allocator>(out: &mut String<A>, count: u64) -> Result<(), AllocError>
+    ensures { OnOk result (string_bytes out.new ≡ string_bytes out.old ++ rust_list count) }
+{
+    out.push_str("\n// Name, address, least, most, default.\n")?;
+    writeln!(
+        out,
+        "pub const SETTINGS: [(&str, u16, u32, u32, u32); {count}] = ["
+    )
+}
+
+/// Writes the rows of the list. After an error there may be a part of them.
+fn push_rows<A: Allocator + Copy>(
+    alloc: A,
+    out: &mut String<A>,
+    settings: &[Setting<A>],
+    language: Language,
+) -> Result<(), AllocError>
+    ensures { OnOk result
+        (string_bytes out.new ≡ string_bytes out.old ++ flat_map (row language) settings.now) }
+{
+    for setting in settings {
+        push_row(alloc, out, setting, language)?;
+    }
+    Ok(())
+}
+
+/// Writes a row of the list. After an error there may be a part of it.
+fn push_row<A: Allocator + Copy>(
+    alloc: A,
+    out: &mut String<A>,
+    setting: &Setting<A>,
+    language: Language,
+) -> Result<(), AllocError>
+    ensures { OnOk result
+        (string_bytes out.new ≡ string_bytes out.old ++ row language setting.now) }
+{
+    let capitals = setting.name().to_ascii_uppercase(alloc)?;
+    let name = capitals.as_str();
+    let Numbers {
+        address,
+        min,
+        max,
+        default,
+    } = setting.numbers();
+    let address = address.get();
+    match language {
+        Language::C => {
+            write!(
+                out,
+                " \\\n    SETTING({name}, {address}u, {min}u, {max}u, {default}u)"
+            )
+        }
+        Language::Rust => { writeln!(out, "    (\"{name}\", {address}, {min}, {max}, {default}),") }
+    }
+}

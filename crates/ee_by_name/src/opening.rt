@@ -1,0 +1,100 @@
+//! What the commands open: the store of an image, and the settings that a text spells.
+ghost use Rattle.std.specs.Prelude.{◌≡◌, ◌⊎◌, IfOk, IfErr};
+ghost use Rattle.toml.specs.View.{table_view};
+ghost use Rattle.ee_image_store.specs.Opening.{HasStore, IsOpened};
+ghost use Rattle.ee_by_name.specs.Applying.{HasSettings};
+ghost use Rattle.ee_by_name.specs.SecondSchema.{IsStaleTextFault};
+ghost use Rattle.ee_by_name.specs.Settings.{HasNoTree, HasTree, IsSettingsFault, SpellsSettings, fault_of_schema};
+ghost use Rattle.ee_faults.specs.Causes.{NamesEach};
+
+use ee_core::Store;
+use ee_faults::Fault;
+use ee_flash::MemFlash;
+use ee_image_store::open_image;
+use ee_settings::{Schema, SchemaFault};
+use std::alloc::{Allocator, Global};
+use toml::Table;
+
+/// The store of an image, and the settings by whose names a command works on it.
+#[derive(Drop)]
+pub(crate) struct Opened<A: Allocator + Copy> {
+    pub(crate) store: Store<MemFlash<A>>,
+    pub(crate) schema: Schema<A>,
+}
+
+/// The store of the image that a text spells, and the settings that another one spells. What can't be
+/// opened is told of the image first.
+pub(crate) fn open_with_settings<A: Allocator + Copy>(
+    alloc: A,
+    heap: Global,
+    image: &[u8],
+    settings: &[u8],
+) -> Result<Opened<A>, Fault>
+    ensures opened { IfOk result (λ opened. IsOpened image.now opened.store) }
+    ensures spelled { IfOk result (λ opened. SpellsSettings settings.now opened.schema) }
+    ensures fault { IfErr result (IsStaleTextFault image.now settings.now) }
+    ensures names { NamesEach Fault.Memory (IsStaleTextFault image.now settings.now) result }
+    ensures only { HasStore image.now → HasSettings settings.now
+        → IfErr result (λ fault. fault ≡ Fault.Memory) }
+{
+    let store = open_image(alloc, image)?;
+    let schema = read_schema(alloc, heap, settings)?;
+    Ok(Opened { store, schema })
+}
+
+/// The settings that a text spells. `heap` is for the tree of that text alone: `toml` takes no other
+/// allocator.
+///
+/// Source: ours.
+///
+/// # Errors
+///
+/// The text is no TOML, or no schema. `Memory` can come in place of any answer.
+pub(crate) fn read_schema<A: Allocator + Copy>(
+    alloc: A,
+    heap: Global,
+    text: &[u8],
+) -> Result<Schema<A>, Fault>
+    ensures spelled { IfOk result (SpellsSettings text.now) }
+    ensures fault { IfErr result (IsSettingsFault text.now) }
+    ensures names { NamesEach Fault.Memory (IsSettingsFault text.now) result }
+    ensures only { HasSettings text.now → IfErr result (λ fault. fault ≡ Fault.Memory) }
+{
+    let table = read_table(heap, text, Fault::SettingsText)?;
+    // The names of a table rise, so it has one first fault.
+    let _entries = table.iter();
+    match Schema::from_table(alloc, &table) {
+        Ok(schema) => Ok(schema),
+        Err(fault) => Err(fault_of(fault)),
+    }
+}
+
+/// The tree of a text; `bad` is the fault of a text that is no TOML.
+pub(crate) fn read_table(heap: Global, text: &[u8], bad: Fault) -> Result<Table, Fault>
+    ensures read { IfOk result (λ table. HasTree text.now (table_view table)) }
+    ensures fault { IfErr result (λ fault.
+        ((fault ≡ bad) × HasNoTree text.now) ⊎ (fault ≡ Fault.Memory)) }
+{
+    match toml::table_from_slice(heap, text) {
+        Ok(table) => Ok(table),
+        Err(error) => {
+            if error.is_memory() {
+                return Err(Fault::Memory);
+            }
+            Err(bad)
+        }
+    }
+}
+
+/// The fault of a table that is no schema.
+fn fault_of(fault: SchemaFault) -> Fault
+    ensures { result ≡ fault_of_schema fault }
+{
+    match fault {
+        SchemaFault::BadName(entry) => Fault::BadName(entry),
+        SchemaFault::BadField(entry) => Fault::BadField(entry),
+        SchemaFault::BadRange(entry) => Fault::BadRange(entry),
+        SchemaFault::SameAddress(entry) => Fault::SameAddress(entry),
+        SchemaFault::Memory => Fault::Memory,
+    }
+}

@@ -1,0 +1,27 @@
+use Rattle.std.proofs.Common.{◌≡◌, ◌⊎◌, rules}
+use Rattle.ee_text.proofs.Public.{error_passed_on, passed_on}
+use Rattle.ee_planner.specs.declared.planned.PlanFault.TheVariants.{NotFitting, Memory}
+use Rattle.ee_planner.proofs.Whole.{whole_certificate, whole_reached, whole_best, whole_breaks_nowhere, memory_alone, first_named}
+use Rattle.ee_planner.proofs.planning.plan.Goals as goal
+
+pub returns-in_err-store-clause-fits : goal.returns-in_err-store-clause-fits
+returns-in_err-store-clause-fits g c = search (rules, passed_on, memory_alone)
+
+pub returns-in_err-store-clause-names : goal.returns-in_err-store-clause-names
+returns-in_err-store-clause-names g c = λ n first.
+    error_passed_on c.from_residual.result c.in_err-store.field-0.0 (λ plan. ⊥) (λ fault. (fault ≡ NotFitting n) ⊎ (fault ≡ Memory)) c.from_residual.ensures.1
+    (first_named c.args.start.now c.args.trace.now c.in_err-store.field-0.0 n c.in_err-store.ensures.err first)
+
+pub returns-clause-certificate : goal.returns-clause-certificate
+returns-clause-certificate g c =
+    whole_certificate c.args.start.now c.args.trace.now c.in_ok-store.store _ c.in_ok-store.ensures.ok (search rules)
+    record { slots = search rules; fill = search rules; live = search rules; writes = search rules }
+
+pub returns-clause-reached : goal.returns-clause-reached
+returns-clause-reached g c = search (rules, whole_reached)
+
+pub returns-clause-best : goal.returns-clause-best
+returns-clause-best g c = search (rules, whole_best)
+
+pub returns-clause-names : goal.returns-clause-names
+returns-clause-names g c = λ n first. whole_breaks_nowhere c.args.start.now c.args.trace.now c.in_ok-store.store n c.in_ok-store.ensures.ok first

@@ -1,0 +1,4 @@
+pub mod Plan
+pub mod LateStore
+pub mod Rounds
+pub mod Places
