@@ -1,4 +1,4 @@
-//! A store at the bench: each event is a call of it, and what a cut left is looked up in the image.
+//! A store at the bench: each event is one call, and after a cut in a change the image is looked at.
 ghost use Rattle.std.specs.Prelude.{◌≡◌, IfErr, IfOk};
 ghost use Rattle.ee_pages.specs.Legal.{IsLegal};
 ghost use Rattle.ee_core.specs.Points.{Point, open_point};
@@ -24,7 +24,7 @@ struct Note {
 }
 
 impl Note {
-    /// With nothing to look for.
+    /// A note with nothing to look for.
     fn of(answer: Answer) -> Note
         ensures { result ≡ record { answer = answer; found = None } }
     {
@@ -34,7 +34,7 @@ impl Note {
         }
     }
 
-    /// With what the image was found to have.
+    /// A note with what the image was found to have.
     fn looked(answer: Answer, found: bool) -> Note
         ensures { result ≡ record { answer = answer; found = Some found } }
     {
@@ -53,7 +53,7 @@ enum Bench<F: Flash + Drop> {
 }
 
 impl<F: Flash + Drop> Bench<F> {
-    /// With this store, which a cut closes.
+    /// A bench with this store, which a cut closes.
     fn of(store: Store<F>) -> Bench<F>
         ensures point { point_of_bench F.device result ≡ open_point store }
         ensures store { IsStore store }

@@ -37,7 +37,7 @@ pub(crate) fn rust_header<A: Allocator + Copy>(
     let mut out = String::new(alloc);
     out.push_str("// Made by `ee header --rust` from a file of settings.\n")?;
     push_each_constant(alloc, &mut out, settings, Language::Rust)?;
-    push_list(&mut out, settings.len() as u64)?;
+    push_rust_list_head(&mut out, settings.len() as u64)?;
     push_rows(alloc, &mut out, settings, Language::Rust)?;
     out.push_str("];\n")?;
     Ok(out)
@@ -81,26 +81,26 @@ fn push_constants<A: Allocator + Copy>(
     Ok(())
 }
 
-/// Writes a constant; `class` is its type in Rust. After an error there may be a part of it.
+/// Writes a constant; `rust_type` is its type in Rust. After an error there may be a part of it.
 fn push_constant<A: Allocator>(
     out: &mut String<A>,
     name: &str,
     kind: &str,
-    class: &str,
+    rust_type: &str,
     number: u32,
     language: Language,
 ) -> Result<(), AllocError>
     ensures { OnOk result (string_bytes out.new
-        ≡ string_bytes out.old ++ constant language name.now kind.now class.now number) }
+        ≡ string_bytes out.old ++ constant language name.now kind.now rust_type.now number) }
 {
     match language {
         Language::C => writeln!(out, "#define EE_{name}_{kind} {number}u"),
-        Language::Rust => writeln!(out, "pub const {name}_{kind}: {class} = {number};"),
+        Language::Rust => writeln!(out, "pub const {name}_{kind}: {rust_type} = {number};"),
     }
 }
 
 /// Writes how a list of so many rows begins in Rust. After an error there may be a part of it.
-fn push_list<A: Allocator>(out: &mut String<A>, count: u64) -> Result<(), AllocError>
+fn push_rust_list_head<A: Allocator>(out: &mut String<A>, count: u64) -> Result<(), AllocError>
     ensures { OnOk result (string_bytes out.new ≡ string_bytes out.old ++ rust_list count) }
 {
     out.push_str("\n// Name, address, least, most, default.\n")?;

@@ -17,19 +17,28 @@ use toml::Table;
 
 /// The store of an image, and the settings by whose names a command works on it.
 #[derive(Drop)]
-pub(crate) struct Opened<A: Allocator + Copy> {
+pub(crate) struct StoreAndSchema<A: Allocator + Copy> {
+    /// The store of the image.
     pub(crate) store: Store<MemFlash<A>>,
+    /// The settings.
     pub(crate) schema: Schema<A>,
 }
 
-/// The store of the image that a text spells, and the settings that another one spells. What can't be
-/// opened is told of the image first.
+/// The store of the image that a text spells, and the settings that another one spells. `heap` is for the tree of
+/// that text alone: `toml` takes no other allocator.
+///
+/// Source: ours.
+///
+/// # Errors
+///
+/// The first that applies: the image is no device's, or not legal; the text of the settings is no TOML, or no
+/// schema. `Memory` can come in place of any answer.
 pub(crate) fn open_with_settings<A: Allocator + Copy>(
     alloc: A,
     heap: Global,
     image: &[u8],
     settings: &[u8],
-) -> Result<Opened<A>, Fault>
+) -> Result<StoreAndSchema<A>, Fault>
     ensures opened { IfOk result (λ opened. IsOpened image.now opened.store) }
     ensures spelled { IfOk result (λ opened. SpellsSettings settings.now opened.schema) }
     ensures fault { IfErr result (IsStaleTextFault image.now settings.now) }
@@ -39,7 +48,7 @@ pub(crate) fn open_with_settings<A: Allocator + Copy>(
 {
     let store = open_image(alloc, image)?;
     let schema = read_schema(alloc, heap, settings)?;
-    Ok(Opened { store, schema })
+    Ok(StoreAndSchema { store, schema })
 }
 
 /// The settings that a text spells. `heap` is for the tree of that text alone: `toml` takes no other

@@ -52,13 +52,10 @@ pub fn clean_image<A: Allocator + Copy>(alloc: A, image: &[u8]) -> Result<ImageA
 {
     let mut store = open_image(alloc, image)?;
     let erased = clean_all(&mut store);
-    let cleaned = text_left(alloc, store)?;
+    let image = text_left(alloc, store)?;
     let mut text = Vec::new(alloc);
     push_cleaned(&mut text, erased)?;
-    Ok(ImageAndText {
-        image: cleaned,
-        text,
-    })
+    Ok(ImageAndText { image, text })
 }
 
 /// The state of each page of the image that a text spells, a line for each page by rising page: `page

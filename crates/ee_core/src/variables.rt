@@ -1,4 +1,4 @@
-//! What a store is to its users: the calls of it, what they answer, and why they refuse.
+//! What a store is to its users: its calls, what they answer, and why they refuse.
 ghost use Rattle.std.specs.Prelude.{◌≡◌, IfSome};
 ghost use Rattle.std.specs.List.{All};
 ghost use Rattle.ee_codec.specs.Words.{IsAddress};

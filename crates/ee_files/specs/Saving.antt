@@ -6,10 +6,10 @@ use Rattle.ee_faults.specs.declared.fault.Fault.TheVariants.{CannotWriteDump, Ca
 use Rattle.ee_files.specs.declared.saving.SaveFault.{SaveFault}
 use Rattle.ee_files.specs.declared.saving.SaveFault.TheVariants as save
 
--- of an error of the system: want of memory is told apart
-abbrev pub fault_of_kind : ErrorKind → SaveFault
-fault_of_kind OutOfMemory = save.Memory
-fault_of_kind kind = save.Failed
+-- what an error of the system is to a saving: want of memory is told apart
+abbrev pub save_fault_of_kind : ErrorKind → SaveFault
+save_fault_of_kind OutOfMemory = save.Memory
+save_fault_of_kind kind = save.Failed
 
 -- of an image
 abbrev pub fault_of_save : SaveFault → Fault

@@ -51,9 +51,9 @@ impl From<AllocError> for SaveFault {
 impl From<io::Error> for SaveFault {
     ghost use Rattle.std.specs.Prelude.{◌≡◌};
     ghost use Rattle.std.specs.IoError.{error_kind};
-    ghost use Rattle.ee_files.specs.Saving.{fault_of_kind};
+    ghost use Rattle.ee_files.specs.Saving.{save_fault_of_kind};
 
-    ghost from_gives = { λ error fault. fault ≡ fault_of_kind (error_kind error) };
+    ghost from_gives = { λ error fault. fault ≡ save_fault_of_kind (error_kind error) };
 
     fn from(error: io::Error) -> SaveFault {
         if error.kind() == ErrorKind::OutOfMemory {

@@ -256,7 +256,7 @@ impl<A: Allocator> Flash for MemFlash<A> {
         self.cells[self.page_start(page) + at]
     }
 
-    /// As of any device, and besides exactly what the fuse says.
+    /// Programs an erased word, as any device does; what a cut leaves is what the fuse says.
     fn program(&mut self, page: usize, at: usize, value: u64) -> Result<(), Cut>
         requires page_in_range { page < page_count (device_of self.old).size }
         requires place_in_range { at < (device_of self.old).size.words }
@@ -281,7 +281,7 @@ impl<A: Allocator> Flash for MemFlash<A> {
         }
     }
 
-    /// As of any device, and besides exactly what the fuse says.
+    /// Erases a page, as any device does; what a cut leaves is what the fuse says.
     fn erase(&mut self, page: usize) -> Result<(), Cut>
         requires { page < page_count (device_of self.old).size }
         ensures on { OnOk result (IsOn (device_of self.old)) }
@@ -318,7 +318,7 @@ impl<A: Allocator> Flash for MemFlash<A> {
         }
     }
 
-    /// As of any device, and the fuse stays.
+    /// Turns power on. The fuse stays.
     fn power_on(&mut self)
         ensures { memory_of self.new
             ≡ with_device (record (device_of self.old) { on = true }) (memory_of self.old) }

@@ -1,4 +1,4 @@
-//! The store with an index: a read is one look in it and one word of the flash.
+//! The store with an index: a read is one look in the index and one word of the flash.
 ghost use Rattle.std.specs.Bool.{MatchBool};
 ghost use Rattle.std.specs.Prelude.{◌≡◌, ◌≢◌, ◌<◌, ◌-◌, IfErr, IfOk, IfSome, MatchOption, OnErr, OnOk, length};
 ghost use Rattle.ee_codec.specs.Words.{IsAddress};

@@ -54,9 +54,9 @@ pub(crate) struct DraftFlash<'w, 'l, K: Lent> {
     listed: &'l mut [ListedStep],
     /// How many steps of the list are listed.
     count: usize,
-    /// How often each page was erased, by a step that found no place in the list too.
+    /// How often each page was erased, also by steps that found no place in the list.
     wear: ArrayVec<u64, GREATEST_PAGES>,
-    /// How many steps found none.
+    /// How many steps found no place in the list.
     cuts: u64,
     on: bool,
     lent: PhantomData<K>,

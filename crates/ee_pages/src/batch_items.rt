@@ -18,7 +18,7 @@ pub const BATCH: usize = 16;
 #[derive(Drop)]
 pub struct Batch {
     items: [(Address, u32); BATCH],
-    /// Which of them have a value.
+    /// Which of the items have a value.
     lives: [bool; BATCH],
     len: usize,
 }
@@ -120,7 +120,7 @@ impl Batch {
         place < self.len && self.items[place].0.get() == address.get()
     }
 
-    /// Says this of the address at this place.
+    /// Notes of the address at this place what is said of it.
     pub(crate) fn set(&mut self, place: usize, address: Address, said: Option<u32>)
         requires within { place < length self.old.named }
         requires room { place < BATCH }

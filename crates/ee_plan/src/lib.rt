@@ -1,8 +1,10 @@
-//! The door to plans: the planner of `ee_planner`, what a store gives a trace to start from, and what holds
+//! Plans on a device: the calls of the planner, `ee_planner`, what a store gives a trace to start from, and what holds
 //! of every schedule on a device.
 //!
-//! Certificates and plans stand on no flash; here is what they have to do with one. `start_of` gives a store's
-//! slots, how many are used, and the live addresses; `laws` say how often a page is erased.
+//! Certificates and plans stand on no flash; here is what they have to do with one.
+//!
+//! What the layers above may use: the calls and types of `ee_planner`, whose definitions and lemmas they cite from
+//! there; a start is the store's; and `laws` says how often any schedule erases.
 //!
 //! # What is proved
 //!

@@ -12,7 +12,7 @@ use std::alloc::{AllocError, Allocator};
 pub(crate) struct Counts<A: Allocator> {
     pub(crate) first: Vec<u64, A>,
     pub(crate) later: Vec<u64, A>,
-    /// For how many changes more of a later round as many addresses are live.
+    /// Of each change of a later round: for how many changes more the count stays the same.
     flats: Vec<usize, A>,
     /// The greatest of all counts.
     most: u64,

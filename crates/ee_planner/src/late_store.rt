@@ -16,7 +16,7 @@ pub(crate) struct LateStore<A: Allocator> {
     /// How many slots are used.
     fill: u64,
     live: LiveSet<A>,
-    /// How many were used where the stretch that goes on began.
+    /// How many slots were used where the stretch that goes on began.
     from: u64,
     /// The stretches that have ended.
     stretches: Vec<Stretch, A>,

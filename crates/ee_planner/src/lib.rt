@@ -6,8 +6,8 @@
 //!
 //! The layer above calls `plan`. Its contract has the whole promise: the certificate is tight, some
 //! schedule reaches it, and wherever the trace is broken off, the moments so far are those of the tight
-//! certificate, which no schedule betters. `ee_plan` passes all of it on, with what a store gives a trace to
-//! start from.
+//! certificate, which no schedule betters. `ee_plan` gives these calls too, with what a store gives a trace
+//! to start from.
 //!
 //! `Rounds` answers the same of a trace that is made many times over, on a set that starts empty: the
 //! length of its tight certificate, for any number of slots, without writing the trace out.

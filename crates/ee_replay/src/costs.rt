@@ -1,30 +1,30 @@
 //! When an index pays: what looking for values has cost a store without one, beside what an index would cost.
 //!
 //! All is counted in looks at a slot for a value, each some ten instructions. The figures of an index were taken by
-//! callgrind, once.
+//! callgrind.
 
-/// What a used slot costs in a look for the next sixteen live addresses,
+/// What a used slot costs in a look for the next sixteen live addresses.
 const USED_LOOK: u64 = 2;
 
-/// and a free one.
+/// What a free slot costs in such a look.
 const FREE_LOOK: u64 = 1;
 
 /// How many live addresses a look finds.
 const FOUND: u64 = 16;
 
-/// What an index costs for each used slot when it is made and given back,
+/// What an index costs for each used slot when it is made and given back.
 const ENTERING: u64 = 60;
 
-/// beside what each index costs, as much as so many slots,
+/// What each index costs besides when it is made and given back, as much as so many slots.
 const FIXED_SLOTS: u64 = 16;
 
-/// with each change,
+/// What an index costs with each change.
 const KEEPING: u64 = 20;
 
-/// for each live address when they are moved,
+/// What an index costs for each live address when they are moved.
 const MOVING: u64 = 5;
 
-/// and with each read, as often as the addresses in it can be halved.
+/// What an index costs with each read, as often as the addresses in it can be halved.
 const READING: u64 = 3;
 
 /// An index is made when looking has cost so many times what it may cost, so that it takes no more than a tenth of what
@@ -37,13 +37,15 @@ pub(crate) struct Costs {
     has_index: bool,
     /// How much more looking has cost than an index would have; where there is one, how much it may lose yet.
     ahead: u64,
-    /// How much that may come to.
+    /// The most that `ahead` comes to.
     most: u64,
     /// How often an index lost its reserve.
     losses: u32,
-    /// How many reads go by before one is measured, and how many went by for it.
+    /// How many reads go by before one is measured.
     left: u32,
+    /// How many reads the measured one stands for.
     apart: u32,
+    /// What the next distance is taken from.
     dice: u32,
 }
 

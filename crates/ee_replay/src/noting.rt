@@ -14,7 +14,7 @@ use std::marker::Model;
 /// each move, and none for anything else.
 #[derive(Drop)]
 pub(crate) struct Notes<A: Allocator = Global> {
-    /// How many they are.
+    /// How many changes were accepted.
     changes: u64,
     /// How many slots were used where the stretch that goes on began.
     from: u64,

@@ -1,4 +1,4 @@
-//! Scripts on images.
+//! The calls that answer a script on an image: a store is opened, serves the script, and is left as a text.
 ghost use Rattle.std.specs.Prelude.{◌≡◌, ◌⊎◌, ℕ, List, IfOk, IfErr, MatchResult, Some};
 ghost use Rattle.ee_flash.specs.Device.{Device};
 ghost use Rattle.ee_flash.specs.Size.{slot_count};
@@ -208,10 +208,10 @@ fn run_reader<A: Allocator + Copy, S: Opened<MemFlash<A>, A>, R: Read>(
 
 /// The image and the report that a script leaves: `start` is what its trace began from, `lines` are those of
 /// its answers.
-fn left_by<A: Allocator + Copy, S: Opened<MemFlash<A>, A>, B: Allocator>(
+fn left_by<A: Allocator + Copy, S: Opened<MemFlash<A>, A>>(
     alloc: A,
     server: Server<S, A>,
-    start: &Start<B>,
+    start: &Start<A>,
     lines: Vec<u8, A>,
 ) -> Result<Replayed<A>, AllocError>
     ensures { IfOk result (λ replayed. (old : Device) (script : List ℕ)

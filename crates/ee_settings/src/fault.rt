@@ -1,4 +1,4 @@
-//! Why a table is no schema, and why settings aren't read, set, listed or tidied.
+//! Why a table is no schema, and why settings aren't read, set, told as stale, listed or tidied.
 use ee_core::WriteFault;
 
 /// Why a table is no schema: the first entry with a fault, by rising name in the order of bytes,

@@ -1,4 +1,4 @@
-//! Settings in their order, with a set of their addresses, so that one is found without a look at each.
+//! Settings in their order, with a set of their addresses, which tells whether an address is taken.
 ghost use Rattle.std.specs.Prelude.{◌≡◌, [], ◌∷◌, ◌++◌, IfOk, length};
 ghost use Rattle.ee_settings.specs.Setting.{has_address};
 

@@ -21,7 +21,7 @@ pub fn next_field(rest: &[u8]) -> (&[u8], Option<&[u8]>)
 /// Gives the fields of a line, from the first on.
 #[derive(Drop)]
 pub struct Fields<'a> {
-    /// None once the last field is given.
+    /// What isn't given yet; none once the last field is.
     rest: Option<&'a [u8]>,
 }
 

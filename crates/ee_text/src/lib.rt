@@ -6,8 +6,8 @@
 //! so, and what is spelled so is read. Nothing here allocates but `push_number` and `push_number_behind`.
 //!
 //! The layers above read with `next_line`, `Fields` or `next_field`, `number` and `leading_number`. They write with
-//! `push_number`, `push_number_behind` and std's `extend_from_slice`. Their proofs may use the lemmas of `proofs/`:
-//! `Joining`, `LineFeeds`, `NumberText`, `Parting` and `Lacking`. The module `laws` says what they come to.
+//! `push_number`, `push_number_behind` and std's `extend_from_slice`. Their proofs may use the lemmas that
+//! `proofs/Public.antt` passes on. The module `laws` says what they come to.
 //!
 //! # What is proved
 //!

@@ -18,7 +18,7 @@ use std::marker::Model;
 /// Source: ours.
 #[derive(Drop)]
 pub struct Ledger<A: Allocator = Global> {
-    /// By rising page.
+    /// How often each page was erased, by rising page.
     counts: Vec<u64, A>,
 }
 
