@@ -5,18 +5,17 @@ use Rattle.ee_faults.specs.declared.fault.Fault.TheVariants.{Memory}
 use Rattle.ee_image_store.specs.FileFaults.{IsOpeningFault}
 use Rattle.ee_image_store.specs.Opening.{HasStore}
 use Rattle.ee_by_name.specs.Applying.{HasSettings}
-use Rattle.ee_by_name.specs.SecondSchema.{IsStaleTextFault}
-use Rattle.ee_by_name.specs.Settings.{IsSettingsFault}
+use Rattle.ee_by_name.specs.Settings.{IsOpenWithSettingsFault, IsSettingsFault}
 
 -- what was told of the opening is told by the command
-pub told_first : {Own : Type 0} (image text : List ℕ) (fault : Fault) → IsStaleTextFault image text fault
+pub told_first : {Own : Type 0} (image text : List ℕ) (fault : Fault) → IsOpenWithSettingsFault image text fault
     → IsOpeningFault image fault ⊎ (HasStore image × IsSettingsFault text fault) ⊎ Own
 told_first image text fault (inl h) = inl h
 told_first image text fault (inr h) = inr (inl h)
 
 -- and is the cause: the command's own take a store and settings
 pub named_first : {Own : Type 0} (image text : List ℕ) (fault cause : Fault)
-    → ((other : Fault) → other ≢ Memory → IsStaleTextFault image text other → (fault ≡ other) ⊎ (fault ≡ Memory))
+    → ((other : Fault) → other ≢ Memory → IsOpenWithSettingsFault image text other → (fault ≡ other) ⊎ (fault ≡ Memory))
     → (HasStore image → HasSettings text → fault ≡ Memory) → cause ≢ Memory
     → IsOpeningFault image cause ⊎ (HasStore image × IsSettingsFault text cause) ⊎ Own → (Own → HasStore image × HasSettings text)
     → (fault ≡ cause) ⊎ (fault ≡ Memory)
@@ -25,7 +24,7 @@ named_first image text fault cause names only some (inr (inl h)) takes = names c
 named_first image text fault cause names only some (inr (inr h)) takes = inr (only (takes h).0 (takes h).1)
 
 -- where both were opened only these are left
-pub own_left : {Own Answer : Type 0} (image text : List ℕ) (cause : Fault) → ((other : Fault) → other ≢ Memory → IsStaleTextFault image text other → ⊥)
+pub own_left : {Own Answer : Type 0} (image text : List ℕ) (cause : Fault) → ((other : Fault) → other ≢ Memory → IsOpenWithSettingsFault image text other → ⊥)
     → cause ≢ Memory → IsOpeningFault image cause ⊎ (HasStore image × IsSettingsFault text cause) ⊎ Own → (Own → Answer) → Answer
 own_left image text cause good some (inl h) own = absurd (good cause some (inl h))
 own_left image text cause good some (inr (inl h)) own = absurd (good cause some (inr h))

@@ -3,9 +3,9 @@ use Rattle.std.proofs.Common.{◌≡◌, ◌<◌, ◌+◌, ℕ, List, [], ◌++�
 use Rattle.std.proofs.lemmas.List.{flat_map_more, take_more}
 use Rattle.std.specs.List.{flat_map}
 use Rattle.ee_settings.specs.Setting.{Setting}
-use Rattle.ee_by_name.specs.Header.{constant, constants, in_capitals}
-use Rattle.ee_by_name.specs.declared.header.Language.{Language}
-use Rattle.ee_by_name.specs.declared.header.Language.TheVariants.{C, Rust}
+use Rattle.ee_by_name.specs.Header.{constant_in, constants_in, in_capitals}
+use Rattle.ee_by_name.specs.declared.language.Language.{Language}
+use Rattle.ee_by_name.specs.declared.language.Language.TheVariants.{C, Rust}
 
 -- what is written of one more setting
 pub one_more : (of : Setting → List ℕ) (settings : List Setting) (i : ℕ) (setting : Setting) (old so_far now : List ℕ) → setting ≡ get_or settings i setting → i < length settings → so_far ≡ old ++ flat_map of (take i settings)
@@ -18,8 +18,8 @@ five_pieces a b c d e none first second third fourth fifth h0 h1 h2 h3 h4 h5 = r
 
 -- the constants of a setting
 pub constants_made : (language : Language) (setting : Setting) (name old line first second third last : List ℕ) → name ≡ in_capitals setting.name → line ≡ old ++ codes "\n"
-    → first ≡ line ++ constant language name (codes "ADDRESS") (codes "u16") setting.numbers.address → second ≡ first ++ constant language name (codes "LEAST") (codes "u32") setting.numbers.min
-    → third ≡ second ++ constant language name (codes "MOST") (codes "u32") setting.numbers.max → last ≡ third ++ constant language name (codes "DEFAULT") (codes "u32") setting.numbers.default
-    → last ≡ old ++ constants language setting
+    → first ≡ line ++ constant_in language name (codes "ADDRESS") (codes "u16") setting.numbers.address → second ≡ first ++ constant_in language name (codes "LEAST") (codes "u32") setting.numbers.min
+    → third ≡ second ++ constant_in language name (codes "MOST") (codes "u32") setting.numbers.max → last ≡ third ++ constant_in language name (codes "DEFAULT") (codes "u32") setting.numbers.default
+    → last ≡ old ++ constants_in language setting
 constants_made C setting name old line first second third last capitals h1 h2 h3 h4 h5 = rw (h5, h4, h3, h2, h1, capitals) (search (rules, append_assoc))
 constants_made Rust setting name old line first second third last capitals h1 h2 h3 h4 h5 = rw (h5, h4, h3, h2, h1, capitals) (search (rules, append_assoc))

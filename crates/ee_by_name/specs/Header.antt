@@ -4,8 +4,8 @@ use Rattle.std.specs.Char.{to_ascii_uppercase}
 use Rattle.std.specs.List.{flat_map}
 use Rattle.ee_by_name.specs.Settings.{SpellsSettings}
 use Rattle.ee_settings.specs.Setting.{Setting}
-use Rattle.ee_by_name.specs.declared.header.Language.{Language}
-use Rattle.ee_by_name.specs.declared.header.Language.TheVariants.{C, Rust}
+use Rattle.ee_by_name.specs.declared.language.Language.{Language}
+use Rattle.ee_by_name.specs.declared.language.Language.TheVariants.{C, Rust}
 
 -- a name with `A` to `Z` for `a` to `z`
 abbrev pub in_capitals : List ℕ → List ℕ
@@ -115,14 +115,17 @@ pub record IsHeader (settings_text : List ℕ) (language : Language) (text : Lis
 
 -- ---- for the functions within
 
-abbrev pub constant : Language → List ℕ → List ℕ → List ℕ → ℕ → List ℕ
-constant C name kind type number = c_constant name kind number
-constant Rust name kind type number = rust_constant name kind type number
+-- a constant of the setting that has this name: its kind, its type where the language has one, and its number
+abbrev pub constant_in : Language → List ℕ → List ℕ → List ℕ → ℕ → List ℕ
+constant_in C name kind type number = c_constant name kind number
+constant_in Rust name kind type number = rust_constant name kind type number
 
-abbrev pub constants : Language → Setting → List ℕ
-constants C = c_constants
-constants Rust = rust_constants
+-- the constants of a setting, behind an empty line
+abbrev pub constants_in : Language → Setting → List ℕ
+constants_in C = c_constants
+constants_in Rust = rust_constants
 
-abbrev pub row : Language → Setting → List ℕ
-row C = c_row
-row Rust = rust_row
+-- a setting's row of the list
+abbrev pub row_in : Language → Setting → List ℕ
+row_in C = c_row
+row_in Rust = rust_row

@@ -13,9 +13,9 @@ use Rattle.ee_settings.specs.declared.listing.Held.TheVariants.{Value, Stale, De
 use Rattle.ee_settings.specs.declared.listing.Listed.{Listed}
 use Rattle.ee_faults.specs.declared.fault.Fault.{Fault}
 use Rattle.ee_image_store.specs.FileFaults.{IsOpeningFault}
-use Rattle.ee_image_store.specs.Opening.{HasStore, IsStoreText}
+use Rattle.ee_image_store.specs.Opening.{IsStoreText}
 use Rattle.ee_by_name.specs.SecondSchema.{name_of}
-use Rattle.ee_by_name.specs.Settings.{IsSettingsFault, SpellsSettings}
+use Rattle.ee_by_name.specs.Settings.{IsOpenWithSettingsFault, SpellsSettings}
 
 -- what an address holds, as words of its line
 abbrev pub held_words : Held → List (List ℕ)
@@ -54,7 +54,7 @@ pub record IsList (image : List ℕ) (settings_text : Option (List ℕ)) (lines 
 abbrev pub IsListTextFault : List ℕ → Option (List ℕ) → Fault → Type 0
 IsListTextFault image None fault = IsOpeningFault image fault
 IsListTextFault image (Some settings_text) fault =
-    IsOpeningFault image fault ⊎ (HasStore image × IsSettingsFault settings_text fault)
+    IsOpenWithSettingsFault image settings_text fault
 
 -- ---- for the functions within
 

@@ -70,11 +70,6 @@ pub record IsTidiedImage (old_image settings_text new_image line : List ℕ) : T
 
 -- ---- the faults
 
--- why no stale settings are told, the first cause that applies: no store is opened; or the text spells no settings
-abbrev pub IsStaleTextFault : List ℕ → List ℕ → Fault → Type 0
-IsStaleTextFault image settings_text fault =
-    IsOpeningFault image fault ⊎ (HasStore image × IsSettingsFault settings_text fault)
-
 -- one of the addresses that have a value in the image and that no setting has can't be forgotten: the store is spent
 pub record IsSpentFor (image settings_text : List ℕ) (fault : Fault) : Type 0 where
   pub device : Device

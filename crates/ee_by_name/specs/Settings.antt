@@ -147,6 +147,12 @@ pub record IsUnknownIn (settings_text name : List ℕ) : Type 0 where
   pub spelled : SpellsSettings settings_text settings
   pub unknown : IsUnknown settings name
 
+-- why an image isn't opened with a text of settings, the first cause that applies: no store is opened; or the text spells no
+-- settings
+abbrev pub IsOpenWithSettingsFault : List ℕ → List ℕ → Fault → Type 0
+IsOpenWithSettingsFault image settings_text fault =
+    IsOpeningFault image fault ⊎ (HasStore image × IsSettingsFault settings_text fault)
+
 -- why nothing is read, the first cause that applies: no store is opened; or the text spells no settings; or no setting has
 -- the name
 abbrev pub IsGetFault : List ℕ → List ℕ → List ℕ → Fault → Type 0

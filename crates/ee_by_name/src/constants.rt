@@ -1,9 +1,9 @@
 //! The settings as constants of a program, in C or in Rust.
 ghost use Rattle.std.specs.Prelude.{◌≡◌, ◌++◌, IfOk, OnOk, string_bytes};
 ghost use Rattle.std.specs.List.{flat_map};
-ghost use Rattle.ee_by_name.specs.Header.{c_header, constant, constants, row, rust_header, rust_list};
+ghost use Rattle.ee_by_name.specs.Header.{c_header, constant_in, constants_in, row_in, rust_header, rust_list};
 
-use crate::header::Language;
+use crate::language::Language;
 use ee_settings::{Numbers, Setting};
 use std::alloc::{AllocError, Allocator};
 
@@ -51,7 +51,7 @@ fn push_each_constant<A: Allocator + Copy>(
     language: Language,
 ) -> Result<(), AllocError>
     ensures { OnOk result (string_bytes out.new
-        ≡ string_bytes out.old ++ flat_map (constants language) settings.now) }
+        ≡ string_bytes out.old ++ flat_map (constants_in language) settings.now) }
 {
     for setting in settings {
         push_constants(alloc, out, setting, language)?;
@@ -67,7 +67,7 @@ fn push_constants<A: Allocator + Copy>(
     language: Language,
 ) -> Result<(), AllocError>
     ensures { OnOk result
-        (string_bytes out.new ≡ string_bytes out.old ++ constants language setting.now) }
+        (string_bytes out.new ≡ string_bytes out.old ++ constants_in language setting.now) }
 {
     let capitals = setting.name().to_ascii_uppercase(alloc)?;
     let name = capitals.as_str();
@@ -91,7 +91,7 @@ fn push_constant<A: Allocator>(
     language: Language,
 ) -> Result<(), AllocError>
     ensures { OnOk result (string_bytes out.new
-        ≡ string_bytes out.old ++ constant language name.now kind.now rust_type.now number) }
+        ≡ string_bytes out.old ++ constant_in language name.now kind.now rust_type.now number) }
 {
     match language {
         Language::C => writeln!(out, "#define EE_{name}_{kind} {number}u"),
@@ -118,7 +118,7 @@ fn push_rows<A: Allocator + Copy>(
     language: Language,
 ) -> Result<(), AllocError>
     ensures { OnOk result
-        (string_bytes out.new ≡ string_bytes out.old ++ flat_map (row language) settings.now) }
+        (string_bytes out.new ≡ string_bytes out.old ++ flat_map (row_in language) settings.now) }
 {
     for setting in settings {
         push_row(alloc, out, setting, language)?;
@@ -134,7 +134,7 @@ fn push_row<A: Allocator + Copy>(
     language: Language,
 ) -> Result<(), AllocError>
     ensures { OnOk result
-        (string_bytes out.new ≡ string_bytes out.old ++ row language setting.now) }
+        (string_bytes out.new ≡ string_bytes out.old ++ row_in language setting.now) }
 {
     let capitals = setting.name().to_ascii_uppercase(alloc)?;
     let name = capitals.as_str();

@@ -5,21 +5,11 @@ ghost use Rattle.ee_by_name.specs.Header.{IsHeader, header};
 ghost use Rattle.ee_faults.specs.Causes.{NamesEach};
 
 use crate::constants::{c_header, rust_header};
+use crate::language::Language;
 use crate::opening::read_schema;
 use ee_faults::Fault;
 use ee_settings::Setting;
 use std::alloc::{AllocError, Allocator, Global};
-
-/// What a header is written in.
-///
-/// Source: ours.
-#[derive(Clone, Copy, Debug, PartialEq, Eq)]
-pub enum Language {
-    /// C, from C99 on.
-    C,
-    /// Rust, from the edition of 2021 on.
-    Rust,
-}
 
 /// The settings that a text spells as constants of a program, as there is to print: for each its address,
 /// its least and its greatest value and its default, by rising name, and then a list of all of them.

@@ -21,6 +21,7 @@
 mod applying;
 mod constants;
 mod header;
+mod language;
 pub mod laws;
 mod listing;
 mod opening;
@@ -28,7 +29,8 @@ mod second_schema;
 mod settings;
 
 pub use applying::apply_values;
-pub use header::{Language, header_text};
+pub use header::header_text;
+pub use language::Language;
 pub use listing::list_text;
 pub use second_schema::{stale_text, tidy_image};
 pub use settings::{get_setting, set_setting};

@@ -3,8 +3,7 @@ ghost use Rattle.std.specs.Prelude.{◌≡◌, ◌⊎◌, IfOk, IfErr};
 ghost use Rattle.toml.specs.View.{table_view};
 ghost use Rattle.ee_image_store.specs.Opening.{HasStore, IsOpened};
 ghost use Rattle.ee_by_name.specs.Applying.{HasSettings};
-ghost use Rattle.ee_by_name.specs.SecondSchema.{IsStaleTextFault};
-ghost use Rattle.ee_by_name.specs.Settings.{HasNoTree, HasTree, IsSettingsFault, SpellsSettings, fault_of_schema};
+ghost use Rattle.ee_by_name.specs.Settings.{HasNoTree, HasTree, IsOpenWithSettingsFault, IsSettingsFault, SpellsSettings, fault_of_schema};
 ghost use Rattle.ee_faults.specs.Causes.{NamesEach};
 
 use ee_core::Store;
@@ -41,8 +40,8 @@ pub(crate) fn open_with_settings<A: Allocator + Copy>(
 ) -> Result<StoreAndSchema<A>, Fault>
     ensures opened { IfOk result (λ opened. IsOpened image.now opened.store) }
     ensures spelled { IfOk result (λ opened. SpellsSettings settings.now opened.schema) }
-    ensures fault { IfErr result (IsStaleTextFault image.now settings.now) }
-    ensures names { NamesEach Fault.Memory (IsStaleTextFault image.now settings.now) result }
+    ensures fault { IfErr result (IsOpenWithSettingsFault image.now settings.now) }
+    ensures names { NamesEach Fault.Memory (IsOpenWithSettingsFault image.now settings.now) result }
     ensures only { HasStore image.now → HasSettings settings.now
         → IfErr result (λ fault. fault ≡ Fault.Memory) }
 {

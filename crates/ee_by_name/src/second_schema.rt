@@ -5,7 +5,8 @@ ghost use Rattle.ee_core.specs.State.{state_of};
 ghost use Rattle.ee_settings.specs.Stale.{stale_in};
 ghost use Rattle.ee_settings.specs.Tidying.{IsSpentAmong, unnamed_in};
 ghost use Rattle.ee_settings.specs.declared.stale.Stale.{Stale};
-ghost use Rattle.ee_by_name.specs.SecondSchema.{AreStaleLines, IsStaleTextFault, IsTidied, IsTidiedImage, IsTidyImageFault, stale_line, stale_lines, tidied_text};
+ghost use Rattle.ee_by_name.specs.Settings.{IsOpenWithSettingsFault};
+ghost use Rattle.ee_by_name.specs.SecondSchema.{AreStaleLines, IsTidied, IsTidiedImage, IsTidyImageFault, stale_line, stale_lines, tidied_text};
 ghost use Rattle.ee_image_store.specs.Opening.{StaysOn};
 ghost use Rattle.ee_faults.specs.Causes.{NamesEach};
 
@@ -34,9 +35,9 @@ pub fn stale_text<A: Allocator + Copy>(
     settings: &[u8],
 ) -> Result<Vec<u8, A>, Fault>
     ensures stale { IfOk result (λ text. AreStaleLines image.now settings.now text.items) }
-    ensures fault { IfErr result (IsStaleTextFault image.now settings.now) }
+    ensures fault { IfErr result (IsOpenWithSettingsFault image.now settings.now) }
     // No cause is passed over.
-    ensures names { NamesEach Fault.Memory (IsStaleTextFault image.now settings.now) result }
+    ensures names { NamesEach Fault.Memory (IsOpenWithSettingsFault image.now settings.now) result }
 {
     let opened = open_with_settings(alloc, heap, image, settings)?;
     let stale = stale_on(alloc, &opened.store, &opened.schema)?;

@@ -1,3 +1,4 @@
+//! What becomes of a step of a device.
 ghost use Rattle.std.specs.Prelude.{◌≡◌};
 ghost use Rattle.ee_fakes.specs.Fate.{page_of_fates, word_of_fate};
 

@@ -1,3 +1,4 @@
+//! A flash device whose steps are done or cut as a list says.
 ghost use Rattle.std.specs.Prelude.{◌≡◌, ◌+◌, ◌*◌, ◌<◌, ◌≤◌, ◌⊎◌, ◌↔◌, drop, IfOk, OnErr, OnOk, IsOk, vec_len, None};
 ghost use Rattle.std.specs.List.{All};
 ghost use Rattle.ee_flash.specs.Device.{IsBelowAllOnes, IsOff, IsOn, all_ones, page_at, word_at};

@@ -1,3 +1,4 @@
+//! A reader that gives a few bytes a call, and fails at one call.
 ghost use Rattle.std.specs.Prelude.{◌≡◌, ◌-◌, ◌<◌, ◌↔◌, Some, IsErr, IfErr, IfOk, min, length};
 ghost use Rattle.std.specs.Io.{ReadsAtMost};
 ghost use Rattle.std.specs.Io.KnownBytes.{ReadConsumes};

@@ -1,3 +1,4 @@
+//! An allocator that refuses one request.
 ghost use Rattle.std.specs.Prelude.{◌<◌};
 
 use std::alloc::{AllocError, Allocator};

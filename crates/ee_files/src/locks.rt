@@ -3,6 +3,8 @@ use std::fs::{File, TryLockError};
 use std::rt::Files;
 
 /// A file system whose open files can be locked.
+///
+/// Source: ours.
 pub trait FileLocks: Files {
     /// Locks a file, until this opening of it is closed, against each other opening that asks for its lock.
     /// It waits for none.

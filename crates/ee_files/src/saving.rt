@@ -27,6 +27,8 @@ const BESIDE: &str = ".ee-saving-";
 const MOST_BESIDE: u8 = 100;
 
 /// Why an image's new text doesn't stand.
+///
+/// Source: ours.
 #[derive(Clone, Copy, Debug, PartialEq, Eq)]
 pub enum SaveFault {
     /// The file isn't the one that was read, or another run has its lock. Nothing was written.
@@ -77,6 +79,8 @@ impl From<Stopped> for SaveFault {
 
 impl SaveFault {
     /// What the program tells of it, where an image was to be written.
+    ///
+    /// Source: ours.
     pub fn told(self) -> Fault
         ensures { result ≡ fault_of_save self }
     {
@@ -88,6 +92,8 @@ impl SaveFault {
     }
 
     /// What the program tells of it, where a dump was to be written, of whose file nothing was read.
+    ///
+    /// Source: ours.
     pub fn told_of_dump(self) -> Fault
         ensures { result ≡ fault_of_dump_file self }
     {
@@ -100,6 +106,8 @@ impl SaveFault {
 
 /// Writes an image's text in the place of its file. `old` is what was read of the file, if it was read; then the
 /// file must still have that text.
+///
+/// Source: ours.
 ///
 /// # Errors
 ///

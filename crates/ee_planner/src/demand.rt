@@ -2,6 +2,8 @@
 use std::alloc::AllocError;
 
 /// What a trace takes of a set that starts empty.
+///
+/// Source: ours.
 #[derive(Clone, Copy, Debug, PartialEq, Eq)]
 pub enum Demand {
     /// So many transfers: some store makes as few, and none makes fewer.
@@ -12,6 +14,8 @@ pub enum Demand {
 }
 
 /// Why a trace made many times over isn't counted.
+///
+/// Source: ours.
 #[derive(Clone, Copy, Debug, PartialEq, Eq)]
 pub enum RoundsFault {
     /// The changes of all rounds together are 2^63 or more.

@@ -3,6 +3,8 @@ use ee_check::Certificate;
 use std::alloc::{AllocError, Allocator, Global};
 
 /// When a store transfers that makes as few transfers as can be, and what is left to it.
+///
+/// Source: ours.
 #[derive(Drop)]
 pub struct Plan<A: Allocator = Global> {
     /// How many transfers the trace takes.
@@ -16,6 +18,8 @@ pub struct Plan<A: Allocator = Global> {
 }
 
 /// Why there is no plan.
+///
+/// Source: ours.
 #[derive(Clone, Copy, Debug, PartialEq, Eq)]
 pub enum PlanFault {
     /// This change, counted from 1, is the first write of a new address while as many addresses are live as

@@ -13,6 +13,8 @@ use std::alloc::Allocator;
 /// The fewest transfers that the trace takes of any store that appends each change and transfers by copying
 /// the live addresses, when it makes them, and how many slots they leave free.
 ///
+/// Source: ours.
+///
 /// # Errors
 ///
 /// The first change that makes more addresses live than there are slots; want of memory can come in place of

@@ -14,6 +14,8 @@ use std::marker::Model;
 
 /// A trace that is made so many times, one after another. It takes three numbers of memory for each change
 /// of the trace, however often it is made.
+///
+/// Source: ours.
 #[derive(Drop)]
 pub struct Rounds<A: Allocator = Global> {
     trace: Vec<Change, A>,
@@ -37,6 +39,8 @@ impl<A: Allocator> Model for Rounds<A> {
 
 impl<A: Allocator + Copy> Rounds<A> {
     /// The trace, so many times. Each change is made twice, whatever `runs` is.
+    ///
+    /// Source: ours.
     ///
     /// # Errors
     ///

@@ -1,3 +1,4 @@
+//! Numbers that look random, the same at each run.
 /// Numbers that look random, always the same from one seed (splitmix64, of Steele, Lea and Flood).
 #[derive(Clone, Copy)]
 pub struct Dice {

@@ -1,3 +1,4 @@
+//! A sum of bytes, to compare two programs by.
 use std::fmt;
 
 /// A sum of bytes that tells most others apart (FNV-1a, of Fowler, Noll and Vo).

@@ -1,3 +1,4 @@
+//! The jobs that are timed, and their names.
 /// What a user waits for.
 #[derive(Clone, Copy, Debug, PartialEq, Eq)]
 pub enum Job {

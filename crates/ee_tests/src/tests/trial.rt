@@ -1,3 +1,4 @@
+//! How a test refuses each request for memory in turn.
 use ee_fakes::Refusing;
 use std::alloc::Global;
 use std::process::Abort;

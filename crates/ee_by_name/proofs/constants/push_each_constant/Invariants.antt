@@ -1,8 +1,8 @@
 use Rattle.std.proofs.Common.{◌≡◌, ◌++◌, take, string_bytes}
 use Rattle.std.specs.List.{flat_map}
-use Rattle.ee_by_name.specs.Header.{constants}
+use Rattle.ee_by_name.specs.Header.{constants_in}
 use Rattle.ee_by_name.proofs.constants.push_each_constant.Given as goal
 
 -- those of the settings so far are written
 abbrev pub invariant-loop-setting : goal.invariant-loop-setting
-invariant-loop-setting g l = string_bytes l.out ≡ string_bytes l.fn.out ++ flat_map (constants l.language) (take l.setting-index l.settings)
+invariant-loop-setting g l = string_bytes l.out ≡ string_bytes l.fn.out ++ flat_map (constants_in l.language) (take l.setting-index l.settings)

@@ -9,22 +9,21 @@ use Rattle.ee_faults.specs.declared.replay_fault.ReplayFault.{ReplayFault}
 use Rattle.ee_image_store.proofs.Public.{not_opened, opening_good, opening_named}
 use Rattle.ee_image_store.specs.Opening.{IsOpenFault, IsOpened}
 use Rattle.ee_by_name.proofs.Named.{settings_good}
-use Rattle.ee_by_name.specs.SecondSchema.{IsStaleTextFault}
-use Rattle.ee_by_name.specs.Settings.{IsSettingsFault, SpellsSettings}
+use Rattle.ee_by_name.specs.Settings.{IsOpenWithSettingsFault, IsSettingsFault, SpellsSettings}
 use Rattle.ee_by_name.proofs.opening.open_with_settings.Goals as goal
 
-first_unopened : (image text : List ℕ) (why : ReplayFault) (fault cause : Fault) → IsOpenFault image why → fault ≡ fault_of_replay why → cause ≢ Memory → IsStaleTextFault image text cause
+first_unopened : (image text : List ℕ) (why : ReplayFault) (fault cause : Fault) → IsOpenFault image why → fault ≡ fault_of_replay why → cause ≢ Memory → IsOpenWithSettingsFault image text cause
     → (fault ≡ cause) ⊎ (fault ≡ Memory)
 first_unopened image text why fault cause unopened told some (inl h) = opening_named image why fault cause unopened told some h
 first_unopened image text why fault cause unopened told some (inr h) = inr (not_opened image why fault unopened told h.0)
 
 unspelled : (image text : List ℕ) (store : Device) (fault cause : Fault) → IsOpened image store
     → ((other : Fault) → other ≢ Memory → IsSettingsFault text other → (fault ≡ other) ⊎ (fault ≡ Memory))
-    → cause ≢ Memory → IsStaleTextFault image text cause → (fault ≡ cause) ⊎ (fault ≡ Memory)
+    → cause ≢ Memory → IsOpenWithSettingsFault image text cause → (fault ≡ cause) ⊎ (fault ≡ Memory)
 unspelled image text store fault cause opened names some (inl h) = absurd (opening_good image opened.device cause opened.old some h)
 unspelled image text store fault cause opened names some (inr h) = names cause some h.1
 
-both_good : (image text : List ℕ) (store : Device) (settings : List Setting) (cause : Fault) → IsOpened image store → SpellsSettings text settings → cause ≢ Memory → IsStaleTextFault image text cause → ⊥
+both_good : (image text : List ℕ) (store : Device) (settings : List Setting) (cause : Fault) → IsOpened image store → SpellsSettings text settings → cause ≢ Memory → IsOpenWithSettingsFault image text cause → ⊥
 both_good image text store settings cause opened spelled some (inl h) = opening_good image opened.device cause opened.old some h
 both_good image text store settings cause opened spelled some (inr h) = settings_good text settings cause spelled some h.1
 
