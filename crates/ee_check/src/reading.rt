@@ -1,5 +1,5 @@
 //! Reading the text of a certificate.
-ghost use Rattle.std.specs.Prelude.{◌≡◌, ◌≢◌, ◌⊎◌, ℕ, ◌+◌, ◌^◌, ◌<◌, List, ◌∷◌, ◌++◌, length, Some, IfSome, IfNone, IfOk, IfErr, OnOk, MatchOption, MatchResult, decimal};
+ghost use Rattle.std.specs.Prelude.{◌≡◌, ◌≢◌, ◌⊎◌, ℕ, ◌+◌, ◌^◌, ◌<◌, List, ◌∷◌, ◌++◌, Some, IfSome, IfNone, IfOk, IfErr, OnOk, MatchOption, MatchResult, decimal};
 ghost use Rattle.ee_text.specs.Line.{line_of};
 ghost use Rattle.ee_check.specs.declared.certificate.Stretch.{Stretch};
 ghost use Rattle.ee_check.specs.Certificate.{Claim, claim_of};

@@ -1,8 +1,8 @@
 //! Writing the text of a certificate.
-ghost use Rattle.std.specs.Prelude.{◌≡◌, ◌++◌, ◌∷◌, [], OnOk, OnErr};
+ghost use Rattle.std.specs.Prelude.{◌≡◌, ◌++◌, OnOk, OnErr};
 ghost use Rattle.ee_text.specs.Line.{line_of, IsLonger};
 ghost use Rattle.ee_check.specs.Certificate.{claim_of};
-ghost use Rattle.ee_check.specs.Text.{first_line, stretch_lines, last_line, stretch_text, text_of};
+ghost use Rattle.ee_check.specs.Text.{first_line, stretch_lines, stretch_text, text_of};
 
 use super::certificate::{Certificate, Stretch};
 use ee_text::push_number_behind;

@@ -3,7 +3,7 @@ ghost use Rattle.std.specs.Prelude.{◌≡◌, ◌++◌, Some, None, IfOk, IfErr
 ghost use Rattle.std.specs.Option.{option_map};
 ghost use Rattle.ee_text.specs.Line.{line_of};
 ghost use Rattle.ee_image_store.specs.FileFaults.{IsFileFault};
-ghost use Rattle.ee_commands.specs.Wear.{AreWearCountsOf, AreCountsSince, IsWear, IsWearFault, count_lines, count_text, ledger_text, total_text};
+ghost use Rattle.ee_commands.specs.Wear.{AreWearCountsOf, IsWear, IsWearFault, count_lines, count_text, ledger_text, total_text};
 ghost use Rattle.ee_faults.specs.Causes.{NamesEach};
 
 use ee_faults::{Fault, File};

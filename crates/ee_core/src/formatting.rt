@@ -1,5 +1,5 @@
 //! A store with nothing in it: what is written is erased, and the first set becomes the live one.
-ghost use Rattle.std.specs.Prelude.{◌≡◌, ◌⊎◌, ℕ, IfOk, [], OnErr, OnOk, true};
+ghost use Rattle.std.specs.Prelude.{◌≡◌, ◌⊎◌, IfOk, [], OnErr, OnOk, true};
 ghost use Rattle.std.specs.List.{All};
 ghost use Rattle.ee_flash.specs.Device.{IsOn};
 ghost use Rattle.ee_flash.specs.Power.{Ends};

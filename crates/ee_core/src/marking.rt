@@ -1,5 +1,5 @@
 //! The marks that a transfer or a cut left to set: pages used up, the page in use, pages to be erased.
-ghost use Rattle.std.specs.Prelude.{◌≡◌, ◌<◌, ◌≤◌, ℕ, ◌+◌, ◌-◌, OnErr, OnOk, false, not, true};
+ghost use Rattle.std.specs.Prelude.{◌≡◌, ◌<◌, ◌≤◌, ◌+◌, ◌-◌, OnErr, OnOk, false, not, true};
 ghost use Rattle.ee_flash.specs.Power.{Ends};
 ghost use Rattle.ee_flash.specs.Device.{page_at};
 ghost use Rattle.ee_pages.specs.Layout.{IsLayout};

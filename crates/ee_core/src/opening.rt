@@ -1,7 +1,6 @@
 //! How a store comes to be: opened from a legal image, or made anew on any device.
-ghost use Rattle.std.specs.Prelude.{◌≡◌, ℕ, IfErr, IfOk, OnErr, OnOk};
+ghost use Rattle.std.specs.Prelude.{IfErr, IfOk};
 ghost use Rattle.ee_flash.specs.Device.{IsOn};
-ghost use Rattle.ee_flash.specs.Power.{Ends};
 ghost use Rattle.ee_core.specs.Openings.{IsCutFormat, IsFormatted, OpenFails, Opens};
 
 use crate::formatting::write_format;

@@ -1,12 +1,9 @@
 //! The store without an index: it knows where the live set is and how far it is used, and reads the rest.
 ghost use Rattle.std.specs.Bool.{MatchBool};
-ghost use Rattle.std.specs.Prelude.{◌≡◌, ◌≢◌, ◌<◌, IfErr, IfOk, IfSome, OnErr, OnOk};
-ghost use Rattle.ee_codec.specs.Words.{IsAddress};
+ghost use Rattle.std.specs.Prelude.{◌≡◌, ◌≢◌, ◌<◌};
 ghost use Rattle.ee_flash.specs.Device.{IsOn};
-ghost use Rattle.ee_flash.specs.Size.{slot_count};
 ghost use Rattle.ee_pages.specs.Layout.{IsLayout};
-ghost use Rattle.ee_pages.specs.Meaning.{IsNextLive, above_of, live_in};
-ghost use Rattle.ee_core.specs.Calls.{Cleans, Forgets, Reads, Writes};
+ghost use Rattle.ee_core.specs.Calls.{Writes};
 ghost use Rattle.ee_core.specs.Changes.{IsFull, IsSpent};
 ghost use Rattle.ee_core.specs.Finished.{IsStore};
 ghost use Rattle.ee_core.specs.State.{capacity, state_of, torn_slots_of};

@@ -1,13 +1,13 @@
 //! The appending of a change: where its slot begins a further page, two marks come first.
-ghost use Rattle.std.specs.Prelude.{◌≡◌, ◌<◌, ◌⊎◌, ℕ, ◌+◌, IfOk, OnErr, OnOk};
+ghost use Rattle.std.specs.Prelude.{◌≡◌, ◌<◌, ◌⊎◌, ◌+◌, IfOk, OnErr, OnOk};
 ghost use Rattle.ee_flash.specs.Power.{Ends};
 ghost use Rattle.ee_flash.specs.Size.{slot_count};
 ghost use Rattle.ee_flash.specs.declared.word.Word.TheVariants.{Held};
 ghost use Rattle.ee_pages.specs.Laws.{KeepsLiveSet};
 ghost use Rattle.ee_pages.specs.Layout.{IsLayout};
-ghost use Rattle.ee_pages.specs.Meaning.{SpellsChange, map_after, meaning};
+ghost use Rattle.ee_pages.specs.Meaning.{SpellsChange, map_after};
 ghost use Rattle.ee_pages.specs.Pushing.{TakesSlot};
-ghost use Rattle.ee_pages.specs.Sets.{first_page as first_of, other as other_of, page_of_slot, place_of_slot, set_of, slots_of};
+ghost use Rattle.ee_pages.specs.Sets.{first_page as first_of, other as other_of, page_of_slot, place_of_slot};
 ghost use Rattle.ee_core.specs.Cuts.{IsDrawnPartly, PutsPartly};
 ghost use Rattle.ee_core.specs.Finished.{IsMarked};
 ghost use Rattle.ee_core.specs.Parts.{IsReady, IsSameSet, KeepsMarks, PutsWord, Stays, map_in, meant, number_written};

@@ -7,7 +7,7 @@
 //!
 //! Two runs that began with one text ask for one lock. Who has it finds the path leading to the file that is
 //! locked, with the text that was read, or writes nothing. So of the two one at most goes on.
-ghost use Rattle.std.specs.Prelude.{◌≡◌, ◌↔◌, ◌<◌, length, take, IfOk, OnOk, IfErr, IfSome, IsTrue};
+ghost use Rattle.std.specs.Prelude.{◌≡◌, ◌↔◌, IfOk, OnOk, IfSome, IsTrue};
 ghost use Rattle.std.specs.Io.KnownBytes.{Appends};
 ghost use Rattle.ee_files.specs.Saving.{fault_of_dump_file, fault_of_save};
 

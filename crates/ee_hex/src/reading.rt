@@ -1,7 +1,6 @@
 //! Reading a text.
 ghost use Rattle.std.specs.Prelude.{◌≡◌, ◌⊎◌, ◌≤◌, ◌<◌, ◌+◌, ◌^◌, ℕ, None, Some, Ok, Err, List, IfOk, IfErr, OnOk, MatchResult, length, replicate, slice_index_or};
 ghost use Rattle.std.specs.Bool.{OnFalse, OnTrue};
-ghost use Rattle.ee_text.specs.Line.{IsLine};
 ghost use Rattle.ee_hex.specs.Text.{IsHexOf, number_of_bytes, numbered_bytes, upper_after};
 ghost use Rattle.ee_hex.specs.Fault.{IsBadHexLine, IsHexFault};
 ghost use Rattle.ee_hex.specs.Reading.{bytes_of, judged, lines_in, put, put_all, record_in, step_of_record};

@@ -23,6 +23,13 @@ pub struct ImageAndText<A: Allocator = Global> {
 }
 
 /// The store of the image that a text spells, in memory.
+///
+/// Source: ours.
+///
+/// # Errors
+///
+/// The first that applies: the text spells no device, or the device is not legal. Memory can run out in place of any
+/// answer.
 pub fn open_image<A: Allocator + Copy>(
     alloc: A,
     image: &[u8],
@@ -51,6 +58,12 @@ fn open_still<F: Flash + Drop>(flash: F) -> Result<Store<F>, ScanFault>
 }
 
 /// A store with nothing in it, on a new device in memory.
+///
+/// Source: ours.
+///
+/// # Errors
+///
+/// Memory can run out.
 pub fn new_store<A: Allocator + Copy>(
     alloc: A,
     shape: Shape,
@@ -73,6 +86,12 @@ fn format_still<F: Flash + Drop>(flash: F) -> Store<F>
 }
 
 /// The text of a device.
+///
+/// Source: ours.
+///
+/// # Errors
+///
+/// Memory can run out.
 pub fn text_of<A: Allocator, F: Flash>(alloc: A, flash: &F) -> Result<Vec<u8, A>, AllocError>
     ensures { IfOk result (λ text. SpellsDevice text.items (F.device flash.now)) }
 {
@@ -82,6 +101,12 @@ pub fn text_of<A: Allocator, F: Flash>(alloc: A, flash: &F) -> Result<Vec<u8, A>
 }
 
 /// Closes a store whose power stays on, and gives the text of the image that it leaves.
+///
+/// Source: ours.
+///
+/// # Errors
+///
+/// Memory can run out.
 pub fn text_left<A: Allocator, F: Flash + Drop>(
     alloc: A,
     store: Store<F>,

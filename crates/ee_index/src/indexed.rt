@@ -1,11 +1,7 @@
 //! The store with an index: a read is one look in the index and one word of the flash.
 ghost use Rattle.std.specs.Bool.{MatchBool};
-ghost use Rattle.std.specs.Prelude.{◌≡◌, ◌≢◌, ◌<◌, ◌-◌, IfErr, IfOk, IfSome, MatchOption, OnErr, OnOk, length};
-ghost use Rattle.ee_codec.specs.Words.{IsAddress};
+ghost use Rattle.std.specs.Prelude.{◌≡◌, ◌<◌, ◌-◌, IfErr, IfOk, MatchOption, length};
 ghost use Rattle.ee_flash.specs.Device.{IsOn};
-ghost use Rattle.ee_flash.specs.Size.{slot_count};
-ghost use Rattle.ee_pages.specs.Meaning.{IsNextLive, above_of, live_in};
-ghost use Rattle.ee_core.specs.Calls.{Cleans, Forgets, Reads, Writes};
 ghost use Rattle.ee_core.specs.Changes.{IsFull, IsSpent};
 ghost use Rattle.ee_core.specs.Finished.{IsStore};
 ghost use Rattle.ee_core.specs.Openings.{Opens};

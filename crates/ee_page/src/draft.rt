@@ -1,7 +1,7 @@
 //! A device that lists the steps that it is asked for, in place of taking them.
-ghost use Rattle.std.specs.Prelude.{◌<◌, ◌≤◌, ◌≡◌, ◌⊎◌, ◌*◌, OnErr, OnOk, length, take, true};
+ghost use Rattle.std.specs.Prelude.{◌<◌, ◌≤◌, ◌≡◌, ◌*◌, length, take, true};
 ghost use Rattle.std.specs.List.{All};
-ghost use Rattle.ee_flash.specs.Device.{IsBelowAllOnes, all_ones};
+ghost use Rattle.ee_flash.specs.Device.{all_ones};
 ghost use Rattle.ee_flash.specs.Endurance.{CanTakeAll};
 ghost use Rattle.ee_flash.specs.Laws.{all_completed};
 ghost use Rattle.ee_flash.specs.Pages.{pages_of};
@@ -105,7 +105,6 @@ fn wear_of(wears: &[u64]) -> ArrayVec<u64, GREATEST_PAGES>
 impl<'w, 'l, K: Lent> Flash for DraftFlash<'w, 'l, K> {
     ghost use Rattle.ee_page.specs.Draft.{drafted_device};
     ghost use Rattle.ee_page.specs.DraftLaws.{IsFormed-drafted};
-    ghost use Rattle.ee_flash.specs.Device.{IsOn, wear_at, word_at};
     ghost use Rattle.std.proofs.Common.{sym, ap, ◌∙◌};
 
     ghost device = { λ draft. drafted_device K.start (steps_of draft.count draft.listed.now)

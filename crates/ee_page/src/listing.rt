@@ -1,7 +1,6 @@
 //! A step as it is listed.
-ghost use Rattle.std.specs.Prelude.{◌≡◌, ◌<◌};
+ghost use Rattle.std.specs.Prelude.{◌≡◌};
 ghost use Rattle.ee_flash.specs.Step.{Erase};
-ghost use Rattle.ee_flash.specs.Device.{all_ones};
 
 use ee_flash::Word;
 

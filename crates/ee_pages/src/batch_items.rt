@@ -1,5 +1,5 @@
 //! The room of a batch: up to `BATCH` addresses with their values, and while it is filled some with none.
-ghost use Rattle.std.specs.Prelude.{◌≡◌, ◌≢◌, ◌<◌, ◌≤◌, ◌+◌, ◌==◌, ℕ, List, [], ◌∷◌, ◌++◌, IfNone, IfSome, None, false, insert, length, slice_index_or, slice_set, take, true};
+ghost use Rattle.std.specs.Prelude.{◌≡◌, ◌≢◌, ◌<◌, ◌≤◌, ◌+◌, ◌==◌, ℕ, [], ◌∷◌, ◌++◌, IfNone, IfSome, None, false, insert, length, slice_index_or, slice_set, take, true};
 ghost use Rattle.std.specs.List.{All};
 ghost use Rattle.ee_codec.specs.Words.{IsAddress};
 ghost use Rattle.ee_pages.specs.Nearest.{IsPlace, IsRising, last_named, living, with_said};

@@ -1,5 +1,5 @@
 //! What a page's header says: the last word of it that is written names the state.
-ghost use Rattle.std.specs.Prelude.{◌≡◌, ◌<◌, ℕ};
+ghost use Rattle.std.specs.Prelude.{◌≡◌, ◌<◌};
 ghost use Rattle.ee_flash.specs.Device.{page_at};
 ghost use Rattle.ee_flash.specs.Size.{page_count};
 ghost use Rattle.ee_pages.specs.Page.{is_blank as blank, is_torn as torn, is_written as written, state_of_words};

@@ -1,7 +1,7 @@
 //! Images from dumps, and dumps from images.
 ghost use Rattle.std.specs.Prelude.{◌≡◌, IfErr, IfOk};
 ghost use Rattle.ee_flash.specs.Memory.{device_of};
-ghost use Rattle.ee_dump.specs.Dump.{IsDump, IsImport};
+ghost use Rattle.ee_dump.specs.Dump.{IsDump};
 ghost use Rattle.ee_part.specs.Faults.{IsDeviceFault, IsExportFault, IsImportFault, fault_of_dump, fault_of_write};
 ghost use Rattle.ee_part.specs.Moving.{IsExported, IsImported};
 ghost use Rattle.ee_faults.specs.Causes.{NamesEach};

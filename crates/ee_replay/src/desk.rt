@@ -1,13 +1,10 @@
 //! A device on the desk, with a store open on it or without: a cut is armed, and power comes back.
-ghost use Rattle.std.specs.Prelude.{◌≡◌, IfErr, IfOk, true};
+ghost use Rattle.std.specs.Prelude.{◌≡◌, IfOk, true};
 ghost use Rattle.ee_flash.specs.Memory.{device_of};
-ghost use Rattle.ee_pages.specs.Legal.{IsLegal};
 ghost use Rattle.ee_script.specs.declared.command.Command.TheVariants.{PowerOn};
-ghost use Rattle.ee_core.specs.Openings.{Opens};
-ghost use Rattle.ee_core.specs.Points.{open_point, with_power_on};
+ghost use Rattle.ee_core.specs.Points.{open_point};
 ghost use Rattle.ee_core.specs.Runs.{Cleaned, DidRead, Forgot, Wrote};
 ghost use Rattle.ee_core.specs.State.{state_of};
-ghost use Rattle.ee_index.specs.Index.{IndexedOpenFails};
 ghost use Rattle.ee_replay.specs.Desk.{CallsAtDesk, IsLegalDesk, IsLegalSo, SaysTheSame, point_of_desk};
 ghost use Rattle.ee_replay.specs.Serving.{ArmsItsFuse, Attends, IsSound};
 

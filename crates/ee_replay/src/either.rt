@@ -1,8 +1,6 @@
 //! A store that makes itself an index when looking through the slots has cost more than that, and gives it back when
 //! looking would cost less.
-ghost use Rattle.std.specs.Prelude.{◌≡◌, IfErr, IfOk, IfSome};
-ghost use Rattle.std.specs.List.{All};
-ghost use Rattle.ee_codec.specs.Words.{IsAddress};
+ghost use Rattle.std.specs.Prelude.{◌≡◌, IfErr, IfOk};
 ghost use Rattle.ee_flash.specs.Device.{IsOn};
 ghost use Rattle.ee_core.specs.Finished.{IsStore};
 ghost use Rattle.ee_core.specs.Openings.{Opens};

@@ -4,7 +4,7 @@ ghost use Rattle.ee_script.specs.declared.command.Command.TheVariants.{Write, Re
 ghost use Rattle.ee_core.specs.Finished.{IsStore};
 ghost use Rattle.ee_core.specs.State.{state_of};
 ghost use Rattle.ee_replay.specs.Desk.{IsLegalSo, point_of_desk};
-ghost use Rattle.ee_replay.specs.Serving.{Attends, IsCounted, no_notes, notes_after, serving_on};
+ghost use Rattle.ee_replay.specs.Serving.{IsCounted, no_notes, serving_on};
 ghost use Rattle.ee_image_store.specs.Opening.{StaysOn};
 
 use super::desk::Desk;

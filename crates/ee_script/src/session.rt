@@ -100,7 +100,6 @@ pub struct Session<S: Serve + Drop, A: Allocator = Global> {
 }
 
 impl<S: Serve + Drop, A: Allocator> Model for Session<S, A> {
-    ghost use Rattle.std.specs.Prelude.{◌≤◌};
     ghost use Rattle.ee_script.specs.Session.{Progress, IsUnfinished};
 
     ghost Value = { Progress S };

@@ -1,9 +1,9 @@
 //! Numbers as a text writes them: decimal, with no sign and no zero in front.
-ghost use Rattle.std.specs.Prelude.{◌≡◌, ℕ, ◌^◌, ◌<◌, ◌≤◌, ◌++◌, List, ◌⊎◌, IfNone, IfSome, IsSomeAnd, OnOk, OnErr, Some, decimal, drop, length, slice_index};
+ghost use Rattle.std.specs.Prelude.{◌≡◌, ℕ, ◌^◌, ◌<◌, ◌≤◌, ◌++◌, List, ◌⊎◌, IfSome, IsSomeAnd, OnOk, OnErr, Some, decimal, length, slice_index};
 ghost use Rattle.std.specs.Bool.{OnFalse, OnTrue};
 ghost use Rattle.std.specs.Option.{SomeIff};
 ghost use Rattle.ee_text.specs.Line.{IsLonger};
-ghost use Rattle.ee_text.specs.Number.{IsWorth, StartsWithNoDigit};
+ghost use Rattle.ee_text.specs.Number.{StartsWithNoDigit};
 ghost use Rattle.std.specs.Str.Parse.{AllDigits, digits_value};
 
 use crate::front_digits::leading_digits;
