@@ -246,8 +246,7 @@ fn clap_finds_the_same_jobs(rt: HostRuntime) -> Result<(), Fail> {
         let (name, found) = matches.subcommand().ok_or("no command")?;
         let (_, operands) = words.split_first().ok_or("no words")?;
         let wanted = job(operands);
-        assert!(rt; wanted.is_some());
-        assert_eq!(rt; job_of(name, found), wanted);
+        assert!(rt; wanted.is_some() && job_of(name, found) == wanted, "{words:?}");
     }
     Ok(())
 }
