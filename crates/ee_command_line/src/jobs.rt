@@ -5,7 +5,7 @@ use ee_flash::Shape;
 /// What the words ask for. Files are named by their paths.
 ///
 /// Source: ours.
-#[derive(Clone, Copy, PartialEq, Eq)]
+#[derive(Clone, Copy)]
 pub enum Job<'a> {
     /// No words, for one page and six words; or `try P W`: answers the script of standard input.
     Try {
