@@ -1,5 +1,5 @@
 // Made by firmware/rust/erase from crates/ee_core/src/variables.rt. Change that file.
-//! What a store is to its users: the calls of it, what they answer, and why they refuse.
+//! What a store is to its users: its calls, what they answer, and why they refuse.
 
 use crate::ee_codec::Address;
 use crate::ee_pages::LiveBatch;

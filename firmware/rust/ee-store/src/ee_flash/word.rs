@@ -1,5 +1,6 @@
 // Made by firmware/rust/erase from crates/ee_flash/src/word.rt. Change that file.
 //! A word of flash as it reads: erased, held or torn.
+
 /// What a word of flash holds, as it reads.
 ///
 /// Source: words of 64 bits, some of them unreadable, AN4894; the rest is ours.

@@ -12,7 +12,7 @@ pub const BATCH: usize = 16;
 /// Source: ours.
 pub struct Batch {
     items: [(Address, u32); BATCH],
-    /// Which of them have a value.
+    /// Which of the items have a value.
     lives: [bool; BATCH],
     len: usize,
 }
@@ -70,7 +70,7 @@ impl Batch {
         place < self.len && self.items[place].0.get() == address.get()
     }
 
-    /// Says this of the address at this place.
+    /// Notes of the address at this place what is said of it.
     pub(crate) fn set(&mut self, place: usize, address: Address, said: Option<u32>) {
         self.items[place] = (address, said.unwrap_or(0));
         self.lives[place] = said.is_some();
