@@ -2,13 +2,11 @@
 mod counted;
 mod cuts;
 mod formats;
-mod limits;
 mod outside;
 mod requests;
 mod streams;
 mod trial;
 
-use ee_check::Change;
 use ee_codec::Address;
 use ee_flash::{Flash, MemFlash, Shape};
 use ee_image::read_image;
@@ -41,11 +39,6 @@ fn shape(pages: usize, words: usize) -> Result<Shape, Fail> {
 /// The address of a number that has one.
 fn address(number: u16) -> Result<Address, Fail> {
     Ok(Address::new(number).ok_or("no address")?)
-}
-
-/// A write of the address.
-fn write(number: u16) -> Result<Change, Fail> {
-    Ok(Change::Write(address(number)?))
 }
 
 /// What a call gave, if it gave something.

@@ -2,11 +2,10 @@
 ghost use Rattle.std.specs.Prelude.{◌<◌};
 
 use crate::tests::requests::LastValue;
-use crate::tests::trial::with_each_refusal;
 use crate::tests::{given, same, same_at};
 use ee_command_line::{MOST_BYTES, MOST_READS, ReadFault, Stopped, read_whole, write_whole};
 use ee_fakes::images::{FORMATTED, REPORT, SCRIPT, TWO_MOVES};
-use ee_fakes::{FailingReader, FailingWriter, Stop};
+use ee_fakes::{FailingReader, FailingWriter, Refusing, Stop};
 use ee_faults::ReplayFault;
 use ee_script::{StreamFault, answer_reader};
 use ee_shell::{replay, replay_reader};
@@ -69,17 +68,18 @@ fn each_failed_read_is_told(rt: HostRuntime) {
     same(&rt, bad, Err(ReplayFault::Script(2)));
 }
 
+// Whether a script that comes in one piece is answered within so many read calls.
+fn is_answered(memory: Global, most: u32) -> Result<bool, StreamFault> {
+    let mut script: &[u8] = b"w 1 10\nr 1\n";
+    let (_, report) = answer_reader(memory, LastValue(0), &mut script, most)?;
+    Ok(report.as_slice() == b"moved\n10\n".as_slice())
+}
+
 /// An end at the last read call is an end.
 #[test]
 fn the_most_read_calls(rt: HostRuntime) {
-    for (most, wanted) in [(2, Ok(true)), (1, Err(StreamFault::Read))] {
-        let mut script: &[u8] = b"w 1 10\nr 1\n";
-        let found = answer_reader(rt.alloc(), LastValue(0), &mut script, most).map(|(
-            _,
-            report,
-        )| report.as_slice() == b"moved\n10\n".as_slice());
-        same_at(&rt, most, found, wanted);
-    }
+    same(&rt, is_answered(rt.alloc(), 2), Ok(true));
+    same(&rt, is_answered(rt.alloc(), 1), Err(StreamFault::Read));
 }
 
 #[test]
@@ -111,15 +111,13 @@ fn each_stopped_write_is_told(rt: HostRuntime) {
     }
 }
 
-#[test]
-fn memory_of_a_read_is_refused(rt: HostRuntime) {
-    with_each_refusal(&rt, rt.alloc(), 2, |alloc| {
-        match read_whole(alloc, &mut reader(SCRIPT, 7, 0, ErrorKind::Other)) {
-            Ok(bytes) => Some(bytes.as_slice() == SCRIPT),
-            Err(ReadFault::Memory) => None,
-            Err(_) => Some(false),
-        }
-    });
+/// Whether the script is read whole, or `None` for want of memory.
+pub fn script_read(alloc: &Refusing<Global>) -> Option<bool> {
+    match read_whole(alloc, &mut reader(SCRIPT, 7, 0, ErrorKind::Other)) {
+        Ok(bytes) => Some(bytes.as_slice() == SCRIPT),
+        Err(ReadFault::Memory) => None,
+        Err(_) => Some(false),
+    }
 }
 
 // So many bytes, of all values.
@@ -170,14 +168,17 @@ fn a_long_script_in_pieces(rt: HostRuntime) -> Result<(), Fail> {
     Ok(())
 }
 
+// How many bytes an input has.
+fn length_of(memory: Global, input: &mut impl Read) -> Result<usize, ReadFault> {
+    Ok(read_whole(memory, input)?.len())
+}
+
 #[test]
 fn the_longest_input_is_read(rt: HostRuntime) {
-    let mut longest = io::repeat(0).take(16_777_216);
-    let read = read_whole(rt.alloc(), &mut longest).map(|bytes| bytes.len());
-    same(&rt, read, Ok(MOST_BYTES));
-    let mut longer = io::repeat(0).take(16_777_217);
-    let read = read_whole(rt.alloc(), &mut longer).map(|bytes| bytes.len());
-    same(&rt, read, Err(ReadFault::TooLong));
+    let longest = length_of(rt.alloc(), &mut io::repeat(0).take(16_777_216));
+    same(&rt, longest, Ok(MOST_BYTES));
+    let longer = length_of(rt.alloc(), &mut io::repeat(0).take(16_777_217));
+    same(&rt, longer, Err(ReadFault::TooLong));
 }
 
 /// A reader each of whose calls is interrupted.
@@ -198,15 +199,18 @@ impl Read for Interrupted {
 #[test]
 fn a_reader_that_never_gives_is_left(rt: HostRuntime) {
     let mut reader = Interrupted { calls: 0 };
-    let read = read_whole(rt.alloc(), &mut reader).map(|bytes| bytes.len());
-    same(&rt, read, Err(ReadFault::Read));
+    same(
+        &rt,
+        length_of(rt.alloc(), &mut reader),
+        Err(ReadFault::Read),
+    );
     same(&rt, reader.calls, u64::from(MOST_READS));
 }
 
 #[test]
 fn a_script_that_never_comes_is_left(rt: HostRuntime) {
     let mut reader = Interrupted { calls: 0 };
-    let replayed = replay_reader(rt.alloc(), FORMATTED, &mut reader).map(|_| ());
-    same(&rt, replayed, Err(ReplayFault::Read));
+    let replayed = replay_reader(rt.alloc(), FORMATTED, &mut reader);
+    same(&rt, replayed.err(), Some(ReplayFault::Read));
     same(&rt, reader.calls, u64::from(MOST_READS));
 }

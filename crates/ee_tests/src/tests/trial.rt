@@ -1,13 +1,21 @@
 //! How a test refuses each request for memory in turn.
 use ee_fakes::Refusing;
 use std::alloc::Global;
+use std::fmt::Debug;
 use std::process::Abort;
 
 /// Runs `call` with its first request for memory refused, then with its second, and so on to a run in which none is.
 ///
 /// `call` says whether it gave its usual answer, `None` for want of memory. Each run is to answer `Some(true)`, or `None`
-/// where a request was refused. A run with none refused is to make `least` requests or more.
-pub fn with_each_refusal<F>(rt: &impl Abort, memory: Global, least: u64, call: F)
+/// where a request was refused. A run with none refused is to make `least` requests or more. A failure names the call by
+/// `name`.
+pub fn with_each_refusal<N: Debug + Copy, F>(
+    rt: &impl Abort,
+    memory: Global,
+    name: N,
+    least: u64,
+    call: F,
+)
 where
     F: Fn(&Refusing<Global>) -> Option<bool>,
     requires { F.IsAlwaysCallable call }
@@ -17,27 +25,30 @@ where
         let answer = call(&alloc);
         let is_refused = alloc.has_refused();
         match answer {
-            Some(is_usual) => assert!(rt; is_usual, "another answer at request {nth}"),
-            None => assert!(rt; is_refused, "want of memory with nothing refused"),
+            Some(is_usual) => assert!(rt; is_usual, "{name:?}: another answer at request {nth}"),
+            None => assert!(rt; is_refused, "{name:?}: want of memory with nothing refused"),
         }
         if !is_refused {
-            assert!(rt; nth > least, "{nth} is one more than the requests");
+            assert!(rt;
+                nth > least,
+                "{name:?}: {nth} is one more than the requests"
+            );
             return;
         }
     }
-    panic!(rt; "requests without end")
+    panic!(rt; "{name:?}: requests without end")
 }
 
 #[test]
 #[should_panic(expected = "want of memory with nothing refused")]
 fn a_call_that_always_wants_memory_is_caught(rt: HostRuntime) {
-    with_each_refusal(&rt, rt.alloc(), 0, |_| None);
+    with_each_refusal(&rt, rt.alloc(), "a call", 0, |_| None);
 }
 
 #[test]
 #[should_panic(expected = "another answer at request 1")]
 fn an_answer_that_changes_is_caught(rt: HostRuntime) {
-    with_each_refusal(&rt, rt.alloc(), 1, |alloc| {
+    with_each_refusal(&rt, rt.alloc(), "a call", 1, |alloc| {
         Some(Box::new(alloc, 0u8).is_ok())
     });
 }

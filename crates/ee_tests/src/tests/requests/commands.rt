@@ -1,6 +1,5 @@
 //! The commands over bytes.
-use crate::tests::trial::with_each_refusal;
-use crate::tests::{given, same, shape};
+use crate::tests::{given, same, same_at, shape};
 use ee_fakes::Refusing;
 use ee_fakes::images::{
     CERTIFICATE, CLEANED, FORMATTED, ONE_MOVE, REPORT, SCRIPT, TIDIED, TWO_MOVES, VOLUME,
@@ -16,7 +15,7 @@ use ee_shell::{
     stale_text, states_text, tidy_image, try_script, wear_text,
 };
 use std::alloc::{Allocator, Global};
-use std::cell::Cell;
+use std::process::Abort;
 use std::test::Fail;
 
 // Whether these bytes were given, or none for want of memory.
@@ -26,177 +25,6 @@ fn gives<A: Allocator>(given: Result<Vec<u8, A>, Fault>, wanted: &[u8]) -> Optio
         Err(Fault::Memory) => None,
         Err(_) => Some(false),
     }
-}
-
-// Whether this image and this text were given.
-fn gives_both<A: Allocator>(
-    given: Result<ImageAndText<A>, Fault>,
-    image: &[u8],
-    text: &[u8],
-) -> Option<bool> {
-    match given {
-        Ok(left) => Some(left.image.as_slice() == image && left.text.as_slice() == text),
-        Err(Fault::Memory) => None,
-        Err(_) => Some(false),
-    }
-}
-
-// Whether the two moves were made.
-fn moves_twice<A: Allocator>(given: Result<Replayed<A>, ReplayFault>) -> Option<bool> {
-    match given {
-        Ok(replayed) => {
-            Some(replayed.report.as_slice() == REPORT && replayed.image.as_slice() == TWO_MOVES)
-        }
-        Err(ReplayFault::Memory) => None,
-        Err(_) => Some(false),
-    }
-}
-
-// Whether the fault is that the image is not formatted.
-fn finds_no_store<A: Allocator>(given: Result<Replayed<A>, ReplayFault>) -> Option<bool> {
-    match given {
-        Ok(_) => Some(false),
-        Err(ReplayFault::Memory) => None,
-        Err(fault) => Some(fault == ReplayFault::Open(ScanFault::Unformatted)),
-    }
-}
-
-// The ways to replay a script.
-#[derive(Clone, Copy)]
-enum Way {
-    Whole,
-    Indexed,
-    Pieces,
-}
-
-// The script of two moves, replayed over an image.
-fn replay_by<'m>(
-    way: Way,
-    alloc: &'m Refusing<Global>,
-    image: &[u8],
-) -> Result<Replayed<&'m Refusing<Global>>, ReplayFault> {
-    match way {
-        Way::Whole => replay(alloc, image, SCRIPT),
-        Way::Indexed => replay_indexed(alloc, image, SCRIPT),
-        Way::Pieces => {
-            let mut reader = SCRIPT;
-            replay_reader(alloc, image, &mut reader)
-        }
-    }
-}
-
-/// An image that is not legal is told as that.
-#[test]
-fn scripts(rt: HostRuntime) -> Result<(), Fail> {
-    let blank = b"ee 1 6\n0 - - - - - -\n0 - - - - - -\n";
-    for way in [Way::Whole, Way::Indexed, Way::Pieces] {
-        with_each_refusal(&rt, rt.alloc(), 5, |alloc| {
-            moves_twice(replay_by(way, alloc, FORMATTED))
-        });
-        with_each_refusal(&rt, rt.alloc(), 1, |alloc| {
-            finds_no_store(replay_by(way, alloc, blank))
-        });
-    }
-    let shape = shape(1, 6)?;
-    with_each_refusal(&rt, rt.alloc(), 5, |alloc| {
-        moves_twice(try_script(alloc, shape, SCRIPT))
-    });
-    Ok(())
-}
-
-/// A replay by the store with an index takes memory for it.
-#[test]
-fn an_index_takes_memory(rt: HostRuntime) {
-    let plain = Refusing::new(rt.alloc(), u64::MAX);
-    let moves = moves_twice(replay(&plain, FORMATTED, SCRIPT));
-    same(&rt, moves, Some(true));
-    let indexed = Refusing::new(rt.alloc(), u64::MAX);
-    let moves = moves_twice(replay_indexed(&indexed, FORMATTED, SCRIPT));
-    same(&rt, moves, Some(true));
-    same(&rt, plain.left() > indexed.left(), true);
-}
-
-// A script for which an index pays: many looks for what has no value and several moves, with a line in the midst and
-// power on near the end.
-fn long_script(alloc: Global, line: &[u8]) -> Result<Vec<u8>, Fail> {
-    let mut script = Vec::new(alloc);
-    for round in 0..150u32 {
-        if round == 60 {
-            script.extend_from_slice(line)?;
-        }
-        if round == 140 {
-            script.extend_from_slice(b"p\n")?;
-        }
-        let lines = format!(in alloc; "w 1 {round}\nw 2 {round}\nr 1\nf 2\nr 2\n")?;
-        script.extend_from_slice(lines.as_bytes())?;
-        // Of these none has a value.
-        script.extend_from_slice(b"r 3\nr 4\nr 5\nr 6\nr 7\nr 8\n")?;
-        script.extend_from_slice(b"r 9\nr 10\nr 11\nr 12\nr 13\nr 14\n")?;
-    }
-    Ok(script)
-}
-
-// A script that gives forty addresses a value: an index of them takes several requests for memory.
-fn filling(alloc: Global) -> Result<Vec<u8>, Fail> {
-    let mut script = Vec::new(alloc);
-    for address in 300..340u32 {
-        script.extend_from_slice(format!(in alloc; "w {address} 7\n")?.as_bytes())?;
-    }
-    Ok(script)
-}
-
-// Whether this was replayed.
-fn replays<A: Allocator, B: Allocator>(
-    given: Result<Replayed<A>, ReplayFault>,
-    wanted: &Replayed<B>,
-) -> Option<bool> {
-    match given {
-        Ok(replayed) => Some(
-            replayed.report.as_slice() == wanted.report.as_slice()
-                && replayed.image.as_slice() == wanted.image.as_slice(),
-        ),
-        Err(ReplayFault::Memory) => None,
-        Err(_) => Some(false),
-    }
-}
-
-/// Where `replay` makes an index it answers as a store without one does, also where a request is refused, but for those
-/// of reading the image: it goes on without an index then.
-#[test]
-fn an_index_that_pays(rt: HostRuntime) -> Result<(), Fail> {
-    let filling = filling(rt.alloc())?;
-    let filled = given(try_script(rt.alloc(), shape(1, 260)?, filling.as_slice()))?;
-    let image = filled.image.as_slice();
-    let reading = Refusing::new(rt.alloc(), u64::MAX);
-    given(read_image(&reading, image))?;
-    for line in [b"r 1\n".as_slice(), b"x 200 t\n"] {
-        let script = long_script(rt.alloc(), line)?;
-        let script = script.as_slice();
-        let mut reader = script;
-        let plain = Refusing::new(rt.alloc(), u64::MAX);
-        let wanted = given(replay_reader(&plain, image, &mut reader))?;
-        let indexed = replays(replay_indexed(rt.alloc(), image, script), &wanted);
-        same(&rt, indexed, Some(true));
-        let either = Refusing::new(rt.alloc(), u64::MAX);
-        same(
-            &rt,
-            replays(replay(&either, image, script), &wanted),
-            Some(true),
-        );
-        // An index of forty addresses takes several nodes.
-        let more = plain.left().saturating_sub(either.left());
-        same(&rt, more > 4, true);
-        let wants = Cell::new(0u64);
-        with_each_refusal(&rt, rt.alloc(), 5, |alloc| {
-            let answer = replays(replay(alloc, image, script), &wanted);
-            if answer.is_none() {
-                wants.set(wants.get().saturating_add(1));
-            }
-            answer
-        });
-        same(&rt, wants.get(), u64::MAX - reading.left());
-    }
-    Ok(())
 }
 
 /// With 10 written at address 1.
@@ -241,11 +69,9 @@ pub const SETTINGS: [(&str, u16, u32, u32, u32); 1] = [
 ];
 ";
 
-type Bytes<'m> = Vec<u8, &'m Refusing<Global>>;
-
 /// A command that gives a text.
-#[derive(Clone, Copy)]
-enum Text {
+#[derive(Clone, Copy, Debug)]
+pub enum Text {
     Format,
     States,
     Wear,
@@ -266,143 +92,261 @@ enum Text {
 
 const BASE: u32 = 0x0807_f000;
 
-// Its text. The tables of settings are read on the heap.
-fn text_of<'m>(
-    command: Text,
-    heap: Global,
-    alloc: &'m Refusing<Global>,
-    shape: Shape,
-) -> Result<Bytes<'m>, Fault> {
-    match command {
-        Text::Format => format_image(alloc, shape),
-        Text::States => states_text(alloc, ONE_MOVE),
-        Text::Wear => wear_text(alloc, TWO_MOVES, None),
-        Text::WearSince => wear_text(alloc, TIDIED, Some(TWO_MOVES)),
-        Text::Plan => plan_script(alloc, FORMATTED, SCRIPT),
-        Text::Check => check_script(alloc, FORMATTED, SCRIPT, CERTIFICATE),
-        Text::Get => get_setting(alloc, heap, TEN, VOLUME, "volume"),
-        Text::Stale => stale_text(alloc, heap, TWO_MOVES, VOLUME),
-        Text::List => list_text(alloc, heap, TWO_MOVES, None),
-        Text::ListNamed => list_text(alloc, heap, TWO_MOVES, Some(VOLUME)),
-        Text::Import => import_image(alloc, shape, DUMP),
-        Text::Export => export_image(alloc, FORMATTED),
-        Text::ImportHex => import_hex(alloc, shape, BASE, HEX),
-        Text::ExportHex => export_hex(alloc, FORMATTED, BASE),
-        Text::Inspect => inspect_text(alloc, FORMATTED),
-        Text::Header => header_text(alloc, heap, VOLUME, Language::Rust),
+/// The states of the pages after one move, and the wear after two.
+const STATES: &[u8] = b"page 0 ERASING\npage 1 ACTIVE\n";
+
+const WEAR: &[u8] = b"page 0 wear 1\npage 1 wear 0\ntotal 1 least 0 greatest 1\n";
+
+/// The wear that came by tidying.
+const WEAR_SINCE: &[u8] = b"page 0 wear 0\npage 1 wear 1\ntotal 1 least 0 greatest 1\n";
+
+/// Whether it gives its text. The tables of settings are read on the heap.
+pub fn text_given(text: Text, alloc: &Refusing<Global>, heap: Global) -> Option<bool> {
+    let shape = Shape::new(1, 6)?;
+    match text {
+        Text::Format => gives(format_image(alloc, shape), FORMATTED),
+        Text::States => gives(states_text(alloc, ONE_MOVE), STATES),
+        Text::Wear => gives(wear_text(alloc, TWO_MOVES, None), WEAR),
+        Text::WearSince => gives(wear_text(alloc, TIDIED, Some(TWO_MOVES)), WEAR_SINCE),
+        Text::Plan => gives(plan_script(alloc, FORMATTED, SCRIPT), CERTIFICATE),
+        Text::Check => gives(
+            check_script(alloc, FORMATTED, SCRIPT, CERTIFICATE),
+            b"proved 2\n",
+        ),
+        Text::Get => gives(
+            get_setting(alloc, heap, TEN, VOLUME, "volume"),
+            b"10 stored\n",
+        ),
+        Text::Stale => gives(stale_text(alloc, heap, TWO_MOVES, VOLUME), b"volume 13\n"),
+        Text::List => gives(list_text(alloc, heap, TWO_MOVES, None), b"1 13\n2 5\n"),
+        Text::ListNamed => gives(
+            list_text(alloc, heap, TWO_MOVES, Some(VOLUME)),
+            b"1 13 stale volume\n2 5\n",
+        ),
+        Text::Import => gives(import_image(alloc, shape, DUMP), FORMATTED),
+        Text::Export => gives(export_image(alloc, FORMATTED), DUMP),
+        Text::ImportHex => gives(import_hex(alloc, shape, BASE, HEX), FORMATTED),
+        Text::ExportHex => gives(export_hex(alloc, FORMATTED, BASE), HEX),
+        Text::Inspect => gives(inspect_text(alloc, FORMATTED), SCAN),
+        Text::Header => gives(header_text(alloc, heap, VOLUME, Language::Rust), HEADER),
     }
 }
 
-// The commands that give a text, with the least number of their requests and the text.
-const TEXTS: [(Text, u64, &[u8]); 16] = [
-    (Text::Format, 3, FORMATTED),
-    (Text::States, 3, b"page 0 ERASING\npage 1 ACTIVE\n"),
-    (
-        Text::Wear,
-        4,
-        b"page 0 wear 1\npage 1 wear 0\ntotal 1 least 0 greatest 1\n",
-    ),
-    (
-        Text::WearSince,
-        7,
-        b"page 0 wear 0\npage 1 wear 1\ntotal 1 least 0 greatest 1\n",
-    ),
-    (Text::Plan, 5, CERTIFICATE),
-    (Text::Check, 5, b"proved 2\n"),
-    (Text::Get, 4, b"10 stored\n"),
-    (Text::Stale, 7, b"volume 13\n"),
-    (Text::List, 6, b"1 13\n2 5\n"),
-    (Text::ListNamed, 6, b"1 13 stale volume\n2 5\n"),
-    (Text::Import, 3, FORMATTED),
-    (Text::Export, 3, DUMP),
-    (Text::ImportHex, 4, FORMATTED),
-    (Text::ExportHex, 4, HEX),
-    (Text::Inspect, 3, SCAN),
-    (Text::Header, 2, HEADER),
-];
-
-#[test]
-fn texts(rt: HostRuntime) -> Result<(), Fail> {
-    let heap = rt.alloc();
-    let shape = shape(1, 6)?;
-    for (command, least, wanted) in TEXTS {
-        with_each_refusal(&rt, heap, least, |alloc| {
-            gives(text_of(command, heap, alloc, shape), wanted)
-        });
+// Whether this image and this text were given.
+fn gives_both<A: Allocator>(
+    given: Result<ImageAndText<A>, Fault>,
+    image: &[u8],
+    text: &[u8],
+) -> Option<bool> {
+    match given {
+        Ok(left) => Some(left.image.as_slice() == image && left.text.as_slice() == text),
+        Err(Fault::Memory) => None,
+        Err(_) => Some(false),
     }
-    Ok(())
 }
 
-/// A command that gives an image and a text.
-#[derive(Clone, Copy)]
-enum Change {
+// Whether this report and this image were given.
+fn replays<A: Allocator>(
+    given: Result<Replayed<A>, ReplayFault>,
+    report: &[u8],
+    image: &[u8],
+) -> Option<bool> {
+    match given {
+        Ok(replayed) => {
+            Some(replayed.report.as_slice() == report && replayed.image.as_slice() == image)
+        }
+        Err(ReplayFault::Memory) => None,
+        Err(_) => Some(false),
+    }
+}
+
+// Whether the two moves were made.
+fn moves_twice<A: Allocator>(given: Result<Replayed<A>, ReplayFault>) -> Option<bool> {
+    replays(given, REPORT, TWO_MOVES)
+}
+
+// Whether the fault is that the image is not formatted.
+fn finds_no_store<A: Allocator>(given: Result<Replayed<A>, ReplayFault>) -> Option<bool> {
+    match given {
+        Err(ReplayFault::Memory) => None,
+        Err(fault) => Some(fault == ReplayFault::Open(ScanFault::Unformatted)),
+        Ok(_) => Some(false),
+    }
+}
+
+/// A command that gives an image beside a text. The last three replay a script over an image that is not formatted.
+#[derive(Clone, Copy, Debug)]
+pub enum Change {
     Clean,
     Set,
     Tidy,
     Apply,
+    Try,
+    Replay,
+    ReplayIndexed,
+    ReplayReader,
+    ReplayBlank,
+    ReplayBlankIndexed,
+    ReplayBlankReader,
 }
 
-// Its image and its text.
-fn change_of<'m>(
-    command: Change,
-    heap: Global,
-    alloc: &'m Refusing<Global>,
-) -> Result<ImageAndText<&'m Refusing<Global>>, Fault> {
-    match command {
-        Change::Clean => clean_image(alloc, ONE_MOVE),
-        Change::Set => set_setting(alloc, heap, FORMATTED, VOLUME, "volume", 10),
-        Change::Tidy => tidy_image(alloc, heap, TWO_MOVES, VOLUME),
-        Change::Apply => apply_values(alloc, heap, FORMATTED, VOLUME, b"volume = 10\n"),
-    }
-}
+/// Not formatted.
+const BLANK: &[u8] = b"ee 1 6\n0 - - - - - -\n0 - - - - - -\n";
 
-#[test]
-fn changes(rt: HostRuntime) {
-    let heap = rt.alloc();
-    let rows: [(Change, u64, &[u8], &[u8]); 4] = [
-        (Change::Clean, 4, CLEANED, b"cleaned 1\n"),
-        (Change::Set, 5, TEN, b"set\n"),
-        (Change::Tidy, 6, TIDIED, b"tidied 1\n"),
-        (Change::Apply, 5, TEN, b"applied 1 of 1\n"),
-    ];
-    for (command, least, image, text) in rows {
-        with_each_refusal(&rt, heap, least, |alloc| {
-            gives_both(change_of(command, heap, alloc), image, text)
-        });
+/// Whether it gives its image and its text, or its fault. The tables of settings are read on the heap.
+pub fn change_given(change: Change, alloc: &Refusing<Global>, heap: Global) -> Option<bool> {
+    let mut reader = SCRIPT;
+    match change {
+        Change::Clean => gives_both(clean_image(alloc, ONE_MOVE), CLEANED, b"cleaned 1\n"),
+        Change::Set => gives_both(
+            set_setting(alloc, heap, FORMATTED, VOLUME, "volume", 10),
+            TEN,
+            b"set\n",
+        ),
+        Change::Tidy => gives_both(
+            tidy_image(alloc, heap, TWO_MOVES, VOLUME),
+            TIDIED,
+            b"tidied 1\n",
+        ),
+        Change::Apply => gives_both(
+            apply_values(alloc, heap, FORMATTED, VOLUME, b"volume = 10\n"),
+            TEN,
+            b"applied 1 of 1\n",
+        ),
+        Change::Try => moves_twice(try_script(alloc, Shape::new(1, 6)?, SCRIPT)),
+        Change::Replay => moves_twice(replay(alloc, FORMATTED, SCRIPT)),
+        Change::ReplayIndexed => moves_twice(replay_indexed(alloc, FORMATTED, SCRIPT)),
+        Change::ReplayReader => moves_twice(replay_reader(alloc, FORMATTED, &mut reader)),
+        Change::ReplayBlank => finds_no_store(replay(alloc, BLANK, SCRIPT)),
+        Change::ReplayBlankIndexed => finds_no_store(replay_indexed(alloc, BLANK, SCRIPT)),
+        Change::ReplayBlankReader => finds_no_store(replay_reader(alloc, BLANK, &mut reader)),
     }
 }
 
 /// Ten writes of two addresses in all.
-#[test]
-fn sizes(rt: HostRuntime) {
-    with_each_refusal(&rt, rt.alloc(), 6, |alloc| {
-        let front = b"pages 1 slots 2 transfers 8 erases 4 least 4 limit 0 worn for all
+pub fn sizes_given(alloc: &Refusing<Global>) -> Option<bool> {
+    let front = b"pages 1 slots 2 transfers 8 erases 4 least 4 limit 0 worn for all
 pages 2 slots 4 transfers 2 erases 1 least 1 limit 0 enough\n";
-        match size_parts(alloc, 6, b"w 1 1\nw 2 2\nr 1\n", 3, 5) {
-            Ok(sizes) => Some(sizes.some_enough && sizes.text.as_slice().starts_with(front)),
-            Err(Fault::Memory) => None,
-            Err(_) => Some(false),
-        }
-    });
+    match size_parts(alloc, 6, b"w 1 1\nw 2 2\nr 1\n", 3, 5) {
+        Ok(sizes) => Some(sizes.some_enough && sizes.text.as_slice().starts_with(front)),
+        Err(Fault::Memory) => None,
+        Err(_) => Some(false),
+    }
 }
 
-#[test]
-fn lines_of_faults(rt: HostRuntime) {
-    let faults: [(Fault, &[u8]); 3] = [
-        (Fault::CannotRead(File::Script), b"ee: cannot read script\n"),
-        (
-            Fault::BadLine {
-                file: File::Certificate,
-                line: 12,
-            },
-            b"ee: certificate line 12\n",
-        ),
-        (Fault::Memory, b"ee: out of memory\n"),
-    ];
-    for (fault, line) in faults {
-        with_each_refusal(&rt, rt.alloc(), 1, |alloc| {
-            let written = fault_line(alloc, &fault).ok()?;
-            Some(written.as_slice() == line)
-        });
+/// Faults with their lines.
+const FAULTS: [(Fault, &[u8]); 3] = [
+    (Fault::CannotRead(File::Script), b"ee: cannot read script\n"),
+    (
+        Fault::BadLine {
+            file: File::Certificate,
+            line: 12,
+        },
+        b"ee: certificate line 12\n",
+    ),
+    (Fault::Memory, b"ee: out of memory\n"),
+];
+
+pub fn faults_told(alloc: &Refusing<Global>) -> Option<bool> {
+    for (fault, line) in FAULTS {
+        if fault_line(alloc, &fault).ok()?.as_slice() != line {
+            return Some(false);
+        }
     }
+    Some(true)
+}
+
+// A script for which an index pays: many looks for what has no value and several moves, with a line in the midst and
+// power on near the end.
+fn long_script(alloc: Global, line: &[u8]) -> Result<Vec<u8>, Fail> {
+    let mut script = Vec::new(alloc);
+    for round in 0..150u32 {
+        if round == 60 {
+            script.extend_from_slice(line)?;
+        }
+        if round == 140 {
+            script.extend_from_slice(b"p\n")?;
+        }
+        let lines = format!(in alloc; "w 1 {round}\nw 2 {round}\nr 1\nf 2\nr 2\n")?;
+        script.extend_from_slice(lines.as_bytes())?;
+        // Of these none has a value.
+        script.extend_from_slice(b"r 3\nr 4\nr 5\nr 6\nr 7\nr 8\n")?;
+        script.extend_from_slice(b"r 9\nr 10\nr 11\nr 12\nr 13\nr 14\n")?;
+    }
+    Ok(script)
+}
+
+// A script that gives forty addresses a value: an index of them takes several requests for memory.
+fn filling(alloc: Global) -> Result<Vec<u8>, Fail> {
+    let mut script = Vec::new(alloc);
+    for address in 300..340u32 {
+        script.extend_from_slice(format!(in alloc; "w {address} 7\n")?.as_bytes())?;
+    }
+    Ok(script)
+}
+
+// How many requests for memory were made of a heap that is to refuse the last of all.
+fn requests(heap: &Refusing<Global>) -> u64 {
+    u64::MAX - heap.left()
+}
+
+// Replays a script with each request refused in turn: the first so many give want of memory, and all others what is
+// wanted. Gives how many requests there are.
+fn refused_behind(
+    rt: &impl Abort,
+    memory: Global,
+    reading: u64,
+    (image, script): (&[u8], &[u8]),
+    (report, left): (&[u8], &[u8]),
+) -> Result<u64, Fail> {
+    for nth in 1..u64::MAX {
+        let heap = Refusing::new(memory, nth);
+        let found = replays(replay(&heap, image, script), report, left);
+        same_at(
+            rt,
+            nth,
+            found,
+            if nth <= reading { None } else { Some(true) },
+        );
+        if !heap.has_refused() {
+            return Ok(nth - 1);
+        }
+    }
+    Err(Fail::from("requests without end"))
+}
+
+/// Where `replay` makes an index it answers as a store without one does, also where a request is refused, but for those
+/// of reading the image: it goes on without an index then. An index of forty addresses takes several nodes.
+#[test]
+fn an_index_that_pays(rt: HostRuntime) -> Result<(), Fail> {
+    let filling = filling(rt.alloc())?;
+    let filled = given(try_script(rt.alloc(), shape(1, 260)?, filling.as_slice()))?;
+    let image = filled.image.as_slice();
+    let reading = Refusing::new(rt.alloc(), u64::MAX);
+    given(read_image(&reading, image))?;
+    for line in [b"r 1\n".as_slice(), b"x 200 t\n"] {
+        let script = long_script(rt.alloc(), line)?;
+        let script = script.as_slice();
+        let mut reader = script;
+        let plain = Refusing::new(rt.alloc(), u64::MAX);
+        let wanted = given(replay_reader(&plain, image, &mut reader))?;
+        let (report, left) = (wanted.report.as_slice(), wanted.image.as_slice());
+        let indexed = Refusing::new(rt.alloc(), u64::MAX);
+        let found = replays(replay_indexed(&indexed, image, script), report, left);
+        same(&rt, found, Some(true));
+        let count = refused_behind(
+            &rt,
+            rt.alloc(),
+            requests(&reading),
+            (image, script),
+            (report, left),
+        )?;
+        let least = requests(&plain).saturating_add(5);
+        same(
+            &rt,
+            (least <= count, least <= requests(&indexed)),
+            (true, true),
+        );
+    }
+    Ok(())
 }

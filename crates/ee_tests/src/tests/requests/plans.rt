@@ -1,110 +1,106 @@
 //! Starts, plans, checks, rounds and ledgers.
-use crate::tests::trial::with_each_refusal;
-use crate::tests::{address, device, given, same, shape, write};
 use ee_check::{Change, CheckFault, Start, check, read_certificate, write_certificate};
+use ee_codec::Address;
+use ee_fakes::Refusing;
 use ee_fakes::images::CERTIFICATE;
-use ee_flash::{Flash, MemFlash};
+use ee_flash::{MemFlash, Shape};
+use ee_image::read_image;
 use ee_plan::{Demand, PlanFault, Rounds, RoundsFault, plan, start_of};
 use ee_store::{Variables, format};
 use ee_wear::{Ledger, SinceFault};
-use std::alloc::Global;
+use std::alloc::{Allocator, Global};
 use std::collections::BTreeSet;
-use std::test::Fail;
 
-/// So many slots, of which none is used.
-fn start(alloc: Global, slots: u64) -> Result<Start, Fail> {
-    Ok(Start::new(slots, 0, BTreeSet::new(alloc)).ok_or("no start")?)
+// So many slots, of which none is used.
+fn unused(memory: Global, slots: u64) -> Option<Start> {
+    Start::new(slots, 0, BTreeSet::new(memory))
 }
 
-#[test]
-fn a_trace_is_planned_and_checked(rt: HostRuntime) -> Result<(), Fail> {
-    let start = start(rt.alloc(), 2)?;
-    let (first, second) = (write(1)?, write(2)?);
-    let trace = [first, first, first, second, first];
-    let certificate = read_certificate(rt.alloc(), CERTIFICATE)?;
-    with_each_refusal(&rt, rt.alloc(), 1, |alloc| {
-        match check(alloc, &start, &trace, &certificate) {
-            Ok(count) => Some(count == 2),
-            Err(CheckFault::Memory) => None,
-            Err(_) => Some(false),
-        }
-    });
-    with_each_refusal(&rt, rt.alloc(), 1, |alloc| {
-        match plan(alloc, &start, &trace) {
-            Ok(plan) => Some(
-                (plan.transfers, plan.room) == (2, 0)
-                    && plan.moments.as_slice() == [3, 5].as_slice()
-                    && plan.certificate.stretches.as_slice() == certificate.stretches.as_slice(),
-            ),
-            Err(PlanFault::Memory) => None,
-            Err(_) => Some(false),
-        }
-    });
-    let rounds = [first, second];
-    with_each_refusal(&rt, rt.alloc(), 3, |alloc| {
-        let trace = rounds.to_vec(alloc).ok()?;
-        match Rounds::new(alloc, trace, 5) {
-            Ok(rounds) => Some(rounds.demand(2) == Demand::Transfers(8)),
-            Err(RoundsFault::Memory) => None,
-            Err(_) => Some(false),
-        }
-    });
-    Ok(())
+// The changes of the script of two moves.
+fn two_moves() -> Option<[Change; 5]> {
+    let first = Change::Write(Address::new(1)?);
+    let second = Change::Write(Address::new(2)?);
+    Some([first, first, first, second, first])
 }
 
-#[test]
-fn starts(rt: HostRuntime) -> Result<(), Fail> {
-    let (two, nine) = (address(2)?, address(9)?);
-    let mut store = given(format(MemFlash::blank(rt.alloc(), shape(1, 8)?)?))?;
-    for address in [nine, two, nine] {
-        given(store.write(address, 1))?;
+pub fn trace_checked(alloc: &Refusing<Global>, memory: Global) -> Option<bool> {
+    let certificate = read_certificate(memory, CERTIFICATE).ok()?;
+    match check(alloc, &unused(memory, 2)?, &two_moves()?, &certificate) {
+        Ok(count) => Some(count == 2),
+        Err(CheckFault::Memory) => None,
+        Err(_) => Some(false),
     }
-    with_each_refusal(&rt, rt.alloc(), 1, |alloc| {
-        if !store.is_on() {
-            return Some(false);
-        }
-        let start = start_of(alloc, &store).ok()?;
-        Some((start.slots(), start.fill(), start.live().len()) == (4, 3, 2))
-    });
-    let mut live = BTreeSet::new(rt.alloc());
-    live.insert(nine)?;
-    let start: Start = Start::new(2, 1, live).ok_or("no start")?;
-    with_each_refusal(&rt, rt.alloc(), 1, |alloc| {
-        let mut live = start.live_in(alloc).ok()?;
-        if Change::Write(two).make(&mut live).is_err() {
-            return if live.len() == 1 { None } else { Some(false) };
-        }
-        Some(live.len() == 2 && live.contains(&two))
-    });
-    Ok(())
 }
 
-// On one slot each write but the first transfers. Behind a thousand changes the checker asks for memory once more, and
-// goes on without where that is refused.
-#[test]
-fn a_certificate_of_a_thousand_stretches(rt: HostRuntime) -> Result<(), Fail> {
-    let mut trace = vec![in rt.alloc(); write(1)?]?;
-    let mut text = String::from_str(rt.alloc(), "slots 1 fill 0 live 0 writes 1101\n")?;
+pub fn trace_planned(alloc: &Refusing<Global>, memory: Global) -> Option<bool> {
+    let certificate = read_certificate(memory, CERTIFICATE).ok()?;
+    match plan(alloc, &unused(memory, 2)?, &two_moves()?) {
+        Ok(plan) => Some(
+            (plan.transfers, plan.room) == (2, 0)
+                && plan.moments.as_slice() == [3, 5].as_slice()
+                && plan.certificate.stretches.as_slice() == certificate.stretches.as_slice(),
+        ),
+        Err(PlanFault::Memory) => None,
+        Err(_) => Some(false),
+    }
+}
+
+pub fn rounds_made(alloc: &Refusing<Global>) -> Option<bool> {
+    let [first, _, _, second, _] = two_moves()?;
+    let trace = [first, second].to_vec(alloc).ok()?;
+    match Rounds::new(alloc, trace, 5) {
+        Ok(rounds) => Some(rounds.demand(2) == Demand::Transfers(8)),
+        Err(RoundsFault::Memory) => None,
+        Err(_) => Some(false),
+    }
+}
+
+pub fn start_found(alloc: &Refusing<Global>, memory: Global) -> Option<bool> {
+    let mut store = format(MemFlash::blank(memory, Shape::new(1, 8)?).ok()?).ok()?;
+    for number in [9, 2, 9] {
+        store.write(Address::new(number)?, 1).ok()?;
+    }
+    if !store.is_on() {
+        return Some(false);
+    }
+    let start = start_of(alloc, &store).ok()?;
+    Some((start.slots(), start.fill(), start.live().len()) == (4, 3, 2))
+}
+
+pub fn change_made(alloc: &Refusing<Global>, memory: Global) -> Option<bool> {
+    let (two, nine) = (Address::new(2)?, Address::new(9)?);
+    let mut live = BTreeSet::new(memory);
+    live.insert(nine).ok()?;
+    let start: Start = Start::new(2, 1, live)?;
+    let mut live = start.live_in(alloc).ok()?;
+    if Change::Write(two).make(&mut live).is_err() {
+        return if live.len() == 1 { None } else { Some(false) };
+    }
+    Some(live.len() == 2 && live.contains(&two))
+}
+
+/// On one slot each write but the first transfers. Behind a thousand changes the checker asks for memory once more, and
+/// goes on without where that is refused.
+pub fn thousand_checked(alloc: &Refusing<Global>, memory: Global) -> Option<bool> {
+    let write = Change::Write(Address::new(1)?);
+    let mut trace = vec![in memory; write].ok()?;
+    let mut text = String::from_str(memory, "slots 1 fill 0 live 0 writes 1101\n").ok()?;
     for to in 2..1102_u64 {
-        trace.push(write(1)?)?;
+        trace.push(write).ok()?;
         let from = if to == 2 { 0 } else { 1 };
-        text.push_str(format!(in rt.alloc(); "to {to} from {from}\n")?.as_str())?;
+        let line = format!(in memory; "to {to} from {from}\n").ok()?;
+        text.push_str(line.as_str()).ok()?;
     }
-    text.push_str("transfers 1100\n")?;
-    let certificate = read_certificate(rt.alloc(), text.as_bytes())?;
-    same(&rt, certificate.stretches.len(), 1100);
-    let start = start(rt.alloc(), 1)?;
-    with_each_refusal(&rt, rt.alloc(), 2, |alloc| {
-        match check(alloc, &start, &trace, &certificate) {
-            Ok(count) => Some(count == 1100),
-            Err(CheckFault::Memory) => None,
-            Err(_) => Some(false),
-        }
-    });
-    let mut out = Vec::new(rt.alloc());
-    write_certificate(&certificate, &mut out)?;
-    same(&rt, out.as_slice(), text.as_bytes());
-    Ok(())
+    text.push_str("transfers 1100\n").ok()?;
+    let certificate = read_certificate(memory, text.as_bytes()).ok()?;
+    let mut out = Vec::new(memory);
+    write_certificate(&certificate, &mut out).ok()?;
+    let is_same = certificate.stretches.len() == 1100 && out.as_slice() == text.as_bytes();
+    match check(alloc, &unused(memory, 1)?, &trace, &certificate) {
+        Ok(count) => Some(is_same && count == 1100),
+        Err(CheckFault::Memory) => None,
+        Err(_) => Some(false),
+    }
 }
 
 /// Erased three times and five times, and earlier.
@@ -112,26 +108,23 @@ const WORN: &[u8] = b"ee 1 5\n3 - - - - -\n5 - - - - -\n";
 
 const LESS_WORN: &[u8] = b"ee 1 5\n1 - - - - -\n5 - - - - -\n";
 
-#[test]
-fn ledgers(rt: HostRuntime) -> Result<(), Fail> {
-    let flash = device(rt.alloc(), WORN)?;
-    let now = Ledger::of(rt.alloc(), &flash)?;
-    let before = Ledger::of(rt.alloc(), &device(rt.alloc(), LESS_WORN)?)?;
-    with_each_refusal(&rt, rt.alloc(), 1, |alloc| {
-        let ledger = Ledger::of(alloc, &flash).ok()?;
-        let found = (ledger.total(), ledger.least(), ledger.greatest());
-        Some(ledger.pages() == 2 && found == (8, 3, 5))
-    });
-    with_each_refusal(&rt, rt.alloc(), 1, |alloc| {
-        match now.since(alloc, &before) {
-            Ok(since) => {
-                let found = (since.total(), since.least(), since.greatest());
-                Some(since.pages() == 2 && found == (2, 0, 2))
-            }
-            Err(SinceFault::Memory) => None,
-            Err(_) => Some(false),
-        }
-    });
-    same(&rt, flash.is_on(), true);
-    Ok(())
+// Whether a ledger of two pages has this total, least and greatest.
+fn has<A: Allocator>(ledger: &Ledger<A>, numbers: (u128, u64, u64)) -> bool {
+    ledger.pages() == 2 && (ledger.total(), ledger.least(), ledger.greatest()) == numbers
+}
+
+pub fn ledger_made(alloc: &Refusing<Global>, memory: Global) -> Option<bool> {
+    let flash = read_image(memory, WORN).ok()?;
+    let ledger = Ledger::of(alloc, &flash).ok()?;
+    Some(has(&ledger, (8, 3, 5)))
+}
+
+pub fn ledger_since(alloc: &Refusing<Global>, memory: Global) -> Option<bool> {
+    let later = Ledger::of(memory, &read_image(memory, WORN).ok()?).ok()?;
+    let earlier = Ledger::of(memory, &read_image(memory, LESS_WORN).ok()?).ok()?;
+    match later.since(alloc, &earlier) {
+        Ok(since) => Some(has(&since, (2, 0, 2))),
+        Err(SinceFault::Memory) => None,
+        Err(_) => Some(false),
+    }
 }

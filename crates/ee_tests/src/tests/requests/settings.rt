@@ -1,8 +1,10 @@
 //! Schemas, and what they find on a store with an index.
-use crate::tests::trial::with_each_refusal;
-use crate::tests::{address, device, given, same};
+use crate::tests::same;
+use ee_codec::Address;
+use ee_fakes::Refusing;
 use ee_fakes::images::TWO_MOVES;
 use ee_flash::{Flash, MemFlash};
+use ee_image::read_image;
 use ee_settings::{Held, ListFault, Listed, Reading, Schema, SchemaFault, Stale, StaleFault};
 use ee_store::{IndexedStore, Written};
 use std::alloc::Global;
@@ -22,72 +24,69 @@ max = 9
 default = 4
 ";
 
-// The store after two moves.
-fn store(alloc: Global) -> Result<IndexedStore<MemFlash>, Fail> {
-    let flash = device(alloc, TWO_MOVES)?;
-    if !flash.is_on() {
-        return Err(Fail::from("off"));
+pub fn schema_read(alloc: &Refusing<Global>, memory: Global) -> Option<bool> {
+    let table = toml::table_from_slice(memory, BOTH).ok()?;
+    match Schema::from_table(alloc, &table) {
+        Ok(schema) => {
+            let names = (schema.name(1), schema.name(2), schema.name(3));
+            Some(schema.entries() == 2 && names == (Some("tone"), Some("volume"), None))
+        }
+        Err(SchemaFault::Memory) => None,
+        Err(_) => Some(false),
     }
-    given(IndexedStore::open(alloc, flash))
 }
 
-#[test]
-fn schemas(rt: HostRuntime) -> Result<(), Fail> {
-    let table = toml::table_from_slice(rt.alloc(), BOTH)?;
-    with_each_refusal(&rt, rt.alloc(), 3, |alloc| {
-        match Schema::from_table(alloc, &table) {
-            Ok(schema) => Some(
-                (
-                    schema.entries(),
-                    schema.name(1),
-                    schema.name(2),
-                    schema.name(3),
-                ) == (2, Some("tone"), Some("volume"), None),
-            ),
-            Err(SchemaFault::Memory) => None,
-            Err(_) => Some(false),
-        }
-    });
-    Ok(())
+// The two settings, and the store after two moves.
+fn both(memory: Global) -> Option<(Schema, IndexedStore<MemFlash>)> {
+    let table = toml::table_from_slice(memory, BOTH).ok()?;
+    let schema = Schema::from_table(memory, &table).ok()?;
+    let flash = read_image(memory, TWO_MOVES).ok()?;
+    if !flash.is_on() {
+        return None;
+    }
+    Some((schema, IndexedStore::open(memory, flash).ok()?))
 }
 
-#[test]
-fn stale_values(rt: HostRuntime) -> Result<(), Fail> {
-    let table = toml::table_from_slice(rt.alloc(), BOTH)?;
-    let schema: Schema = given(Schema::from_table(rt.alloc(), &table))?;
-    let mut store = store(rt.alloc())?;
-    // The stored values, the entries with theirs, the entries.
-    with_each_refusal(&rt, rt.alloc(), 3, |alloc| {
-        match schema.stale(alloc, &store) {
-            Ok(entries) => Some(entries.as_slice() == [2].as_slice()),
-            Err(StaleFault::Memory) => None,
-            Err(_) => Some(false),
-        }
-    });
+pub fn stale_found(alloc: &Refusing<Global>, memory: Global) -> Option<bool> {
+    let (schema, store) = both(memory)?;
+    match schema.stale(alloc, &store) {
+        Ok(entries) => Some(entries.as_slice() == [2].as_slice()),
+        Err(StaleFault::Memory) => None,
+        Err(_) => Some(false),
+    }
+}
+
+pub fn stale_values_found(alloc: &Refusing<Global>, memory: Global) -> Option<bool> {
+    let (schema, store) = both(memory)?;
     let wanted = [Stale {
         entry: 2,
         value: 13,
     }];
-    with_each_refusal(&rt, rt.alloc(), 2, |alloc| {
-        match schema.stale_values(alloc, &store) {
-            Ok(stale) => Some(stale.as_slice() == wanted.as_slice()),
-            Err(StaleFault::Memory) => None,
-            Err(_) => Some(false),
-        }
-    });
+    match schema.stale_values(alloc, &store) {
+        Ok(stale) => Some(stale.as_slice() == wanted.as_slice()),
+        Err(StaleFault::Memory) => None,
+        Err(_) => Some(false),
+    }
+}
+
+pub fn values_listed(alloc: &Refusing<Global>, memory: Global) -> Option<bool> {
+    let (_, store) = both(memory)?;
     let last = Listed {
-        address: address(2)?,
+        address: Address::new(2)?,
         entry: None,
         held: Held::Value(5),
     };
-    with_each_refusal(&rt, rt.alloc(), 2, |alloc| {
-        match Schema::empty(alloc).list(alloc, &store) {
-            Ok(listed) => Some(listed.len() == 2 && listed.last().copied() == Some(last)),
-            Err(ListFault::Memory) => None,
-            Err(_) => Some(false),
-        }
-    });
-    // On a store with an index too a setting is set, and all else is tidied away.
+    match Schema::empty(alloc).list(alloc, &store) {
+        Ok(listed) => Some(listed.len() == 2 && listed.last().copied() == Some(last)),
+        Err(ListFault::Memory) => None,
+        Err(_) => Some(false),
+    }
+}
+
+/// On a store with an index too a setting is set, and all else is tidied away.
+#[test]
+fn an_index_under_settings(rt: HostRuntime) -> Result<(), Fail> {
+    let (schema, mut store) = both(rt.alloc()).ok_or("no settings")?;
     same(&rt, schema.get(&store, "volume"), Ok(Reading::Default(5)));
     same(&rt, schema.set(&mut store, "volume", 7), Ok(Written::Moved));
     same(&rt, schema.get(&store, "volume"), Ok(Reading::Stored(7)));

@@ -1,34 +1,31 @@
 //! Devices, stores with an index, and events that drive a store.
-use crate::tests::trial::with_each_refusal;
-use crate::tests::{address, shape};
 use ee_codec::Address;
-use ee_fakes::ListFlash;
 use ee_fakes::images::ONE_MOVE;
+use ee_fakes::{ListFlash, Refusing};
 use ee_flash::{Flash, MemFlash, Shape};
 use ee_image::{read_image, write_image};
 use ee_store::{
     Answer, Event, IndexedFault, IndexedStore, Variables, WriteFault, Written, drive, format,
 };
 use std::alloc::Global;
-use std::test::Fail;
 
-#[test]
-fn blank_devices(rt: HostRuntime) -> Result<(), Fail> {
-    let shape = shape(2, 6)?;
-    with_each_refusal(&rt, rt.alloc(), 2, |alloc| {
-        let flash = MemFlash::blank(alloc, shape).ok()?;
-        Some(flash.shape() == shape && flash.is_on() && flash.cuts() == 0)
-    });
-    with_each_refusal(&rt, rt.alloc(), 2, |alloc| {
-        let flash = ListFlash::blank(alloc, shape, &[]).ok()?;
-        Some(flash.shape() == shape && flash.is_on() && flash.cuts() == 0)
-    });
-    Ok(())
+// Whether a device has this shape, is on and was never cut.
+fn is_new<F: Flash>(flash: &F, shape: Shape) -> bool {
+    flash.shape() == shape && flash.is_on() && flash.cuts() == 0
 }
 
-#[test]
-fn events(rt: HostRuntime) -> Result<(), Fail> {
-    let address = address(1)?;
+pub fn blank_device(alloc: &Refusing<Global>) -> Option<bool> {
+    let shape = Shape::new(2, 6)?;
+    Some(is_new(&MemFlash::blank(alloc, shape).ok()?, shape))
+}
+
+pub fn blank_list(alloc: &Refusing<Global>) -> Option<bool> {
+    let shape = Shape::new(2, 6)?;
+    Some(is_new(&ListFlash::blank(alloc, shape, &[]).ok()?, shape))
+}
+
+pub fn events_driven(alloc: &Refusing<Global>, memory: Global) -> Option<bool> {
+    let address = Address::new(1)?;
     let events = [
         Event::Get { address },
         Event::Reopen,
@@ -49,23 +46,21 @@ fn events(rt: HostRuntime) -> Result<(), Fail> {
         Answer::Done(Written::Moved),
         Answer::Value(None),
     ];
-    with_each_refusal(&rt, rt.alloc(), 2, |alloc| {
-        let flash = read_image(rt.alloc(), ONE_MOVE).ok()?;
-        match drive(alloc, flash, &events) {
-            Ok(driven) => Some(driven.log.as_slice() == answers.as_slice()),
-            Err((flash, _)) if flash.is_on() && flash.steps() == 0 => None,
-            Err(_) => Some(false),
+    match drive(alloc, read_image(memory, ONE_MOVE).ok()?, &events) {
+        Ok(driven) => {
+            Some(driven.log.as_slice() == answers.as_slice() && driven.kept.is_empty())
         }
-    });
-    Ok(())
+        Err((flash, _)) if flash.is_on() && flash.steps() == 0 => None,
+        Err(_) => Some(false),
+    }
 }
 
 /// How many addresses are written, each once: more than one node of the index holds.
 const COUNT: u16 = 40;
 
 // A device with room for all of them, to which a store wrote the first so many.
-fn written(alloc: Global, count: u16) -> Option<MemFlash> {
-    let flash = MemFlash::blank(alloc, Shape::new(1, 60)?).ok()?;
+fn written(memory: Global, count: u16) -> Option<MemFlash> {
+    let flash = MemFlash::blank(memory, Shape::new(1, 60)?).ok()?;
     let mut store = format(flash).ok()?;
     for number in 1..COUNT + 1 {
         if number <= count {
@@ -77,64 +72,56 @@ fn written(alloc: Global, count: u16) -> Option<MemFlash> {
     Some(store.into_flash())
 }
 
-// The text of a device.
-fn text_of<F: Flash>(alloc: Global, flash: &F) -> Option<Vec<u8>> {
-    let mut text = Vec::new(alloc);
-    write_image(flash, &mut text).ok()?;
-    Some(text)
+// Want of memory, if a device is as the store left it that wrote the first so many; else another answer.
+fn wants_memory<F: Flash>(memory: Global, flash: &F, count: u16) -> Option<bool> {
+    let mut found = Vec::new(memory);
+    write_image(flash, &mut found).ok()?;
+    let mut wanted = Vec::new(memory);
+    write_image(&written(memory, count)?, &mut wanted).ok()?;
+    if found.as_slice() == wanted.as_slice() {
+        None
+    } else {
+        Some(false)
+    }
 }
 
-#[test]
-fn opening_an_index(rt: HostRuntime) -> Result<(), Fail> {
-    let before = written(rt.alloc(), COUNT).ok_or("not written")?;
-    let wanted = text_of(rt.alloc(), &before).ok_or("no text")?;
-    with_each_refusal(&rt, rt.alloc(), 2, |alloc| {
-        let flash = written(rt.alloc(), COUNT)?;
-        if !flash.is_on() {
-            return Some(false);
-        }
-        match IndexedStore::open(alloc, flash) {
-            Ok(store) => Some(store.is_on() && store.live_count() == usize::from(COUNT)),
-            Err((flash, IndexedFault::Memory)) => {
-                let stays = text_of(rt.alloc(), &flash)?.as_slice() == wanted.as_slice();
-                if stays { None } else { Some(false) }
-            }
-            Err(_) => Some(false),
-        }
-    });
-    Ok(())
+pub fn index_opened(alloc: &Refusing<Global>, memory: Global) -> Option<bool> {
+    let flash = written(memory, COUNT)?;
+    if !flash.is_on() {
+        return Some(false);
+    }
+    match IndexedStore::open(alloc, flash) {
+        Ok(store) => Some(store.is_on() && store.live_count() == usize::from(COUNT)),
+        Err((flash, IndexedFault::Memory)) => wants_memory(memory, &flash, COUNT),
+        Err(_) => Some(false),
+    }
 }
 
-// Writes each address in its turn. Where memory is refused, the store and its device stay as they are.
-fn write_each<V: Variables>(store: &mut V) -> Option<Result<(), u16>> {
+// Writes each address in its turn, and gives how many were written before one for which there was no memory.
+fn write_each<V: Variables>(store: &mut V) -> Option<u16> {
     for number in 1..COUNT + 1 {
         let address = Address::new(number)?;
         match store.write(address, u32::from(number) + 1000) {
             Ok(_) => {}
-            Err(WriteFault::Memory) if store.read(address) == Ok(None) => return Some(Err(number)),
+            Err(WriteFault::Memory) if store.read(address) == Ok(None) => return Some(number - 1),
             Err(_) => return None,
         }
     }
-    Some(Ok(()))
+    Some(COUNT)
 }
 
-#[test]
-fn writing_with_an_index(rt: HostRuntime) -> Result<(), Fail> {
-    with_each_refusal(&rt, rt.alloc(), 2, |alloc| {
-        let flash = written(rt.alloc(), 0)?;
-        if !flash.is_on() {
-            return Some(false);
-        }
-        let mut store = IndexedStore::open(alloc, flash).ok()?;
-        let Some(each) = write_each(&mut store) else {
-            return Some(false);
-        };
-        let Err(refused) = each else {
-            return Some(store.is_on() && store.live_count() == usize::from(COUNT));
-        };
-        let before = text_of(rt.alloc(), &written(rt.alloc(), refused.checked_sub(1)?)?)?;
-        let stays = text_of(rt.alloc(), &store.into_flash())?.as_slice() == before.as_slice();
-        if stays { None } else { Some(false) }
-    });
-    Ok(())
+/// Where memory is refused, the store and its device stay as they are.
+pub fn index_written(alloc: &Refusing<Global>, memory: Global) -> Option<bool> {
+    let flash = written(memory, 0)?;
+    if !flash.is_on() {
+        return Some(false);
+    }
+    let mut store = IndexedStore::open(alloc, flash).ok()?;
+    let Some(count) = write_each(&mut store) else {
+        return Some(false);
+    };
+    if count == COUNT {
+        return Some(store.is_on() && store.live_count() == usize::from(COUNT));
+    }
+    wants_memory(memory, &store.into_flash(), count)
 }

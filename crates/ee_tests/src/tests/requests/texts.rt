@@ -1,8 +1,7 @@
 //! Numbers, answers, sessions, images and certificates.
-use crate::tests::trial::with_each_refusal;
-use crate::tests::{device, same};
-use ee_check::{TextFault, read_certificate, write_certificate};
-use ee_fakes::images::{CERTIFICATE, SCRIPT};
+use ee_check::{Stretch, TextFault, read_certificate, write_certificate};
+use ee_fakes::Refusing;
+use ee_fakes::images::CERTIFICATE;
 use ee_flash::Flash;
 use ee_image::{ImageFault, read_image, write_image};
 use ee_script::{
@@ -10,8 +9,7 @@ use ee_script::{
     push_answer,
 };
 use ee_text::{push_number, push_number_behind};
-use std::alloc::AllocError;
-use std::test::Fail;
+use std::alloc::{AllocError, Global};
 
 /// Serves with the value that was written last, at any address.
 #[derive(Clone, Copy, Drop)]
@@ -29,89 +27,90 @@ impl Serve for LastValue {
     }
 }
 
-/// What it answers to the script of two moves and a read.
-const ANSWERS: &[u8] = b"moved\nmoved\nmoved\nmoved\nmoved\n13\n";
+/// A script of two moves, and then a read.
+const LINES: &[u8] = b"w 1 10\nw 1 11\nw 1 12\nw 2 5\nw 1 13\nr 2\n";
 
-/// The script of two moves in two pieces, and then a read.
+/// The same in pieces.
 const PIECES: [&[u8]; 3] = [b"w 1 10\nw 1 11\nw 1 ", b"12\nw 2 5\nw 1 13\nr", b" 2\n"];
 
-#[test]
-fn scripts(rt: HostRuntime) -> Result<(), Fail> {
-    let mut script = Vec::from_slice(rt.alloc(), SCRIPT)?;
-    script.extend_from_slice(b"r 2\n")?;
-    with_each_refusal(&rt, rt.alloc(), 1, |alloc| {
-        match answer_script(alloc, LastValue(0), script.as_slice()) {
-            Ok((_, report)) => Some(report.as_slice() == ANSWERS),
-            Err(ScriptFault::Memory) => None,
-            Err(_) => Some(false),
-        }
-    });
-    with_each_refusal(&rt, rt.alloc(), 1, |alloc| {
-        let mut session = Session::new(alloc, LastValue(0));
-        for piece in PIECES {
-            session = session.feed(piece).ok()?;
-        }
-        let (_, report) = session.finish().ok()?;
-        Some(report.as_slice() == ANSWERS)
-    });
-    with_each_refusal(&rt, rt.alloc(), 1, |alloc| {
-        let mut reader = script.as_slice();
-        match answer_reader(alloc, LastValue(0), &mut reader, 100) {
-            Ok((_, report)) => Some(report.as_slice() == ANSWERS),
-            Err(StreamFault::Script(ScriptFault::Memory)) => None,
-            Err(_) => Some(false),
-        }
-    });
-    Ok(())
+/// What it is answered.
+const ANSWERS: &[u8] = b"moved\nmoved\nmoved\nmoved\nmoved\n13\n";
+
+pub fn script_answered(alloc: &Refusing<Global>) -> Option<bool> {
+    match answer_script(alloc, LastValue(0), LINES) {
+        Ok((_, report)) => Some(report.as_slice() == ANSWERS),
+        Err(ScriptFault::Memory) => None,
+        Err(_) => Some(false),
+    }
 }
 
-/// The lines of all answers, with the greatest value.
-const LINES: &[u8] =
-    b"ok\nmoved\nfull\nspent\nclean\nidle\n4294967295\nnone\nabsent\narmed\ncut\noff\nopen\n";
-
-#[test]
-fn numbers_and_answers(rt: HostRuntime) {
-    with_each_refusal(&rt, rt.alloc(), 2, |alloc| {
-        let mut out = Vec::from_slice(alloc, b"0 ").ok()?;
-        if push_number(&mut out, u64::MAX).is_err() {
-            return unless(out.as_slice() == b"0 ".as_slice());
-        }
-        Some(out.as_slice() == b"0 18446744073709551615".as_slice())
-    });
-    with_each_refusal(&rt, rt.alloc(), 3, |alloc| {
-        let mut out = Vec::from_slice(alloc, b"0 ").ok()?;
-        if push_number_behind(&mut out, b"to ", u64::MAX).is_err() {
-            let left = out.as_slice();
-            return unless(left == b"0 ".as_slice() || left == b"0 to ".as_slice());
-        }
-        Some(out.as_slice() == b"0 to 18446744073709551615".as_slice())
-    });
-    with_each_refusal(&rt, rt.alloc(), 4, |alloc| {
-        let mut out = Vec::new(alloc);
-        for answer in [
-            Answer::Appended,
-            Answer::Moved,
-            Answer::Full,
-            Answer::Spent,
-            Answer::Cleaned,
-            Answer::Idle,
-            Answer::Value(4_294_967_295),
-            Answer::NoValue,
-            Answer::Absent,
-            Answer::Armed,
-            Answer::Cut,
-            Answer::Off,
-            Answer::Opened,
-        ] {
-            push_answer(&mut out, answer).ok()?;
-        }
-        Some(out.as_slice() == LINES)
-    });
+pub fn session_fed(alloc: &Refusing<Global>) -> Option<bool> {
+    let mut session = Session::new(alloc, LastValue(0));
+    for piece in PIECES {
+        session = session.feed(piece).ok()?;
+    }
+    let (_, report) = session.finish().ok()?;
+    Some(report.as_slice() == ANSWERS)
 }
 
-/// Want of memory, if what was there stays; else another answer.
+pub fn reader_answered(alloc: &Refusing<Global>) -> Option<bool> {
+    let mut reader = LINES;
+    match answer_reader(alloc, LastValue(0), &mut reader, 100) {
+        Ok((_, report)) => Some(report.as_slice() == ANSWERS),
+        Err(StreamFault::Script(ScriptFault::Memory)) => None,
+        Err(_) => Some(false),
+    }
+}
+
+// Want of memory, if what was there stays; else another answer.
 fn unless(stays: bool) -> Option<bool> {
     if stays { None } else { Some(false) }
+}
+
+pub fn number_pushed(alloc: &Refusing<Global>) -> Option<bool> {
+    let mut out = Vec::from_slice(alloc, b"0 ").ok()?;
+    if push_number(&mut out, u64::MAX).is_err() {
+        return unless(out.as_slice() == b"0 ".as_slice());
+    }
+    Some(out.as_slice() == b"0 18446744073709551615".as_slice())
+}
+
+pub fn number_pushed_behind(alloc: &Refusing<Global>) -> Option<bool> {
+    let mut out = Vec::from_slice(alloc, b"0 ").ok()?;
+    if push_number_behind(&mut out, b"to ", u64::MAX).is_err() {
+        let left = out.as_slice();
+        return unless(left == b"0 ".as_slice() || left == b"0 to ".as_slice());
+    }
+    Some(out.as_slice() == b"0 to 18446744073709551615".as_slice())
+}
+
+/// All answers, with the greatest value.
+const EACH: [Answer; 13] = [
+    Answer::Appended,
+    Answer::Moved,
+    Answer::Full,
+    Answer::Spent,
+    Answer::Cleaned,
+    Answer::Idle,
+    Answer::Value(4_294_967_295),
+    Answer::NoValue,
+    Answer::Absent,
+    Answer::Armed,
+    Answer::Cut,
+    Answer::Off,
+    Answer::Opened,
+];
+
+/// Their lines.
+const EACH_LINE: &[u8] =
+    b"ok\nmoved\nfull\nspent\nclean\nidle\n4294967295\nnone\nabsent\narmed\ncut\noff\nopen\n";
+
+pub fn answers_pushed(alloc: &Refusing<Global>) -> Option<bool> {
+    let mut out = Vec::new(alloc);
+    for answer in EACH {
+        push_answer(&mut out, answer).ok()?;
+    }
+    Some(out.as_slice() == EACH_LINE)
 }
 
 /// An image with words of each kind, the greatest wear and the greatest word.
@@ -120,58 +119,46 @@ const WORDS: &[u8] = b"ee 1 6
 7 aaaaaaaa00000002 aaaaaaaaaaaaaaaa - - 0000000c00000001 fffffffffffffffe
 ";
 
-#[test]
-fn images(rt: HostRuntime) -> Result<(), Fail> {
-    let flash = device(rt.alloc(), WORDS)?;
-    same(&rt, (flash.shape().pages(), flash.shape().words()), (1, 6));
-    with_each_refusal(&rt, rt.alloc(), 2, |alloc| {
-        match read_image(alloc, WORDS) {
-            Ok(read) => Some(
-                read.shape() == flash.shape()
-                    && read.is_on()
-                    && (read.cuts(), read.cuts_left(), read.steps()) == (0, Some(0), 0),
-            ),
-            Err(ImageFault::Memory) => None,
-            Err(_) => Some(false),
-        }
-    });
-    let mut wanted = Vec::from_slice(rt.alloc(), b"end\n")?;
-    wanted.extend_from_slice(WORDS)?;
-    with_each_refusal(&rt, rt.alloc(), 3, |alloc| {
-        let mut out = Vec::from_slice(alloc, b"end\n").ok()?;
-        if write_image(&flash, &mut out).is_err() {
-            return unless(out.as_slice() == b"end\n".as_slice());
-        }
-        Some(out.as_slice() == wanted.as_slice())
-    });
-    Ok(())
+pub fn image_read(alloc: &Refusing<Global>) -> Option<bool> {
+    match read_image(alloc, WORDS) {
+        Ok(read) => Some(
+            (read.shape().pages(), read.shape().words()) == (1, 6)
+                && read.is_on()
+                && (read.cuts(), read.cuts_left(), read.steps()) == (0, Some(0), 0),
+        ),
+        Err(ImageFault::Memory) => None,
+        Err(_) => Some(false),
+    }
 }
 
-#[test]
-fn certificates(rt: HostRuntime) -> Result<(), Fail> {
-    let certificate = read_certificate(rt.alloc(), CERTIFICATE)?;
-    let fields = (
-        certificate.slots,
-        certificate.fill,
-        certificate.live,
-        certificate.writes,
-    );
-    same(&rt, fields, (2, 0, 0, 5));
-    let mut wanted = Vec::from_slice(rt.alloc(), b"end\n")?;
-    wanted.extend_from_slice(CERTIFICATE)?;
-    with_each_refusal(&rt, rt.alloc(), 1, |alloc| {
-        match read_certificate(alloc, CERTIFICATE) {
-            Ok(read) => Some(read.stretches.as_slice() == certificate.stretches.as_slice()),
-            Err(TextFault::Memory) => None,
-            Err(_) => Some(false),
-        }
-    });
-    with_each_refusal(&rt, rt.alloc(), 2, |alloc| {
-        let mut out = Vec::from_slice(alloc, b"end\n").ok()?;
-        if write_certificate(&certificate, &mut out).is_err() {
-            return unless(out.as_slice() == b"end\n".as_slice());
-        }
-        Some(out.as_slice() == wanted.as_slice())
-    });
-    Ok(())
+pub fn image_written(alloc: &Refusing<Global>, memory: Global) -> Option<bool> {
+    let flash = read_image(memory, WORDS).ok()?;
+    let mut out = Vec::from_slice(alloc, b"end\n").ok()?;
+    if write_image(&flash, &mut out).is_err() {
+        return unless(out.as_slice() == b"end\n".as_slice());
+    }
+    Some(out.as_slice().strip_prefix(b"end\n") == Some(WORDS))
+}
+
+/// The stretches of the certificate.
+const STRETCHES: [Stretch; 2] = [Stretch { to: 3, from: 0 }, Stretch { to: 5, from: 1 }];
+
+pub fn certificate_read(alloc: &Refusing<Global>) -> Option<bool> {
+    match read_certificate(alloc, CERTIFICATE) {
+        Ok(read) => Some(
+            (read.slots, read.fill, read.live, read.writes) == (2, 0, 0, 5)
+                && read.stretches.as_slice() == STRETCHES.as_slice(),
+        ),
+        Err(TextFault::Memory) => None,
+        Err(_) => Some(false),
+    }
+}
+
+pub fn certificate_written(alloc: &Refusing<Global>, memory: Global) -> Option<bool> {
+    let certificate = read_certificate(memory, CERTIFICATE).ok()?;
+    let mut out = Vec::from_slice(alloc, b"end\n").ok()?;
+    if write_certificate(&certificate, &mut out).is_err() {
+        return unless(out.as_slice() == b"end\n".as_slice());
+    }
+    Some(out.as_slice().strip_prefix(b"end\n") == Some(CERTIFICATE))
 }
