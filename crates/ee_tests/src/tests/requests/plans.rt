@@ -3,10 +3,9 @@ use ee_check::{Change, CheckFault, Start, check, read_certificate, write_certifi
 use ee_codec::Address;
 use ee_fakes::Refusing;
 use ee_fakes::images::CERTIFICATE;
-use ee_flash::{MemFlash, Shape};
 use ee_image::read_image;
 use ee_plan::{Demand, PlanFault, Rounds, RoundsFault, plan, start_of};
-use ee_store::{Variables, format};
+use ee_store::open;
 use ee_wear::{Ledger, SinceFault};
 use std::alloc::{Allocator, Global};
 use std::collections::BTreeSet;
@@ -55,14 +54,14 @@ pub fn rounds_made(alloc: &Refusing<Global>) -> Option<bool> {
     }
 }
 
+/// Of four slots three are used, by two addresses.
+const THREE_USED: &[u8] = b"ee 1 8
+0 aaaaaaaa00000001 aaaaaaaaaaaaaaaa - - 0000000100000009 0000000100000002 0000000100000009 -
+0 - - - - - - - -
+";
+
 pub fn start_found(alloc: &Refusing<Global>, memory: Global) -> Option<bool> {
-    let mut store = format(MemFlash::blank(memory, Shape::new(1, 8)?).ok()?).ok()?;
-    for number in [9, 2, 9] {
-        store.write(Address::new(number)?, 1).ok()?;
-    }
-    if !store.is_on() {
-        return Some(false);
-    }
+    let store = open(read_image(memory, THREE_USED).ok()?).ok()?;
     let start = start_of(alloc, &store).ok()?;
     Some((start.slots(), start.fill(), start.live().len()) == (4, 3, 2))
 }
@@ -79,25 +78,30 @@ pub fn change_made(alloc: &Refusing<Global>, memory: Global) -> Option<bool> {
     Some(live.len() == 2 && live.contains(&two))
 }
 
-/// On one slot each write but the first transfers. Behind a thousand changes the checker asks for memory once more, and
-/// goes on without where that is refused.
-pub fn thousand_checked(alloc: &Refusing<Global>, memory: Global) -> Option<bool> {
-    let write = Change::Write(Address::new(1)?);
-    let mut trace = vec![in memory; write].ok()?;
-    let mut text = String::from_str(memory, "slots 1 fill 0 live 0 writes 1101\n").ok()?;
-    for to in 2..1102_u64 {
-        trace.push(write).ok()?;
-        let from = if to == 2 { 0 } else { 1 };
-        let line = format!(in memory; "to {to} from {from}\n").ok()?;
+// The certificate of 1101 writes on one slot, of which each but the first transfers.
+fn thousand(memory: Global) -> Option<String> {
+    let mut text = String::from_str(
+        memory,
+        "slots 1 fill 0 live 0 writes 1101\nto 2 from 0\n",
+    ).ok()?;
+    for to in 3..1102_u64 {
+        let line = format!(in memory; "to {to} from 1\n").ok()?;
         text.push_str(line.as_str()).ok()?;
     }
     text.push_str("transfers 1100\n").ok()?;
+    Some(text)
+}
+
+/// Behind a thousand changes the checker asks for memory once more, and goes on without where that is refused.
+pub fn thousand_checked(alloc: &Refusing<Global>, memory: Global) -> Option<bool> {
+    let text = thousand(memory)?;
     let certificate = read_certificate(memory, text.as_bytes()).ok()?;
     let mut out = Vec::new(memory);
     write_certificate(&certificate, &mut out).ok()?;
-    let is_same = certificate.stretches.len() == 1100 && out.as_slice() == text.as_bytes();
+    let is_written = out.as_slice() == text.as_bytes();
+    let trace = vec![in memory; Change::Write(Address::new(1)?); 1101].ok()?;
     match check(alloc, &unused(memory, 1)?, &trace, &certificate) {
-        Ok(count) => Some(is_same && count == 1100),
+        Ok(count) => Some(is_written && count == 1100),
         Err(CheckFault::Memory) => None,
         Err(_) => Some(false),
     }

@@ -27,29 +27,34 @@ default = 4
 pub fn schema_read(alloc: &Refusing<Global>, memory: Global) -> Option<bool> {
     let table = toml::table_from_slice(memory, BOTH).ok()?;
     match Schema::from_table(alloc, &table) {
-        Ok(schema) => {
-            let names = (schema.name(1), schema.name(2), schema.name(3));
-            Some(schema.entries() == 2 && names == (Some("tone"), Some("volume"), None))
-        }
+        Ok(schema) => Some(
+            schema.entries() == 2
+                && schema.name(1) == Some("tone")
+                && schema.name(2) == Some("volume")
+                && schema.name(3) == None,
+        ),
         Err(SchemaFault::Memory) => None,
         Err(_) => Some(false),
     }
 }
 
-// The two settings, and the store after two moves.
-fn both(memory: Global) -> Option<(Schema, IndexedStore<MemFlash>)> {
+// The two settings.
+fn schema(memory: Global) -> Option<Schema> {
     let table = toml::table_from_slice(memory, BOTH).ok()?;
-    let schema = Schema::from_table(memory, &table).ok()?;
+    Schema::from_table(memory, &table).ok()
+}
+
+// The store after two moves.
+fn store(memory: Global) -> Option<IndexedStore<MemFlash>> {
     let flash = read_image(memory, TWO_MOVES).ok()?;
     if !flash.is_on() {
         return None;
     }
-    Some((schema, IndexedStore::open(memory, flash).ok()?))
+    IndexedStore::open(memory, flash).ok()
 }
 
 pub fn stale_found(alloc: &Refusing<Global>, memory: Global) -> Option<bool> {
-    let (schema, store) = both(memory)?;
-    match schema.stale(alloc, &store) {
+    match schema(memory)?.stale(alloc, &store(memory)?) {
         Ok(entries) => Some(entries.as_slice() == [2].as_slice()),
         Err(StaleFault::Memory) => None,
         Err(_) => Some(false),
@@ -57,12 +62,11 @@ pub fn stale_found(alloc: &Refusing<Global>, memory: Global) -> Option<bool> {
 }
 
 pub fn stale_values_found(alloc: &Refusing<Global>, memory: Global) -> Option<bool> {
-    let (schema, store) = both(memory)?;
     let wanted = [Stale {
         entry: 2,
         value: 13,
     }];
-    match schema.stale_values(alloc, &store) {
+    match schema(memory)?.stale_values(alloc, &store(memory)?) {
         Ok(stale) => Some(stale.as_slice() == wanted.as_slice()),
         Err(StaleFault::Memory) => None,
         Err(_) => Some(false),
@@ -70,13 +74,12 @@ pub fn stale_values_found(alloc: &Refusing<Global>, memory: Global) -> Option<bo
 }
 
 pub fn values_listed(alloc: &Refusing<Global>, memory: Global) -> Option<bool> {
-    let (_, store) = both(memory)?;
     let last = Listed {
         address: Address::new(2)?,
         entry: None,
         held: Held::Value(5),
     };
-    match Schema::empty(alloc).list(alloc, &store) {
+    match Schema::empty(alloc).list(alloc, &store(memory)?) {
         Ok(listed) => Some(listed.len() == 2 && listed.last().copied() == Some(last)),
         Err(ListFault::Memory) => None,
         Err(_) => Some(false),
@@ -86,7 +89,8 @@ pub fn values_listed(alloc: &Refusing<Global>, memory: Global) -> Option<bool> {
 /// On a store with an index too a setting is set, and all else is tidied away.
 #[test]
 fn an_index_under_settings(rt: HostRuntime) -> Result<(), Fail> {
-    let (schema, mut store) = both(rt.alloc()).ok_or("no settings")?;
+    let schema = schema(rt.alloc()).ok_or("no schema")?;
+    let mut store = store(rt.alloc()).ok_or("no store")?;
     same(&rt, schema.get(&store, "volume"), Ok(Reading::Default(5)));
     same(&rt, schema.set(&mut store, "volume", 7), Ok(Written::Moved));
     same(&rt, schema.get(&store, "volume"), Ok(Reading::Stored(7)));
