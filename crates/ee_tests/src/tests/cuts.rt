@@ -38,10 +38,11 @@ fn moved_once<'a>(
     let mut flash = ListFlash::blank(alloc, shape(pages, 5)?, &[])?;
     flash.power_on();
     let mut store = given(format(flash))?;
-    for value in [1, 2] {
-        for _ in 0..pages {
-            given(store.write(one, value))?;
-        }
+    for _ in 0..pages {
+        given(store.write(one, 1))?;
+    }
+    for _ in 0..pages {
+        given(store.write(one, 2))?;
     }
     same(rt, numbers_of(&store), Some((2, pages, pages)));
     Ok(store.into_flash())
@@ -79,11 +80,11 @@ fn cut_the_erase(
     let [first, second, third, fourth, fifth] = *list;
     let is_blank = [first, second, fourth, fifth] == [Left::After; 4] && third != Left::Torn;
     let pending = if is_blank { 0 } else { 1 };
-    same_at(rt, *list, store.read(one), Ok(Some(2)));
-    same_at(rt, *list, numbers_of(&store), Some((2, 1, pending)));
+    let before = (store.read(one), numbers_of(&store));
+    same_at(rt, *list, before, (Ok(Some(2)), Some((2, 1, pending))));
     same_at(rt, *list, store.write(one, 3), Ok(Written::Moved));
-    same_at(rt, *list, store.read(one), Ok(Some(3)));
-    same_at(rt, *list, numbers_of(&store), Some((3, 1, 1)));
+    let after = (store.read(one), numbers_of(&store));
+    same_at(rt, *list, after, (Ok(Some(3)), Some((3, 1, 1))));
     Ok(())
 }
 

@@ -54,7 +54,9 @@ fn store(memory: Global) -> Option<IndexedStore<MemFlash>> {
 }
 
 pub fn stale_found(alloc: &Refusing<Global>, memory: Global) -> Option<bool> {
-    match schema(memory)?.stale(alloc, &store(memory)?) {
+    let store = store(memory)?;
+    let schema = schema(memory)?;
+    match schema.stale(alloc, &store) {
         Ok(entries) => Some(entries.as_slice() == [2].as_slice()),
         Err(StaleFault::Memory) => None,
         Err(_) => Some(false),
@@ -66,7 +68,9 @@ pub fn stale_values_found(alloc: &Refusing<Global>, memory: Global) -> Option<bo
         entry: 2,
         value: 13,
     }];
-    match schema(memory)?.stale_values(alloc, &store(memory)?) {
+    let store = store(memory)?;
+    let schema = schema(memory)?;
+    match schema.stale_values(alloc, &store) {
         Ok(stale) => Some(stale.as_slice() == wanted.as_slice()),
         Err(StaleFault::Memory) => None,
         Err(_) => Some(false),
@@ -74,13 +78,21 @@ pub fn stale_values_found(alloc: &Refusing<Global>, memory: Global) -> Option<bo
 }
 
 pub fn values_listed(alloc: &Refusing<Global>, memory: Global) -> Option<bool> {
-    let last = Listed {
-        address: Address::new(2)?,
-        entry: None,
-        held: Held::Value(5),
-    };
-    match Schema::empty(alloc).list(alloc, &store(memory)?) {
-        Ok(listed) => Some(listed.len() == 2 && listed.last().copied() == Some(last)),
+    let store = store(memory)?;
+    let wanted = [
+        Listed {
+            address: Address::new(1)?,
+            entry: None,
+            held: Held::Value(13),
+        },
+        Listed {
+            address: Address::new(2)?,
+            entry: None,
+            held: Held::Value(5),
+        },
+    ];
+    match Schema::empty(alloc).list(alloc, &store) {
+        Ok(listed) => Some(listed.as_slice() == wanted.as_slice()),
         Err(ListFault::Memory) => None,
         Err(_) => Some(false),
     }
