@@ -116,7 +116,8 @@ fn are_found(row: &str, found: &ArgMatches<'_>, words: &[&str]) -> bool {
 
 /// The row of a command.
 fn row_of(name: &str) -> Option<&'static str> {
-    ROWS.split('\n').find(|row| row.split(' ').next() == Some(name))
+    ROWS.split('\n')
+        .find(|row| row.split(' ').next() == Some(name))
 }
 
 fn words_of(alloc: Global, line: &'static str) -> Result<Vec<&'static str>, AllocError> {
