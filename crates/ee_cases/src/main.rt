@@ -39,6 +39,11 @@ fn try_example<R: FileLocks + Env + Print + AllocGlobal>(rt: &R, name: &str) -> 
     let wanted = fs::read_to_string(rt, "transcript")?;
     let found = typed(rt, wanted.as_str())?;
     env::set_current_dir(rt, "..")?;
+    is_as_wanted(rt, name, found.as_str(), wanted.as_str())
+}
+
+/// Whether an example went as it was to go. Where it didn't, the first line that differs is printed.
+fn is_as_wanted<R: Print>(rt: &R, name: &str, found: &str, wanted: &str) -> io::Result<bool> {
     if found.as_bytes() == wanted.as_bytes() {
         return Ok(true);
     }

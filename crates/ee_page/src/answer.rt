@@ -6,7 +6,7 @@ use ee_pages::ScanFault;
 /// What a call answers.
 ///
 /// Source: ours.
-#[derive(Clone, Copy, Debug, PartialEq, Eq)]
+#[derive(Clone, Copy)]
 pub enum Answer {
     /// It is done: appended to the live set, where it is a change.
     Done,
@@ -34,7 +34,7 @@ pub enum Answer {
 ///
 /// Source: ours.
 #[repr(C)]
-#[derive(Clone, Copy, Debug, PartialEq, Eq)]
+#[derive(Clone, Copy)]
 pub struct CallResult {
     /// The number of an answer (`status_of` in `specs/Answers.antt`).
     pub status: usize,

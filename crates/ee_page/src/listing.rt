@@ -8,7 +8,7 @@ use ee_flash::Word;
 ///
 /// Source: ours.
 #[repr(C)]
-#[derive(Clone, Copy, Debug, PartialEq, Eq)]
+#[derive(Clone, Copy)]
 pub struct ListedStep {
     /// The page, by its number in the device.
     pub page: usize,

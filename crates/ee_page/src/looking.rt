@@ -13,7 +13,7 @@ use ee_flash::{Flash, Shape};
 use ee_pages::{latest, live_count, next_live, scan};
 
 /// What a look finds: an address with its value, 0 and 0 where there is none.
-#[derive(Clone, Copy, Debug, PartialEq, Eq)]
+#[derive(Clone, Copy)]
 pub struct Found {
     /// What is answered.
     pub answer: Answer,
@@ -56,7 +56,7 @@ impl Found {
 ///
 /// Source: ours.
 #[repr(C)]
-#[derive(Clone, Copy, Debug, PartialEq, Eq)]
+#[derive(Clone, Copy)]
 pub struct FoundResult {
     /// The number of an answer (`status_of` in `specs/Answers.antt`).
     pub status: usize,
@@ -74,7 +74,7 @@ pub struct FoundResult {
 ///
 /// Source: ours.
 #[repr(C)]
-#[derive(Clone, Copy, Debug, PartialEq, Eq)]
+#[derive(Clone, Copy)]
 pub struct CountsResult {
     /// The number of an answer (`status_of` in `specs/Answers.antt`).
     pub status: usize,
@@ -95,7 +95,7 @@ pub struct CountsResult {
 }
 
 /// How far a store is used, all 0 where there is none.
-#[derive(Clone, Copy, Debug, PartialEq, Eq)]
+#[derive(Clone, Copy)]
 pub struct Counts {
     /// What is answered.
     pub answer: Answer,

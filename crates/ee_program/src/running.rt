@@ -6,11 +6,12 @@ use ee_faults::{Fault, File, fault_line, status_of};
 use ee_files::{FileLocks, save};
 use ee_flash::Shape;
 use ee_shell::{
-    Language, apply_values, check_script, clean_image, export_hex, export_image, format_image,
-    get_setting, header_text, import_hex, import_image, inspect_text, list_text, plan_script,
-    replay, replay_indexed, set_setting, size_parts, stale_text, states_text, tidy_image,
-    try_script, wear_text,
+    ImageAndText, Language, apply_values, check_script, clean_image, export_hex, export_image,
+    format_image, get_setting, header_text, import_hex, import_image, inspect_text, list_text,
+    plan_script, replay, replay_indexed, set_setting, size_parts, stale_text, states_text,
+    tidy_image, try_script, wear_text,
 };
+use std::alloc::Global;
 use std::rt::Files;
 use std::{fs, io};
 
@@ -196,13 +197,8 @@ fn run_files<R: FileLocks + Print + AllocGlobal>(
     } else {
         replay(rt.alloc(), before.as_slice(), lines.as_slice())?
     };
-    write_image(
-        rt,
-        image,
-        Some(before.as_slice()),
-        replayed.image.as_slice(),
-    )?;
-    print(rt, replayed.report.as_slice())
+    let (left, report) = (replayed.image.as_slice(), replayed.report.as_slice());
+    write_and_print(rt, image, before.as_slice(), left, report)
 }
 
 /// Prints what a setting reads as in an image.
@@ -238,8 +234,8 @@ fn set_file<R: FileLocks + Print + AllocGlobal>(
         name,
         value,
     )?;
-    write_image(rt, image, Some(before.as_slice()), set.image.as_slice())?;
-    print(rt, set.text.as_slice())
+    let (left, text) = (set.image.as_slice(), set.text.as_slice());
+    write_and_print(rt, image, before.as_slice(), left, text)
 }
 
 /// Gives settings of an image the values of a file, and writes the image in its place.
@@ -250,18 +246,22 @@ fn apply_file<R: FileLocks + Print + AllocGlobal>(
     values: &str,
 ) -> Result<(), Fault> {
     let before = read_file(rt, File::Image, image)?;
+    let applied = applied_to(rt, before.as_slice(), settings, values)?;
+    let (left, text) = (applied.image.as_slice(), applied.text.as_slice());
+    write_and_print(rt, image, before.as_slice(), left, text)
+}
+
+/// What giving settings of an image the values of a file makes of it.
+fn applied_to<R: Files + AllocGlobal>(
+    rt: &R,
+    image: &[u8],
+    settings: &str,
+    values: &str,
+) -> Result<ImageAndText<Global>, Fault> {
     let table = read_file(rt, File::Settings, settings)?;
     let given = read_file(rt, File::Values, values)?;
     let (alloc, heap) = (rt.alloc(), rt.alloc());
-    let applied = apply_values(
-        alloc,
-        heap,
-        before.as_slice(),
-        table.as_slice(),
-        given.as_slice(),
-    )?;
-    write_image(rt, image, Some(before.as_slice()), applied.image.as_slice())?;
-    print(rt, applied.text.as_slice())
+    apply_values(alloc, heap, image, table.as_slice(), given.as_slice())
 }
 
 /// Prints the constants of settings, in Rust or in C.
@@ -315,13 +315,17 @@ fn tell_wear<R: Files + Print + AllocGlobal>(
     before: Option<&str>,
 ) -> Result<(), Fault> {
     let now = read_file(rt, File::Image, image)?;
-    let Some(before) = before else {
-        let text = wear_text(rt.alloc(), now.as_slice(), None)?;
-        return print(rt, text.as_slice());
+    let text = match before {
+        None => wear_text(rt.alloc(), now.as_slice(), None)?,
+        Some(before) => wear_since(rt, now.as_slice(), before)?,
     };
-    let then = read_file(rt, File::Before, before)?;
-    let text = wear_text(rt.alloc(), now.as_slice(), Some(then.as_slice()))?;
     print(rt, text.as_slice())
+}
+
+/// How often the pages of an image were erased since the one of a file.
+fn wear_since<R: Files + AllocGlobal>(rt: &R, now: &[u8], before: &str) -> Result<Vec<u8>, Fault> {
+    let then = read_file(rt, File::Before, before)?;
+    wear_text(rt.alloc(), now, Some(then.as_slice()))
 }
 
 /// Prints the state of each page of an image.
@@ -336,8 +340,8 @@ fn tell_states<R: Files + Print + AllocGlobal>(rt: &R, image: &str) -> Result<()
 fn clean_file<R: FileLocks + Print + AllocGlobal>(rt: &R, image: &str) -> Result<(), Fault> {
     let before = read_file(rt, File::Image, image)?;
     let cleaned = clean_image(rt.alloc(), before.as_slice())?;
-    write_image(rt, image, Some(before.as_slice()), cleaned.image.as_slice())?;
-    print(rt, cleaned.text.as_slice())
+    let (left, text) = (cleaned.image.as_slice(), cleaned.text.as_slice());
+    write_and_print(rt, image, before.as_slice(), left, text)
 }
 
 /// Prints the settings whose stored value in an image isn't in their range.
@@ -364,8 +368,8 @@ fn tidy_file<R: FileLocks + Print + AllocGlobal>(
     let table = read_file(rt, File::Settings, settings)?;
     let (alloc, heap) = (rt.alloc(), rt.alloc());
     let tidied = tidy_image(alloc, heap, before.as_slice(), table.as_slice())?;
-    write_image(rt, image, Some(before.as_slice()), tidied.image.as_slice())?;
-    print(rt, tidied.text.as_slice())
+    let (left, text) = (tidied.image.as_slice(), tidied.text.as_slice());
+    write_and_print(rt, image, before.as_slice(), left, text)
 }
 
 /// Prints what each address of an image has, with the names of settings where their file is named.
@@ -375,14 +379,21 @@ fn tell_values<R: Files + Print + AllocGlobal>(
     settings: Option<&str>,
 ) -> Result<(), Fault> {
     let image = read_file(rt, File::Image, image)?;
-    let (alloc, heap) = (rt.alloc(), rt.alloc());
-    let Some(settings) = settings else {
-        let text = list_text(alloc, heap, image.as_slice(), None)?;
-        return print(rt, text.as_slice());
+    let text = match settings {
+        None => list_text(rt.alloc(), rt.alloc(), image.as_slice(), None)?,
+        Some(settings) => named_values(rt, image.as_slice(), settings)?,
     };
-    let table = read_file(rt, File::Settings, settings)?;
-    let text = list_text(alloc, heap, image.as_slice(), Some(table.as_slice()))?;
     print(rt, text.as_slice())
+}
+
+/// What each address of an image has, with the names of a file's settings.
+fn named_values<R: Files + AllocGlobal>(
+    rt: &R,
+    image: &[u8],
+    settings: &str,
+) -> Result<Vec<u8>, Fault> {
+    let table = read_file(rt, File::Settings, settings)?;
+    list_text(rt.alloc(), rt.alloc(), image, Some(table.as_slice()))
 }
 
 /// Prints for each number of pages whether it bears so many runs of a script. Where none does, that is
@@ -427,6 +438,18 @@ fn write_image<R: FileLocks + AllocGlobal>(
         Ok(()) => Ok(()),
         Err(fault) => Err(fault.told()),
     }
+}
+
+/// Writes an image in the place of its file, of which `before` was read, and then prints a text.
+fn write_and_print<R: FileLocks + Print + AllocGlobal>(
+    rt: &R,
+    path: &str,
+    before: &[u8],
+    image: &[u8],
+    text: &[u8],
+) -> Result<(), Fault> {
+    write_image(rt, path, Some(before), image)?;
+    print(rt, text)
 }
 
 /// Writes a dump in the place of its file, whatever that was.

@@ -2,7 +2,7 @@
 use std::fmt;
 
 /// A sum of bytes that tells most others apart (FNV-1a, of Fowler, Noll and Vo).
-#[derive(Clone, Copy, Debug, PartialEq, Eq)]
+#[derive(Clone, Copy)]
 pub struct Digest {
     sum: u64,
 }

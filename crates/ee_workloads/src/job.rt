@@ -1,6 +1,6 @@
 //! The jobs that are timed, and their names.
 /// What a user waits for.
-#[derive(Clone, Copy, Debug, PartialEq, Eq)]
+#[derive(Clone, Copy)]
 pub enum Job {
     Run,
     BrownOuts,

@@ -30,14 +30,33 @@ pub fn parts(alloc: Global, seed: u32, rounds: u32) -> Result<Digest, Fault> {
     };
     let mut digest = Digest::new();
     for _ in 0..rounds {
-        let mut script = Vec::new(alloc);
-        mixture.write(&mut dice, &mut script)?;
-        let replayed = replay(alloc, image.as_slice(), script.as_slice())?;
-        image = through_hex(alloc, shape, replayed.image.as_slice(), &mut digest)?;
-        image = through_bytes(alloc, shape, image.as_slice(), &mut digest)?;
+        image = part_after(
+            alloc,
+            shape,
+            image.as_slice(),
+            mixture,
+            &mut dice,
+            &mut digest,
+        )?;
     }
     digest.take(image.as_slice());
     Ok(digest)
+}
+
+/// The image of the further part, after one more script on the part that has this one.
+fn part_after(
+    alloc: Global,
+    shape: Shape,
+    image: &[u8],
+    mixture: Mixture,
+    dice: &mut Dice,
+    digest: &mut Digest,
+) -> Result<Vec<u8>, Fault> {
+    let mut script = Vec::new(alloc);
+    mixture.write(dice, &mut script)?;
+    let replayed = replay(alloc, image, script.as_slice())?;
+    let read_out = through_hex(alloc, shape, replayed.image.as_slice(), digest)?;
+    through_bytes(alloc, shape, read_out.as_slice(), digest)
 }
 
 /// Exports an image as Intel HEX, and gives what an import makes of that.

@@ -90,10 +90,16 @@ fn command<'a>(alloc: Global, row: &'a str) -> Result<Command<'a>, Fail> {
     Ok(command)
 }
 
+/// The table with the command of a row.
+fn with_row<'a>(alloc: Global, table: Command<'a>, row: &'a str) -> Result<Command<'a>, Fail> {
+    let command = command(alloc, row)?;
+    Ok(table.subcommand(command)?)
+}
+
 fn table<'a>(alloc: Global) -> Result<Command<'a>, Fail> {
     let mut table = Command::new(alloc, "ee");
     for row in ROWS.split('\n') {
-        table = table.subcommand(command(alloc, row)?)?;
+        table = with_row(alloc, table, row)?;
     }
     Ok(table)
 }
@@ -120,6 +126,17 @@ fn row_of(name: &str) -> Option<&'static str> {
         .find(|row| row.split(' ').next() == Some(name))
 }
 
+/// Whether a command was found, with these words behind it.
+fn is_found(matches: &ArgMatches<'_>, words: &[&str]) -> bool {
+    let Some((name, found)) = matches.subcommand() else {
+        return false;
+    };
+    match row_of(name) {
+        Some(row) => are_found(row, found, words),
+        None => false,
+    }
+}
+
 fn words_of(alloc: Global, line: &'static str) -> Result<Vec<&'static str>, AllocError> {
     let mut words = Vec::new(alloc);
     for word in line.split(' ') {
@@ -133,9 +150,7 @@ fn is_taken(alloc: Global, words: &[&'static str]) -> Result<bool, Fail> {
     let (_, operands) = words.split_first().ok_or("no words")?;
     let (_, behind) = operands.split_first().ok_or("no command")?;
     let matches = table(alloc)?.try_get_matches_from(words)?;
-    let (name, found) = matches.subcommand().ok_or("no command")?;
-    let row = row_of(name).ok_or("no row")?;
-    Ok(job(operands).is_some() && are_found(row, found, behind))
+    Ok(job(operands).is_some() && is_found(&matches, behind))
 }
 
 #[test]

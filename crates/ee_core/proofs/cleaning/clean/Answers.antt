@@ -14,3 +14,6 @@ returns-clause-lowest g c = λ ok.
     let layout = c.args.layout.now in
     erases_lowest _ _ layout.side (other_of layout.side) layout.generation c.in-Some.page c.requires.layout.live.live refl (search rules) (search rules) (search rules)
     (search rules) (search rules) (search rules) c.requires.layout.live (search rules)
+
+pub returns-in_default-clause-none : goal.returns-in_default-clause-none
+returns-in_default-clause-none g c = search rules

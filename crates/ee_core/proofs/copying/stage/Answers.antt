@@ -74,3 +74,6 @@ returns-in_err-put_in-clause-fills g c =
       begun = stage_partly old mid new side generation slot (Held (number_written c.args.change)) first formed cut.keeps.same_size (page_in_range mid slot free) (place_in_range mid slot formed) cut.begun;
       wear = search rules;
     })
+
+pub returns-clause-slot : goal.returns-clause-slot
+returns-clause-slot g c = search rules

@@ -25,3 +25,6 @@ returns-clause-best g c = search (rules, whole_best)
 
 pub returns-clause-names : goal.returns-clause-names
 returns-clause-names g c = λ n first. whole_breaks_nowhere c.args.start.now c.args.trace.now c.in_ok-store.store n c.in_ok-store.ensures.ok first
+
+pub returns-clause-planned : goal.returns-clause-planned
+returns-clause-planned g c = search rules
