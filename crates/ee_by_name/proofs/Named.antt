@@ -1,12 +1,6 @@
 -- What is read and set by name, and that one cause at most applies for which it is not.
-use Rattle.std.proofs.Common.{◌≡◌, ◌≢◌, ◌⊎◌, ◌∙◌, ℕ, List, [], ◌∷◌, map, inl, inr, refl, sym, ap, subst, codes, Ok, Err, String, Global, string_bytes, nat_cmp, rules}
-use Rattle.std.specs.Cmp.Lexicographic.{slice_cmp}
-use Rattle.std.specs.List.Sorted.{IsStrictlySortedBy}
-use Rattle.std.specs.Map.{keys_of}
-use Rattle.std.specs.String.{string_cmp}
+use Rattle.std.proofs.Common.{◌≡◌, ◌≢◌, ◌⊎◌, ◌∙◌, ℕ, List, inl, inr, refl, sym, ap, subst, codes, Ok, Err, rules}
 use Rattle.toml.specs.Data.{Members}
-use Rattle.toml.specs.View.{members_view}
-use Rattle.toml.specs.declared.value.Value.{Value}
 use Rattle.ee_text.specs.Line.{line_of}
 use Rattle.ee_flash.specs.Device.{Device}
 use Rattle.ee_flash.specs.Size.{Size, slot_count}
@@ -15,9 +9,9 @@ use Rattle.ee_core.specs.Changes.{IsAccepted}
 use Rattle.ee_core.specs.State.{State, Wears, pending_pages, state_of}
 use Rattle.ee_core.specs.declared.variables.Written.{Written}
 use Rattle.ee_core.specs.declared.variables.Written.TheVariants as written
-use Rattle.ee_settings.proofs.Public.{one_fault, names_apart, entries_once, never_refused, entries_seen, seen, rising_bytes}
+use Rattle.ee_settings.proofs.Public.{one_fault, names_apart, entries_once, never_refused}
 use Rattle.ee_settings.specs.Calls.{IsNamed, IsUnknown, Sets}
-use Rattle.ee_settings.specs.File.{Entry, GivesSchema, HaveRisingKeys, entries_of}
+use Rattle.ee_settings.specs.File.{GivesSchema, HaveRisingKeys, entries_of}
 use Rattle.ee_settings.specs.Setting.{HaveRisingNames, IsInRange, Setting}
 use Rattle.ee_settings.specs.declared.fault.SchemaFault.{SchemaFault}
 use Rattle.ee_settings.specs.declared.fault.SchemaFault.TheVariants as schema
@@ -34,13 +28,6 @@ use Rattle.ee_image_store.specs.Opening.{IsOpened, IsStoreLeft, StaysOn}
 use Rattle.ee_image_store.specs.Steps.{Steps}
 
 -- ---- the text of the settings
-
-entry_names : (es : List (String Global × Value)) → map (λ (e : Entry). e.0) (map seen es) ≡ map string_bytes (keys_of es)
-entry_names [] = refl
-entry_names (e ∷ es) = ap (λ names. string_bytes e.0 ∷ names) (entry_names es)
-
-pub rising_keys : (es : List (String Global × Value)) → IsStrictlySortedBy string_cmp (keys_of es) → HaveRisingKeys (entries_of (members_view es))
-rising_keys es sorted = subst (IsStrictlySortedBy (slice_cmp nat_cmp)) (sym (ap (map (λ (e : Entry). e.0)) (entries_seen es) ∙ entry_names es)) (rising_bytes (keys_of es) sorted)
 
 pub one_tree : (text : List ℕ) (one other : Members) → HasTree text one → HasTree text other → one ≡ other
 one_tree text one other h k = cc (h.reads, k.reads)

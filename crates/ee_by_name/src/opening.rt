@@ -69,8 +69,6 @@ pub(crate) fn read_schema<A: Allocator + Copy>(
     ensures only { HasSettings text.now → IfErr result (λ fault. fault ≡ Fault.Memory) }
 {
     let table = read_table(heap, text, Fault::SettingsText)?;
-    // The names of a table rise, so it has one first fault.
-    let _entries = table.iter();
     match Schema::from_table(alloc, &table) {
         Ok(schema) => Ok(schema),
         Err(fault) => Err(fault_of(fault)),

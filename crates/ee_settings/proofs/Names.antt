@@ -11,16 +11,17 @@ use Rattle.std.specs.List.{AllByRecursion, Contains}
 use Rattle.std.specs.List.Sorted.{IsStrictlySortedBy}
 use Rattle.std.specs.Map.{keys_of}
 use Rattle.std.specs.String.{string_cmp}
+use Rattle.toml.specs.View.{members_view}
 use Rattle.toml.specs.declared.value.Value.{Value}
-use Rattle.ee_settings.proofs.Trees.{seen}
-use Rattle.ee_settings.specs.File.{AreEntriesOf, Entry}
+use Rattle.ee_settings.proofs.Trees.{entries_seen, seen}
+use Rattle.ee_settings.specs.File.{AreEntriesOf, Entry, HaveRisingKeys, entries_of}
 use Rattle.ee_settings.specs.Setting.{HaveRisingNames, Setting}
 
 below_bytes : (k : String Global) (ks : List (String Global)) → AllByRecursion (λ y. string_cmp k y ≡ Less) ks → AllByRecursion (λ y. slice_cmp nat_cmp (string_bytes k) y ≡ Less) (map string_bytes ks)
 below_bytes k [] h = tt
 below_bytes k (y ∷ ys) h = (h.0, below_bytes k ys h.1)
 
-pub rising_bytes : (ks : List (String Global)) → IsStrictlySortedBy string_cmp ks → IsStrictlySortedBy (slice_cmp nat_cmp) (map string_bytes ks)
+rising_bytes : (ks : List (String Global)) → IsStrictlySortedBy string_cmp ks → IsStrictlySortedBy (slice_cmp nat_cmp) (map string_bytes ks)
 unfolding IsStrictlySortedBy
 rising_bytes [] h = tt
 rising_bytes (k ∷ ks) h = (below_bytes k ks h.0, rising_bytes ks h.1)
@@ -31,9 +32,13 @@ names_as_entries [] (s ∷ settings) h = absurd h
 names_as_entries (e ∷ entries) [] h = absurd h
 names_as_entries (e ∷ entries) (s ∷ settings) h = rw (h.0.name, names_as_entries entries settings h.1)
 
-entry_names : (es : List (String Global × Value)) → map (λ e. e.0) (map seen es) ≡ map string_bytes (keys_of es)
+entry_names : (es : List (String Global × Value)) → map (λ (e : Entry). e.0) (map seen es) ≡ map string_bytes (keys_of es)
 entry_names [] = refl
 entry_names (e ∷ es) = ap (λ names. string_bytes e.0 ∷ names) (entry_names es)
+
+-- the keys of a table rise
+pub rising_keys : (es : List (String Global × Value)) → IsStrictlySortedBy string_cmp (keys_of es) → HaveRisingKeys (entries_of (members_view es))
+rising_keys es sorted = subst (IsStrictlySortedBy (slice_cmp nat_cmp)) (sym (ap (map (λ (e : Entry). e.0)) (entries_seen es) ∙ entry_names es)) (rising_bytes (keys_of es) sorted)
 
 pub rising_names : (es : List (String Global × Value)) (settings : List Setting) → AreEntriesOf (map seen es) settings → IsStrictlySortedBy string_cmp (keys_of es) → HaveRisingNames settings
 rising_names es settings each sorted = subst (IsStrictlySortedBy (slice_cmp nat_cmp)) (sym (names_as_entries (map seen es) settings each ∙ entry_names es)) (rising_bytes (keys_of es) sorted)

@@ -1,7 +1,7 @@
 -- The lemmas that other crates may use. The files that they stand in are this crate's own.
 pub use Rattle.ee_settings.proofs.First.{one_fault}
 pub use Rattle.ee_settings.proofs.Forgetting.{each_goes_on}
-pub use Rattle.ee_settings.proofs.Names.{names_apart, never_equal, rising_bytes}
+pub use Rattle.ee_settings.proofs.Names.{names_apart, never_equal}
 pub use Rattle.ee_settings.proofs.Once.{entries_once, never_refused}
 pub use Rattle.ee_settings.proofs.Outdated.{stale_within}
 pub use Rattle.ee_settings.proofs.Readings.{changed_elsewhere, written_map}

@@ -1,7 +1,7 @@
 //! The entries of a table of settings, read by rising name up to the first one with a fault.
 ghost use Rattle.std.specs.Prelude.{IfOk, IfErr};
 ghost use Rattle.toml.specs.View.{table_view, view};
-ghost use Rattle.ee_settings.specs.File.{GivesSetting, IsSchemaFault, IsSchemaOf};
+ghost use Rattle.ee_settings.specs.File.{GivesSetting, HaveRisingKeys, IsSchemaFault, IsSchemaOf};
 ghost use Rattle.ee_settings.specs.File.{entries_of};
 ghost use Rattle.ee_settings.specs.Setting.{HaveRisingNames};
 
@@ -21,6 +21,8 @@ pub(crate) fn read_entries<A: Allocator + Copy>(
         (IsSchemaOf (entries_of (table_view table.now))) }
     ensures names { IfOk result HaveRisingNames }
     ensures err { IfErr result (IsSchemaFault (entries_of (table_view table.now))) }
+    // So it has one first fault.
+    ensures rises { HaveRisingKeys (entries_of (table_view table.now)) }
 {
     let mut settings = Settings::new(alloc);
     for (name, value) in table.iter() {

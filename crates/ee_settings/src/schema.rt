@@ -2,7 +2,7 @@
 ghost use Rattle.std.specs.Prelude.{◌≡◌};
 ghost use Rattle.toml.specs.View.{table_view};
 ghost use Rattle.ee_settings.specs.Calls.{Gets, Sets};
-ghost use Rattle.ee_settings.specs.File.{GivesSchema};
+ghost use Rattle.ee_settings.specs.File.{GivesSchema, HaveRisingKeys, entries_of};
 
 use crate::entry::read_entries;
 use crate::fault::{GetFault, SchemaFault, SetFault};
@@ -54,7 +54,7 @@ impl<A: Allocator> Schema<A> {
 
     /// The schema that a table spells. Each entry of the table is a setting: its key is the name,
     /// its value a table of the whole numbers `address`, `min`, `max` and `default`. A table with
-    /// no entries is a schema with no settings.
+    /// no entries is a schema with no settings. The names of a table rise, so it has one first fault.
     ///
     /// # Errors
     ///
@@ -65,7 +65,8 @@ impl<A: Allocator> Schema<A> {
     pub fn from_table(alloc: A, table: &Table) -> Result<Schema<A>, SchemaFault>
     where
         A: Copy,
-        ensures { GivesSchema (table_view table.now) result }
+        ensures gives { GivesSchema (table_view table.now) result }
+        ensures rises { HaveRisingKeys (entries_of (table_view table.now)) }
     {
         let settings = read_entries(alloc, table)?;
         Ok(Schema { settings })

@@ -5,7 +5,7 @@ use Rattle.std.specs.Map.Iter.{deref_pair}
 use Rattle.toml.specs.View.{view}
 use Rattle.ee_settings.proofs.Entries.{fault_named, gives_same, schema_more}
 use Rattle.ee_settings.proofs.Trees.{entries_seen, gone_more, seen, split_entries}
-use Rattle.ee_settings.proofs.Names.{rising_names}
+use Rattle.ee_settings.proofs.Names.{rising_keys, rising_names}
 use Rattle.ee_settings.specs.File.{AreEntriesOf, IsSchemaOf}
 use Rattle.ee_settings.proofs.entry.read_entries.Goals as goal
 
@@ -40,3 +40,12 @@ returns-clause-names g c =
     let start : c.into_iter-name-iterator.result ≡ c.args.table.now.entries = search rules in
     let e = iter_end deref_pair c.args.table.now.entries c.loop-name.yielded c.into_iter-name-iterator.result c.loop-name.name-iterator c.next.new.self c.next.result start c.loop-name.yielded_by c.in-None.is c.next.ensures.steps in
     rising_names c.args.table.now.entries c.loop-name.settings (subst (λ entries. AreEntriesOf (map seen entries) c.loop-name.settings) e.0 c.loop-name.invariant.each) c.iter-name-items.ensures.ordered
+
+pub returns-in_err-setting-clause-rises : goal.returns-in_err-setting-clause-rises
+returns-in_err-setting-clause-rises g c = rising_keys c.args.table.now.entries c.iter-name-items.ensures.ordered
+
+pub returns-in-Err-clause-rises : goal.returns-in-Err-clause-rises
+returns-in-Err-clause-rises g c = rising_keys c.args.table.now.entries c.iter-name-items.ensures.ordered
+
+pub returns-clause-rises : goal.returns-clause-rises
+returns-clause-rises g c = rising_keys c.args.table.now.entries c.iter-name-items.ensures.ordered
