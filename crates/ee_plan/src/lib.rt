@@ -3,7 +3,7 @@
 //!
 //! Certificates and plans stand on no flash; here is what they have to do with one.
 //!
-//! What the layers above may use: the calls and types of `ee_planner`, whose definitions and lemmas they cite from
+//! What the layers above may use: the calls, types and definitions of `ee_planner`, whose lemmas they cite from
 //! there; a start is the store's; and `laws` says how often any schedule erases.
 //!
 //! # What is proved

@@ -1,6 +1,6 @@
 -- What a device's image says stays as power comes on and a cut is armed.
-use Rattle.std.proofs.Common.{◌≡◌, ◌∙◌, ◌≤◌, ℕ, Bool, Some, ap, false, refl, subst, sym, true, rules}
-use Rattle.ee_flash.specs.Device.{Device, IsOn, all_ones}
+use Rattle.std.proofs.Common.{◌≡◌, ◌∙◌, ◌≤◌, ℕ, Some, ap, refl, subst, sym, rules}
+use Rattle.ee_flash.specs.Device.{Device, all_ones}
 use Rattle.ee_pages.specs.Layout.{IsLayout}
 use Rattle.ee_pages.specs.Legal.{IsLegal}
 use Rattle.ee_pages.specs.Sets.{fill_of, live_of, set_of, slots_of}
@@ -8,14 +8,13 @@ use Rattle.ee_pages.specs.declared.find.Layout.{Layout}
 use Rattle.ee_pages.specs.declared.side.Side.{Side}
 use Rattle.ee_pages.specs.declared.side.Side.TheVariants.{First, Second}
 use Rattle.ee_core.proofs.Public.{legal_powered, live_powered, state_in_on, state_in_powered}
-use Rattle.ee_core.specs.Points.{Point, closed_point, with_power_on, open_point}
+use Rattle.ee_core.specs.Points.{Point, with_power_on, open_point}
 use Rattle.ee_core.specs.Finished.{IsMarked, IsStore}
 use Rattle.ee_core.specs.State.{state_of}
-use Rattle.ee_flash.specs.Memory.{Memory}
 use Rattle.ee_flash.specs.declared.fuse.Fuse.{Fuse}
 use Rattle.ee_index.specs.Kept.{IsKeptBeside}
 use Rattle.ee_index.specs.declared.indexed.Kept.{Kept}
-use Rattle.ee_replay.specs.Serving.{ArmsDevice, ArmsItsFuse, IsArmed, IsSound, with_cut_to_come}
+use Rattle.ee_replay.specs.Serving.{ArmsDevice, ArmsItsFuse, IsSound, with_cut_to_come}
 
 pub state_armed : (device : Device) → state_of (with_cut_to_come device) ≡ state_of device
 state_armed device = state_in_powered device.cuts (Some 1) device.on device (live_of device)
@@ -64,9 +63,6 @@ armed_is old new fuse armed = armed.new_is ∙ armed.arms.device_is
 pub store_with_fuse : (old new : Device) (fuse : Fuse) → ArmsDevice old fuse new → IsStore old → IsStore new
 store_with_fuse old new fuse armed store = subst IsStore (sym (armed_is old new fuse armed)) (store_armed old store)
 
-pub layout_with_fuse : (layout : Layout) (old new : Device) (fuse : Fuse) → ArmsDevice old fuse new → IsLayout old layout → IsLayout new layout
-layout_with_fuse layout old new fuse armed is = subst (λ device. IsLayout device layout) (sym (armed_is old new fuse armed)) (layout_armed old layout is)
-
 pub kept_with_fuse : {A : Type 0} (kept : Kept A) (old new : Device) (fuse : Fuse) → ArmsDevice old fuse new → IsKeptBeside old kept → IsKeptBeside new kept
 kept_with_fuse kept old new fuse armed is = subst (λ device. IsKeptBeside device kept) (sym (armed_is old new fuse armed)) (kept_armed old kept is)
 
@@ -76,17 +72,6 @@ now_armed old new fuse line = line.new_is ∙ ap (λ (d : Device). record old { 
 
 pub arm_legal : (old new : Device) → new ≡ with_cut_to_come old → IsLegal old → IsLegal new
 arm_legal old new is legal = subst IsLegal (sym is) (legal_armed old legal)
-
--- where no store was open, the device alone is on the desk
-pub arm_bare : (old : Point) (fuse : Fuse) (kept : Memory) → IsArmed old.device fuse kept → old.serving ≡ false → ArmsItsFuse old fuse (closed_point kept.device)
-arm_bare old fuse kept is none = search rules
-
--- a store that was open stays so
-pub arm_open : (old : Point) (fuse : Fuse) (kept : Memory) (last : Device) → IsArmed old.device fuse kept → old.serving ≡ true → IsOn old.device → last ≡ kept.device
-    → ArmsItsFuse old fuse (open_point last)
-arm_open old fuse kept last is still on there =
-    let on_now : kept.device.on ≡ old.serving = ap (λ (device : Device). device.on) is.device_is ∙ on ∙ sym still in
-    record { kept = kept; arms = is; new_is = ap open_point there ∙ ap (λ (serving : Bool). record { serving = serving; device = kept.device }) on_now }
 
 -- an open store is on, and no mark is left to set
 pub store_sound : (device : Device) → IsStore device → IsSound (open_point device)
