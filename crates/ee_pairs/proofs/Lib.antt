@@ -1,0 +1,5 @@
+mod Bits
+mod Words
+mod High
+mod Steps
+mod Wipes
