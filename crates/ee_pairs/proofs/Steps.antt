@@ -178,9 +178,11 @@ cut_erase nor new page formed new_formed in_range high cut =
       was_on = cut.was_on;
       is_off = cut.is_off;
       same_size = cut.same_size;
-      image = (rw (there, new_there) (partly_erased nor.size.words (numbers_at nor page) (numbers_at new page) cut.image.0
-        (λ at. number_fits (numbers_at new page) at (new_formed.numbers_fit page [] new_within)) (high page)),
-        image ∙ ap (map words) cut.image.1 ∙ rw new_there (map-set words nor.image page (numbers_at new page)));
+      image = (
+        rw (there, new_there) (partly_erased nor.size.words (numbers_at nor page) (numbers_at new page) cut.image.0
+            (λ at. number_fits (numbers_at new page) at (new_formed.numbers_fit page [] new_within)) (high page)),
+        image ∙ ap (map words) cut.image.1 ∙ rw new_there (map-set words nor.image page (numbers_at new page)),
+      );
       wear = cut.wear;
       cuts = cut.cuts;
       cuts_left = cut.cuts_left;

@@ -8,9 +8,9 @@ use Rattle.std.proofs.lemmas.List.Folds.{list_any_at, list_any_none}
 use Rattle.ee_flash.specs.Device.{all_ones}
 use Rattle.ee_flash.specs.Size.{Size, page_count}
 use Rattle.ee_pairs.specs.Nor.{EraseNumbers, IsNorCutIn, IsNorFormed, IsNorUntouched, NorDevice, number_in, numbers_at, with_numbers_erased}
-use Rattle.ee_pairs.specs.Pairs.{IsHigh, NoLowPair}
+use Rattle.ee_pairs.specs.Pairs.{NoLowPair}
 use Rattle.ee_pairs.specs.Wiping.{IsWipeCut, is_blank, is_written, with_page_wiped, wiped, wiped_below}
-use Rattle.ee_pairs.proofs.High.{high_blank}
+use Rattle.ee_pairs.proofs.High.{blank_number}
 
 -- a page of which each number reads all ones is blank, and the other way round
 pub blank_page : (numbers : List ℕ) (count : ℕ) → length numbers ≡ count → ((at : ℕ) → at < count → is_written (number_in numbers at) ≡ false) → is_blank numbers ≡ true
@@ -19,17 +19,14 @@ blank_page numbers count long each = ap not (list_any_none is_written numbers (A
 pub not_blank_page : (numbers : List ℕ) (at : ℕ) → at < length numbers → is_written (number_in numbers at) ≡ true → is_blank numbers ≡ false
 not_blank_page numbers at within written = ap not (list_any_at is_written numbers at all_ones within written)
 
-blank_number : (numbers : List ℕ) (at : ℕ) → is_blank numbers ≡ true → number_in numbers at ≡ all_ones
-blank_number numbers at blank = elim (cases_lt at (length numbers)) [
+blank_at : (numbers : List ℕ) (at : ℕ) → is_blank numbers ≡ true → number_in numbers at ≡ all_ones
+blank_at numbers at blank = elim (cases_lt at (length numbers)) [
   | inl within ↦ elim (cases_Bool (is_written (number_in numbers at))) [
     | inl written ↦ let no : true ≡ false = sym blank ∙ not_blank_page numbers at within written in cc
     | inr erased ↦ eqb-true _ _ (not-false _ erased)
   ]
   | inr past ↦ get_or_past numbers at all_ones past
 ]
-
-pub high_where_blank : (numbers : List ℕ) → is_blank numbers ≡ true → IsHigh numbers
-high_where_blank numbers blank word = omega (arith, blank_number numbers (2 * word) blank)
 
 -- ---- one page
 
@@ -64,10 +61,10 @@ module _ (page : ℕ) (nor : NorDevice) where
     | inr erased ↦ ap (λ (nor : NorDevice). numbers_at nor other) erased ∙ get_or-set_other nor.image page other _ [] apart
   ]
 
-  high_there : page < length nor.image → IsHigh (numbers_at (with_page_wiped page nor) page)
-  high_there within = elim wiped_one [
-    | inl blank ↦ rw blank.0 (high_where_blank (numbers_at nor page) blank.1)
-    | inr erased ↦ rw erased (rw (get_or-set_same nor.image page (replicate (2 * nor.size.words) all_ones) [] within) (high_blank (2 * nor.size.words)))
+  erased_there : page < length nor.image → (at : ℕ) → number_in (numbers_at (with_page_wiped page nor) page) at ≡ all_ones
+  erased_there within at = elim wiped_one [
+    | inl blank ↦ rw blank.0 (blank_at (numbers_at nor page) at blank.1)
+    | inr erased ↦ rw erased (rw (get_or-set_same nor.image page (replicate (2 * nor.size.words) all_ones) [] within) (blank_number (2 * nor.size.words) at))
   ]
 
 -- ---- the pages below one
@@ -95,24 +92,27 @@ unfolding wiped_below
 wiped_length zero nor = refl
 wiped_length (suc page) nor = as_long page (wiped_below page nor) ∙ wiped_length page nor
 
-pub wiped_high : (page : ℕ) (nor : NorDevice) → page ≤ length nor.image → (other : ℕ) → other < page → IsHigh (numbers_at (wiped_below page nor) other)
+pub wiped_number : (page : ℕ) (nor : NorDevice) → page ≤ length nor.image → (other at : ℕ) → other < page → number_in (numbers_at (wiped_below page nor) other) at ≡ all_ones
 unfolding wiped_below
-wiped_high zero nor few other below = absurd (omega arith)
-wiped_high (suc page) nor few other below =
+wiped_number zero nor few other at below = absurd (omega arith)
+wiped_number (suc page) nor few other at below =
     let before = wiped_below page nor in
     elim (cases_eq other page) [
-      | inl same ↦ rw same (high_there page before (omega (arith, wiped_length page nor)))
-      | inr apart ↦ rw (others_stay page before other apart) (wiped_high page nor (omega arith) other (omega arith))
+      | inl same ↦ rw same (erased_there page before (omega (arith, wiped_length page nor)) at)
+      | inr apart ↦ rw (others_stay page before other apart) (wiped_number page nor (omega arith) other at (omega arith))
     ]
 
--- once each page is wiped, no word sums to less than all ones
-pub wiped_is_high : (nor : NorDevice) → IsNorFormed nor → NoLowPair (wiped nor)
-wiped_is_high nor formed page =
+-- once each page is wiped, each number is all ones
+pub all_wiped : (nor : NorDevice) → IsNorFormed nor → (page at : ℕ) → number_in (numbers_at (wiped nor) page) at ≡ all_ones
+all_wiped nor formed page at =
     let count = page_count nor.size in
     elim (cases_lt page count) [
-      | inl within ↦ wiped_high count nor (omega (arith, formed.image_length)) page within
-      | inr past ↦ rw (get_or_past (wiped nor).image page [] (omega (arith, formed.image_length, wiped_length count nor))) (λ word. omega arith)
+      | inl within ↦ wiped_number count nor (omega (arith, formed.image_length)) page at within
+      | inr past ↦ rw (get_or_past (wiped nor).image page [] (omega (arith, formed.image_length, wiped_length count nor))) refl
     ]
+
+pub wiped_is_high : (nor : NorDevice) → IsNorFormed nor → NoLowPair (wiped nor)
+wiped_is_high nor formed page word = omega (arith, all_wiped nor formed page (2 * word))
 
 -- power was cut in the erase of a page
 pub wipe_left : (page : ℕ) (old mid new : NorDevice) → old.on ≡ true → mid ≡ wiped_below page old → page < page_count old.size → is_blank (numbers_at mid page) ≡ false → IsNorCutIn (EraseNumbers page) mid new ⊎ IsNorUntouched mid new → IsWipeCut old new

@@ -25,9 +25,10 @@ words_of-changed count old new word others =
 
 -- the numbers of other words stay where one number changes
 pub other_pairs : (numbers : List ℕ) (word place number : ℕ) → (place ≡ 2 * word) ⊎ (place ≡ 2 * word + 1) → (other : ℕ) → other ≢ word → (number_in (set numbers place number) (2 * other) ≡ number_in numbers (2 * other)) × (number_in (set numbers place number) (2 * other + 1) ≡ number_in numbers (2 * other + 1))
-other_pairs numbers word place number is other apart =
-    (get_or-set_other numbers place (2 * other) number all_ones (λ same. apart (omega (arith, is))),
-    get_or-set_other numbers place (2 * other + 1) number all_ones (λ same. apart (omega (arith, is))))
+other_pairs numbers word place number is other apart = (
+  get_or-set_other numbers place (2 * other) number all_ones (λ same. apart (omega (arith, is))),
+  get_or-set_other numbers place (2 * other + 1) number all_ones (λ same. apart (omega (arith, is))),
+)
 
 -- the pages of words of changed numbers
 pub device_of-with : (nor : NorDevice) (page word : ℕ) (numbers : List ℕ) → page < length nor.image → ((other : ℕ) → other ≢ word → pair_in numbers other ≡ pair_in (numbers_at nor page) other) → device_of (with_numbers page numbers nor) ≡ with_word page word (pair_in numbers word) (device_of nor)

@@ -1,7 +1,7 @@
 //! A device of words on a flash of numbers.
-ghost use Rattle.std.specs.Prelude.{◌≡◌, IfErr, IfOk, OnErr, OnOk, true};
+ghost use Rattle.std.specs.Prelude.{◌≡◌, ℕ, IfErr, IfOk, true};
 ghost use Rattle.ee_flash.specs.Device.{all_ones};
-ghost use Rattle.ee_pairs.specs.Nor.{};
+ghost use Rattle.ee_pairs.specs.Nor.{number_at};
 ghost use Rattle.ee_pairs.specs.Pairs.{IsFirstLow, NoLowPair, complement, word_of as word_of_numbers};
 ghost use Rattle.ee_pairs.specs.Wiping.{IsWipeCut, wiped};
 
@@ -20,14 +20,14 @@ pub struct Pairs<N: Nor + Drop> {
 }
 
 impl<N: Nor + Drop> Pairs<N> {
-    /// The device of words of a flash that a store wrote, or that is blank. It reads each number once, and changes nothing.
+    /// The device of words of a flash that a store wrote, or that is blank. It reads each number once, whether power is on
+    /// or off, and changes nothing.
     ///
     /// # Errors
     ///
     /// `LowPair`, with the flash as it was: the first word whose two numbers sum to less than `u64::MAX`. The flash held
     /// something else; `wipe` makes it blank.
     pub fn of(nor: N) -> Result<Pairs<N>, (N, LowPair)>
-        requires { (N.nor nor).on ≡ true }
         ensures same { IfOk result (λ pairs. N.nor pairs.nor ≡ N.nor nor) }
         ensures fault { IfErr result (λ refused. IsFirstLow (N.nor nor) refused.1) }
         ensures untouched { IfErr result (λ refused. N.nor refused.0 ≡ N.nor nor) }
@@ -38,7 +38,8 @@ impl<N: Nor + Drop> Pairs<N> {
         }
     }
 
-    /// The device of words of a flash that may hold anything: each page that isn't blank is erased, by rising page.
+    /// The device of words of a flash that may hold anything: each page that isn't blank is erased, by rising page. The flash
+    /// is on, as a condition.
     ///
     /// # Errors
     ///
@@ -46,6 +47,8 @@ impl<N: Nor + Drop> Pairs<N> {
     pub fn wipe(mut nor: N) -> Result<Pairs<N>, (N, Cut)>
         requires { (N.nor nor).on ≡ true }
         ensures wiped { IfOk result (λ pairs. N.nor pairs.nor ≡ wiped (N.nor nor)) }
+        ensures blank { IfOk result
+            (λ pairs. (page at : ℕ) → number_at (N.nor pairs.nor) page at ≡ all_ones) }
         ensures cut { IfErr result (λ refused. IsWipeCut (N.nor nor) (N.nor refused.0)) }
     {
         match wipe(&mut nor) {
@@ -68,7 +71,11 @@ fn word_of(number: u64, check: u64) -> Word
     ensures { result ≡ word_of_numbers number check }
 {
     if number == u64::MAX {
-        return if check == u64::MAX { Word::Erased } else { Word::Torn };
+        return if check == u64::MAX {
+            Word::Erased
+        } else {
+            Word::Torn
+        };
     }
     if check == complement_of(number) {
         Word::Held(number)

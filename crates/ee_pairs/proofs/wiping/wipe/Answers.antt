@@ -18,7 +18,7 @@ pub returns-in_err-erase-clause-cut : goal.returns-in_err-erase-clause-cut
 returns-in_err-erase-clause-cut g c =
     let count = ap (λ (size : Size). size.pages) c.shape.ensures in
     let left = wipe_left c.pages.page (g.N.Nor.nor c.args.nor.now) (g.N.Nor.nor c.pages.nor) (g.N.Nor.nor c.erase.new.self) c.requires c.pages.invariant
-      (omega (arith, count, c.pages-page-end.ensures.value, c.pages-test.true)) (search rules) c.in_err-erase.ensures.cut in
+    (omega (arith, count, c.pages-page-end.ensures.value, c.pages-test.true)) (search rules) c.in_err-erase.ensures.cut in
     search rules
 
 pub pages-preserved : goal.pages-preserved

@@ -26,8 +26,7 @@ invariant_of-self-then-check g c = record {
 
 pub returns-then-check-clause-done : goal.returns-then-check-clause-done
 returns-then-check-clause-done g c =
-    let zero : complement c.args.value ≡ all_ones = sym c.complement_of-check.ensures ∙ c.if-check.true in
-    zero_done _ _ c.args.page c.args.at c.args.value (g.met.N.Nor.formed c.args.self.now.nor) c.requires.page_in_range c.requires.place_in_range c.requires.erased c.requires.below_all_ones zero c.in_ok-program.ensures.done
+    zero_done _ _ c.args.page c.args.at c.args.value (g.met.N.Nor.formed c.args.self.now.nor) c.requires.page_in_range c.requires.place_in_range c.requires.erased c.requires.below_all_ones (search rules) c.in_ok-program.ensures.done
 
 pub program-requires-2-clause-erased : goal.program-requires-2-clause-erased
 program-requires-2-clause-erased g c =
@@ -38,7 +37,7 @@ invariant_of-self-2 g c =
     let check = c.complement_of-check.ensures in
     record {
       no_low_pair = high_second_left (g.N.Nor.nor c.args.self.now.nor) (g.N.Nor.nor c.program-2.new.self) c.args.page c.args.at c.args.value (g.met.N.Nor.formed c.args.self.now.nor) c.requires.page_in_range c.requires.place_in_range c.requires.erased (g.N.Nor.nor c.program.new.self) c.in_ok-program.ensures.on c.in_ok-program.ensures.done c.requires.below_all_ones
-        c.program-2.result c.args.self.now.no_low_pair (rw (sym check) c.program-2.ensures.done) (rw (sym check) c.program-2.ensures.cut);
+          c.program-2.result c.args.self.now.no_low_pair (rw (sym check) c.program-2.ensures.done) (rw (sym check) c.program-2.ensures.cut);
     }
 
 pub returns-clause-done : goal.returns-clause-done
