@@ -1,12 +1,12 @@
 -- Numbers that have every bit of another.
-use Rattle.std.proofs.Common.{◌≡◌, ◌⊎◌, inl, inr, ℕ, suc, ◌+◌, ◌*◌, ◌-◌, ◌^◌, ◌<◌, ◌≤◌, List, [], ◌∷◌, length, get_or, refl, sym, ap, ◌∙◌, arith}
-use Rattle.std.specs.Prelude.{bit_and, slice_index}
+use Rattle.std.proofs.Common.{◌≡◌, inl, inr, ℕ, suc, ◌+◌, ◌-◌, ◌^◌, ◌<◌, ◌≤◌, List, [], ◌∷◌, length, refl, ◌∙◌, arith}
+use Rattle.std.specs.Prelude.{slice_index}
 use Rattle.std.specs.List.{All}
 use Rattle.std.proofs.lemmas.Nat.{and_block, and_comm, and_le_l, and_mask}
 use Rattle.ee_flash.specs.Device.{all_ones}
 use Rattle.ee_flash.specs.declared.word.Word.TheVariants.{Held}
-use Rattle.ee_pairs.specs.Nor.{HasBits, IsNumber}
-use Rattle.ee_pairs.specs.Pairs.{complement, word_of}
+use Rattle.ee_pairs.specs.Nor.{HasBits, IsNorNumber}
+use Rattle.ee_pairs.specs.Pairs.{complement, pair_word}
 use Rattle.ee_pairs.specs.Formed.{word_cases}
 use Rattle.ee_pairs.specs.Laws.{IsPart, MayPartBe, joined}
 
@@ -14,7 +14,7 @@ use Rattle.ee_pairs.specs.Laws.{IsPart, MayPartBe, joined}
 pub no_less : (number other : ℕ) → HasBits number other → other ≤ number
 no_less number other has = omega (arith, has, and_le_l number other)
 
-pub torn_is_told : (value number check held : ℕ) → value < all_ones → HasBits number value → HasBits check (complement value) → word_of number check ≡ Held held → held ≡ value
+pub torn_is_told : (value number check held : ℕ) → value < all_ones → HasBits number value → HasBits check (complement value) → pair_word number check ≡ Held held → held ≡ value
 torn_is_told value number check held below has has_check is = elim (word_cases number check) [
   | inl erased ↦ let none = erased.2 in cc
   | inr (inl pair) ↦
@@ -27,7 +27,7 @@ torn_is_told value number check held below has has_check is = elim (word_cases n
 pub high_stays : (number check left left_check : ℕ) → all_ones ≤ number + check → HasBits left number → HasBits left_check check → all_ones ≤ left + left_check
 high_stays number check left left_check high has has_check = omega (arith, no_less left number has, no_less left_check check has_check)
 
-pub makes_no_number : (number check left left_check held : ℕ) → IsNumber left → all_ones ≤ number + check → HasBits left number → HasBits left_check check → word_of left left_check ≡ Held held → word_of number check ≡ Held held
+pub makes_no_number : (number check left left_check held : ℕ) → IsNorNumber left → all_ones ≤ number + check → HasBits left number → HasBits left_check check → pair_word left left_check ≡ Held held → pair_word number check ≡ Held held
 makes_no_number number check left left_check held fits high has has_check is = elim (word_cases left left_check) [
   | inl erased ↦ let none = erased.2 in cc
   | inr (inl pair) ↦

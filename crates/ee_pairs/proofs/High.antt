@@ -1,10 +1,10 @@
 -- Words whose two numbers sum to no less than all ones.
-use Rattle.std.proofs.Common.{◌≡◌, ◌≢◌, ◌⊎◌, inl, inr, ℕ, ◌+◌, ◌*◌, ◌-◌, ◌<◌, ◌≤◌, List, [], length, get_or, set, replicate, refl, sym, ap, ◌∙◌, arith}
+use Rattle.std.proofs.Common.{◌≡◌, inl, inr, ℕ, ◌+◌, ◌*◌, ◌<◌, ◌≤◌, List, [], length, set, replicate, refl, arith}
 use Rattle.std.proofs.lemmas.Bool.{cases_eq, cases_lt}
 use Rattle.std.proofs.lemmas.List.{get_or_past, get_or-replicate, get_or-set_other, get_or-set_same, length-replicate, set_past}
 use Rattle.ee_flash.specs.Device.{all_ones}
-use Rattle.ee_pairs.specs.Nor.{HasBits, KeepsBits, NorDevice, number_in, numbers_at, with_numbers_erased}
-use Rattle.ee_pairs.specs.Pairs.{IsHigh, NoLowPair, complement, sum_in}
+use Rattle.ee_pairs.specs.Nor.{KeepsBits, NorDevice, number_in}
+use Rattle.ee_pairs.specs.Pairs.{IsHigh, NoLowPair, complement}
 use Rattle.ee_pairs.proofs.Bits.{high_stays}
 use Rattle.ee_pairs.proofs.Words.{other_pairs}
 

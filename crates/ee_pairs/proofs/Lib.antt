@@ -3,3 +3,4 @@ mod Words
 mod High
 mod Steps
 mod Wipes
+mod Premises

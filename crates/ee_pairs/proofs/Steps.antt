@@ -1,37 +1,37 @@
 -- A step of words is one or two steps of numbers.
-use Rattle.std.proofs.Common.{◌≡◌, ◌≢◌, ◌⊎◌, inl, inr, ℕ, ◌+◌, ◌*◌, ◌-◌, ◌<◌, ◌≤◌, List, [], length, get_or, set, replicate, map, true, false, Result, Ok, Err, OnOk, OnErr, refl, sym, subst, ap, ◌∙◌, arith}
+use Rattle.std.proofs.Common.{◌≡◌, ◌≢◌, ◌⊎◌, inl, inr, ℕ, ◌+◌, ◌*◌, ◌<◌, ◌≤◌, List, [], length, get_or, set, replicate, map, true, false, Result, Ok, Err, OnOk, OnErr, refl, sym, subst, ap, ◌∙◌, arith}
 use Rattle.std.proofs.lemmas.Bool.{eq-eqb, ne_eqb}
-use Rattle.std.proofs.lemmas.List.{get_or-map, get_or-set_other, get_or-set_same, length-map, length-set, map-set, set-get_or, set-set}
+use Rattle.std.proofs.lemmas.List.{get_or-map, get_or-set_other, get_or-set_same, length-set, map-set, set-get_or, set-set}
 use Rattle.ee_flash.specs.Device.{Device, all_ones, page_at, word_at}
 use Rattle.ee_flash.specs.Size.{Size, page_count}
 use Rattle.ee_flash.specs.Step.{Erase, IsCutIn, IsUntouched, MayLeave, Program, with_word, with_word_programmed}
 use Rattle.ee_flash.specs.declared.word.Word.{Word}
 use Rattle.ee_flash.specs.declared.word.Word.TheVariants.{Erased, Held, Torn}
-use Rattle.ee_pairs.specs.Nor.{EraseNumbers, HasBits, IsNorCutIn, IsNorFormed, IsNorUntouched, IsNumber, NorDevice, ProgramNumber, number_at, number_in, numbers_at, with_number, with_numbers, with_numbers_erased}
-use Rattle.ee_pairs.specs.Pairs.{IsHigh, NoLowPair, complement, device_of, pair_in, word_of, words_of}
-use Rattle.ee_pairs.specs.Formed.{get_or-words_of, number_fits, word_cases}
+use Rattle.ee_pairs.specs.Nor.{EraseNumbers, IsNorCutIn, IsNorFormed, IsNorUntouched, NorDevice, ProgramNumber, number_at, number_in, numbers_at, with_number, with_numbers, with_numbers_erased}
+use Rattle.ee_pairs.specs.Pairs.{IsHigh, NoLowPair, complement, paired_device, pair_in, pair_word, pair_words}
+use Rattle.ee_pairs.specs.Formed.{get_or-pair_words, number_fits, word_cases}
 use Rattle.ee_pairs.proofs.Bits.{no_less}
 use Rattle.ee_pairs.proofs.High.{high_blank, high_first, high_kept, high_second, no_low_with}
-use Rattle.ee_pairs.proofs.Words.{device_of-with, first_cut, other_pairs, partly_erased, second_cut}
+use Rattle.ee_pairs.proofs.Words.{paired_device-with, first_cut, other_pairs, partly_erased, second_cut}
 
 -- the word at a place
-pub word_there : (nor : NorDevice) (page at : ℕ) → IsNorFormed nor → page < page_count nor.size → at < nor.size.words → word_at (device_of nor) page at ≡ pair_in (numbers_at nor page) at
+pub word_there : (nor : NorDevice) (page at : ℕ) → IsNorFormed nor → page < page_count nor.size → at < nor.size.words → word_at (paired_device nor) page at ≡ pair_in (numbers_at nor page) at
 word_there nor page at formed in_range within =
-    let words = words_of nor.size.words in
+    let words = pair_words nor.size.words in
     ap (λ (those : List Word). get_or those at Erased) (get_or-map words nor.image page [] [] (omega (arith, formed.image_length)))
-    ∙ get_or-words_of nor.size.words (numbers_at nor page) at Erased within
+    ∙ get_or-pair_words nor.size.words (numbers_at nor page) at Erased within
 
-both_erased : (number check : ℕ) → word_of number check ≡ Erased → (number ≡ all_ones) × (check ≡ all_ones)
+both_erased : (number check : ℕ) → pair_word number check ≡ Erased → (number ≡ all_ones) × (check ≡ all_ones)
 both_erased number check is = elim (word_cases number check) [
   | inl erased ↦ (erased.0, erased.1)
   | inr (inl held) ↦ let word = held.2 in cc
   | inr (inr torn) ↦ cc
 ]
 
-held_word : (value : ℕ) → value < all_ones → word_of value (complement value) ≡ Held value
+held_word : (value : ℕ) → value < all_ones → pair_word value (complement value) ≡ Held value
 held_word value below = rw (ne_eqb value all_ones (λ same. omega arith), eq-eqb (complement value) (complement value) refl) refl
 
-module _ (nor : NorDevice) (page at : ℕ) (formed : IsNorFormed nor) (in_range : page < page_count nor.size) (within : at < nor.size.words) (erased : word_at (device_of nor) page at ≡ Erased) where
+module _ (nor : NorDevice) (page at : ℕ) (formed : IsNorFormed nor) (in_range : page < page_count nor.size) (within : at < nor.size.words) (erased : word_at (paired_device nor) page at ≡ Erased) where
   abbrev numbers : List ℕ
   numbers = numbers_at nor page
 
@@ -66,10 +66,10 @@ module _ (nor : NorDevice) (page at : ℕ) (formed : IsNorFormed nor) (in_range 
       rw (pair.0, pair.1) refl
 
   -- the first number programmed
-  pub first_put : (number : ℕ) → device_of (with_number page (2 * at) number nor) ≡ with_word page at (word_of number all_ones) (device_of nor)
+  pub first_put : (number : ℕ) → paired_device (with_number page (2 * at) number nor) ≡ with_word page at (pair_word number all_ones) (paired_device nor)
   first_put number =
-      device_of-with nor page at (with_first number) page_within (first_others number)
-      ∙ ap (λ (word : Word). with_word page at word (device_of nor)) (rw (first_there number, same_second number) refl)
+      paired_device-with nor page at (with_first number) page_within (first_others number)
+      ∙ ap (λ (word : Word). with_word page at word (paired_device nor)) (rw (first_there number, same_second number) refl)
 
   -- and then the second
   abbrev with_second : ℕ → ℕ → List ℕ
@@ -84,54 +84,54 @@ module _ (nor : NorDevice) (page at : ℕ) (formed : IsNorFormed nor) (in_range 
   one_page value number = ap (λ (image : List (List ℕ)). record nor { image = image })
       (rw (get_or-set_same nor.image page (with_first value) [] page_within) (set-set nor.image page (with_first value) (with_second value number)))
 
-  pub second_put : (value number : ℕ) → device_of (with_number page (2 * at + 1) number (with_number page (2 * at) value nor)) ≡ with_word page at (word_of value number) (device_of nor)
+  pub second_put : (value number : ℕ) → paired_device (with_number page (2 * at + 1) number (with_number page (2 * at) value nor)) ≡ with_word page at (pair_word value number) (paired_device nor)
   second_put value number =
       let kept = get_or-set_other (with_first value) (2 * at + 1) (2 * at) number all_ones (λ same. omega arith) in
       let there = get_or-set_same (with_first value) (2 * at + 1) number all_ones (omega (arith, long, length-set numbers (2 * at) value)) in
-      ap device_of (one_page value number)
-      ∙ device_of-with nor page at (with_second value number) page_within (second_others value number)
-      ∙ ap (λ (word : Word). with_word page at word (device_of nor)) (rw (kept, first_there value, there) refl)
+      ap paired_device (one_page value number)
+      ∙ paired_device-with nor page at (with_second value number) page_within (second_others value number)
+      ∙ ap (λ (word : Word). with_word page at word (paired_device nor)) (rw (kept, first_there value, there) refl)
 
   -- a word that is put where it stood
-  same_word : (with_word page at Erased (device_of nor)).image ≡ (device_of nor).image
+  same_word : (with_word page at Erased (paired_device nor)).image ≡ (paired_device nor).image
   same_word =
-      let image = (device_of nor).image in
-      let words = page_at (device_of nor) page in
+      let image = (paired_device nor).image in
+      let words = page_at (paired_device nor) page in
       ap (set image page) (ap (set words at) (sym erased) ∙ set-get_or words at Erased) ∙ set-get_or image page []
 
-  left_so : (value : ℕ) (word : Word) (new : Device) → new.image ≡ (with_word page at word (device_of nor)).image → (word ≡ Erased) ⊎ ((word ≡ Held value) ⊎ (word ≡ Torn)) → MayLeave (Program page at value) (device_of nor) new
-  left_so value word new is (inl none) = inl (is ∙ ap (λ (word : Word). (with_word page at word (device_of nor)).image) none ∙ same_word)
-  left_so value word new is (inr (inl held)) = inr (inl (is ∙ ap (λ (word : Word). (with_word page at word (device_of nor)).image) held))
-  left_so value word new is (inr (inr torn)) = inr (inr (is ∙ ap (λ (word : Word). (with_word page at word (device_of nor)).image) torn))
+  left_so : (value : ℕ) (word : Word) (new : Device) → new.image ≡ (with_word page at word (paired_device nor)).image → (word ≡ Erased) ⊎ ((word ≡ Held value) ⊎ (word ≡ Torn)) → MayLeave (Program page at value) (paired_device nor) new
+  left_so value word new is (inl none) = inl (is ∙ ap (λ (word : Word). (with_word page at word (paired_device nor)).image) none ∙ same_word)
+  left_so value word new is (inr (inl held)) = inr (inl (is ∙ ap (λ (word : Word). (with_word page at word (paired_device nor)).image) held))
+  left_so value word new is (inr (inr torn)) = inr (inr (is ∙ ap (λ (word : Word). (with_word page at word (paired_device nor)).image) torn))
 
   -- power was cut in the first number
-  pub cut_first : (value : ℕ) (new : NorDevice) → value < all_ones → IsNorCutIn (ProgramNumber page (2 * at) value) nor new → IsCutIn (Program page at value) (device_of nor) (device_of new)
+  pub cut_first : (value : ℕ) (new : NorDevice) → value < all_ones → IsNorCutIn (ProgramNumber page (2 * at) value) nor new → IsCutIn (Program page at value) (paired_device nor) (paired_device new)
   cut_first value new below cut =
       let left = number_at new page (2 * at) in
-      let image : (device_of new).image ≡ (device_of (with_number page (2 * at) left nor)).image =
-      ap (λ (size : Size). map (words_of size.words) new.image) cut.same_size ∙ ap (map (words_of nor.size.words)) cut.image.1 in
+      let image : (paired_device new).image ≡ (paired_device (with_number page (2 * at) left nor)).image =
+      ap (λ (size : Size). map (pair_words size.words) new.image) cut.same_size ∙ ap (map (pair_words nor.size.words)) cut.image.1 in
       record {
         was_on = cut.was_on;
         is_off = cut.is_off;
         same_size = cut.same_size;
-        image = left_so value _ (device_of new) (image ∙ ap (λ (device : Device). device.image) (first_put left)) (first_cut value left below cut.image.0);
+        image = left_so value _ (paired_device new) (image ∙ ap (λ (device : Device). device.image) (first_put left)) (first_cut value left below cut.image.0);
         wear = cut.wear;
         cuts = cut.cuts;
         cuts_left = cut.cuts_left;
       }
 
   -- it was cut in the second
-  pub cut_second : (value : ℕ) (new : NorDevice) → value < all_ones → IsNorCutIn (ProgramNumber page (2 * at + 1) (complement value)) (with_number page (2 * at) value nor) new → IsCutIn (Program page at value) (device_of nor) (device_of new)
+  pub cut_second : (value : ℕ) (new : NorDevice) → value < all_ones → IsNorCutIn (ProgramNumber page (2 * at + 1) (complement value)) (with_number page (2 * at) value nor) new → IsCutIn (Program page at value) (paired_device nor) (paired_device new)
   cut_second value new below cut =
       let left = number_at new page (2 * at + 1) in
       let mid = with_number page (2 * at) value nor in
-      let image : (device_of new).image ≡ (device_of (with_number page (2 * at + 1) left mid)).image =
-      ap (λ (size : Size). map (words_of size.words) new.image) cut.same_size ∙ ap (map (words_of nor.size.words)) cut.image.1 in
+      let image : (paired_device new).image ≡ (paired_device (with_number page (2 * at + 1) left mid)).image =
+      ap (λ (size : Size). map (pair_words size.words) new.image) cut.same_size ∙ ap (map (pair_words nor.size.words)) cut.image.1 in
       record {
         was_on = cut.was_on;
         is_off = cut.is_off;
         same_size = cut.same_size;
-        image = left_so value _ (device_of new) (image ∙ ap (λ (device : Device). device.image) (second_put value left)) (inr (second_cut value left below));
+        image = left_so value _ (paired_device new) (image ∙ ap (λ (device : Device). device.image) (second_put value left)) (inr (second_cut value left below));
         wear = cut.wear;
         cuts = cut.cuts;
         cuts_left = cut.cuts_left;
@@ -164,15 +164,15 @@ module _ (nor : NorDevice) (page at : ℕ) (formed : IsNorFormed nor) (in_range 
         (cut.image.1 ∙ ap (λ (nor : NorDevice). nor.image) (one_page value left))
 
 -- power was cut in an erase
-pub cut_erase : (nor new : NorDevice) (page : ℕ) → IsNorFormed nor → IsNorFormed new → page < page_count nor.size → NoLowPair nor → IsNorCutIn (EraseNumbers page) nor new → IsCutIn (Erase page) (device_of nor) (device_of new)
+pub cut_erase : (nor new : NorDevice) (page : ℕ) → IsNorFormed nor → IsNorFormed new → page < page_count nor.size → NoLowPair nor → IsNorCutIn (EraseNumbers page) nor new → IsCutIn (Erase page) (paired_device nor) (paired_device new)
 cut_erase nor new page formed new_formed in_range high cut =
-    let words = words_of nor.size.words in
+    let words = pair_words nor.size.words in
     let within : page < length nor.image = omega (arith, formed.image_length) in
     let size = ap page_count cut.same_size in
     let new_within : page < length new.image = omega (arith, new_formed.image_length, size) in
-    let image : (device_of new).image ≡ map words new.image = ap (λ (size : Size). map (words_of size.words) new.image) cut.same_size in
-    let there : page_at (device_of nor) page ≡ words (numbers_at nor page) = get_or-map words nor.image page [] [] within in
-    let new_there : page_at (device_of new) page ≡ words (numbers_at new page) =
+    let image : (paired_device new).image ≡ map words new.image = ap (λ (size : Size). map (pair_words size.words) new.image) cut.same_size in
+    let there : page_at (paired_device nor) page ≡ words (numbers_at nor page) = get_or-map words nor.image page [] [] within in
+    let new_there : page_at (paired_device new) page ≡ words (numbers_at new page) =
     ap (λ (pages : List (List Word)). get_or pages page []) image ∙ get_or-map words new.image page [] [] new_within in
     record {
       was_on = cut.was_on;
@@ -200,19 +200,19 @@ module _ (nor new : NorDevice) (page : ℕ) (formed : IsNorFormed nor) (new_form
   high_erased (Err e) done (inl cut) = high_cut_erase nor new page high cut
   high_erased (Err e) done (inr untouched) = rw untouched.same high
 
-  pub erase_left : IsNorCutIn (EraseNumbers page) nor new ⊎ IsNorUntouched nor new → IsCutIn (Erase page) (device_of nor) (device_of new) ⊎ IsUntouched (device_of nor) (device_of new)
+  pub erase_left : IsNorCutIn (EraseNumbers page) nor new ⊎ IsNorUntouched nor new → IsCutIn (Erase page) (paired_device nor) (paired_device new) ⊎ IsUntouched (paired_device nor) (paired_device new)
   erase_left (inl cut) = inl (cut_erase nor new page formed new_formed in_range high cut)
-  erase_left (inr untouched) = inr (record { was_off = untouched.was_off; same = ap device_of untouched.same })
+  erase_left (inr untouched) = inr (record { was_off = untouched.was_off; same = ap paired_device untouched.same })
 
 -- a program of the first number that was cut or off
-module _ (nor new : NorDevice) (page at value : ℕ) (formed : IsNorFormed nor) (in_range : page < page_count nor.size) (within : at < nor.size.words) (erased : word_at (device_of nor) page at ≡ Erased) where
+module _ (nor new : NorDevice) (page at value : ℕ) (formed : IsNorFormed nor) (in_range : page < page_count nor.size) (within : at < nor.size.words) (erased : word_at (paired_device nor) page at ≡ Erased) where
   pub high_first_left : NoLowPair nor → IsNorCutIn (ProgramNumber page (2 * at) value) nor new ⊎ IsNorUntouched nor new → NoLowPair new
   high_first_left high (inl cut) = high_cut_first nor page at formed in_range within erased high value new cut
   high_first_left high (inr untouched) = rw untouched.same high
 
-  pub first_left : value < all_ones → IsNorCutIn (ProgramNumber page (2 * at) value) nor new ⊎ IsNorUntouched nor new → IsCutIn (Program page at value) (device_of nor) (device_of new) ⊎ IsUntouched (device_of nor) (device_of new)
+  pub first_left : value < all_ones → IsNorCutIn (ProgramNumber page (2 * at) value) nor new ⊎ IsNorUntouched nor new → IsCutIn (Program page at value) (paired_device nor) (paired_device new) ⊎ IsUntouched (paired_device nor) (paired_device new)
   first_left below (inl cut) = inl (cut_first nor page at formed in_range within erased value new below cut)
-  first_left below (inr untouched) = inr (record { was_off = untouched.was_off; same = ap device_of untouched.same })
+  first_left below (inr untouched) = inr (record { was_off = untouched.was_off; same = ap paired_device untouched.same })
 
   -- the second number, whole or not, after the first
   module _ (mid : NorDevice) (on : nor.on ≡ true) (put : mid ≡ with_number page (2 * at) value nor) (below : value < all_ones) where
@@ -221,18 +221,18 @@ module _ (nor new : NorDevice) (page at value : ℕ) (formed : IsNorFormed nor) 
     high_second_left (Err e) high done (inl cut) = high_cut_second nor page at formed in_range within erased high value new (omega arith) (subst (λ mid. IsNorCutIn (ProgramNumber page (2 * at + 1) (complement value)) mid new) put cut)
     high_second_left (Err e) high done (inr untouched) = rw (untouched.same, put) (high_after_first nor page at formed in_range within erased high value)
 
-    pub second_done : new ≡ with_number page (2 * at + 1) (complement value) mid → device_of new ≡ with_word_programmed page at value (device_of nor)
+    pub second_done : new ≡ with_number page (2 * at + 1) (complement value) mid → paired_device new ≡ with_word_programmed page at value (paired_device nor)
     second_done done =
-        ap device_of done ∙ ap (λ (mid : NorDevice). device_of (with_number page (2 * at + 1) (complement value) mid)) put
+        ap paired_device done ∙ ap (λ (mid : NorDevice). paired_device (with_number page (2 * at + 1) (complement value) mid)) put
         ∙ second_put nor page at formed in_range within erased value (complement value)
-        ∙ ap (λ (word : Word). with_word page at word (device_of nor)) (held_word value below)
+        ∙ ap (λ (word : Word). with_word page at word (paired_device nor)) (held_word value below)
 
-    pub second_left : IsNorCutIn (ProgramNumber page (2 * at + 1) (complement value)) mid new ⊎ IsNorUntouched mid new → IsCutIn (Program page at value) (device_of nor) (device_of new)
+    pub second_left : IsNorCutIn (ProgramNumber page (2 * at + 1) (complement value)) mid new ⊎ IsNorUntouched mid new → IsCutIn (Program page at value) (paired_device nor) (paired_device new)
     second_left (inl cut) = cut_second nor page at formed in_range within erased value new below (subst (λ mid. IsNorCutIn (ProgramNumber page (2 * at + 1) (complement value)) mid new) put cut)
     second_left (inr untouched) = let no : true ≡ false = sym on ∙ sym (ap (λ (nor : NorDevice). nor.on) put) ∙ untouched.was_off in cc
 
   -- where the complement is all ones, it stands there already
-  pub zero_done : value < all_ones → complement value ≡ all_ones → new ≡ with_number page (2 * at) value nor → device_of new ≡ with_word_programmed page at value (device_of nor)
+  pub zero_done : value < all_ones → complement value ≡ all_ones → new ≡ with_number page (2 * at) value nor → paired_device new ≡ with_word_programmed page at value (paired_device nor)
   zero_done below zero done =
-      ap device_of done ∙ first_put nor page at formed in_range within erased value
-      ∙ ap (λ (word : Word). with_word page at word (device_of nor)) (ap (word_of value) (sym zero) ∙ held_word value below)
+      ap paired_device done ∙ first_put nor page at formed in_range within erased value
+      ∙ ap (λ (word : Word). with_word page at word (paired_device nor)) (ap (pair_word value) (sym zero) ∙ held_word value below)

@@ -1,27 +1,26 @@
 -- Pages made blank, one after another.
-use Rattle.std.proofs.Common.{◌≡◌, ◌≢◌, ◌⊎◌, inl, inr, ℕ, zero, suc, ◌+◌, ◌*◌, ◌<◌, ◌≤◌, List, [], true, false, not, length, get_or, set, replicate, refl, sym, subst, ap, ◌∙◌, arith}
-use Rattle.std.specs.List.{All}
+use Rattle.std.proofs.Common.{◌≡◌, ◌≢◌, ◌⊎◌, inl, inr, ℕ, zero, suc, ◌+◌, ◌*◌, ◌<◌, ◌≤◌, List, [], true, false, not, length, replicate, refl, sym, subst, ap, ◌∙◌, arith}
 use Rattle.std.proofs.lemmas.Bool.{cases_Bool, cases_eq, cases_lt, eqb-true, not-false}
 use Rattle.std.proofs.lemmas.List.{get_or-set_other, get_or-set_same, get_or_past, length-set}
 use Rattle.std.proofs.lemmas.List.Elements.{All-from_get_or}
 use Rattle.std.proofs.lemmas.List.Folds.{list_any_at, list_any_none}
 use Rattle.ee_flash.specs.Device.{all_ones}
-use Rattle.ee_flash.specs.Size.{Size, page_count}
+use Rattle.ee_flash.specs.Size.{page_count}
 use Rattle.ee_pairs.specs.Nor.{EraseNumbers, IsNorCutIn, IsNorFormed, IsNorUntouched, NorDevice, number_in, numbers_at, with_numbers_erased}
 use Rattle.ee_pairs.specs.Pairs.{NoLowPair}
-use Rattle.ee_pairs.specs.Wiping.{IsWipeCut, is_blank, is_written, with_page_wiped, wiped, wiped_below}
+use Rattle.ee_pairs.specs.Wiping.{IsWipeCut, is_all_ones, is_programmed, with_page_wiped, wiped, wiped_below}
 use Rattle.ee_pairs.proofs.High.{blank_number}
 
 -- a page of which each number reads all ones is blank, and the other way round
-pub blank_page : (numbers : List ℕ) (count : ℕ) → length numbers ≡ count → ((at : ℕ) → at < count → is_written (number_in numbers at) ≡ false) → is_blank numbers ≡ true
-blank_page numbers count long each = ap not (list_any_none is_written numbers (All-from_get_or (λ number. is_written number ≡ false) numbers all_ones (λ at h. each at (omega arith))))
+pub blank_page : (numbers : List ℕ) (count : ℕ) → length numbers ≡ count → ((at : ℕ) → at < count → is_programmed (number_in numbers at) ≡ false) → is_all_ones numbers ≡ true
+blank_page numbers count long each = ap not (list_any_none is_programmed numbers (All-from_get_or (λ number. is_programmed number ≡ false) numbers all_ones (λ at h. each at (omega arith))))
 
-pub not_blank_page : (numbers : List ℕ) (at : ℕ) → at < length numbers → is_written (number_in numbers at) ≡ true → is_blank numbers ≡ false
-not_blank_page numbers at within written = ap not (list_any_at is_written numbers at all_ones within written)
+pub not_blank_page : (numbers : List ℕ) (at : ℕ) → at < length numbers → is_programmed (number_in numbers at) ≡ true → is_all_ones numbers ≡ false
+not_blank_page numbers at within written = ap not (list_any_at is_programmed numbers at all_ones within written)
 
-blank_at : (numbers : List ℕ) (at : ℕ) → is_blank numbers ≡ true → number_in numbers at ≡ all_ones
+blank_at : (numbers : List ℕ) (at : ℕ) → is_all_ones numbers ≡ true → number_in numbers at ≡ all_ones
 blank_at numbers at blank = elim (cases_lt at (length numbers)) [
-  | inl within ↦ elim (cases_Bool (is_written (number_in numbers at))) [
+  | inl within ↦ elim (cases_Bool (is_programmed (number_in numbers at))) [
     | inl written ↦ let no : true ≡ false = sym blank ∙ not_blank_page numbers at within written in cc
     | inr erased ↦ eqb-true _ _ (not-false _ erased)
   ]
@@ -31,8 +30,8 @@ blank_at numbers at blank = elim (cases_lt at (length numbers)) [
 -- ---- one page
 
 module _ (page : ℕ) (nor : NorDevice) where
-  wiped_one : (with_page_wiped page nor ≡ nor) × (is_blank (numbers_at nor page) ≡ true) ⊎ (with_page_wiped page nor ≡ with_numbers_erased page nor)
-  wiped_one = elim (cases_Bool (is_blank (numbers_at nor page))) [
+  wiped_one : (with_page_wiped page nor ≡ nor) × (is_all_ones (numbers_at nor page) ≡ true) ⊎ (with_page_wiped page nor ≡ with_numbers_erased page nor)
+  wiped_one = elim (cases_Bool (is_all_ones (numbers_at nor page))) [
     | inl blank ↦ inl (rw blank refl, blank)
     | inr some ↦ inr (rw some refl)
   ]
@@ -115,11 +114,11 @@ pub wiped_is_high : (nor : NorDevice) → IsNorFormed nor → NoLowPair (wiped n
 wiped_is_high nor formed page word = omega (arith, all_wiped nor formed page (2 * word))
 
 -- power was cut in the erase of a page
-pub wipe_left : (page : ℕ) (old mid new : NorDevice) → old.on ≡ true → mid ≡ wiped_below page old → page < page_count old.size → is_blank (numbers_at mid page) ≡ false → IsNorCutIn (EraseNumbers page) mid new ⊎ IsNorUntouched mid new → IsWipeCut old new
+pub wipe_left : (page : ℕ) (old mid new : NorDevice) → old.on ≡ true → mid ≡ wiped_below page old → page < page_count old.size → is_all_ones (numbers_at mid page) ≡ false → IsNorCutIn (EraseNumbers page) mid new ⊎ IsNorUntouched mid new → IsWipeCut old new
 wipe_left page old mid new on is in_range not_blank (inl cut) = record {
   page = page;
   in_range = in_range;
-  not_blank = subst (λ mid. is_blank (numbers_at mid page) ≡ false) is not_blank;
+  not_blank = subst (λ mid. is_all_ones (numbers_at mid page) ≡ false) is not_blank;
   cut = subst (λ mid. IsNorCutIn (EraseNumbers page) mid new) is cut;
 }
 wipe_left page old mid new on is in_range not_blank (inr untouched) =
@@ -127,12 +126,12 @@ wipe_left page old mid new on is in_range not_blank (inr untouched) =
     cc
 
 -- one page more: it was blank, or it was erased
-pub wiped_blank : (page : ℕ) (old mid : NorDevice) → mid ≡ wiped_below page old → is_blank (numbers_at mid page) ≡ true → mid ≡ wiped_below (page + 1) old
+pub wiped_blank : (page : ℕ) (old mid : NorDevice) → mid ≡ wiped_below page old → is_all_ones (numbers_at mid page) ≡ true → mid ≡ wiped_below (page + 1) old
 wiped_blank page old mid is blank =
     let same : with_page_wiped page mid ≡ mid = rw blank refl in
     sym (wiped_more page old ∙ ap (with_page_wiped page) (sym is) ∙ same)
 
-pub wiped_erased : (page : ℕ) (old mid new : NorDevice) → mid ≡ wiped_below page old → is_blank (numbers_at mid page) ≡ false → new ≡ with_numbers_erased page mid → new ≡ wiped_below (page + 1) old
+pub wiped_erased : (page : ℕ) (old mid new : NorDevice) → mid ≡ wiped_below page old → is_all_ones (numbers_at mid page) ≡ false → new ≡ with_numbers_erased page mid → new ≡ wiped_below (page + 1) old
 wiped_erased page old mid new is not_blank done =
     let erased : with_page_wiped page mid ≡ with_numbers_erased page mid = rw not_blank refl in
     done ∙ sym (wiped_more page old ∙ ap (with_page_wiped page) (sym is) ∙ erased)

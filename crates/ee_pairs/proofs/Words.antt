@@ -1,26 +1,26 @@
 -- What a change of a page's numbers does to its words.
-use Rattle.std.proofs.Common.{◌≡◌, ◌≢◌, ◌⊎◌, inl, inr, ℕ, ◌+◌, ◌*◌, ◌-◌, ◌<◌, ◌≤◌, List, [], length, get_or, set, replicate, map, refl, sym, ap, ◌∙◌, arith}
+use Rattle.std.proofs.Common.{◌≡◌, ◌≢◌, ◌⊎◌, inl, inr, ℕ, ◌+◌, ◌*◌, ◌<◌, ◌≤◌, List, [], length, set, replicate, map, refl, sym, ap, ◌∙◌, arith}
 use Rattle.std.proofs.lemmas.Bool.{cases_eq, cases_lt}
-use Rattle.std.proofs.lemmas.List.{ext_get_or, get_or-map, get_or_past, get_or-replicate, get_or-set_other, get_or-set_same, length-replicate, length-set, map-set, set-get_or}
-use Rattle.ee_flash.specs.Device.{Device, all_ones, page_at}
-use Rattle.ee_flash.specs.Step.{IsPartlyErased, with_page, with_page_erased, with_word}
+use Rattle.std.proofs.lemmas.List.{ext_get_or, get_or-map, get_or_past, get_or-replicate, get_or-set_other, get_or-set_same, length-replicate, length-set, map-set}
+use Rattle.ee_flash.specs.Device.{all_ones, page_at}
+use Rattle.ee_flash.specs.Step.{IsPartlyErased, with_page_erased, with_word}
 use Rattle.ee_flash.specs.declared.word.Word.{Word}
 use Rattle.ee_flash.specs.declared.word.Word.TheVariants.{Erased, Held, Torn}
-use Rattle.ee_pairs.specs.Nor.{HasBits, IsNumber, KeepsBits, NorDevice, number_in, numbers_at, with_numbers, with_numbers_erased}
-use Rattle.ee_pairs.specs.Pairs.{complement, device_of, pair_in, sum_in, word_of, words_of}
-use Rattle.ee_pairs.specs.Formed.{get_or-words_of, length-words_of, word_cases}
+use Rattle.ee_pairs.specs.Nor.{HasBits, IsNorNumber, KeepsBits, NorDevice, number_in, numbers_at, with_numbers, with_numbers_erased}
+use Rattle.ee_pairs.specs.Pairs.{paired_device, pair_in, sum_in, pair_word, pair_words}
+use Rattle.ee_pairs.specs.Formed.{get_or-pair_words, length-pair_words, word_cases}
 use Rattle.ee_pairs.proofs.Bits.{no_less}
 
 -- where one word's numbers change, that word does
-pub words_of-changed : (count : ℕ) (old new : List ℕ) (word : ℕ) → ((other : ℕ) → other ≢ word → pair_in new other ≡ pair_in old other) → words_of count new ≡ set (words_of count old) word (pair_in new word)
-words_of-changed count old new word others =
-    let words = words_of count old in
-    let long = length-set words word (pair_in new word) ∙ length-words_of count old in
-    ext_get_or Erased _ _ (length-words_of count new ∙ sym long) (λ k h.
-    let below : k < count = omega (arith, length-words_of count new) in
-    get_or-words_of count new k Erased below ∙ elim (cases_eq k word) [
-      | inl same ↦ rw (same, get_or-set_same words word (pair_in new word) Erased (omega (arith, length-words_of count old))) refl
-      | inr other ↦ others k other ∙ sym (get_or-set_other words word k (pair_in new word) Erased other ∙ get_or-words_of count old k Erased below)
+pub pair_words-changed : (count : ℕ) (old new : List ℕ) (word : ℕ) → ((other : ℕ) → other ≢ word → pair_in new other ≡ pair_in old other) → pair_words count new ≡ set (pair_words count old) word (pair_in new word)
+pair_words-changed count old new word others =
+    let words = pair_words count old in
+    let long = length-set words word (pair_in new word) ∙ length-pair_words count old in
+    ext_get_or Erased _ _ (length-pair_words count new ∙ sym long) (λ k h.
+    let below : k < count = omega (arith, length-pair_words count new) in
+    get_or-pair_words count new k Erased below ∙ elim (cases_eq k word) [
+      | inl same ↦ rw (same, get_or-set_same words word (pair_in new word) Erased (omega (arith, length-pair_words count old))) refl
+      | inr other ↦ others k other ∙ sym (get_or-set_other words word k (pair_in new word) Erased other ∙ get_or-pair_words count old k Erased below)
     ])
 
 -- the numbers of other words stay where one number changes
@@ -31,31 +31,31 @@ other_pairs numbers word place number is other apart = (
 )
 
 -- the pages of words of changed numbers
-pub device_of-with : (nor : NorDevice) (page word : ℕ) (numbers : List ℕ) → page < length nor.image → ((other : ℕ) → other ≢ word → pair_in numbers other ≡ pair_in (numbers_at nor page) other) → device_of (with_numbers page numbers nor) ≡ with_word page word (pair_in numbers word) (device_of nor)
-device_of-with nor page word numbers within others =
-    let words = words_of nor.size.words in
-    let there : page_at (device_of nor) page ≡ words (numbers_at nor page) = get_or-map words nor.image page [] [] within in
-    let changed : words numbers ≡ set (page_at (device_of nor) page) word (pair_in numbers word) = words_of-changed nor.size.words (numbers_at nor page) numbers word others ∙ ap (λ (those : List Word). set those word (pair_in numbers word)) (sym there) in
-    ap (λ (image : List (List Word)). record (device_of nor) { image = image }) (map-set words nor.image page numbers ∙ ap (set (map words nor.image) page) changed)
+pub paired_device-with : (nor : NorDevice) (page word : ℕ) (numbers : List ℕ) → page < length nor.image → ((other : ℕ) → other ≢ word → pair_in numbers other ≡ pair_in (numbers_at nor page) other) → paired_device (with_numbers page numbers nor) ≡ with_word page word (pair_in numbers word) (paired_device nor)
+paired_device-with nor page word numbers within others =
+    let words = pair_words nor.size.words in
+    let there : page_at (paired_device nor) page ≡ words (numbers_at nor page) = get_or-map words nor.image page [] [] within in
+    let changed : words numbers ≡ set (page_at (paired_device nor) page) word (pair_in numbers word) = pair_words-changed nor.size.words (numbers_at nor page) numbers word others ∙ ap (λ (those : List Word). set those word (pair_in numbers word)) (sym there) in
+    ap (λ (image : List (List Word)). record (paired_device nor) { image = image }) (map-set words nor.image page numbers ∙ ap (set (map words nor.image) page) changed)
 
-words_of-erased : (count : ℕ) → words_of count (replicate (2 * count) all_ones) ≡ replicate count Erased
-words_of-erased count =
+pair_words-erased : (count : ℕ) → pair_words count (replicate (2 * count) all_ones) ≡ replicate count Erased
+pair_words-erased count =
     let numbers = replicate (2 * count) all_ones in
-    ext_get_or Erased _ _ (length-words_of count numbers ∙ sym (length-replicate count Erased)) (λ k h.
-    let below : k < count = omega (arith, length-words_of count numbers) in
-    rw (get_or-words_of count numbers k Erased below, get_or-replicate (2 * count) (2 * k) all_ones all_ones (omega arith), get_or-replicate (2 * count) (2 * k + 1) all_ones all_ones (omega arith), get_or-replicate count k Erased Erased below) refl)
+    ext_get_or Erased _ _ (length-pair_words count numbers ∙ sym (length-replicate count Erased)) (λ k h.
+    let below : k < count = omega (arith, length-pair_words count numbers) in
+    rw (get_or-pair_words count numbers k Erased below, get_or-replicate (2 * count) (2 * k) all_ones all_ones (omega arith), get_or-replicate (2 * count) (2 * k + 1) all_ones all_ones (omega arith), get_or-replicate count k Erased Erased below) refl)
 
-pub device_of-erased : (nor : NorDevice) (page : ℕ) → device_of (with_numbers_erased page nor) ≡ with_page_erased page (device_of nor)
-device_of-erased nor page =
-    let words = words_of nor.size.words in
+pub paired_device-erased : (nor : NorDevice) (page : ℕ) → paired_device (with_numbers_erased page nor) ≡ with_page_erased page (paired_device nor)
+paired_device-erased nor page =
+    let words = pair_words nor.size.words in
     let wear = (with_numbers_erased page nor).wear in
-    ap (λ (image : List (List Word)). record (device_of nor) { image = image; wear = wear })
-    (map-set words nor.image page (replicate (2 * nor.size.words) all_ones) ∙ ap (set (map words nor.image) page) (words_of-erased nor.size.words))
+    ap (λ (image : List (List Word)). record (paired_device nor) { image = image; wear = wear })
+    (map-set words nor.image page (replicate (2 * nor.size.words) all_ones) ∙ ap (set (map words nor.image) page) (pair_words-erased nor.size.words))
 
 -- ---- cuts
 
 -- a word whose first number was cut on its way to a value
-pub first_cut : (value number : ℕ) → value < all_ones → HasBits number value → (word_of number all_ones ≡ Erased) ⊎ ((word_of number all_ones ≡ Held value) ⊎ (word_of number all_ones ≡ Torn))
+pub first_cut : (value number : ℕ) → value < all_ones → HasBits number value → (pair_word number all_ones ≡ Erased) ⊎ ((pair_word number all_ones ≡ Held value) ⊎ (pair_word number all_ones ≡ Torn))
 first_cut value number below has = elim (word_cases number all_ones) [
   | inl erased ↦ inl erased.2
   | inr (inl held) ↦
@@ -66,7 +66,7 @@ first_cut value number below has = elim (word_cases number all_ones) [
 ]
 
 -- a word whose second number was
-pub second_cut : (value check : ℕ) → value < all_ones → (word_of value check ≡ Held value) ⊎ (word_of value check ≡ Torn)
+pub second_cut : (value check : ℕ) → value < all_ones → (pair_word value check ≡ Held value) ⊎ (pair_word value check ≡ Torn)
 second_cut value check below = elim (word_cases value check) [
   | inl erased ↦ let same = erased.0 in absurd (omega arith)
   | inr (inl held) ↦ inl held.2
@@ -74,7 +74,7 @@ second_cut value check below = elim (word_cases value check) [
 ]
 
 -- a word whose page was cut in its erase
-pub erase_cut : (number check left left_check : ℕ) → IsNumber left → all_ones ≤ number + check → HasBits left number → HasBits left_check check → (word_of left left_check ≡ word_of number check) ⊎ ((word_of left left_check ≡ Erased) ⊎ (word_of left left_check ≡ Torn))
+pub erase_cut : (number check left left_check : ℕ) → IsNorNumber left → all_ones ≤ number + check → HasBits left number → HasBits left_check check → (pair_word left left_check ≡ pair_word number check) ⊎ ((pair_word left left_check ≡ Erased) ⊎ (pair_word left left_check ≡ Torn))
 erase_cut number check left left_check fits high has has_check = elim (word_cases left left_check) [
   | inl erased ↦ inr (inl erased.2)
   | inr (inl held) ↦
@@ -87,12 +87,12 @@ erase_cut number check left left_check fits high has has_check = elim (word_case
   | inr (inr torn) ↦ inr (inr torn)
 ]
 
-pub partly_erased : (count : ℕ) (old new : List ℕ) → KeepsBits old new → ((at : ℕ) → IsNumber (number_in new at)) → ((word : ℕ) → all_ones ≤ sum_in old word) → IsPartlyErased (words_of count old) (words_of count new)
+pub partly_erased : (count : ℕ) (old new : List ℕ) → KeepsBits old new → ((at : ℕ) → IsNorNumber (number_in new at)) → ((word : ℕ) → all_ones ≤ sum_in old word) → IsPartlyErased (pair_words count old) (pair_words count new)
 partly_erased count old new keeps fits high = record {
-  as_long = length-words_of count new ∙ sym (length-words_of count old);
+  as_long = length-pair_words count new ∙ sym (length-pair_words count old);
   each = λ at. elim (cases_lt at count) [
-    | inl below ↦ rw (get_or-words_of count new at Erased below, get_or-words_of count old at Erased below)
+    | inl below ↦ rw (get_or-pair_words count new at Erased below, get_or-pair_words count old at Erased below)
         (erase_cut _ _ _ _ (fits (2 * at)) (high at) (keeps.each (2 * at)) (keeps.each (2 * at + 1)))
-    | inr past ↦ inr (inl (get_or_past (words_of count new) at Erased (omega (arith, length-words_of count new))))
+    | inr past ↦ inr (inl (get_or_past (pair_words count new) at Erased (omega (arith, length-pair_words count new))))
   ];
 }

@@ -3,22 +3,22 @@ use Rattle.std.specs.Prelude.{◌≡◌, ◌<◌, ◌≤◌, ◌⊎◌, ℕ, ◌
 use Rattle.std.specs.List.{All}
 use Rattle.ee_flash.specs.Device.{IsFormed, all_ones}
 use Rattle.ee_flash.specs.declared.word.Word.TheVariants.{Held}
-use Rattle.ee_pairs.specs.Nor.{HasBits, IsNorFormed, IsNumber, NorDevice}
-use Rattle.ee_pairs.specs.Pairs.{complement, device_of, word_of}
+use Rattle.ee_pairs.specs.Nor.{HasBits, IsNorFormed, IsNorNumber, NorDevice}
+use Rattle.ee_pairs.specs.Pairs.{complement, paired_device, pair_word}
 
 -- A word that was cut on its way to a value reads as that value or as none: its first number has every bit of the value, its
 -- second every bit of the complement.
 abbrev pub TornIsTold : Type 0
 TornIsTold =
     (value number check held : ℕ) → value < all_ones → HasBits number value → HasBits check (complement value)
-    → word_of number check ≡ Held held → held ≡ value
+    → pair_word number check ≡ Held held → held ≡ value
 
 -- An erase that is cut makes no number: where it leaves one, that stood there. It needs that the two numbers did not sum to
 -- less than all ones, and that stays so.
 abbrev pub EraseMakesNoNumber : Type 0
 EraseMakesNoNumber =
-    (number check left left_check : ℕ) → IsNumber left → all_ones ≤ number + check → HasBits left number → HasBits left_check check
-    → (all_ones ≤ left + left_check) × ((held : ℕ) → word_of left left_check ≡ Held held → word_of number check ≡ Held held)
+    (number check left left_check : ℕ) → IsNorNumber left → all_ones ≤ number + check → HasBits left number → HasBits left_check check
+    → (all_ones ≤ left + left_check) × ((held : ℕ) → pair_word left left_check ≡ Held held → pair_word number check ≡ Held held)
 
 -- the number of these parts, each of so many bits, the least first
 abbrev pub joined : ℕ → List ℕ → ℕ
@@ -40,4 +40,4 @@ PartsAreAProgram =
 
 -- The words of a formed device of numbers are a formed device.
 abbrev pub PairsAreFormed : Type 0
-PairsAreFormed = (nor : NorDevice) → IsNorFormed nor → IsFormed (device_of nor)
+PairsAreFormed = (nor : NorDevice) → IsNorFormed nor → IsFormed (paired_device nor)

@@ -1,5 +1,5 @@
 -- A flash of plain numbers, as a value, what a step does to it, and what a cut in the step may leave.
-use Rattle.std.specs.Prelude.{◌≡◌, ◌≤◌, ◌⊎◌, ℕ, ◌*◌, ◌+◌, Bool, true, false, Option, Some, List, [], length, replicate, option_map, bit_and, slice_index, slice_index_or, slice_set}
+use Rattle.std.specs.Prelude.{◌≡◌, ◌≤◌, ℕ, ◌*◌, ◌+◌, Bool, true, false, Option, Some, List, [], length, replicate, option_map, bit_and, slice_index, slice_index_or, slice_set}
 use Rattle.std.specs.List.{All}
 use Rattle.ee_flash.specs.Size.{Size, IsWithinLimits, page_count}
 use Rattle.ee_flash.specs.Device.{all_ones}
@@ -33,19 +33,19 @@ number_in numbers at = slice_index_or numbers at all_ones
 abbrev pub number_at : NorDevice → ℕ → ℕ → ℕ
 number_at device page at = number_in (numbers_at device page) at
 
-abbrev pub IsNumber : ℕ → Type 0
-IsNumber number = number ≤ all_ones
+abbrev pub IsNorNumber : ℕ → Type 0
+IsNorNumber number = number ≤ all_ones
 
 -- the device is within the limits, its lists have the lengths of its size, and its numbers fit 64 bits
 pub record IsNorFormed (device : NorDevice) : Type 0 where
   pub within_limits : IsWithinLimits device.size
   pub image_length : length device.image ≡ page_count device.size
   pub page_lengths : All (λ page. length page ≡ number_count device.size) device.image
-  pub numbers_fit : All (All IsNumber) device.image
+  pub numbers_fit : All (All IsNorNumber) device.image
   pub wear_length : length device.wear ≡ page_count device.size
-  pub wear_fits : All IsNumber device.wear
-  pub cuts_fit : IsNumber device.cuts
-  pub cuts_left_fit : (left : ℕ) → device.cuts_left ≡ Some left → IsNumber left
+  pub wear_fits : All IsNorNumber device.wear
+  pub cuts_fit : IsNorNumber device.cuts
+  pub cuts_left_fit : (left : ℕ) → device.cuts_left ≡ Some left → IsNorNumber left
 
 -- ---- steps
 

@@ -1,5 +1,5 @@
 -- Words on a flash that has none: a number beside its complement.
-use Rattle.std.specs.Prelude.{◌≡◌, ◌<◌, ◌≤◌, ℕ, ◌+◌, ◌*◌, ◌-◌, ◌==◌, if◌then◌else◌, List, map}
+use Rattle.std.specs.Prelude.{◌<◌, ◌≤◌, ℕ, ◌+◌, ◌*◌, ◌-◌, ◌==◌, if◌then◌else◌, List, map}
 use Rattle.std.specs.List.{range_with_len}
 use Rattle.ee_flash.specs.Device.{Device, all_ones}
 use Rattle.ee_flash.specs.Size.{page_count}
@@ -14,24 +14,24 @@ complement number = all_ones - number
 
 -- the word that two numbers are: erased where both are all ones, held where the second is the complement of the first, which
 -- is not all ones; else torn
-abbrev pub word_of : ℕ → ℕ → Word
-word_of number check =
+abbrev pub pair_word : ℕ → ℕ → Word
+pair_word number check =
     if number == all_ones then (if check == all_ones then Erased else Torn)
     else (if check == complement number then Held number else Torn)
 
 -- the word of this number in a page, counted from 0: two numbers of it
 abbrev pub pair_in : List ℕ → ℕ → Word
-pair_in numbers word = word_of (number_in numbers (2 * word)) (number_in numbers (2 * word + 1))
+pair_in numbers word = pair_word (number_in numbers (2 * word)) (number_in numbers (2 * word + 1))
 
 -- the words of a page, so many of them
-unfoldable pub words_of : ℕ → List ℕ → List Word
-words_of count numbers = map (pair_in numbers) (range_with_len 0 count)
+unfoldable pub pair_words : ℕ → List ℕ → List Word
+pair_words count numbers = map (pair_in numbers) (range_with_len 0 count)
 
 -- the device of words that a device of numbers is
-abbrev pub device_of : NorDevice → Device
-device_of nor = record {
+abbrev pub paired_device : NorDevice → Device
+paired_device nor = record {
   size = nor.size;
-  image = map (words_of nor.size.words) nor.image;
+  image = map (pair_words nor.size.words) nor.image;
   wear = nor.wear;
   cuts = nor.cuts;
   cuts_left = nor.cuts_left;

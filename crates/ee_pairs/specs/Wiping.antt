@@ -6,16 +6,16 @@ use Rattle.ee_flash.specs.Size.{page_count}
 use Rattle.ee_pairs.specs.Nor.{EraseNumbers, IsNorCutIn, NorDevice, numbers_at, with_numbers_erased}
 
 -- something was programmed there
-abbrev pub is_written : ℕ → Bool
-is_written number = not (number == all_ones)
+abbrev pub is_programmed : ℕ → Bool
+is_programmed number = not (number == all_ones)
 
 -- each number of the page is all ones
-abbrev pub is_blank : List ℕ → Bool
-is_blank numbers = not (list_any is_written numbers)
+abbrev pub is_all_ones : List ℕ → Bool
+is_all_ones numbers = not (list_any is_programmed numbers)
 
 -- with a page erased that holds something; a blank one stays as it is
 abbrev pub with_page_wiped : ℕ → NorDevice → NorDevice
-with_page_wiped page nor = if is_blank (numbers_at nor page) then nor else with_numbers_erased page nor
+with_page_wiped page nor = if is_all_ones (numbers_at nor page) then nor else with_numbers_erased page nor
 
 -- with each page below this one wiped, from page 0 on
 unfoldable pub wiped_below : ℕ → NorDevice → NorDevice
@@ -30,5 +30,5 @@ wiped nor = wiped_below (page_count nor.size) nor
 pub record IsWipeCut (old new : NorDevice) : Type 0 where
   pub page : ℕ
   pub in_range : page < page_count old.size
-  pub not_blank : is_blank (numbers_at (wiped_below page old) page) ≡ false
+  pub not_blank : is_all_ones (numbers_at (wiped_below page old) page) ≡ false
   pub cut : IsNorCutIn (EraseNumbers page) (wiped_below page old) new

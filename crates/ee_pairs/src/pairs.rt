@@ -2,7 +2,7 @@
 ghost use Rattle.std.specs.Prelude.{◌≡◌, ℕ, IfErr, IfOk, true};
 ghost use Rattle.ee_flash.specs.Device.{all_ones};
 ghost use Rattle.ee_pairs.specs.Nor.{number_at};
-ghost use Rattle.ee_pairs.specs.Pairs.{IsFirstLow, NoLowPair, complement, word_of as word_of_numbers};
+ghost use Rattle.ee_pairs.specs.Pairs.{IsFirstLow, NoLowPair, complement, pair_word};
 ghost use Rattle.ee_pairs.specs.Wiping.{IsWipeCut, wiped};
 
 use crate::low_pair::{LowPair, first_low};
@@ -68,7 +68,7 @@ impl<N: Nor + Drop> Pairs<N> {
 
 /// The word that two numbers are.
 fn word_of(number: u64, check: u64) -> Word
-    ensures { result ≡ word_of_numbers number check }
+    ensures { result ≡ pair_word number check }
 {
     if number == u64::MAX {
         return if check == u64::MAX {
@@ -92,10 +92,10 @@ fn complement_of(number: u64) -> u64
 }
 
 impl<N: Nor + Drop> Flash for Pairs<N> {
-    ghost use Rattle.ee_pairs.specs.Pairs.{device_of};
+    ghost use Rattle.ee_pairs.specs.Pairs.{paired_device};
     ghost use Rattle.ee_pairs.specs.Formed.{pairs_are_formed};
 
-    ghost device = { λ pairs. device_of (N.nor pairs.nor) };
+    ghost device = { λ pairs. paired_device (N.nor pairs.nor) };
 
     ghost formed = { λ pairs. pairs_are_formed (N.nor pairs.nor) (N.formed pairs.nor) };
 

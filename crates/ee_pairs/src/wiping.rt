@@ -2,7 +2,7 @@
 ghost use Rattle.std.specs.Prelude.{◌<◌, ◌≡◌, OnErr, OnOk, true};
 ghost use Rattle.ee_flash.specs.Size.{page_count};
 ghost use Rattle.ee_pairs.specs.Nor.{numbers_at};
-ghost use Rattle.ee_pairs.specs.Wiping.{IsWipeCut, is_blank as blank, wiped};
+ghost use Rattle.ee_pairs.specs.Wiping.{IsWipeCut, is_all_ones, wiped};
 
 use crate::Nor;
 use ee_flash::Cut;
@@ -24,7 +24,7 @@ pub(crate) fn wipe<N: Nor>(nor: &mut N) -> Result<(), Cut>
 /// Whether each number of a page is all ones.
 fn is_blank<N: Nor>(nor: &N, page: usize) -> bool
     requires { page < page_count (N.nor nor.now).size }
-    ensures { result ≡ blank (numbers_at (N.nor nor.now) page) }
+    ensures { result ≡ is_all_ones (numbers_at (N.nor nor.now) page) }
 {
     'numbers: for at in 0..2 * nor.shape().words() {
         if nor.read(page, at) != u64::MAX {

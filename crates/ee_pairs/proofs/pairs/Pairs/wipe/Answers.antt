@@ -1,5 +1,3 @@
-use Rattle.std.proofs.Common.{ap}
-use Rattle.ee_pairs.specs.Nor.{NorDevice, number_at}
 use Rattle.ee_pairs.proofs.Wipes.{all_wiped, wiped_is_high}
 use Rattle.ee_pairs.proofs.pairs.Pairs.wipe.Goals as goal
 

@@ -1,8 +1,8 @@
 use Rattle.std.proofs.lemmas.Result.{on_err_weaker, on_ok_weaker}
 use Rattle.std.proofs.Common.{ap, ◌∙◌}
-use Rattle.ee_pairs.specs.Pairs.{device_of}
+use Rattle.ee_pairs.specs.Pairs.{paired_device}
 use Rattle.ee_pairs.proofs.Steps.{erase_left, high_erased}
-use Rattle.ee_pairs.proofs.Words.{device_of-erased}
+use Rattle.ee_pairs.proofs.Words.{paired_device-erased}
 use Rattle.ee_pairs.proofs.pairs.PairsFlash.erase.Goals as goal
 
 pub invariant_of-self : goal.invariant_of-self
@@ -13,7 +13,7 @@ invariant_of-self g c = record {
 }
 
 pub returns-clause-done : goal.returns-clause-done
-returns-clause-done g c = on_ok_weaker c.erase.result (λ done. ap device_of done ∙ device_of-erased _ c.args.page) c.erase.ensures.done
+returns-clause-done g c = on_ok_weaker c.erase.result (λ done. ap paired_device done ∙ paired_device-erased _ c.args.page) c.erase.ensures.done
 
 pub returns-clause-cut : goal.returns-clause-cut
 returns-clause-cut g c =
