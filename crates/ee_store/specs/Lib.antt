@@ -15,3 +15,7 @@ pub use Rattle.ee_index.specs.Index
 pub use Rattle.ee_bench.specs.Events
 pub use Rattle.ee_bench.specs.Outcome
 pub use Rattle.ee_bench.specs.Bench
+pub use Rattle.ee_pairs.specs.Nor
+pub use Rattle.ee_pairs.specs.Pairs
+pub use Rattle.ee_pairs.specs.Wiping
+pub use Rattle.ee_pairs.specs.Laws

@@ -8,3 +8,6 @@ pub use ee_core::laws::{
     runs_go_on, starts_end, states_after_append, states_after_clean, states_after_format,
     states_after_opening, states_after_transfer, the_store_is_a_map,
 };
+pub use ee_pairs::laws::{
+    erase_makes_no_number, pairs_are_formed, parts_are_a_program, torn_is_told,
+};

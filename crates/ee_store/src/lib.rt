@@ -3,7 +3,8 @@
 //! Three crates have it: `ee_core` the store itself, its contract `Variables` and how it comes to be;
 //! `ee_index` a store that keeps an index in memory; `ee_bench` what drives a store by a list of events
 //! through power cuts and openings. The last two stand side by side on the first, and a layer above
-//! waits for those alone that it names.
+//! waits for those alone that it names. A flash that has no words of 64 bits with error correction gets them by
+//! `Pairs` (`ee_pairs`), from numbers that a driver gives as a `Nor`.
 #![tactic(auto)]
 
 pub mod laws;
@@ -14,3 +15,4 @@ pub use ee_core::{
     format, open, start,
 };
 pub use ee_index::{IndexedFault, IndexedStore};
+pub use ee_pairs::{LowPair, Nor, Pairs};

@@ -1,0 +1,6 @@
+mod Bits
+mod Words
+mod High
+mod Steps
+mod Wipes
+mod Premises

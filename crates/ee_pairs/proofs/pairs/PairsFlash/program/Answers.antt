@@ -1,0 +1,53 @@
+use Rattle.std.proofs.Common.{inl, rules, sym}
+use Rattle.std.proofs.lemmas.Result.{on_err_weaker, on_ok_weaker}
+use Rattle.ee_pairs.proofs.Steps.{erased_first, first_left, high_after_first, high_first_left, high_second_left, second_done, second_left, still_erased, zero_done}
+use Rattle.ee_pairs.proofs.pairs.PairsFlash.program.Goals as goal
+
+pub program-requires-clause-erased : goal.program-requires-clause-erased
+program-requires-clause-erased g c =
+    erased_first _ c.args.page c.args.at (g.met.N.Nor.formed c.args.self.now.nor) c.requires.page_in_range c.requires.place_in_range c.requires.erased
+
+pub invariant_of-self : goal.invariant_of-self
+invariant_of-self g c = record {
+  no_low_pair = high_first_left _ _ c.args.page c.args.at c.args.value (g.met.N.Nor.formed c.args.self.now.nor) c.requires.page_in_range c.requires.place_in_range c.requires.erased c.args.self.now.no_low_pair c.in_err-program.ensures.cut;
+}
+
+pub returns-in_err-program-clause-cut : goal.returns-in_err-program-clause-cut
+returns-in_err-program-clause-cut g c =
+    let left = first_left _ _ c.args.page c.args.at c.args.value (g.met.N.Nor.formed c.args.self.now.nor) c.requires.page_in_range c.requires.place_in_range c.requires.erased c.requires.below_all_ones c.in_err-program.ensures.cut in
+    search rules
+
+pub invariant_of-self-then-check : goal.invariant_of-self-then-check
+invariant_of-self-then-check g c = record {
+  no_low_pair = rw c.in_ok-program.ensures.done (high_after_first _ c.args.page c.args.at (g.met.N.Nor.formed c.args.self.now.nor) c.requires.page_in_range c.requires.place_in_range c.requires.erased c.args.self.now.no_low_pair c.args.value);
+}
+
+pub returns-then-check-clause-done : goal.returns-then-check-clause-done
+returns-then-check-clause-done g c =
+    zero_done _ _ c.args.page c.args.at c.args.value (g.met.N.Nor.formed c.args.self.now.nor) c.requires.page_in_range c.requires.place_in_range c.requires.erased c.requires.below_all_ones (search rules) c.in_ok-program.ensures.done
+
+pub program-requires-2-clause-erased : goal.program-requires-2-clause-erased
+program-requires-2-clause-erased g c =
+    rw c.in_ok-program.ensures.done (still_erased _ c.args.page c.args.at (g.met.N.Nor.formed c.args.self.now.nor) c.requires.page_in_range c.requires.place_in_range c.requires.erased c.args.value)
+
+pub invariant_of-self-2 : goal.invariant_of-self-2
+invariant_of-self-2 g c =
+    let check = c.complement_of-check.ensures in
+    record {
+      no_low_pair = high_second_left (g.N.Nor.nor c.args.self.now.nor) (g.N.Nor.nor c.program-2.new.self) c.args.page c.args.at c.args.value (g.met.N.Nor.formed c.args.self.now.nor) c.requires.page_in_range c.requires.place_in_range c.requires.erased (g.N.Nor.nor c.program.new.self) c.in_ok-program.ensures.on c.in_ok-program.ensures.done c.requires.below_all_ones
+          c.program-2.result c.args.self.now.no_low_pair (rw (sym check) c.program-2.ensures.done) (rw (sym check) c.program-2.ensures.cut);
+    }
+
+pub returns-clause-done : goal.returns-clause-done
+returns-clause-done g c =
+    let check = c.complement_of-check.ensures in
+    on_ok_weaker c.program-2.result
+    (second_done _ _ c.args.page c.args.at c.args.value (g.met.N.Nor.formed c.args.self.now.nor) c.requires.page_in_range c.requires.place_in_range c.requires.erased (g.N.Nor.nor c.program.new.self) c.in_ok-program.ensures.on c.in_ok-program.ensures.done c.requires.below_all_ones)
+    (rw (sym check) c.program-2.ensures.done)
+
+pub returns-clause-cut : goal.returns-clause-cut
+returns-clause-cut g c =
+    let check = c.complement_of-check.ensures in
+    on_err_weaker c.program-2.result
+    (λ left. inl (second_left _ _ c.args.page c.args.at c.args.value (g.met.N.Nor.formed c.args.self.now.nor) c.requires.page_in_range c.requires.place_in_range c.requires.erased (g.N.Nor.nor c.program.new.self) c.in_ok-program.ensures.on c.in_ok-program.ensures.done c.requires.below_all_ones left))
+    (rw (sym check) c.program-2.ensures.cut)

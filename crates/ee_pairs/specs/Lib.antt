@@ -1,0 +1,5 @@
+pub mod Nor
+pub mod Pairs
+pub mod Formed
+pub mod Wiping
+pub mod Laws

@@ -1,0 +1,55 @@
+//! The first word of a flash of numbers whose numbers sum to less than all ones.
+ghost use Rattle.std.specs.Bool.{MatchBool};
+ghost use Rattle.std.specs.Prelude.{◌<◌, ◌≤◌, ◌+◌, IfNone, IfSome};
+ghost use Rattle.ee_flash.specs.Device.{all_ones};
+ghost use Rattle.ee_flash.specs.Size.{page_count};
+ghost use Rattle.ee_pairs.specs.Nor.{numbers_at};
+ghost use Rattle.ee_pairs.specs.Pairs.{IsFirstLow, IsFirstLowIn, IsHigh, NoLowPair, sum_in};
+
+use crate::Nor;
+
+/// The place of a word whose two numbers sum to less than `u64::MAX`: no store wrote it.
+///
+/// Source: ours.
+#[derive(Clone, Copy, Debug, PartialEq, Eq)]
+pub struct LowPair {
+    /// Its page, counted from 0, those of the first set first.
+    pub page: usize,
+    /// Its place in the page, counted from 0, in words of two numbers.
+    pub word: usize,
+}
+
+/// The first word whose numbers sum to less than all ones.
+pub(crate) fn first_low<N: Nor>(nor: &N) -> Option<LowPair>
+    ensures found { IfSome result (IsFirstLow (N.nor nor.now)) }
+    ensures none { IfNone result (NoLowPair (N.nor nor.now)) }
+{
+    'pages: for page in 0..2 * nor.shape().pages() {
+        if let Some(word) = first_low_in(nor, page) {
+            return Some(LowPair { page, word });
+        }
+    }
+    None
+}
+
+/// The first such word of a page.
+fn first_low_in<N: Nor>(nor: &N, page: usize) -> Option<usize>
+    requires { page < page_count (N.nor nor.now).size }
+    ensures within { IfSome result (λ word. word < (N.nor nor.now).size.words) }
+    ensures found { IfSome result (IsFirstLowIn (numbers_at (N.nor nor.now) page)) }
+    ensures none { IfNone result (IsHigh (numbers_at (N.nor nor.now) page)) }
+{
+    'words: for word in 0..nor.shape().words() {
+        if is_low(nor.read(page, 2 * word), nor.read(page, 2 * word + 1)) {
+            return Some(word);
+        }
+    }
+    None
+}
+
+/// Whether two numbers sum to less than all ones.
+fn is_low(number: u64, check: u64) -> bool
+    ensures { MatchBool result (number + check < all_ones) (all_ones ≤ number + check) }
+{
+    check < u64::MAX - number
+}
