@@ -1,4 +1,4 @@
-use Rattle.std.proofs.Common.{sym}
+use Rattle.std.proofs.Common.{sym, rules}
 use Rattle.ee_core.proofs.Making.{clean_store}
 use Rattle.ee_core.proofs.store.StoreVariables.clean_step.Goals as goal
 
@@ -7,4 +7,7 @@ invariant_of-self g c =
     let old = g.F.Flash.device c.self.inside.flash in
     let new = g.F.Flash.device c.clean.new.flash in
     let on = sym (c.if-not-is_on.ensures) in
-    clean_store c.clean.result old new c.self.inside.layout on c.self.invariant.0 (c.self.invariant.1 on) c.clean.ensures.keeps c.clean.ensures.marked c.clean.ensures.power
+    search (clean_store c.clean.result old new c.self.inside.layout on c.self.invariant.0 (c.self.invariant.1 on) c.clean.ensures.keeps c.clean.ensures.marked c.clean.ensures.power)
+
+pub returns : goal.returns
+returns g c = search rules fits 100
