@@ -1,3 +1,5 @@
+use Rattle.std.proofs.Common.{◌≡◌, subst, sym}
+use Rattle.ee_flash.specs.Device.{Device}
 use Rattle.ee_core.proofs.OpeningFacts.{opening_cut, opens}
 use Rattle.ee_core.specs.Openings.{Opens}
 use Rattle.ee_core.proofs.opening.open.Goals as goal
@@ -7,8 +9,9 @@ returns-in-Ok-finish-clause-opened g c =
     let old = g.F.Flash.device c.args.flash in
     let new = g.F.Flash.device c.finish.new.flash in
     let is = c.in-Ok.ensures.layout in
-    let done : Opens old new = opens c.in-Ok.layout old new is c.in-Ok-finish.ensures.stays c.in-Ok-finish.ensures.finished c.in-Ok-finish.ensures.shows (λ marked. (c.finish.ensures.no_step marked).1) c.in-Ok-finish.ensures.power.ok in
-    rw c.of.ensures done
+    let done = opens c.in-Ok.layout old new is c.in-Ok-finish.ensures.stays c.in-Ok-finish.ensures.finished c.in-Ok-finish.ensures.shows (λ marked. (c.finish.ensures.no_step marked).1) c.in-Ok-finish.ensures.power.ok in
+    let made : (to : Device) → to ≡ new → Opens old to = λ to same. subst (Opens old) (sym same) done in
+    search made
 
 pub returns-in-Err-finish-clause-failed : goal.returns-in-Err-finish-clause-failed
 returns-in-Err-finish-clause-failed g c =

@@ -1,10 +1,14 @@
-use Rattle.std.proofs.Common.{sym}
+use Rattle.std.proofs.Common.{sym, rules}
 use Rattle.ee_core.proofs.Making.{store_marked}
 use Rattle.ee_core.proofs.store.StoreVariables.forget.Goals as goal
 
 pub make_change-requires-clause-marked : goal.make_change-requires-clause-marked
 make_change-requires-clause-marked g c =
-    let device = g.F.Flash.device c.self.inside.flash in
-    let layout = c.self.inside.layout in
     let on = sym (c.if-not-is_on.ensures) in
-    store_marked device layout.side layout.generation c.self.invariant.0 on (c.self.invariant.1 on).live
+    store_marked _ _ _ c.self.invariant.0 on (c.self.invariant.1 on).live
+
+pub invariant_of-self : goal.invariant_of-self
+invariant_of-self g c = search
+
+pub returns : goal.returns
+returns g c = search rules fits 100
