@@ -1,10 +1,13 @@
 //! What no clause says, each once, and what several modules make their values with.
+mod commands;
 mod counted;
 mod cuts;
 mod formats;
 mod outside;
 mod requests;
+mod saving;
 mod streams;
+mod trail;
 mod trial;
 
 use ee_codec::Address;

@@ -1,9 +1,11 @@
-//! How an image's file is replaced: in which order, with each call failing, and with another run at each call.
+//! How an image's file is replaced: in which order, with each call failing, with another run at each call, on a disk that
+//! is full, and behind a link.
 use super::trail::{Tracked, Trail};
 use crate::tests::{same, same_at};
 use ee_fakes::images::{CLEANED, FORMATTED, ONE_MOVE, TWO_MOVES};
 use ee_files::{FileLocks, SaveFault, save};
-use std::fs;
+use std::fs::{self, Permissions};
+use std::os::unix::fs::{PermissionsExt, symlink};
 use std::process::Abort;
 use std::rt::Files;
 use std::test::Fail;
@@ -43,7 +45,7 @@ fn the_calls_in_their_order(rt: HostRuntime) -> Result<(), Fail> {
     Ok(())
 }
 
-// Saves with one call failing: the new image stands or the old one, as is answered, and nothing beside it.
+// Saves with one call failing.
 fn fails_at<R: FileLocks + AllocGlobal + Abort>(
     rt: &R,
     is_bare: bool,
@@ -54,11 +56,21 @@ fn fails_at<R: FileLocks + AllocGlobal + Abort>(
     let mut trail = Trail::new(rt, "failing");
     trail.is_bare = is_bare;
     trail.fails_at = call;
-    let answer = save(&Tracked::on(&trail), "failing", Some(ONE_MOVE), CLEANED);
-    same_at(rt, call, answer, wanted);
+    saves(rt, call, &trail, wanted)
+}
+
+// Saves over the old image: the new one stands or the old one, as is answered, and nothing beside it.
+fn saves<R: FileLocks + AllocGlobal + Abort>(
+    rt: &R,
+    place: u64,
+    trail: &Trail<'_, R>,
+    wanted: Answer,
+) -> Result<(), Fail> {
+    let answer = save(&Tracked::on(trail), "failing", Some(ONE_MOVE), CLEANED);
+    same_at(rt, place, answer, wanted);
     let stands = if wanted.is_ok() { CLEANED } else { ONE_MOVE };
-    holds(rt, call, "failing", stands)?;
-    same_at(rt, call, fs::exists(rt, "failing.ee-saving-0")?, false);
+    holds(rt, place, "failing", stands)?;
+    same_at(rt, place, fs::exists(rt, "failing.ee-saving-0")?, false);
     Ok(())
 }
 
@@ -79,6 +91,28 @@ fn each_call_that_fails(rt: HostRuntime) -> Result<(), Fail> {
             };
             fails_at(&rt, is_bare, call, wanted)?;
         }
+    }
+    Ok(())
+}
+
+// Saves on a disk that is full after so many bytes: the old image stands.
+fn fills_at<R: FileLocks + AllocGlobal + Abort>(
+    rt: &R,
+    is_bare: bool,
+    bytes: usize,
+) -> Result<(), Fail> {
+    let mut trail = Trail::new(rt, "failing");
+    trail.is_bare = is_bare;
+    trail.room.set(bytes);
+    saves(rt, bytes as u64, &trail, Err(SaveFault::Failed))
+}
+
+#[test]
+fn a_full_disk_leaves_the_old_image(rt: HostRuntime) -> Result<(), Fail> {
+    fs::write(&rt, "failing", ONE_MOVE)?;
+    for bytes in 0..CLEANED.len() {
+        fills_at(&rt, false, bytes)?;
+        fills_at(&rt, true, bytes)?;
     }
     Ok(())
 }
@@ -136,6 +170,23 @@ fn what_is_not_what_was_read_stays(rt: HostRuntime) -> Result<(), Fail> {
     drop(held);
     same(&rt, save(&rt, "other", None, FORMATTED), Ok(()));
     holds(&rt, 0, "other", FORMATTED)
+}
+
+/// What a broken run left doesn't hinder, and stays.
+#[test]
+fn a_link_and_a_mode_stay(rt: HostRuntime) -> Result<(), Fail> {
+    fs::write(&rt, "linked", ONE_MOVE)?;
+    fs::write(&rt, "linked.ee-saving-0", b"".as_slice())?;
+    fs::set_permissions(&rt, "linked", Permissions::from_mode(0o640))?;
+    symlink(&rt, "linked", "link")?;
+    same(&rt, save(&rt, "link", Some(ONE_MOVE), CLEANED), Ok(()));
+    holds(&rt, 0, "linked", CLEANED)?;
+    holds(&rt, 0, "linked.ee-saving-0", b"")?;
+    same(&rt, fs::exists(&rt, "linked.ee-saving-1")?, false);
+    same(&rt, fs::symlink_metadata(&rt, "link")?.is_symlink(), true);
+    let mode = fs::metadata(&rt, "linked")?.permissions().mode();
+    same(&rt, mode & 0o777, 0o640);
+    Ok(())
 }
 
 /// A second name of the old image's file goes on having it.
