@@ -1,6 +1,6 @@
 //! How an image's file is replaced: in which order, with each call failing, with another run at each call, on a disk that
 //! is full, and behind a link.
-use super::trail::{Tracked, Trail};
+use super::trail::Trail;
 use crate::tests::{same, same_at};
 use ee_fakes::images::{CLEANED, FORMATTED, ONE_MOVE, TWO_MOVES};
 use ee_files::{FileLocks, SaveFault, save};
@@ -37,7 +37,7 @@ fn the_calls_in_their_order(rt: HostRuntime) -> Result<(), Fail> {
         fs::write(&rt, "ordered", ONE_MOVE)?;
         let mut trail = Trail::new(&rt, "ordered");
         trail.is_bare = is_bare;
-        let answer = save(&Tracked::on(&trail), "ordered", Some(ONE_MOVE), CLEANED);
+        let answer = trail.save(Some(ONE_MOVE), CLEANED);
         same_at(&rt, is_bare, answer, Ok(()));
         holds(&rt, 0, "ordered", CLEANED)?;
         same_at(&rt, is_bare, trail.asked().as_str(), calls);
@@ -66,7 +66,7 @@ fn saves<R: FileLocks + AllocGlobal + Abort>(
     trail: &Trail<'_, R>,
     wanted: Answer,
 ) -> Result<(), Fail> {
-    let answer = save(&Tracked::on(trail), "failing", Some(ONE_MOVE), CLEANED);
+    let answer = trail.save(Some(ONE_MOVE), CLEANED);
     same_at(rt, place, answer, wanted);
     let stands = if wanted.is_ok() { CLEANED } else { ONE_MOVE };
     holds(rt, place, "failing", stands)?;
@@ -128,7 +128,7 @@ fn crosses_at<R: FileLocks + AllocGlobal + Abort>(
     let mut trail = Trail::new(rt, "crossed");
     trail.is_bare = is_bare;
     trail.other_at = call;
-    let answer = save(&Tracked::on(&trail), "crossed", Some(ONE_MOVE), CLEANED);
+    let answer = trail.save(Some(ONE_MOVE), CLEANED);
     let changed = Err(SaveFault::Changed);
     let (wanted, others, stands) = if call <= 4 {
         (changed, Ok(()), TWO_MOVES)
@@ -161,7 +161,14 @@ fn what_is_not_what_was_read_stays(rt: HostRuntime) -> Result<(), Fail> {
         same(&rt, save(&rt, "other", Some(ONE_MOVE), CLEANED), changed);
         holds(&rt, text.len() as u64, "other", text)?;
     }
-    // Formatting asks for no text, but for the lock.
+    Ok(())
+}
+
+/// Formatting asks for no text, but for the lock.
+#[test]
+fn what_is_held_stays(rt: HostRuntime) -> Result<(), Fail> {
+    let changed = Err(SaveFault::Changed);
+    fs::write(&rt, "other", b"".as_slice())?;
     let held = fs::open(&rt, "other")?;
     same(&rt, rt.try_lock(&held).is_ok(), true);
     same(&rt, save(&rt, "other", None, FORMATTED), changed);
@@ -199,14 +206,29 @@ fn a_hard_link_keeps_the_old_image(rt: HostRuntime) -> Result<(), Fail> {
     holds(&rt, 0, "second", ONE_MOVE)
 }
 
+// Makes files of the first so many names that would be used.
+fn take_names<R: Files + AllocGlobal>(rt: &R, count: u8) -> Result<(), Fail> {
+    for number in 0..count {
+        let beside = format!(in rt.alloc(); "taken.ee-saving-{number}")?;
+        fs::write(rt, beside.as_str(), TWO_MOVES)?;
+    }
+    Ok(())
+}
+
+// Compares the first so many of them.
+fn names_stay<R: Files + AllocGlobal + Abort>(rt: &R, count: u8) -> Result<(), Fail> {
+    for number in 0..count {
+        let beside = format!(in rt.alloc(); "taken.ee-saving-{number}")?;
+        holds(rt, u64::from(number), beside.as_str(), TWO_MOVES)?;
+    }
+    Ok(())
+}
+
 /// What stands under a name that would be used isn't this run's, and stays.
 #[test]
 fn names_that_are_taken_stay(rt: HostRuntime) -> Result<(), Fail> {
     fs::write(&rt, "taken", ONE_MOVE)?;
-    for number in 0..100u8 {
-        let beside = format!(in rt.alloc(); "taken.ee-saving-{number}")?;
-        fs::write(&rt, beside.as_str(), TWO_MOVES)?;
-    }
+    take_names(&rt, 100)?;
     let failed = Err(SaveFault::Failed);
     same(&rt, save(&rt, "taken", Some(ONE_MOVE), CLEANED), failed);
     holds(&rt, 0, "taken", ONE_MOVE)?;
@@ -214,11 +236,7 @@ fn names_that_are_taken_stay(rt: HostRuntime) -> Result<(), Fail> {
     same(&rt, save(&rt, "taken", Some(ONE_MOVE), CLEANED), Ok(()));
     holds(&rt, 0, "taken", CLEANED)?;
     same(&rt, fs::exists(&rt, "taken.ee-saving-99")?, false);
-    for number in 0..99u8 {
-        let beside = format!(in rt.alloc(); "taken.ee-saving-{number}")?;
-        holds(&rt, u64::from(number), beside.as_str(), TWO_MOVES)?;
-    }
-    Ok(())
+    names_stay(&rt, 99)
 }
 
 /// A file that wasn't there isn't there after a failure.
@@ -227,7 +245,7 @@ fn a_first_image_that_fails(rt: HostRuntime) -> Result<(), Fail> {
     for call in 1..4 {
         let mut trail = Trail::new(&rt, "none");
         trail.fails_at = call;
-        let answer = save(&Tracked::on(&trail), "none", None, FORMATTED);
+        let answer = trail.save(None, FORMATTED);
         let wanted = if call == 1 {
             Ok(())
         } else {

@@ -5,7 +5,7 @@ use ee_files::{FileLocks, SaveFault, save};
 use std::alloc::{Allocator, Global};
 use std::cell::{Cell, RefCell};
 use std::fs::{Metadata, OpenFile, OpenOptions, Permissions, TryLockError};
-use std::io::{self, ErrorKind, Read, Seek, SeekFrom, Write};
+use std::io::{self, ErrorKind, PipeReader, PipeWriter, Read, Seek, SeekFrom, Write};
 use std::path::PathBuf;
 use std::rt::Files;
 
@@ -44,6 +44,11 @@ impl<'a, R: FileLocks + AllocGlobal> Trail<'a, R> {
         }
     }
 
+    /// Saves the image, of which this was read.
+    pub fn save(&self, old: Option<&[u8]>, new: &[u8]) -> Result<(), SaveFault> {
+        save(&Tracked { trail: self }, self.image, old, new)
+    }
+
     /// What the other run was answered, if it saved.
     pub fn other(&self) -> Option<Result<(), SaveFault>> {
         self.other.get()
@@ -78,14 +83,8 @@ impl<'a, R: FileLocks + AllocGlobal> Trail<'a, R> {
 
 /// A runtime whose files leave a trail.
 #[derive(Drop)]
-pub struct Tracked<'a, R> {
+struct Tracked<'a, R> {
     trail: &'a Trail<'a, R>,
-}
-
-impl<'a, R> Tracked<'a, R> {
-    pub fn on(trail: &'a Trail<'a, R>) -> Tracked<'a, R> {
-        Tracked { trail }
-    }
 }
 
 impl<R: AllocGlobal> Alloc for Tracked<'_, R> {
@@ -98,7 +97,7 @@ impl<R: AllocGlobal> Alloc for Tracked<'_, R> {
 
 /// An open file of such a runtime.
 #[derive(Drop)]
-pub struct TrackedFile<'a, R, F> {
+struct TrackedFile<'a, R, F> {
     trail: &'a Trail<'a, R>,
     file: F,
 }
@@ -224,8 +223,33 @@ impl<'a, R: FileLocks + AllocGlobal> Files for Tracked<'a, R> {
         self.trail.rt.remove_dir_all(alloc, path)
     }
 
+    // `save` calls none of the others. A call that is left out costs the prover more than one that is handed on.
+    fn read_link<B: Allocator>(&self, alloc: B, path: &str) -> io::Result<PathBuf<B>> {
+        self.trail.rt.read_link(alloc, path)
+    }
+
+    fn hard_link(&self, original: &str, link: &str) -> io::Result<()> {
+        self.trail.rt.hard_link(original, link)
+    }
+
+    fn symlink(&self, original: &str, link: &str) -> io::Result<()> {
+        self.trail.rt.symlink(original, link)
+    }
+
+    fn pipe(&self) -> io::Result<(PipeReader, PipeWriter)> {
+        self.trail.rt.pipe()
+    }
+
     fn chown(&self, path: &str, uid: Option<u32>, gid: Option<u32>) -> io::Result<()> {
         self.trail.rt.chown(path, uid, gid)
+    }
+
+    fn lchown(&self, path: &str, uid: Option<u32>, gid: Option<u32>) -> io::Result<()> {
+        self.trail.rt.lchown(path, uid, gid)
+    }
+
+    fn create_dir_with_mode(&self, path: &str, mode: u32) -> io::Result<()> {
+        self.trail.rt.create_dir_with_mode(path, mode)
     }
 }
 
