@@ -299,21 +299,25 @@ def at_once(place, _):
     expect(sorted([*INPUTS, "script-1", "script-2"]), place.names(), "files")
 
 
-def full_output(place, words, new):
-    """Standard output is full: the image was written before."""
-    with open("/dev/full", "wb") as full:
-        ended = place.run(words, stdout=full)
-    expect((3, None, b"ee: cannot write output\n"), ended, "the end")
-    expect(new, place.text(), "the image")
-    expect(sorted(INPUTS), place.names(), "files")
+def lost_output(place, words, new):
+    """Standard output is full, or a pipe that nobody reads: the image was written before."""
+    reading, writing = os.pipe()
+    os.close(reading)
+    with open("/dev/full", "wb") as full, os.fdopen(writing, "wb") as closed:
+        for name, output in (("a full device", full), ("a closed pipe", closed)):
+            place.put("image", MOVED)
+            ended = place.run(words, stdout=output)
+            expect((3, None, b"ee: cannot write output\n"), ended, f"the end, with {name}")
+            expect(new, place.text(), "the image")
+            expect(sorted(INPUTS), place.names(), "files")
 
 
-def full_output_writer(place, writer):
-    full_output(place, WRITERS[writer], written_by(place, writer))
+def lost_output_writer(place, writer):
+    lost_output(place, WRITERS[writer], written_by(place, writer))
 
 
-def full_output_reader(place, reader):
-    full_output(place, READERS[reader], MOVED)
+def lost_output_reader(place, reader):
+    lost_output(place, READERS[reader], MOVED)
 
 
 def in_place(place, writer, options):
@@ -465,7 +469,7 @@ def usual_checks():
     """The checks that can be made everywhere: a function, and the names that it is given."""
     return [(no_room, WRITERS), (links, WRITERS), (modes, WRITERS), (leftover, WRITERS), (held, WRITERS),
             (changed_meanwhile, ["run", "run --indexed"]), (gone_meanwhile, ["run", "run --indexed"]), (at_once, ["runs"]),
-            (full_output_writer, WRITERS), (full_output_reader, [name for name in READERS if name != "stale"]),
+            (lost_output_writer, WRITERS), (lost_output_reader, [name for name in READERS if name != "stale"]),
             (output_as_image, ["format"]), (new_image, ["format"]), (refused, REFUSED)]
 
 

@@ -1,8 +1,7 @@
-//! The tests of the libraries, up to the commands over bytes (`ee_shell`).
+//! The tests of the libraries.
 //!
-//! A test says what no clause says; scripts and images with what they must give are data (`ee_cases`). What tests need
-//! beside the product is in `ee_fakes`, and the tests of the program over files in `ee_program_tests`. Nothing stands on
-//! this crate.
+//! A test says what no clause says; what each command prints and leaves is data (`ee_cases`). What tests need beside the
+//! product is in `ee_fakes`. Nothing stands on this crate.
 #![tactic(auto)]
 
 #[cfg(test)]

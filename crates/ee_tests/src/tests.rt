@@ -1,16 +1,19 @@
 //! What no clause says, each once, and what several modules make their values with.
+mod commands;
 mod counted;
 mod cuts;
 mod formats;
 mod outside;
 mod requests;
+mod saving;
 mod streams;
+mod trail;
 mod trial;
 
 use ee_codec::Address;
 use ee_flash::{Flash, MemFlash, Shape};
-use ee_image::read_image;
-use std::alloc::Global;
+use ee_image::{read_image, write_image};
+use std::alloc::{AllocError, Global};
 use std::fmt::Debug;
 use std::process::Abort;
 use std::test::Fail;
@@ -44,6 +47,13 @@ fn address(number: u16) -> Result<Address, Fail> {
 /// What a call gave, if it gave something.
 fn given<T: Drop, E: Drop>(answer: Result<T, E>) -> Result<T, Fail> {
     Ok(answer.ok().ok_or("an error")?)
+}
+
+/// The image of a device.
+fn text_of<F: Flash>(alloc: Global, flash: &F) -> Result<Vec<u8>, AllocError> {
+    let mut text = Vec::new(alloc);
+    write_image(flash, &mut text)?;
+    Ok(text)
 }
 
 /// The device of an image's text, which is on.

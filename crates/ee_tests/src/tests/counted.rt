@@ -58,8 +58,8 @@ impl<F: Flash + Drop> Flash for Counting<F> {
     }
 }
 
-// How many words are read in an opening of the store after one move, and in so many reads of an address.
-fn words_read(alloc: Global, address: Address, times: usize) -> Result<u64, Fail> {
+// The store after one move.
+fn store(alloc: Global) -> Result<IndexedStore<Counting<MemFlash>>, Fail> {
     let counting: Counting<MemFlash> = Counting {
         flash: device(alloc, ONE_MOVE)?,
         reads: Cell::new(0),
@@ -67,10 +67,20 @@ fn words_read(alloc: Global, address: Address, times: usize) -> Result<u64, Fail
     if !counting.is_on() {
         return Err("off".into());
     }
-    let store = given(IndexedStore::open(alloc, counting))?;
+    given(IndexedStore::open(alloc, counting))
+}
+
+fn read_often<V: Variables>(store: &V, address: Address, times: usize) -> Result<(), Fail> {
     for _ in 0..times {
         given(store.read(address))?;
     }
+    Ok(())
+}
+
+// How many words are read in an opening of the store, and in so many reads of an address.
+fn words_read(alloc: Global, address: Address, times: usize) -> Result<u64, Fail> {
+    let store = store(alloc)?;
+    read_often(&store, address, times)?;
     Ok(store.into_flash().reads.get())
 }
 

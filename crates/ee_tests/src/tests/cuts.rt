@@ -38,14 +38,23 @@ fn moved_once<'a>(
     let mut flash = ListFlash::blank(alloc, shape(pages, 5)?, &[])?;
     flash.power_on();
     let mut store = given(format(flash))?;
-    for _ in 0..pages {
-        given(store.write(one, 1))?;
-    }
-    for _ in 0..pages {
-        given(store.write(one, 2))?;
-    }
+    fill(&mut store, pages, one, 1)?;
+    fill(&mut store, pages, one, 2)?;
     same(rt, numbers_of(&store), Some((2, pages, pages)));
     Ok(store.into_flash())
+}
+
+// Writes a value so often.
+fn fill<V: Variables>(
+    store: &mut V,
+    slots: usize,
+    address: Address,
+    value: u32,
+) -> Result<(), Fail> {
+    for _ in 0..slots {
+        given(store.write(address, value))?;
+    }
+    Ok(())
 }
 
 // Generation, fill and the pages that wait, of a store whose device is on.
@@ -56,8 +65,30 @@ fn numbers_of<V: Variables>(store: &V) -> Option<(u32, usize, usize)> {
     Some((store.generation(), store.fill(), store.pending()))
 }
 
-// Cuts the erase of the first set's page as the list says, in a clean step or in a write that transfers. The old value
-// stands, and the page waits if it isn't blank.
+// Whether a clean step is cut, or a write that transfers.
+fn is_cut<V: Variables>(store: &mut V, cleans: bool, one: Address) -> bool {
+    if cleans {
+        store.clean_step() == Err(WriteFault::Cut)
+    } else {
+        store.write(one, 3) == Err(WriteFault::Cut)
+    }
+}
+
+// Behind a cut of the erase of the first set's page, as the list says, the old value stands, and the page waits if it
+// isn't blank.
+fn stands<V: Variables>(rt: &impl Abort, store: &mut V, one: Address, list: &[Left; 5]) {
+    // The third word was erased before.
+    let [first, second, third, fourth, fifth] = *list;
+    let is_blank = [first, second, fourth, fifth] == [Left::After; 4] && third != Left::Torn;
+    let pending = if is_blank { 0 } else { 1 };
+    let before = (store.read(one), numbers_of(store));
+    same_at(rt, *list, before, (Ok(Some(2)), Some((2, 1, pending))));
+    same_at(rt, *list, store.write(one, 3), Ok(Written::Moved));
+    let after = (store.read(one), numbers_of(store));
+    same_at(rt, *list, after, (Ok(Some(3)), Some((3, 1, 1))));
+}
+
+// Cuts the erase of the first set's page as the list says, in a clean step or in a write that transfers.
 fn cut_the_erase(
     rt: &impl Abort,
     alloc: Global,
@@ -69,22 +100,10 @@ fn cut_the_erase(
     let mut flash = moved_once(rt, alloc, 1, one)?;
     flash.set_fates(&fates);
     let mut store = opened(flash)?;
-    let is_cut = if cleans {
-        store.clean_step() == Err(WriteFault::Cut)
-    } else {
-        store.write(one, 3) == Err(WriteFault::Cut)
-    };
+    let is_cut = is_cut(&mut store, cleans, one);
     same(rt, (is_cut, store.is_on()), (true, false));
     let mut store = opened(store.into_flash())?;
-    // The third word was erased before.
-    let [first, second, third, fourth, fifth] = *list;
-    let is_blank = [first, second, fourth, fifth] == [Left::After; 4] && third != Left::Torn;
-    let pending = if is_blank { 0 } else { 1 };
-    let before = (store.read(one), numbers_of(&store));
-    same_at(rt, *list, before, (Ok(Some(2)), Some((2, 1, pending))));
-    same_at(rt, *list, store.write(one, 3), Ok(Written::Moved));
-    let after = (store.read(one), numbers_of(&store));
-    same_at(rt, *list, after, (Ok(Some(3)), Some((3, 1, 1))));
+    stands(rt, &mut store, one, list);
     Ok(())
 }
 

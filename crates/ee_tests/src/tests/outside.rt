@@ -1,8 +1,8 @@
 //! Values from outside that no command shows: the words of the store, and the largest texts.
-use crate::tests::{address, device, same, shape};
+use crate::tests::{address, device, same, shape, text_of};
 use ee_codec::{MARK, element_word, forget_word, receive_word};
 use ee_flash::{Flash, MemFlash};
-use ee_image::{ImageFault, read_image, write_image};
+use ee_image::{ImageFault, read_image};
 use std::test::Fail;
 
 /// One word of each format.
@@ -17,12 +17,16 @@ fn words(rt: HostRuntime) -> Result<(), Fail> {
 }
 
 #[test]
-fn the_largest_image_and_the_longest_text(rt: HostRuntime) -> Result<(), Fail> {
-    let mut out = Vec::new(rt.alloc());
-    write_image(&MemFlash::blank(rt.alloc(), shape(64, 512)?)?, &mut out)?;
+fn the_largest_image(rt: HostRuntime) -> Result<(), Fail> {
+    let out = text_of(rt.alloc(), &MemFlash::blank(rt.alloc(), shape(64, 512)?)?)?;
     same(&rt, out.len(), 10 + 128 * (2 + 1024));
     let largest = device(rt.alloc(), out.as_slice())?;
     same(&rt, largest.shape().slots(), 32512);
+    Ok(())
+}
+
+#[test]
+fn the_longest_text(rt: HostRuntime) -> Result<(), Fail> {
     let long = vec![in rt.alloc(); b'-'; 4_194_305]?;
     let fault = read_image(rt.alloc(), long.as_slice()).err();
     same(&rt, fault, Some(ImageFault::TooLong));

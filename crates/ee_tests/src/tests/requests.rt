@@ -9,7 +9,7 @@ use crate::tests::streams;
 use crate::tests::trial::with_each_refusal;
 use commands::{Change, Text};
 use ee_fakes::Refusing;
-use std::alloc::Global;
+use std::alloc::{Allocator, Global};
 pub use texts::LastValue;
 
 /// A call, on arguments of its own.
@@ -50,7 +50,7 @@ enum Call {
 }
 
 /// The calls, each with the least number of its requests.
-const CALLS: [(Call, u64); 57] = [
+const CALLS: &[(Call, u64)] = &[
     (Call::BlankDevice, 2),
     (Call::BlankList, 2),
     (Call::Drive, 2),
@@ -150,10 +150,23 @@ fn answer(call: Call, alloc: &Refusing<Global>, memory: Global) -> Option<bool> 
     }
 }
 
+/// Whether these were given, or none for want of memory, which is told by this fault.
+fn gives<T: PartialEq + Drop, A: Allocator, E: PartialEq + Drop>(
+    given: Result<Vec<T, A>, E>,
+    wanted: &[T],
+    memory: E,
+) -> Option<bool> {
+    match given {
+        Ok(found) => Some(found.as_slice() == wanted),
+        Err(fault) if fault == memory => None,
+        Err(_) => Some(false),
+    }
+}
+
 #[test]
 fn each_request_is_refused_in_turn(rt: HostRuntime) {
     let memory = rt.alloc();
-    for (call, least) in CALLS {
+    for (call, least) in CALLS.iter().copied() {
         with_each_refusal(&rt, memory, call, least, |alloc| {
             answer(call, alloc, memory)
         });

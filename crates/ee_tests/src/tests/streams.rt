@@ -8,7 +8,7 @@ use ee_fakes::images::{FORMATTED, REPORT, SCRIPT, TWO_MOVES};
 use ee_fakes::{FailingReader, FailingWriter, Refusing, Stop};
 use ee_faults::ReplayFault;
 use ee_script::{StreamFault, answer_reader};
-use ee_shell::{replay, replay_reader};
+use ee_shell::{Replayed, replay, replay_reader};
 use std::alloc::{AllocError, Global};
 use std::io;
 use std::io::{ErrorKind, Read};
@@ -134,37 +134,58 @@ fn bytes(memory: Global, count: usize) -> Result<Vec<u8>, AllocError> {
 fn long_texts_in_short_pieces(rt: HostRuntime) -> Result<(), Fail> {
     let text = bytes(rt.alloc(), 100_003)?;
     for most in [1usize, 7, 1009, 65_537] {
-        if most > 0 {
-            let mut reader = reader(text.as_slice(), most, 0, ErrorKind::Other);
-            let read = given(read_whole(rt.alloc(), &mut reader))?;
-            same_at(&rt, most, read.as_slice() == text.as_slice(), true);
-        }
+        let is_read = is_read_in_pieces(rt.alloc(), text.as_slice(), most);
+        same_at(&rt, most, is_read, Ok(true));
     }
+    same(&rt, is_written_whole(rt.alloc(), text.as_slice()), Ok(true));
+    Ok(())
+}
+
+// Whether a text is read whole by so many bytes a call.
+fn is_read_in_pieces(memory: Global, text: &[u8], most: usize) -> Result<bool, ReadFault> {
+    if most == 0 {
+        return Ok(false);
+    }
+    let found = read_whole(memory, &mut reader(text, most, 0, ErrorKind::Other))?;
+    Ok(found.as_slice() == text)
+}
+
+// Whether a text is written whole, a byte a call.
+fn is_written_whole(memory: Global, text: &[u8]) -> Result<bool, Stopped> {
     let mut writer = FailingWriter {
-        taken: Vec::new(rt.alloc()),
+        taken: Vec::new(memory),
         stops_at: 0,
         stop: Stop::NoByte,
     };
-    same(&rt, write_whole(&mut writer, text.as_slice()), Ok(()));
-    same(&rt, writer.taken.as_slice() == text.as_slice(), true);
-    Ok(())
+    write_whole(&mut writer, text)?;
+    Ok(writer.taken.as_slice() == text)
+}
+
+fn long_script(memory: Global) -> Result<Vec<u8>, AllocError> {
+    let mut script = Vec::new(memory);
+    for _ in 0..10_000 {
+        script.extend_from_slice(b"w 1 100\nr 1\n")?;
+    }
+    Ok(script)
+}
+
+// Whether a script of any length gives the same in pieces.
+fn is_pieced(memory: Global, script: &[u8]) -> Result<bool, ReplayFault> {
+    let mut reader = reader(script, 4099, 0, ErrorKind::Other);
+    let pieced = replay_reader(memory, FORMATTED, &mut reader)?;
+    let whole = replay(memory, FORMATTED, script)?;
+    Ok(are_alike(&pieced, &whole))
+}
+
+fn are_alike(one: &Replayed, other: &Replayed) -> bool {
+    one.report.as_slice() == other.report.as_slice()
+        && one.image.as_slice() == other.image.as_slice()
 }
 
 #[test]
 fn a_long_script_in_pieces(rt: HostRuntime) -> Result<(), Fail> {
-    let mut script = Vec::new(rt.alloc());
-    for _ in 0..10_000 {
-        script.extend_from_slice(b"w 1 100\nr 1\n")?;
-    }
-    let whole = given(replay(rt.alloc(), FORMATTED, script.as_slice()))?;
-    let mut reader = reader(script.as_slice(), 4099, 0, ErrorKind::Other);
-    let pieced = given(replay_reader(rt.alloc(), FORMATTED, &mut reader))?;
-    same(
-        &rt,
-        pieced.report.as_slice() == whole.report.as_slice(),
-        true,
-    );
-    same(&rt, pieced.image.as_slice() == whole.image.as_slice(), true);
+    let script = long_script(rt.alloc())?;
+    same(&rt, is_pieced(rt.alloc(), script.as_slice()), Ok(true));
     Ok(())
 }
 

@@ -24,19 +24,24 @@ where
         let alloc = Refusing::new(memory, nth);
         let answer = call(&alloc);
         let is_refused = alloc.has_refused();
-        match answer {
-            Some(is_usual) => assert!(rt; is_usual, "{name:?}: another answer at request {nth}"),
-            None => assert!(rt; is_refused, "{name:?}: want of memory with nothing refused"),
+        if let Some(complaint) = complaint(answer, is_refused, nth > least) {
+            panic!(rt; "{name:?}: {complaint} at request {nth}");
         }
         if !is_refused {
-            assert!(rt;
-                nth > least,
-                "{name:?}: {nth} is one more than the requests"
-            );
             return;
         }
     }
     panic!(rt; "{name:?}: requests without end")
+}
+
+// What is wrong with a run.
+fn complaint(answer: Option<bool>, is_refused: bool, are_enough: bool) -> Option<&'static str> {
+    match answer {
+        Some(false) => Some("another answer"),
+        None if !is_refused => Some("want of memory with nothing refused"),
+        _ if !is_refused && !are_enough => Some("an end too soon"),
+        _ => None,
+    }
 }
 
 #[test]

@@ -315,38 +315,55 @@ fn refused_behind(
     Err(Fail::from("requests without end"))
 }
 
-/// Where `replay` makes an index it answers as a store without one does, also where a request is refused, but for those
-/// of reading the image: it goes on without an index then. An index of forty addresses takes several nodes.
+// The image that this script leaves.
+fn filled_image(alloc: Global) -> Result<Vec<u8>, Fail> {
+    let shape = shape(1, 260)?;
+    let script = filling(alloc)?;
+    let filled = given(try_script(alloc, shape, script.as_slice()))?;
+    Ok(filled.image)
+}
+
+// How many requests reading an image makes.
+fn requests_of_reading(memory: Global, image: &[u8]) -> Result<u64, Fail> {
+    let heap = Refusing::new(memory, u64::MAX);
+    given(read_image(&heap, image))?;
+    Ok(requests(&heap))
+}
+
+// How many requests `replay_indexed` makes, which is to give what is wanted.
+fn requests_by_index(
+    rt: &impl Abort,
+    memory: Global,
+    (image, script): (&[u8], &[u8]),
+    (report, left): (&[u8], &[u8]),
+) -> u64 {
+    let heap = Refusing::new(memory, u64::MAX);
+    let found = replays(replay_indexed(&heap, image, script), report, left);
+    same(rt, found, Some(true));
+    requests(&heap)
+}
+
+// Where `replay` makes an index it answers as a store without one does, also where a request is refused, but for those
+// of reading the image: it goes on without an index then. An index of forty addresses takes several nodes.
+fn pays(rt: &impl Abort, memory: Global, image: &[u8], script: &[u8]) -> Result<(), Fail> {
+    let reading = requests_of_reading(memory, image)?;
+    let mut reader = script;
+    let plain = Refusing::new(memory, u64::MAX);
+    let replayed = given(replay_reader(&plain, image, &mut reader))?;
+    let wanted = (replayed.report.as_slice(), replayed.image.as_slice());
+    let indexed = requests_by_index(rt, memory, (image, script), wanted);
+    let count = refused_behind(rt, memory, reading, (image, script), wanted)?;
+    let least = requests(&plain).saturating_add(5);
+    same(rt, (least <= count, least <= indexed), (true, true));
+    Ok(())
+}
+
 #[test]
 fn an_index_that_pays(rt: HostRuntime) -> Result<(), Fail> {
-    let filling = filling(rt.alloc())?;
-    let filled = given(try_script(rt.alloc(), shape(1, 260)?, filling.as_slice()))?;
-    let image = filled.image.as_slice();
-    let reading = Refusing::new(rt.alloc(), u64::MAX);
-    given(read_image(&reading, image))?;
+    let image = filled_image(rt.alloc())?;
     for line in [b"r 1\n".as_slice(), b"x 200 t\n"] {
         let script = long_script(rt.alloc(), line)?;
-        let script = script.as_slice();
-        let mut reader = script;
-        let plain = Refusing::new(rt.alloc(), u64::MAX);
-        let wanted = given(replay_reader(&plain, image, &mut reader))?;
-        let (report, left) = (wanted.report.as_slice(), wanted.image.as_slice());
-        let indexed = Refusing::new(rt.alloc(), u64::MAX);
-        let found = replays(replay_indexed(&indexed, image, script), report, left);
-        same(&rt, found, Some(true));
-        let count = refused_behind(
-            &rt,
-            rt.alloc(),
-            requests(&reading),
-            (image, script),
-            (report, left),
-        )?;
-        let least = requests(&plain).saturating_add(5);
-        same(
-            &rt,
-            (least <= count, least <= requests(&indexed)),
-            (true, true),
-        );
+        pays(&rt, rt.alloc(), image.as_slice(), script.as_slice())?;
     }
     Ok(())
 }

@@ -1,10 +1,13 @@
 //! Starts, plans, checks, rounds and ledgers.
-use ee_check::{Change, CheckFault, Start, check, read_certificate, write_certificate};
+use super::texts::STRETCHES;
+use ee_check::{
+    Certificate, Change, CheckFault, Start, check, read_certificate, write_certificate,
+};
 use ee_codec::Address;
 use ee_fakes::Refusing;
 use ee_fakes::images::CERTIFICATE;
 use ee_image::read_image;
-use ee_plan::{Demand, PlanFault, Rounds, RoundsFault, plan, start_of};
+use ee_plan::{Demand, Plan, PlanFault, Rounds, RoundsFault, plan, start_of};
 use ee_store::open;
 use ee_wear::{Ledger, SinceFault};
 use std::alloc::{Allocator, Global};
@@ -22,23 +25,34 @@ fn two_moves() -> Option<[Change; 5]> {
     Some([first, first, first, second, first])
 }
 
-pub fn trace_checked(alloc: &Refusing<Global>, memory: Global) -> Option<bool> {
-    let certificate = read_certificate(memory, CERTIFICATE).ok()?;
-    match check(alloc, &unused(memory, 2)?, &two_moves()?, &certificate) {
-        Ok(count) => Some(count == 2),
+// Whether a check gave this count, or none for want of memory.
+fn counts(checked: Result<u64, CheckFault>, wanted: u64) -> Option<bool> {
+    match checked {
+        Ok(count) => Some(count == wanted),
         Err(CheckFault::Memory) => None,
         Err(_) => Some(false),
     }
 }
 
-pub fn trace_planned(alloc: &Refusing<Global>, memory: Global) -> Option<bool> {
+pub fn trace_checked(alloc: &Refusing<Global>, memory: Global) -> Option<bool> {
+    let moves = two_moves()?;
+    let start = unused(memory, 2)?;
     let certificate = read_certificate(memory, CERTIFICATE).ok()?;
-    match plan(alloc, &unused(memory, 2)?, &two_moves()?) {
-        Ok(plan) => Some(
-            (plan.transfers, plan.room) == (2, 0)
-                && plan.moments.as_slice() == [3, 5].as_slice()
-                && plan.certificate.stretches.as_slice() == certificate.stretches.as_slice(),
-        ),
+    counts(check(alloc, &start, &moves, &certificate), 2)
+}
+
+// Whether it is the plan of the two moves.
+fn is_tight<A: Allocator>(plan: &Plan<A>) -> bool {
+    (plan.transfers, plan.room) == (2, 0)
+        && plan.moments.as_slice() == [3, 5].as_slice()
+        && plan.certificate.stretches.as_slice() == STRETCHES.as_slice()
+}
+
+pub fn trace_planned(alloc: &Refusing<Global>, memory: Global) -> Option<bool> {
+    let moves = two_moves()?;
+    let start = unused(memory, 2)?;
+    match plan(alloc, &start, &moves) {
+        Ok(plan) => Some(is_tight(&plan)),
         Err(PlanFault::Memory) => None,
         Err(_) => Some(false),
     }
@@ -60,22 +74,40 @@ const THREE_USED: &[u8] = b"ee 1 8
 0 - - - - - - - -
 ";
 
+// The slots of a start, how many are used, and by how many addresses.
+fn numbers<A: Allocator>(start: &Start<A>) -> (u64, u64, usize) {
+    (start.slots(), start.fill(), start.live().len())
+}
+
 pub fn start_found(alloc: &Refusing<Global>, memory: Global) -> Option<bool> {
     let store = open(read_image(memory, THREE_USED).ok()?).ok()?;
     let start = start_of(alloc, &store).ok()?;
-    Some((start.slots(), start.fill(), start.live().len()) == (4, 3, 2))
+    Some(numbers(&start) == (4, 3, 2))
+}
+
+// Two slots, of which an address has one.
+fn one_used(memory: Global, address: Address) -> Option<Start> {
+    let mut live = BTreeSet::new(memory);
+    live.insert(address).ok()?;
+    Start::new(2, 1, live)
+}
+
+// Whether a write makes another address live, or none is for want of memory.
+fn is_made_live<A: Allocator + Copy>(
+    live: &mut BTreeSet<Address, A>,
+    address: Address,
+) -> Option<bool> {
+    if Change::Write(address).make(live).is_err() {
+        return if live.len() == 1 { None } else { Some(false) };
+    }
+    Some(live.len() == 2 && live.contains(&address))
 }
 
 pub fn change_made(alloc: &Refusing<Global>, memory: Global) -> Option<bool> {
     let (two, nine) = (Address::new(2)?, Address::new(9)?);
-    let mut live = BTreeSet::new(memory);
-    live.insert(nine).ok()?;
-    let start: Start = Start::new(2, 1, live)?;
+    let start = one_used(memory, nine)?;
     let mut live = start.live_in(alloc).ok()?;
-    if Change::Write(two).make(&mut live).is_err() {
-        return if live.len() == 1 { None } else { Some(false) };
-    }
-    Some(live.len() == 2 && live.contains(&two))
+    is_made_live(&mut live, two)
 }
 
 // The certificate of 1101 writes on one slot, of which each but the first transfers.
@@ -92,19 +124,26 @@ fn thousand(memory: Global) -> Option<String> {
     Some(text)
 }
 
-/// Behind a thousand changes the checker asks for memory once more, and goes on without where that is refused.
-pub fn thousand_checked(alloc: &Refusing<Global>, memory: Global) -> Option<bool> {
+// The same, read and written again.
+fn thousand_read(memory: Global) -> Option<Certificate> {
     let text = thousand(memory)?;
     let certificate = read_certificate(memory, text.as_bytes()).ok()?;
     let mut out = Vec::new(memory);
     write_certificate(&certificate, &mut out).ok()?;
-    let is_written = out.as_slice() == text.as_bytes();
-    let trace = vec![in memory; Change::Write(Address::new(1)?); 1101].ok()?;
-    match check(alloc, &unused(memory, 1)?, &trace, &certificate) {
-        Ok(count) => Some(is_written && count == 1100),
-        Err(CheckFault::Memory) => None,
-        Err(_) => Some(false),
+    if out.as_slice() == text.as_bytes() {
+        Some(certificate)
+    } else {
+        None
     }
+}
+
+/// Behind a thousand changes the checker asks for memory once more, and goes on without where that is refused.
+pub fn thousand_checked(alloc: &Refusing<Global>, memory: Global) -> Option<bool> {
+    let change = Change::Write(Address::new(1)?);
+    let start = unused(memory, 1)?;
+    let certificate = thousand_read(memory)?;
+    let trace = vec![in memory; change; 1101].ok()?;
+    counts(check(alloc, &start, &trace, &certificate), 1100)
 }
 
 /// Erased three times and five times, and earlier.
@@ -117,15 +156,20 @@ fn has<A: Allocator>(ledger: &Ledger<A>, numbers: (u128, u64, u64)) -> bool {
     ledger.pages() == 2 && (ledger.total(), ledger.least(), ledger.greatest()) == numbers
 }
 
+// The ledger of an image's device.
+fn ledger<A: Allocator + Copy>(alloc: A, memory: Global, image: &[u8]) -> Option<Ledger<A>> {
+    let flash = read_image(memory, image).ok()?;
+    Ledger::of(alloc, &flash).ok()
+}
+
 pub fn ledger_made(alloc: &Refusing<Global>, memory: Global) -> Option<bool> {
-    let flash = read_image(memory, WORN).ok()?;
-    let ledger = Ledger::of(alloc, &flash).ok()?;
+    let ledger = ledger(alloc, memory, WORN)?;
     Some(has(&ledger, (8, 3, 5)))
 }
 
 pub fn ledger_since(alloc: &Refusing<Global>, memory: Global) -> Option<bool> {
-    let later = Ledger::of(memory, &read_image(memory, WORN).ok()?).ok()?;
-    let earlier = Ledger::of(memory, &read_image(memory, LESS_WORN).ok()?).ok()?;
+    let later = ledger(memory, memory, WORN)?;
+    let earlier = ledger(memory, memory, LESS_WORN)?;
     match later.since(alloc, &earlier) {
         Ok(since) => Some(has(&since, (2, 0, 2))),
         Err(SinceFault::Memory) => None,

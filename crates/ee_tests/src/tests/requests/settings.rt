@@ -1,4 +1,5 @@
 //! Schemas, and what they find on a store with an index.
+use super::gives;
 use crate::tests::same;
 use ee_codec::Address;
 use ee_fakes::Refusing;
@@ -6,8 +7,9 @@ use ee_fakes::images::TWO_MOVES;
 use ee_flash::{Flash, MemFlash};
 use ee_image::read_image;
 use ee_settings::{Held, ListFault, Listed, Reading, Schema, SchemaFault, Stale, StaleFault};
-use ee_store::{IndexedStore, Written};
-use std::alloc::Global;
+use ee_store::{IndexedStore, Variables, Written};
+use std::alloc::{Allocator, Global};
+use std::process::Abort;
 use std::test::Fail;
 
 /// Two settings; the value that address 1 has after two moves is out of the range of the second.
@@ -24,15 +26,16 @@ max = 9
 default = 4
 ";
 
+// Whether a schema has the two.
+fn has_both<A: Allocator>(schema: &Schema<A>) -> bool {
+    let names = [schema.name(1), schema.name(2), schema.name(3)];
+    schema.entries() == 2 && names == [Some("tone"), Some("volume"), None]
+}
+
 pub fn schema_read(alloc: &Refusing<Global>, memory: Global) -> Option<bool> {
     let table = toml::table_from_slice(memory, BOTH).ok()?;
     match Schema::from_table(alloc, &table) {
-        Ok(schema) => Some(
-            schema.entries() == 2
-                && schema.name(1) == Some("tone")
-                && schema.name(2) == Some("volume")
-                && schema.name(3) == None,
-        ),
+        Ok(schema) => Some(has_both(&schema)),
         Err(SchemaFault::Memory) => None,
         Err(_) => Some(false),
     }
@@ -56,11 +59,7 @@ fn store(memory: Global) -> Option<IndexedStore<MemFlash>> {
 pub fn stale_found(alloc: &Refusing<Global>, memory: Global) -> Option<bool> {
     let store = store(memory)?;
     let schema = schema(memory)?;
-    match schema.stale(alloc, &store) {
-        Ok(entries) => Some(entries.as_slice() == [2].as_slice()),
-        Err(StaleFault::Memory) => None,
-        Err(_) => Some(false),
-    }
+    gives(schema.stale(alloc, &store), &[2], StaleFault::Memory)
 }
 
 pub fn stale_values_found(alloc: &Refusing<Global>, memory: Global) -> Option<bool> {
@@ -70,32 +69,28 @@ pub fn stale_values_found(alloc: &Refusing<Global>, memory: Global) -> Option<bo
     }];
     let store = store(memory)?;
     let schema = schema(memory)?;
-    match schema.stale_values(alloc, &store) {
-        Ok(stale) => Some(stale.as_slice() == wanted.as_slice()),
-        Err(StaleFault::Memory) => None,
-        Err(_) => Some(false),
-    }
+    gives(
+        schema.stale_values(alloc, &store),
+        &wanted,
+        StaleFault::Memory,
+    )
+}
+
+// A value without a setting.
+fn unnamed(number: u16, value: u32) -> Option<Listed> {
+    let address = Address::new(number)?;
+    Some(Listed {
+        address,
+        entry: None,
+        held: Held::Value(value),
+    })
 }
 
 pub fn values_listed(alloc: &Refusing<Global>, memory: Global) -> Option<bool> {
+    let wanted = [unnamed(1, 13)?, unnamed(2, 5)?];
     let store = store(memory)?;
-    let wanted = [
-        Listed {
-            address: Address::new(1)?,
-            entry: None,
-            held: Held::Value(13),
-        },
-        Listed {
-            address: Address::new(2)?,
-            entry: None,
-            held: Held::Value(5),
-        },
-    ];
-    match Schema::empty(alloc).list(alloc, &store) {
-        Ok(listed) => Some(listed.as_slice() == wanted.as_slice()),
-        Err(ListFault::Memory) => None,
-        Err(_) => Some(false),
-    }
+    let schema = Schema::empty(alloc);
+    gives(schema.list(alloc, &store), &wanted, ListFault::Memory)
 }
 
 /// On a store with an index too a setting is set, and all else is tidied away.
@@ -103,9 +98,14 @@ pub fn values_listed(alloc: &Refusing<Global>, memory: Global) -> Option<bool> {
 fn an_index_under_settings(rt: HostRuntime) -> Result<(), Fail> {
     let schema = schema(rt.alloc()).ok_or("no schema")?;
     let mut store = store(rt.alloc()).ok_or("no store")?;
-    same(&rt, schema.get(&store, "volume"), Ok(Reading::Default(5)));
-    same(&rt, schema.set(&mut store, "volume", 7), Ok(Written::Moved));
-    same(&rt, schema.get(&store, "volume"), Ok(Reading::Stored(7)));
+    is_set(&rt, &schema, &mut store);
     same(&rt, schema.tidy(&mut store), Ok(1));
     Ok(())
+}
+
+// Sets a setting, and reads it before and behind that.
+fn is_set<V: Variables>(rt: &impl Abort, schema: &Schema, store: &mut V) {
+    same(rt, schema.get(store, "volume"), Ok(Reading::Default(5)));
+    same(rt, schema.set(store, "volume", 7), Ok(Written::Moved));
+    same(rt, schema.get(store, "volume"), Ok(Reading::Stored(7)));
 }

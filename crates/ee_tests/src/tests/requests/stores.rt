@@ -1,9 +1,10 @@
 //! Devices, stores with an index, and events that drive a store.
+use crate::tests::text_of;
 use ee_codec::Address;
 use ee_fakes::images::ONE_MOVE;
 use ee_fakes::{ListFlash, Refusing};
 use ee_flash::{Flash, MemFlash, Shape};
-use ee_image::{read_image, write_image};
+use ee_image::read_image;
 use ee_store::{
     Answer, Event, IndexedFault, IndexedStore, Variables, WriteFault, Written, drive, format,
 };
@@ -24,9 +25,8 @@ pub fn blank_list(alloc: &Refusing<Global>) -> Option<bool> {
     Some(is_new(&ListFlash::blank(alloc, shape, &[]).ok()?, shape))
 }
 
-pub fn events_driven(alloc: &Refusing<Global>, memory: Global) -> Option<bool> {
-    let address = Address::new(1)?;
-    let events = [
+fn events(address: Address) -> [Event; 8] {
+    [
         Event::Get { address },
         Event::Reopen,
         Event::Get { address },
@@ -35,24 +35,32 @@ pub fn events_driven(alloc: &Refusing<Global>, memory: Global) -> Option<bool> {
         Event::Clean,
         Event::Forget { address },
         Event::Get { address },
-    ];
-    let answers = [
-        Answer::Off,
-        Answer::Opened,
-        Answer::Value(Some(12)),
-        Answer::Done(Written::Appended),
-        Answer::Cleaned(true),
-        Answer::Cleaned(false),
-        Answer::Done(Written::Moved),
-        Answer::Value(None),
-    ];
-    match drive(alloc, read_image(memory, ONE_MOVE).ok()?, &events) {
-        Ok(driven) => {
-            Some(driven.log.as_slice() == answers.as_slice() && driven.kept.is_empty())
-        }
-        Err((flash, _)) if flash.is_on() && flash.steps() == 0 => None,
-        Err(_) => Some(false),
+    ]
+}
+
+/// What they are answered after one move.
+const ANSWERS: [Answer; 8] = [
+    Answer::Off,
+    Answer::Opened,
+    Answer::Value(Some(12)),
+    Answer::Done(Written::Appended),
+    Answer::Cleaned(true),
+    Answer::Cleaned(false),
+    Answer::Done(Written::Moved),
+    Answer::Value(None),
+];
+
+pub fn events_driven(alloc: &Refusing<Global>, memory: Global) -> Option<bool> {
+    let address = Address::new(1)?;
+    match drive(alloc, read_image(memory, ONE_MOVE).ok()?, &events(address)) {
+        Ok(driven) => Some(driven.log.as_slice() == ANSWERS.as_slice() && driven.kept.is_empty()),
+        Err((flash, _)) => unless(flash.is_on() && flash.steps() == 0),
     }
+}
+
+// Want of memory, if what was there stays; else another answer.
+fn unless(stays: bool) -> Option<bool> {
+    if stays { None } else { Some(false) }
 }
 
 /// How many addresses are written, each once: more than one node of the index holds.
@@ -62,27 +70,22 @@ const COUNT: u16 = 40;
 fn written(memory: Global, count: u16) -> Option<MemFlash> {
     let flash = MemFlash::blank(memory, Shape::new(1, 60)?).ok()?;
     let mut store = format(flash).ok()?;
-    for number in 1..COUNT + 1 {
-        if number <= count {
-            store
-                .write(Address::new(number)?, u32::from(number) + 1000)
-                .ok()?;
-        }
+    if write_first(&mut store, count)? < count {
+        return None;
     }
     Some(store.into_flash())
 }
 
 // Want of memory, if a device is as the store left it that wrote the first so many; else another answer.
 fn wants_memory<F: Flash>(memory: Global, flash: &F, count: u16) -> Option<bool> {
-    let mut found = Vec::new(memory);
-    write_image(flash, &mut found).ok()?;
-    let mut wanted = Vec::new(memory);
-    write_image(&written(memory, count)?, &mut wanted).ok()?;
-    if found.as_slice() == wanted.as_slice() {
-        None
-    } else {
-        Some(false)
-    }
+    let found = text_of(memory, flash).ok()?;
+    let wanted = text_of(memory, &written(memory, count)?).ok()?;
+    unless(found.as_slice() == wanted.as_slice())
+}
+
+// Whether a store has a value at each address.
+fn has_all<V: Variables>(store: &V) -> bool {
+    store.is_on() && store.live_count() == usize::from(COUNT)
 }
 
 pub fn index_opened(alloc: &Refusing<Global>, memory: Global) -> Option<bool> {
@@ -91,37 +94,44 @@ pub fn index_opened(alloc: &Refusing<Global>, memory: Global) -> Option<bool> {
         return Some(false);
     }
     match IndexedStore::open(alloc, flash) {
-        Ok(store) => Some(store.is_on() && store.live_count() == usize::from(COUNT)),
+        Ok(store) => Some(has_all(&store)),
         Err((flash, IndexedFault::Memory)) => wants_memory(memory, &flash, COUNT),
         Err(_) => Some(false),
     }
 }
 
-// Writes each address in its turn, and gives how many were written before one for which there was no memory.
-fn write_each<V: Variables>(store: &mut V) -> Option<u16> {
-    for number in 1..COUNT + 1 {
-        let address = Address::new(number)?;
-        match store.write(address, u32::from(number) + 1000) {
+// Writes the first so many addresses in their turn, and gives how many were written before one for which there was no
+// memory.
+fn write_first<V: Variables>(store: &mut V, count: u16) -> Option<u16> {
+    for number in 0..count {
+        let address = Address::new(number.saturating_add(1))?;
+        match store.write(address, u32::from(number) + 1001) {
             Ok(_) => {}
-            Err(WriteFault::Memory) if store.read(address) == Ok(None) => return Some(number - 1),
+            Err(WriteFault::Memory) if store.read(address) == Ok(None) => return Some(number),
             Err(_) => return None,
         }
     }
-    Some(COUNT)
+    Some(count)
+}
+
+// A store with an index on the device before the first write.
+fn empty_index<'a>(
+    alloc: &'a Refusing<Global>,
+    memory: Global,
+) -> Option<IndexedStore<MemFlash, &'a Refusing<Global>>> {
+    let flash = written(memory, 0)?;
+    if !flash.is_on() {
+        return None;
+    }
+    IndexedStore::open(alloc, flash).ok()
 }
 
 /// Where memory is refused, the store and its device stay as they are.
 pub fn index_written(alloc: &Refusing<Global>, memory: Global) -> Option<bool> {
-    let flash = written(memory, 0)?;
-    if !flash.is_on() {
-        return Some(false);
+    let mut store = empty_index(alloc, memory)?;
+    match write_first(&mut store, COUNT) {
+        Some(COUNT) => Some(has_all(&store)),
+        Some(count) => wants_memory(memory, &store.into_flash(), count),
+        None => Some(false),
     }
-    let mut store = IndexedStore::open(alloc, flash).ok()?;
-    let Some(count) = write_each(&mut store) else {
-        return Some(false);
-    };
-    if count == COUNT {
-        return Some(store.is_on() && store.live_count() == usize::from(COUNT));
-    }
-    wants_memory(memory, &store.into_flash(), count)
 }

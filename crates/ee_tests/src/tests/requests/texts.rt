@@ -2,14 +2,14 @@
 use ee_check::{Stretch, TextFault, read_certificate, write_certificate};
 use ee_fakes::Refusing;
 use ee_fakes::images::CERTIFICATE;
-use ee_flash::Flash;
+use ee_flash::{Flash, MemFlash};
 use ee_image::{ImageFault, read_image, write_image};
 use ee_script::{
     Answer, Command, ScriptFault, Serve, Session, StreamFault, answer_reader, answer_script,
     push_answer,
 };
 use ee_text::{push_number, push_number_behind};
-use std::alloc::{AllocError, Global};
+use std::alloc::{AllocError, Allocator, Global};
 
 /// Serves with the value that was written last, at any address.
 #[derive(Clone, Copy, Drop)]
@@ -62,26 +62,32 @@ pub fn reader_answered(alloc: &Refusing<Global>) -> Option<bool> {
     }
 }
 
-// Want of memory, if what was there stays; else another answer.
-fn unless(stays: bool) -> Option<bool> {
-    if stays { None } else { Some(false) }
+/// What is there before a text is pushed.
+const FRONT: &[u8] = b"0 ";
+
+// Whether a text was pushed behind the front, or none was for want of memory and the front stays.
+fn is_pushed(answer: Result<(), AllocError>, out: &[u8], text: &[u8]) -> Option<bool> {
+    match answer {
+        Ok(()) => Some(out.strip_prefix(FRONT) == Some(text)),
+        Err(_) if out == FRONT => None,
+        Err(_) => Some(false),
+    }
 }
 
 pub fn number_pushed(alloc: &Refusing<Global>) -> Option<bool> {
-    let mut out = Vec::from_slice(alloc, b"0 ").ok()?;
-    if push_number(&mut out, u64::MAX).is_err() {
-        return unless(out.as_slice() == b"0 ".as_slice());
-    }
-    Some(out.as_slice() == b"0 18446744073709551615".as_slice())
+    let mut out = Vec::from_slice(alloc, FRONT).ok()?;
+    let answer = push_number(&mut out, u64::MAX);
+    is_pushed(answer, out.as_slice(), b"18446744073709551615")
 }
 
+/// Where the number is refused, what it was to stand behind may stay.
 pub fn number_pushed_behind(alloc: &Refusing<Global>) -> Option<bool> {
-    let mut out = Vec::from_slice(alloc, b"0 ").ok()?;
-    if push_number_behind(&mut out, b"to ", u64::MAX).is_err() {
-        let left = out.as_slice();
-        return unless(left == b"0 ".as_slice() || left == b"0 to ".as_slice());
+    let mut out = Vec::from_slice(alloc, FRONT).ok()?;
+    let answer = push_number_behind(&mut out, b"to ", u64::MAX);
+    if answer.is_err() && out.as_slice() == b"0 to ".as_slice() {
+        return None;
     }
-    Some(out.as_slice() == b"0 to 18446744073709551615".as_slice())
+    is_pushed(answer, out.as_slice(), b"to 18446744073709551615")
 }
 
 /// All answers, with the greatest value.
@@ -119,13 +125,16 @@ const WORDS: &[u8] = b"ee 1 6
 7 aaaaaaaa00000002 aaaaaaaaaaaaaaaa - - 0000000c00000001 fffffffffffffffe
 ";
 
+// Whether a device of one page in each set is on, with no fuse, and took no step.
+fn is_as_read<A: Allocator>(flash: &MemFlash<A>) -> bool {
+    (flash.shape().pages(), flash.shape().words()) == (1, 6)
+        && flash.is_on()
+        && (flash.cuts(), flash.cuts_left(), flash.steps()) == (0, Some(0), 0)
+}
+
 pub fn image_read(alloc: &Refusing<Global>) -> Option<bool> {
     match read_image(alloc, WORDS) {
-        Ok(read) => Some(
-            (read.shape().pages(), read.shape().words()) == (1, 6)
-                && read.is_on()
-                && (read.cuts(), read.cuts_left(), read.steps()) == (0, Some(0), 0),
-        ),
+        Ok(flash) => Some(is_as_read(&flash)),
         Err(ImageFault::Memory) => None,
         Err(_) => Some(false),
     }
@@ -133,15 +142,13 @@ pub fn image_read(alloc: &Refusing<Global>) -> Option<bool> {
 
 pub fn image_written(alloc: &Refusing<Global>, memory: Global) -> Option<bool> {
     let flash = read_image(memory, WORDS).ok()?;
-    let mut out = Vec::from_slice(alloc, b"end\n").ok()?;
-    if write_image(&flash, &mut out).is_err() {
-        return unless(out.as_slice() == b"end\n".as_slice());
-    }
-    Some(out.as_slice().strip_prefix(b"end\n") == Some(WORDS))
+    let mut out = Vec::from_slice(alloc, FRONT).ok()?;
+    let answer = write_image(&flash, &mut out);
+    is_pushed(answer, out.as_slice(), WORDS)
 }
 
 /// The stretches of the certificate.
-const STRETCHES: [Stretch; 2] = [Stretch { to: 3, from: 0 }, Stretch { to: 5, from: 1 }];
+pub const STRETCHES: [Stretch; 2] = [Stretch { to: 3, from: 0 }, Stretch { to: 5, from: 1 }];
 
 pub fn certificate_read(alloc: &Refusing<Global>) -> Option<bool> {
     match read_certificate(alloc, CERTIFICATE) {
@@ -156,9 +163,7 @@ pub fn certificate_read(alloc: &Refusing<Global>) -> Option<bool> {
 
 pub fn certificate_written(alloc: &Refusing<Global>, memory: Global) -> Option<bool> {
     let certificate = read_certificate(memory, CERTIFICATE).ok()?;
-    let mut out = Vec::from_slice(alloc, b"end\n").ok()?;
-    if write_certificate(&certificate, &mut out).is_err() {
-        return unless(out.as_slice() == b"end\n".as_slice());
-    }
-    Some(out.as_slice().strip_prefix(b"end\n") == Some(CERTIFICATE))
+    let mut out = Vec::from_slice(alloc, FRONT).ok()?;
+    let answer = write_certificate(&certificate, &mut out);
+    is_pushed(answer, out.as_slice(), CERTIFICATE)
 }

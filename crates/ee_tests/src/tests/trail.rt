@@ -1,19 +1,15 @@
-//! A runtime for tests: the host's files, with each call noted, an empty input, and outputs that are kept. One call may fail,
-//! the disk may be full, and before one call another run may save.
+//! The host's files for tests, with each call noted. One call may fail, the disk may be full, and before one call another
+//! run may save.
 use ee_fakes::images::{ONE_MOVE, TWO_MOVES};
 use ee_files::{FileLocks, SaveFault, save};
-use ee_program::run;
-use std::alloc::{AllocError, Allocator, Global};
+use std::alloc::{Allocator, Global};
 use std::cell::{Cell, RefCell};
-use std::fmt::Display;
 use std::fs::{Metadata, OpenFile, OpenOptions, Permissions, TryLockError};
-use std::io::{
-    self, BufRead, ErrorKind, Lines, PipeReader, PipeWriter, Read, Seek, SeekFrom, Write,
-};
+use std::io::{self, ErrorKind, PipeReader, PipeWriter, Read, Seek, SeekFrom, Write};
 use std::path::PathBuf;
 use std::rt::Files;
 
-/// What is asked of the files, what comes of it, and what is printed.
+/// What is asked of the files, and what comes of it.
 #[derive(Drop)]
 pub struct Trail<'a, R> {
     rt: &'a R,
@@ -25,15 +21,11 @@ pub struct Trail<'a, R> {
     pub fails_at: u64,
     /// The call before which the other run saves, counted from 1; 0 for none.
     pub other_at: u64,
-    /// Whether standard output refuses what is written.
-    pub is_closed: bool,
     /// How many bytes the disk takes before it is full, once; behind that it takes all.
     pub room: Cell<usize>,
     calls: Cell<u64>,
     other: Cell<Option<Result<(), SaveFault>>>,
     asked: RefCell<String>,
-    printed: RefCell<Vec<u8>>,
-    told: RefCell<Vec<u8>>,
 }
 
 impl<'a, R: FileLocks + AllocGlobal> Trail<'a, R> {
@@ -45,14 +37,16 @@ impl<'a, R: FileLocks + AllocGlobal> Trail<'a, R> {
             is_bare: false,
             fails_at: 0,
             other_at: 0,
-            is_closed: false,
             room: Cell::new(usize::MAX),
             calls: Cell::new(0),
             other: Cell::new(None),
             asked: RefCell::new(String::new(rt.alloc())),
-            printed: RefCell::new(Vec::new(rt.alloc())),
-            told: RefCell::new(Vec::new(rt.alloc())),
         }
+    }
+
+    /// Saves the image, of which this was read.
+    pub fn save(&self, old: Option<&[u8]>, new: &[u8]) -> Result<(), SaveFault> {
+        save(&Tracked { trail: self }, self.image, old, new)
     }
 
     /// What the other run was answered, if it saved.
@@ -63,11 +57,6 @@ impl<'a, R: FileLocks + AllocGlobal> Trail<'a, R> {
     /// The calls in their order, a word for each.
     pub fn asked(self) -> String {
         self.asked.into_inner()
-    }
-
-    /// What was written to standard output, and to standard error.
-    pub fn written(self) -> (Vec<u8>, Vec<u8>) {
-        (self.printed.into_inner(), self.told.into_inner())
     }
 
     /// Notes a call, lets the other run go before it, or refuses it.
@@ -94,25 +83,8 @@ impl<'a, R: FileLocks + AllocGlobal> Trail<'a, R> {
 
 /// A runtime whose files leave a trail.
 #[derive(Drop)]
-pub struct Tracked<'a, R> {
+struct Tracked<'a, R> {
     trail: &'a Trail<'a, R>,
-}
-
-impl<'a, R> Tracked<'a, R> {
-    pub fn on(trail: &'a Trail<'a, R>) -> Tracked<'a, R> {
-        Tracked { trail }
-    }
-}
-
-impl<R: FileLocks + AllocGlobal + Input> Tracked<'_, R> {
-    /// Runs the program on these words, and gives its status.
-    pub fn run(&self, words: &[&str]) -> Result<u8, AllocError> {
-        let mut owned: Vec<String> = Vec::new(self.alloc());
-        for word in words {
-            owned.push(String::from_str(self.alloc(), word)?)?;
-        }
-        Ok(run(self, owned.as_slice()))
-    }
 }
 
 impl<R: AllocGlobal> Alloc for Tracked<'_, R> {
@@ -123,64 +95,9 @@ impl<R: AllocGlobal> Alloc for Tracked<'_, R> {
     }
 }
 
-/// Keeps what is written.
-fn keep(kept: &RefCell<Vec<u8>>, bytes: &[u8]) -> io::Result<()> {
-    match kept.try_borrow_mut() {
-        Ok(mut kept) => Ok(kept.extend_from_slice(bytes)?),
-        Err(_) => Err(io::Error::from(ErrorKind::Other)),
-    }
-}
-
-impl<R: AllocGlobal> Print for Tracked<'_, R> {
-    fn print<D: Display + Drop>(&self, value: D) -> io::Result<()> {
-        let text = format!(in self.alloc(); "{value}")?;
-        self.write_all(text.as_bytes())
-    }
-
-    fn println<D: Display + Drop>(&self, value: D) -> io::Result<()> {
-        let text = format!(in self.alloc(); "{value}\n")?;
-        self.write_all(text.as_bytes())
-    }
-
-    fn write_all(&self, bytes: &[u8]) -> io::Result<()> {
-        if self.trail.is_closed {
-            return Err(io::Error::from(ErrorKind::BrokenPipe));
-        }
-        keep(&self.trail.printed, bytes)
-    }
-}
-
-impl<R: AllocGlobal> Eprint for Tracked<'_, R> {
-    fn eprint<D: Display + Drop>(&self, value: D) -> io::Result<()> {
-        let text = format!(in self.alloc(); "{value}")?;
-        keep(&self.trail.told, text.as_bytes())
-    }
-
-    fn eprintln<D: Display + Drop>(&self, value: D) -> io::Result<()> {
-        let text = format!(in self.alloc(); "{value}\n")?;
-        keep(&self.trail.told, text.as_bytes())
-    }
-}
-
-impl<R: Input> Input for Tracked<'_, R> {
-    type Reader = &'static [u8];
-
-    fn read_line<A: Allocator + Clone>(&self, buf: &mut String<A>) -> io::Result<usize> {
-        self.trail.rt.read_line(buf)
-    }
-
-    fn lines<A: Allocator>(&self, alloc: A) -> Lines<&'static [u8], A> {
-        b"".as_slice().lines(alloc)
-    }
-
-    fn reader(&self) -> &'static [u8] {
-        b""
-    }
-}
-
 /// An open file of such a runtime.
 #[derive(Drop)]
-pub struct TrackedFile<'a, R, F> {
+struct TrackedFile<'a, R, F> {
     trail: &'a Trail<'a, R>,
     file: F,
 }
@@ -306,6 +223,7 @@ impl<'a, R: FileLocks + AllocGlobal> Files for Tracked<'a, R> {
         self.trail.rt.remove_dir_all(alloc, path)
     }
 
+    // `save` calls none of the others. A call that is left out costs the prover more than one that is handed on.
     fn read_link<B: Allocator>(&self, alloc: B, path: &str) -> io::Result<PathBuf<B>> {
         self.trail.rt.read_link(alloc, path)
     }

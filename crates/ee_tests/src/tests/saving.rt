@@ -1,9 +1,11 @@
-//! How an image's file is replaced: in which order, with each call failing, and with another run at each call.
-use super::trail::{Tracked, Trail};
+//! How an image's file is replaced: in which order, with each call failing, with another run at each call, on a disk that
+//! is full, and behind a link.
+use super::trail::Trail;
 use crate::tests::{same, same_at};
 use ee_fakes::images::{CLEANED, FORMATTED, ONE_MOVE, TWO_MOVES};
 use ee_files::{FileLocks, SaveFault, save};
-use std::fs;
+use std::fs::{self, Permissions};
+use std::os::unix::fs::{PermissionsExt, symlink};
 use std::process::Abort;
 use std::rt::Files;
 use std::test::Fail;
@@ -35,7 +37,7 @@ fn the_calls_in_their_order(rt: HostRuntime) -> Result<(), Fail> {
         fs::write(&rt, "ordered", ONE_MOVE)?;
         let mut trail = Trail::new(&rt, "ordered");
         trail.is_bare = is_bare;
-        let answer = save(&Tracked::on(&trail), "ordered", Some(ONE_MOVE), CLEANED);
+        let answer = trail.save(Some(ONE_MOVE), CLEANED);
         same_at(&rt, is_bare, answer, Ok(()));
         holds(&rt, 0, "ordered", CLEANED)?;
         same_at(&rt, is_bare, trail.asked().as_str(), calls);
@@ -43,7 +45,7 @@ fn the_calls_in_their_order(rt: HostRuntime) -> Result<(), Fail> {
     Ok(())
 }
 
-// Saves with one call failing: the new image stands or the old one, as is answered, and nothing beside it.
+// Saves with one call failing.
 fn fails_at<R: FileLocks + AllocGlobal + Abort>(
     rt: &R,
     is_bare: bool,
@@ -54,11 +56,21 @@ fn fails_at<R: FileLocks + AllocGlobal + Abort>(
     let mut trail = Trail::new(rt, "failing");
     trail.is_bare = is_bare;
     trail.fails_at = call;
-    let answer = save(&Tracked::on(&trail), "failing", Some(ONE_MOVE), CLEANED);
-    same_at(rt, call, answer, wanted);
+    saves(rt, call, &trail, wanted)
+}
+
+// Saves over the old image: the new one stands or the old one, as is answered, and nothing beside it.
+fn saves<R: FileLocks + AllocGlobal + Abort>(
+    rt: &R,
+    place: u64,
+    trail: &Trail<'_, R>,
+    wanted: Answer,
+) -> Result<(), Fail> {
+    let answer = trail.save(Some(ONE_MOVE), CLEANED);
+    same_at(rt, place, answer, wanted);
     let stands = if wanted.is_ok() { CLEANED } else { ONE_MOVE };
-    holds(rt, call, "failing", stands)?;
-    same_at(rt, call, fs::exists(rt, "failing.ee-saving-0")?, false);
+    holds(rt, place, "failing", stands)?;
+    same_at(rt, place, fs::exists(rt, "failing.ee-saving-0")?, false);
     Ok(())
 }
 
@@ -83,6 +95,28 @@ fn each_call_that_fails(rt: HostRuntime) -> Result<(), Fail> {
     Ok(())
 }
 
+// Saves on a disk that is full after so many bytes: the old image stands.
+fn fills_at<R: FileLocks + AllocGlobal + Abort>(
+    rt: &R,
+    is_bare: bool,
+    bytes: usize,
+) -> Result<(), Fail> {
+    let mut trail = Trail::new(rt, "failing");
+    trail.is_bare = is_bare;
+    trail.room.set(bytes);
+    saves(rt, bytes as u64, &trail, Err(SaveFault::Failed))
+}
+
+#[test]
+fn a_full_disk_leaves_the_old_image(rt: HostRuntime) -> Result<(), Fail> {
+    fs::write(&rt, "failing", ONE_MOVE)?;
+    for bytes in 0..CLEANED.len() {
+        fills_at(&rt, false, bytes)?;
+        fills_at(&rt, true, bytes)?;
+    }
+    Ok(())
+}
+
 // Saves while another run does, from the same text, before a call: one of the two images stands, and the run that has
 // the lock first is the one that is done.
 fn crosses_at<R: FileLocks + AllocGlobal + Abort>(
@@ -94,7 +128,7 @@ fn crosses_at<R: FileLocks + AllocGlobal + Abort>(
     let mut trail = Trail::new(rt, "crossed");
     trail.is_bare = is_bare;
     trail.other_at = call;
-    let answer = save(&Tracked::on(&trail), "crossed", Some(ONE_MOVE), CLEANED);
+    let answer = trail.save(Some(ONE_MOVE), CLEANED);
     let changed = Err(SaveFault::Changed);
     let (wanted, others, stands) = if call <= 4 {
         (changed, Ok(()), TWO_MOVES)
@@ -127,7 +161,14 @@ fn what_is_not_what_was_read_stays(rt: HostRuntime) -> Result<(), Fail> {
         same(&rt, save(&rt, "other", Some(ONE_MOVE), CLEANED), changed);
         holds(&rt, text.len() as u64, "other", text)?;
     }
-    // Formatting asks for no text, but for the lock.
+    Ok(())
+}
+
+/// Formatting asks for no text, but for the lock.
+#[test]
+fn what_is_held_stays(rt: HostRuntime) -> Result<(), Fail> {
+    let changed = Err(SaveFault::Changed);
+    fs::write(&rt, "other", b"".as_slice())?;
     let held = fs::open(&rt, "other")?;
     same(&rt, rt.try_lock(&held).is_ok(), true);
     same(&rt, save(&rt, "other", None, FORMATTED), changed);
@@ -136,6 +177,23 @@ fn what_is_not_what_was_read_stays(rt: HostRuntime) -> Result<(), Fail> {
     drop(held);
     same(&rt, save(&rt, "other", None, FORMATTED), Ok(()));
     holds(&rt, 0, "other", FORMATTED)
+}
+
+/// What a broken run left doesn't hinder, and stays.
+#[test]
+fn a_link_and_a_mode_stay(rt: HostRuntime) -> Result<(), Fail> {
+    fs::write(&rt, "linked", ONE_MOVE)?;
+    fs::write(&rt, "linked.ee-saving-0", b"".as_slice())?;
+    fs::set_permissions(&rt, "linked", Permissions::from_mode(0o640))?;
+    symlink(&rt, "linked", "link")?;
+    same(&rt, save(&rt, "link", Some(ONE_MOVE), CLEANED), Ok(()));
+    holds(&rt, 0, "linked", CLEANED)?;
+    holds(&rt, 0, "linked.ee-saving-0", b"")?;
+    same(&rt, fs::exists(&rt, "linked.ee-saving-1")?, false);
+    same(&rt, fs::symlink_metadata(&rt, "link")?.is_symlink(), true);
+    let mode = fs::metadata(&rt, "linked")?.permissions().mode();
+    same(&rt, mode & 0o777, 0o640);
+    Ok(())
 }
 
 /// A second name of the old image's file goes on having it.
@@ -148,14 +206,29 @@ fn a_hard_link_keeps_the_old_image(rt: HostRuntime) -> Result<(), Fail> {
     holds(&rt, 0, "second", ONE_MOVE)
 }
 
+// Makes files of the first so many names that would be used.
+fn take_names<R: Files + AllocGlobal>(rt: &R, count: u8) -> Result<(), Fail> {
+    for number in 0..count {
+        let beside = format!(in rt.alloc(); "taken.ee-saving-{number}")?;
+        fs::write(rt, beside.as_str(), TWO_MOVES)?;
+    }
+    Ok(())
+}
+
+// Compares the first so many of them.
+fn names_stay<R: Files + AllocGlobal + Abort>(rt: &R, count: u8) -> Result<(), Fail> {
+    for number in 0..count {
+        let beside = format!(in rt.alloc(); "taken.ee-saving-{number}")?;
+        holds(rt, u64::from(number), beside.as_str(), TWO_MOVES)?;
+    }
+    Ok(())
+}
+
 /// What stands under a name that would be used isn't this run's, and stays.
 #[test]
 fn names_that_are_taken_stay(rt: HostRuntime) -> Result<(), Fail> {
     fs::write(&rt, "taken", ONE_MOVE)?;
-    for number in 0..100u8 {
-        let beside = format!(in rt.alloc(); "taken.ee-saving-{number}")?;
-        fs::write(&rt, beside.as_str(), TWO_MOVES)?;
-    }
+    take_names(&rt, 100)?;
     let failed = Err(SaveFault::Failed);
     same(&rt, save(&rt, "taken", Some(ONE_MOVE), CLEANED), failed);
     holds(&rt, 0, "taken", ONE_MOVE)?;
@@ -163,11 +236,7 @@ fn names_that_are_taken_stay(rt: HostRuntime) -> Result<(), Fail> {
     same(&rt, save(&rt, "taken", Some(ONE_MOVE), CLEANED), Ok(()));
     holds(&rt, 0, "taken", CLEANED)?;
     same(&rt, fs::exists(&rt, "taken.ee-saving-99")?, false);
-    for number in 0..99u8 {
-        let beside = format!(in rt.alloc(); "taken.ee-saving-{number}")?;
-        holds(&rt, u64::from(number), beside.as_str(), TWO_MOVES)?;
-    }
-    Ok(())
+    names_stay(&rt, 99)
 }
 
 /// A file that wasn't there isn't there after a failure.
@@ -176,7 +245,7 @@ fn a_first_image_that_fails(rt: HostRuntime) -> Result<(), Fail> {
     for call in 1..4 {
         let mut trail = Trail::new(&rt, "none");
         trail.fails_at = call;
-        let answer = save(&Tracked::on(&trail), "none", None, FORMATTED);
+        let answer = trail.save(None, FORMATTED);
         let wanted = if call == 1 {
             Ok(())
         } else {
