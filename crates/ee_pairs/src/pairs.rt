@@ -57,6 +57,15 @@ impl<N: Nor + Drop> Pairs<N> {
         }
     }
 
+    /// The device of words of a flash of which it is known that no word's numbers sum to less than `u64::MAX`, since it was
+    /// looked at before and only such devices wrote to it. Nothing is read.
+    pub fn known(nor: N) -> Pairs<N>
+        requires no_low_pair { NoLowPair (N.nor nor) }
+        ensures same { N.nor result.nor ≡ N.nor nor }
+    {
+        Pairs { nor }
+    }
+
     /// The flash, as it is.
     pub fn into_nor(self) -> N
         ensures same { N.nor result ≡ N.nor self.nor }
