@@ -1,7 +1,7 @@
 /* ee: variables in flash, the library of ee.h as one file, for Cortex-M3, M4, M7 and M33.
  *
- * sum of sources: 29a2f8044d02b1553fdbf5b987ef8916b6d95e0e7f4c99b425584e3d7b0e4204
- * sum of the text below: 52c4eb0edf765b5c540089274c411710081623c5e58fbf0f69fbf037cf303023
+ * sum of sources: 68fc529b9e1963229848ec525e3434b8cec75b1762ca7fcea742e7f1013fcfb5
+ * sum of the text below: a3c93a67f4ee27e34d5cda59b4bf1abd8d39e8f3e387f801efbccb04765d72b3
  * made by: firmware/c/assemble
  * compiler: rustc 1.96.0 (ac68faa20 2026-05-25) (built from a source tarball), LLVM 22.1.8
  * words: --target thumbv7m-none-eabi -C panic=abort -C embed-bitcode=yes -C opt-level=s -C llvm-args=--inline-threshold=40 -C codegen-units=1 -C lto=fat --emit asm,link
@@ -1626,7 +1626,7 @@ shim_opened:
 	cmp	r0, #1
 	bhi	.LBB17_14
 	mov	r5, r3
-	cbz	r0, .LBB17_9
+	bne	.LBB17_9
 	mov	r3, r2
 	mov	r0, r6
 	mov	r1, r8
@@ -1885,24 +1885,20 @@ shim_Calls_numbers_NumberDriver_read:
 	.code	16
 	.thumb_func
 ee_clean:
+	cbz	r0, .LBB23_9
 	push	{r4, r5, r6, r7, lr}
 	add	r7, sp, #12
 	str	r11, [sp, #-4]!
+	ldrb	r1, [r0, #28]
 	mov	r4, r0
-	cmp	r0, #0
-	it	eq
-	moveq	r4, #13
-	beq	.LBB23_8
-	ldrb	r2, [r0, #28]
-	mov	r1, r0
 	movs	r0, #10
-	cmp	r2, #1
-	bhi	.LBB23_9
-	ldrb	r3, [r1, #12]
-	lsls	r3, r3, #31
-	bne	.LBB23_9
-	ldr	r0, [r1, #4]
-	lsls	r1, r2, #31
+	cmp	r1, #1
+	bhi	.LBB23_8
+	ldrb	r2, [r4, #12]
+	lsls	r2, r2, #31
+	bne	.LBB23_8
+	ldr	r0, [r4, #4]
+	lsls	r1, r1, #31
 	mov	r1, r0
 	it	ne
 	movne	r1, #0
@@ -1929,12 +1925,12 @@ ee_clean:
 	subs	r0, r6, r5
 	clz	r0, r0
 	lsrs	r0, r0, #5
-	b	.LBB23_9
 .LBB23_8:
-	movs	r0, #13
-.LBB23_9:
 	ldr	r11, [sp], #4
 	pop	{r4, r5, r6, r7, pc}
+.LBB23_9:
+	movs	r0, #13
+	bx	lr
 .LBB23_10:
 	mov	r0, r4
 	bl	store_Store_cut
@@ -1943,7 +1939,7 @@ ee_clean:
 	cmp	r1, #0
 	it	ne
 	movne	r0, #9
-	b	.LBB23_9
+	b	.LBB23_8
 	.size	ee_clean, .-ee_clean
 
 	.section	.text.ee_counts,"ax",%progbits
@@ -1957,109 +1953,100 @@ ee_counts:
 	add	r7, sp, #12
 	push.w	{r8, r9, r10, r11}
 	sub	sp, #52
-	cmp	r0, #0
 	mov	r5, r0
-	ite	eq
-	moveq	r5, #13
-	cmpne	r1, #0
-	bne	.LBB24_2
 	movs	r0, #13
-	b	.LBB24_15
-.LBB24_2:
-	ldrb	r4, [r0, #28]
-	mov	r10, r0
-	cmp	r4, #1
+	cmp	r5, #0
+	beq	.LBB24_14
+	cmp	r1, #0
+	beq	.LBB24_14
+	ldrb	r6, [r5, #28]
+	cmp	r6, #1
 	bls	.LBB24_4
 	movs	r0, #10
-	b	.LBB24_15
+	b	.LBB24_14
 .LBB24_4:
-	ldrd	r11, r8, [r10, #4]
-	sub.w	r0, r8, #4
+	ldrd	r4, r10, [r5, #4]
+	sub.w	r0, r10, #4
 	str	r1, [sp, #20]
-	mul	r0, r0, r11
-	str	r0, [sp, #12]
-	ldrd	r0, r1, [r10, #16]
+	mov	r1, r6
+	muls	r0, r4, r0
 	str	r0, [sp, #16]
-	mov	r0, r10
-	str	r1, [sp, #8]
-	mov	r1, r4
+	ldr	r0, [r5, #20]
+	str	r0, [sp, #12]
+	mov	r0, r5
 	bl	ee_pages_read_live_count
-	str	r0, [sp, #4]
-	lsls	r0, r4, #31
-	mov	r6, r11
+	str	r0, [sp, #8]
 	str	r4, [sp, #28]
-	it	ne
-	movne	r6, #0
-	add.w	r0, r6, r11
+	str	r6, [sp, #4]
+	cbz	r4, .LBB24_10
+	add.w	r11, sp, #32
+	ands	r0, r6, #1
 	mov.w	r9, #0
-	cmp	r6, r0
-	bhs	.LBB24_7
-	mov	r4, r11
-.LBB24_6:
-	ldr.w	r0, [r10]
-	mov	r2, r6
-	ldr.w	r1, [r10, #8]
-	bl	ee_pages_state_is_blank
-	eor	r0, r0, #1
-	adds	r6, #1
-	add	r9, r0
-	subs	r4, #1
-	bne	.LBB24_6
-.LBB24_7:
-	cmp.w	r11, #0
-	str.w	r9, [sp]
-	beq	.LBB24_13
-	ldr	r0, [sp, #28]
-	add.w	r9, sp, #32
-	str.w	r11, [sp, #28]
-	mov.w	r10, #0
-	ands	r0, r0, #1
+	mov.w	r8, #0
 	it	ne
-	movne	r0, r11
-	mov.w	r11, #0
+	movne	r0, r4
 	str	r0, [sp, #24]
-.LBB24_9:
-	sub.w	r0, r8, #4
-	cbz	r0, .LBB24_12
+.LBB24_6:
+	sub.w	r0, r10, #4
+	cbz	r0, .LBB24_9
 	ldr	r0, [sp, #24]
-	movs	r4, #4
-	add.w	r6, r10, r0
-.LBB24_11:
+	movs	r6, #4
+	add.w	r4, r8, r0
+.LBB24_8:
 	ldr	r1, [r5]
-	mov	r0, r9
-	mov	r2, r6
-	mov	r3, r4
+	mov	r0, r11
+	mov	r2, r4
+	mov	r3, r6
 	bl	ee_flash_device_Flash_word
 	ldrd	r0, r1, [sp, #32]
-	adds	r4, #1
+	adds	r6, #1
 	eor	r0, r0, #2
 	orrs	r0, r1
 	it	eq
-	addeq.w	r11, r11, #1
-	cmp	r8, r4
-	bne	.LBB24_11
-.LBB24_12:
-	add.w	r10, r10, #1
+	addeq.w	r9, r9, #1
+	cmp	r10, r6
+	bne	.LBB24_8
+.LBB24_9:
+	add.w	r8, r8, #1
 	ldr	r0, [sp, #28]
-	cmp	r10, r0
-	bne	.LBB24_9
-	b	.LBB24_14
+	cmp	r8, r0
+	bne	.LBB24_6
+	b	.LBB24_11
+.LBB24_10:
+	mov.w	r9, #0
+.LBB24_11:
+	ldr	r0, [sp, #4]
+	mov.w	r8, #0
+	ldr	r4, [sp, #28]
+	lsls	r0, r0, #31
+	mov	r6, r4
+	it	ne
+	movne	r6, #0
+	adds	r0, r6, r4
+	cmp	r6, r0
+	bhs	.LBB24_13
+.LBB24_12:
+	ldr	r0, [r5]
+	mov	r2, r6
+	ldr	r1, [r5, #8]
+	bl	ee_pages_state_is_blank
+	eor	r0, r0, #1
+	adds	r6, #1
+	add	r8, r0
+	subs	r4, #1
+	bne	.LBB24_12
 .LBB24_13:
-	mov.w	r11, #0
-.LBB24_14:
-	ldr	r0, [sp, #20]
-	ldr	r1, [sp, #12]
-	str	r1, [r0]
-	ldr	r1, [sp, #8]
-	str	r1, [r0, #4]
-	ldr	r1, [sp, #4]
-	str	r1, [r0, #8]
-	ldr	r1, [sp]
-	strd	r1, r11, [r0, #12]
-	ldr	r1, [sp, #16]
-	str	r1, [r0, #20]
+	ldrd	r2, r1, [sp, #16]
+	add.w	r3, r1, #8
+	ldr	r0, [r5, #16]
+	str	r2, [r1]
+	ldr	r2, [sp, #12]
+	str	r2, [r1, #4]
+	ldr	r2, [sp, #8]
+	str	r0, [r1, #20]
 	movs	r0, #0
-.LBB24_15:
+	stm.w	r3, {r2, r8, r9}
+.LBB24_14:
 	add	sp, #52
 	pop.w	{r8, r9, r10, r11}
 	pop	{r4, r5, r6, r7, pc}
@@ -2174,37 +2161,42 @@ ee_next:
 	add	r7, sp, #12
 	push.w	{r8, r9, r10, r11}
 	sub	sp, #156
-	cbz	r0, .LBB27_6
 	mov	r11, r0
-	mov	r10, r1
-	movs	r0, #13
-	cbz	r1, .LBB27_15
+	cmp.w	r11, #0
+	mov.w	r0, #13
+	itt	ne
+	movne	r10, r1
+	cmpne	r1, #0
+	bne	.LBB27_2
+.LBB27_1:
+	add	sp, #156
+	pop.w	{r8, r9, r10, r11}
+	pop	{r4, r5, r6, r7, pc}
+.LBB27_2:
 	mov	r8, r2
-	cbz	r2, .LBB27_15
+	cmp	r2, #0
+	beq	.LBB27_1
 	ldrh.w	r4, [r10]
 	movw	r0, #65535
-	cmp	r4, r0
-	beq	.LBB27_7
 	cmp	r4, #0
-	ite	eq
-	moveq	r5, #0
+	mov	r5, r4
+	it	ne
 	movne	r5, #1
+	cmp	r4, r0
+	beq	.LBB27_6
 	ldrb.w	r6, [r11, #28]
 	cmp	r6, #1
-	bls	.LBB27_8
+	bls	.LBB27_7
 	movs	r0, #10
-	b	.LBB27_15
+	b	.LBB27_1
 .LBB27_6:
-	movs	r0, #13
-	b	.LBB27_15
-.LBB27_7:
 	movs	r0, #12
-	b	.LBB27_15
-.LBB27_8:
+	b	.LBB27_1
+.LBB27_7:
 	add.w	r9, sp, #4
 	mov	r0, r9
 	bl	ee_pages_batch_LiveBatch_new
-.LBB27_9:
+.LBB27_8:
 	mov	r0, r11
 	mov	r1, r6
 	mov	r2, r5
@@ -2213,29 +2205,26 @@ ee_next:
 	bl	ee_pages_batch_next_batch
 	ldr	r0, [sp, #152]
 	cmp	r0, #17
-	bhs	.LBB27_16
-	cbnz	r0, .LBB27_13
+	bhs	.LBB27_14
+	cbnz	r0, .LBB27_12
 	ldrh.w	r0, [sp, #4]
 	cmp	r0, #1
-	bne	.LBB27_14
+	bne	.LBB27_13
 	ldrb.w	r6, [r11, #28]
 	movs	r5, #1
 	ldrh.w	r4, [sp, #6]
-	b	.LBB27_9
-.LBB27_13:
+	b	.LBB27_8
+.LBB27_12:
 	ldrh.w	r1, [sp, #24]
 	ldr	r0, [sp, #28]
 	strh.w	r1, [r10]
 	str.w	r0, [r8]
 	movs	r0, #0
-	b	.LBB27_15
-.LBB27_14:
+	b	.LBB27_1
+.LBB27_13:
 	movs	r0, #1
-.LBB27_15:
-	add	sp, #156
-	pop.w	{r8, r9, r10, r11}
-	pop	{r4, r5, r6, r7, pc}
-.LBB27_16:
+	b	.LBB27_1
+.LBB27_14:
 	bl	core_slice_index_slice_index_fail
 	.size	ee_next, .-ee_next
 
@@ -2263,25 +2252,29 @@ ee_open:
 	.code	16
 	.thumb_func
 ee_read:
-	cbz	r0, .LBB29_7
+	mov	r3, r0
+	movs	r0, #13
+	cmp	r3, #0
+	it	eq
+	bxeq	lr
+.LBB29_1:
 	push	{r4, r6, r7, lr}
 	add	r7, sp, #8
 	mov	r4, r2
-	cbz	r2, .LBB29_8
-	mov	r3, r0
+	cbz	r2, .LBB29_7
 	subs	r0, r1, #1
 	mov	r2, r1
 	movw	r1, #65533
 	uxth	r0, r0
 	cmp	r0, r1
-	bhi	.LBB29_9
+	bhi	.LBB29_6
 	ldrb	r1, [r3, #28]
 	movs	r0, #10
 	cmp	r1, #1
-	bhi	.LBB29_6
+	bhi	.LBB29_7
 	ldrb	r1, [r3, #12]
 	lsls	r1, r1, #31
-	bne	.LBB29_6
+	bne	.LBB29_7
 	add.w	r1, r3, #16
 	mov	r0, r3
 	bl	ee_pages_read_latest
@@ -2290,17 +2283,12 @@ ee_read:
 	strne	r1, [r4]
 	movne	r0, #0
 	moveq	r0, #1
+	b	.LBB29_7
 .LBB29_6:
-	pop	{r4, r6, r7, pc}
-.LBB29_7:
-	movs	r0, #13
-	bx	lr
-.LBB29_8:
-	movs	r0, #13
-	pop	{r4, r6, r7, pc}
-.LBB29_9:
 	movs	r0, #12
-	pop	{r4, r6, r7, pc}
+.LBB29_7:
+	pop.w	{r4, r6, r7, lr}
+	bx	lr
 	.size	ee_read, .-ee_read
 
 	.section	.text.ee_start,"ax",%progbits

@@ -1,7 +1,7 @@
 /* ee: variables in flash, the library of ee.h as one file, for Linux on x86-64.
  *
- * sum of sources: 29a2f8044d02b1553fdbf5b987ef8916b6d95e0e7f4c99b425584e3d7b0e4204
- * sum of the text below: 561974d8a0ce488abaa41e234e1f0148d7573760cfa1b0f2483b67a7624b5ef5
+ * sum of sources: 68fc529b9e1963229848ec525e3434b8cec75b1762ca7fcea742e7f1013fcfb5
+ * sum of the text below: b71284c6d21b97b998d754f38f81db8bb812bedee2deb10c849444a3ce9a3269
  * made by: firmware/c/assemble
  * compiler: rustc 1.96.0 (ac68faa20 2026-05-25) (built from a source tarball), LLVM 22.1.8
  * words: --target x86_64-unknown-linux-gnu -C panic=abort -C embed-bitcode=yes -C opt-level=s -C llvm-args=--inline-threshold=40 -C codegen-units=1 -C lto=fat --emit asm,link
@@ -1986,18 +1986,16 @@ shim_opened:
 	movl	$11, %eax
 	orb	%dl, %sil
 	jne	.LBB16_12
-	movl	40(%r15), %edx
-	cmpl	$1, %edx
+	cmpl	$1, 40(%r15)
 	ja	.LBB16_12
-	testl	%edx, %edx
-	je	.LBB16_8
+	jne	.LBB16_9
 	movq	%r15, %rdi
 	movq	%r12, %rsi
 	movq	%r13, %rdx
 	callq	*%rcx
 	testl	%eax, %eax
 	jne	.LBB16_12
-.LBB16_8:
+.LBB16_9:
 	movq	%rsp, %rbp
 	movq	%rbp, %rdi
 	movq	%r15, %rsi
@@ -2005,11 +2003,11 @@ shim_opened:
 	movq	%r13, %rcx
 	callq	*%r14
 	cmpb	$4, 52(%rbp)
-	jne	.LBB16_10
+	jne	.LBB16_11
 	movl	(%rsp), %eax
 	addl	$5, %eax
 	jmp	.LBB16_12
-.LBB16_10:
+.LBB16_11:
 	movq	48(%rsp), %rax
 	movq	%rax, 48(%rbx)
 	movups	(%rsp), %xmm0
@@ -2413,9 +2411,9 @@ ee_counts:
 	.cfi_startproc
 	movl	$13, %eax
 	testq	%rdi, %rdi
-	je	.LBB23_19
+	je	.LBB23_20
 	testq	%rsi, %rsi
-	je	.LBB23_19
+	je	.LBB23_20
 	pushq	%rbp
 	.cfi_def_cfa_offset 16
 	pushq	%r15
@@ -2428,8 +2426,8 @@ ee_counts:
 	.cfi_def_cfa_offset 48
 	pushq	%rbx
 	.cfi_def_cfa_offset 56
-	subq	$72, %rsp
-	.cfi_def_cfa_offset 128
+	subq	$56, %rsp
+	.cfi_def_cfa_offset 112
 	.cfi_offset %rbx, -56
 	.cfi_offset %r12, -48
 	.cfi_offset %r13, -40
@@ -2437,88 +2435,39 @@ ee_counts:
 	.cfi_offset %r15, -24
 	.cfi_offset %rbp, -16
 	movq	%rdi, %r14
-	movb	52(%rdi), %bpl
+	movb	52(%rdi), %r15b
 	movl	$10, %eax
-	cmpb	$1, %bpl
-	ja	.LBB23_18
-	movq	%rsi, 64(%rsp)
-	movq	8(%r14), %r15
-	movq	16(%r14), %rax
-	movq	%rax, 40(%rsp)
-	addl	$-4, %eax
+	cmpb	$1, %r15b
+	ja	.LBB23_19
+	movq	%rsi, 48(%rsp)
+	movq	8(%r14), %r12
+	movq	16(%r14), %rbp
+	leal	-4(%rbp), %eax
 	movl	%eax, 4(%rsp)
 	movl	32(%r14), %eax
-	movl	%eax, 32(%rsp)
-	movl	48(%r14), %eax
 	movl	%eax, 36(%rsp)
-	movzbl	%bpl, %esi
+	movzbl	%r15b, %esi
 	movq	%r14, %rdi
 	callq	ee_pages_read_live_count
+	movq	%rax, 40(%rsp)
+	testq	%r12, %r12
+	movb	%r15b, 8(%rsp)
+	je	.LBB23_4
 	xorl	%ebx, %ebx
-	movb	%bpl, 3(%rsp)
-	testb	$1, %bpl
-	movl	$0, %r12d
-	cmoveq	%r15, %r12
-	movq	%rax, 48(%rsp)
-	movq	%r15, 56(%rsp)
-	leaq	(%r12,%r15), %rcx
+	testb	$1, %r15b
 	movl	$0, %eax
-	movq	%rcx, 8(%rsp)
-	cmpq	%rcx, %r12
-	jae	.LBB23_11
-	xorl	%eax, %eax
-.LBB23_5:
-	movq	%rax, 24(%rsp)
-	leaq	1(%r12), %rax
+	cmovneq	%r12, %rax
 	movq	%rax, 16(%rsp)
-	movq	(%r14), %r13
-	movq	16(%r14), %r15
-	xorl	%edx, %edx
+	xorl	%r15d, %r15d
+	movq	%r12, 24(%rsp)
 .LBB23_6:
-	cmpq	%rdx, %r15
-	je	.LBB23_7
-	leaq	1(%rdx), %rbp
-	movq	%r13, %rdi
-	movq	%r12, %rsi
-	callq	ee_flash_device_Flash_word
-	movq	%rbp, %rdx
+	leaq	-4(%rbp), %rax
 	testq	%rax, %rax
-	je	.LBB23_6
-	decq	%rbp
-	jmp	.LBB23_10
-.LBB23_7:
-	movq	%r15, %rbp
-.LBB23_10:
-	cmpq	%r15, %rbp
-	movq	24(%rsp), %rax
-	adcl	$0, %eax
-	movq	16(%rsp), %r12
-	cmpq	8(%rsp), %r12
-	jne	.LBB23_5
-.LBB23_11:
-	movq	%rax, 24(%rsp)
-	movq	56(%rsp), %r15
-	movl	4(%rsp), %eax
-	imull	%r15d, %eax
-	movl	%eax, 4(%rsp)
-	testq	%r15, %r15
-	movq	40(%rsp), %rax
-	je	.LBB23_17
-	addq	$-4, %rax
-	movq	%rax, 16(%rsp)
-	xorl	%ebx, %ebx
-	testb	$1, 3(%rsp)
-	movl	$0, %eax
-	cmovneq	%r15, %rax
-	movq	%rax, 8(%rsp)
-	xorl	%ebp, %ebp
-.LBB23_13:
-	cmpq	$0, 16(%rsp)
-	je	.LBB23_16
-	movq	8(%rsp), %rax
-	leaq	(%rax,%rbp), %r12
+	je	.LBB23_9
+	movq	16(%rsp), %rax
+	leaq	(%r15,%rax), %r12
 	movl	$4, %r13d
-.LBB23_15:
+.LBB23_8:
 	movq	(%r14), %rdi
 	movq	%r12, %rsi
 	movq	%r13, %rdx
@@ -2528,28 +2477,74 @@ ee_counts:
 	sete	%cl
 	addl	%ecx, %ebx
 	incq	%r13
-	cmpq	%r13, 40(%rsp)
-	jne	.LBB23_15
-.LBB23_16:
-	incq	%rbp
-	cmpq	%r15, %rbp
-	jne	.LBB23_13
-.LBB23_17:
-	movq	64(%rsp), %rax
-	movl	4(%rsp), %ecx
-	movl	%ecx, (%rax)
-	movl	32(%rsp), %ecx
-	movl	%ecx, 4(%rax)
-	movq	48(%rsp), %rcx
-	movl	%ecx, 8(%rax)
-	movq	24(%rsp), %rcx
-	movl	%ecx, 12(%rax)
-	movl	%ebx, 16(%rax)
-	movl	36(%rsp), %ecx
-	movl	%ecx, 20(%rax)
+	cmpq	%r13, %rbp
+	jne	.LBB23_8
+.LBB23_9:
+	incq	%r15
+	movq	24(%rsp), %r12
+	cmpq	%r12, %r15
+	jne	.LBB23_6
+	jmp	.LBB23_10
+.LBB23_4:
+	xorl	%ebx, %ebx
+.LBB23_10:
+	movl	4(%rsp), %eax
+	imull	%r12d, %eax
+	movl	%eax, 4(%rsp)
 	xorl	%eax, %eax
+	testb	$1, 8(%rsp)
+	movq	%r12, %r13
+	cmovneq	%rax, %r13
+	addq	%r13, %r12
+	movl	$0, %esi
+	cmpq	%r12, %r13
+	jae	.LBB23_18
+	xorl	%esi, %esi
+	movq	%r12, 24(%rsp)
+.LBB23_12:
+	movq	%rsi, 16(%rsp)
+	leaq	1(%r13), %rax
+	movq	%rax, 8(%rsp)
+	movq	(%r14), %rbp
+	movq	16(%r14), %r12
+	xorl	%edx, %edx
+.LBB23_13:
+	cmpq	%rdx, %r12
+	je	.LBB23_14
+	leaq	1(%rdx), %r15
+	movq	%rbp, %rdi
+	movq	%r13, %rsi
+	callq	ee_flash_device_Flash_word
+	movq	%r15, %rdx
+	testq	%rax, %rax
+	je	.LBB23_13
+	decq	%r15
+	jmp	.LBB23_17
+.LBB23_14:
+	movq	%r12, %r15
+.LBB23_17:
+	cmpq	%r12, %r15
+	movq	16(%rsp), %rsi
+	adcl	$0, %esi
+	movq	24(%rsp), %r12
+	movq	8(%rsp), %r13
+	cmpq	%r12, %r13
+	jne	.LBB23_12
 .LBB23_18:
-	addq	$72, %rsp
+	movl	48(%r14), %eax
+	movq	48(%rsp), %rcx
+	movl	4(%rsp), %edx
+	movl	%edx, (%rcx)
+	movl	36(%rsp), %edx
+	movl	%edx, 4(%rcx)
+	movq	40(%rsp), %rdx
+	movl	%edx, 8(%rcx)
+	movl	%esi, 12(%rcx)
+	movl	%ebx, 16(%rcx)
+	movl	%eax, 20(%rcx)
+	xorl	%eax, %eax
+.LBB23_19:
+	addq	$56, %rsp
 	.cfi_def_cfa_offset 56
 	popq	%rbx
 	.cfi_def_cfa_offset 48
@@ -2569,7 +2564,7 @@ ee_counts:
 	.cfi_restore %r14
 	.cfi_restore %r15
 	.cfi_restore %rbp
-.LBB23_19:
+.LBB23_20:
 	retq
 	.size	ee_counts, .-ee_counts
 	.cfi_endproc
@@ -2590,24 +2585,20 @@ ee_forget:
 	.cfi_offset %rbx, -32
 	.cfi_offset %r14, -24
 	.cfi_offset %r15, -16
-	leal	-1(%rsi), %eax
-	shll	$16, %esi
-	cmpw	$-2, %ax
-	movabsq	$51539607553, %r15
-	cmovbq	%rsi, %r15
+	movl	%esi, %r14d
+	leal	-1(%r14), %ecx
 	movl	$12, %eax
-	testb	%r15b, %r15b
-	jne	.LBB24_12
+	cmpw	$-3, %cx
+	ja	.LBB24_12
 	movq	%rdi, %rbx
 	cmpb	$1, 52(%rdi)
 	ja	.LBB24_11
 	cmpb	$0, 24(%rbx)
 	jne	.LBB24_11
-	movq	%r15, %rdx
-	shrq	$16, %rdx
-	leaq	32(%rbx), %r14
+	leaq	32(%rbx), %r15
 	movq	%rbx, %rdi
-	movq	%r14, %rsi
+	movq	%r15, %rsi
+	movl	%r14d, %edx
 	callq	ee_pages_read_latest
 	movl	%eax, %ecx
 	movl	$4, %eax
@@ -2623,11 +2614,11 @@ ee_forget:
 	je	.LBB24_12
 .LBB24_9:
 	shlq	$32, %rdx
-	andl	$-65536, %r15d
-	addq	%r15, %rdx
+	shll	$16, %r14d
+	addq	%r14, %rdx
 	incq	%rdx
 	movq	%rbx, %rdi
-	movq	%r14, %rsi
+	movq	%r15, %rsi
 	callq	ee_core_changing_make_change
 	movl	%eax, %ecx
 	xorl	%eax, %eax
@@ -2694,69 +2685,65 @@ ee_next:
 	.cfi_offset %r14, -32
 	.cfi_offset %r15, -24
 	.cfi_offset %rbp, -16
-	movl	$13, %eax
 	testq	%rdi, %rdi
-	je	.LBB26_15
-	movq	%rsi, %r14
+	sete	%al
 	testq	%rsi, %rsi
-	je	.LBB26_15
+	sete	%cl
+	orb	%al, %cl
 	testq	%rdx, %rdx
-	je	.LBB26_15
+	sete	%al
+	orb	%cl, %al
+	movl	$13, %eax
+	jne	.LBB26_11
+	movq	%rsi, %r14
+	movzwl	(%rsi), %ebp
+	xorl	%r13d, %r13d
+	testw	%bp, %bp
+	setne	%cl
+	cmpw	$-1, %bp
+	je	.LBB26_2
 	movq	%rdi, %r15
-	movzwl	(%r14), %eax
-	testq	%rax, %rax
-	je	.LBB26_4
-	movl	%eax, %ecx
-	shll	$16, %ecx
-	cmpq	$65535, %rax
-	movabsq	$51539607553, %r12
-	cmovneq	%rcx, %r12
-	movl	$12, %eax
-	testb	%r12b, %r12b
-	jne	.LBB26_15
-	shrl	$16, %r12d
-	movw	$1, %bp
-	jmp	.LBB26_5
-.LBB26_4:
-	xorl	%ebp, %ebp
-.LBB26_5:
-	movb	52(%r15), %bl
+	movb	52(%rdi), %bl
 	movl	$10, %eax
 	cmpb	$1, %bl
-	ja	.LBB26_15
+	ja	.LBB26_11
 	movq	%rdx, (%rsp)
-	leaq	8(%rsp), %r13
-	movq	%r13, %rdi
+	movb	%cl, %r13b
+	leaq	8(%rsp), %r12
+	movq	%r12, %rdi
 	callq	ee_pages_batch_LiveBatch_new
-.LBB26_7:
+.LBB26_5:
 	movzbl	%bl, %esi
 	movq	%r15, %rdi
-	movl	%ebp, %edx
-	movl	%r12d, %ecx
-	movq	%r13, %r8
+	movl	%r13d, %edx
+	movl	%ebp, %ecx
+	movq	%r12, %r8
 	callq	ee_pages_batch_next_batch
 	movq	152(%rsp), %rdi
 	cmpq	$17, %rdi
-	jae	.LBB26_16
+	jae	.LBB26_12
 	testq	%rdi, %rdi
-	jne	.LBB26_14
+	jne	.LBB26_10
 	cmpw	$1, 160(%rsp)
-	jne	.LBB26_13
-	movzwl	162(%rsp), %r12d
+	jne	.LBB26_9
+	movzwl	162(%rsp), %ebp
 	movb	52(%r15), %bl
-	movw	$1, %bp
-	jmp	.LBB26_7
-.LBB26_14:
+	movw	$1, %r13w
+	jmp	.LBB26_5
+.LBB26_2:
+	movl	$12, %eax
+	jmp	.LBB26_11
+.LBB26_10:
 	movzwl	24(%rsp), %eax
 	movl	28(%rsp), %ecx
 	movw	%ax, (%r14)
 	movq	(%rsp), %rax
 	movl	%ecx, (%rax)
 	xorl	%eax, %eax
-	jmp	.LBB26_15
-.LBB26_13:
+	jmp	.LBB26_11
+.LBB26_9:
 	movl	$1, %eax
-.LBB26_15:
+.LBB26_11:
 	addq	$168, %rsp
 	.cfi_def_cfa_offset 56
 	popq	%rbx
@@ -2772,7 +2759,7 @@ ee_next:
 	popq	%rbp
 	.cfi_def_cfa_offset 8
 	retq
-.LBB26_16:
+.LBB26_12:
 	.cfi_def_cfa_offset 224
 	callq	core_slice_index_slice_index_fail
 	.size	ee_next, .-ee_next
@@ -2794,55 +2781,39 @@ ee_open:
 	.type	ee_read,@function
 ee_read:
 	.cfi_startproc
-	pushq	%rbp
-	.cfi_def_cfa_offset 16
-	pushq	%rbx
-	.cfi_def_cfa_offset 24
-	pushq	%rax
-	.cfi_def_cfa_offset 32
-	.cfi_offset %rbx, -24
-	.cfi_offset %rbp, -16
-	movl	$13, %ebp
+	movl	$13, %eax
 	testq	%rdi, %rdi
 	je	.LBB28_8
+	pushq	%rbx
+	.cfi_def_cfa_offset 16
+	.cfi_offset %rbx, -16
 	movq	%rdx, %rbx
 	testq	%rdx, %rdx
-	je	.LBB28_8
-	leal	-1(%rsi), %eax
-	shll	$16, %esi
-	cmpw	$-2, %ax
-	movabsq	$51539607553, %rdx
-	cmovbq	%rsi, %rdx
-	movl	$12, %ebp
-	testb	%dl, %dl
-	je	.LBB28_3
-.LBB28_8:
-	movl	%ebp, %eax
-	addq	$8, %rsp
-	.cfi_def_cfa_offset 24
-	popq	%rbx
-	.cfi_def_cfa_offset 16
-	popq	%rbp
-	.cfi_def_cfa_offset 8
-	retq
-.LBB28_3:
-	.cfi_def_cfa_offset 32
+	je	.LBB28_7
+	movl	%esi, %edx
+	leal	-1(%rdx), %ecx
+	movl	$12, %eax
+	cmpw	$-3, %cx
+	ja	.LBB28_7
 	cmpb	$1, 52(%rdi)
-	movl	$10, %ebp
-	ja	.LBB28_8
+	movl	$10, %eax
+	ja	.LBB28_7
 	cmpb	$0, 24(%rdi)
-	jne	.LBB28_8
-	shrq	$16, %rdx
+	jne	.LBB28_7
 	leaq	32(%rdi), %rsi
 	callq	ee_pages_read_latest
-	cmpl	$2, %eax
-	je	.LBB28_8
-	movl	$1, %ebp
-	testb	$1, %al
-	je	.LBB28_8
+	movl	%eax, %ecx
+	movl	$1, %eax
+	testb	$1, %cl
+	je	.LBB28_7
 	movl	%edx, (%rbx)
-	xorl	%ebp, %ebp
-	jmp	.LBB28_8
+	xorl	%eax, %eax
+.LBB28_7:
+	popq	%rbx
+	.cfi_def_cfa_offset 8
+	.cfi_restore %rbx
+.LBB28_8:
+	retq
 	.size	ee_read, .-ee_read
 	.cfi_endproc
 
@@ -2884,20 +2855,17 @@ ee_write:
 	.cfi_offset %r14, -32
 	.cfi_offset %r15, -24
 	.cfi_offset %rbp, -16
-	leal	-1(%rsi), %eax
-	shll	$16, %esi
-	cmpw	$-2, %ax
-	movabsq	$51539607553, %r15
-	cmovbq	%rsi, %r15
+	movl	%esi, %r14d
+	leal	-1(%r14), %ecx
 	movl	$12, %eax
-	testb	%r15b, %r15b
-	jne	.LBB30_14
+	cmpw	$-3, %cx
+	ja	.LBB30_14
 	movq	%rdi, %rbx
 	cmpb	$1, 52(%rdi)
 	ja	.LBB30_13
 	cmpb	$0, 24(%rbx)
 	jne	.LBB30_13
-	movl	%edx, %r14d
+	movl	%edx, %r15d
 	movq	16(%rbx), %r13
 	movq	32(%rbx), %rbp
 	addq	$-4, %r13
@@ -2905,10 +2873,9 @@ ee_write:
 	leaq	32(%rbx), %r12
 	cmpq	%r13, %rbp
 	jb	.LBB30_9
-	movl	%r15d, %edx
-	shrl	$16, %edx
 	movq	%rbx, %rdi
 	movq	%r12, %rsi
+	movl	%r14d, %edx
 	callq	ee_pages_read_latest
 	testb	$1, %al
 	jne	.LBB30_9
@@ -2926,12 +2893,12 @@ ee_write:
 	cmpl	$-2, 48(%rbx)
 	je	.LBB30_14
 .LBB30_11:
-	shlq	$32, %r14
-	andl	$-65536, %r15d
-	orq	%r14, %r15
+	shlq	$32, %r15
+	shll	$16, %r14d
+	orq	%r15, %r14
 	movq	%rbx, %rdi
 	movq	%r12, %rsi
-	movq	%r15, %rdx
+	movq	%r14, %rdx
 	callq	ee_core_changing_make_change
 	movl	%eax, %ecx
 	xorl	%eax, %eax

@@ -1,7 +1,7 @@
 /* ee: variables in flash, the library of ee.h as one file, for every Cortex-M.
  *
- * sum of sources: 29a2f8044d02b1553fdbf5b987ef8916b6d95e0e7f4c99b425584e3d7b0e4204
- * sum of the text below: bea53c80d316ccd53d3116448ed06be4f8bb68dbe2c3fb085c942aac41900755
+ * sum of sources: 68fc529b9e1963229848ec525e3434b8cec75b1762ca7fcea742e7f1013fcfb5
+ * sum of the text below: 3095a4b3b6eb8f5dcef6dbca9742c83f76689ad007afbbf819a98e32430c0910
  * made by: firmware/c/assemble
  * compiler: rustc 1.96.0 (ac68faa20 2026-05-25) (built from a source tarball), LLVM 22.1.8
  * words: --target thumbv6m-none-eabi -C panic=abort -C embed-bitcode=yes -C opt-level=s -C llvm-args=--inline-threshold=40 -C codegen-units=1 -C lto=fat --emit asm,link
@@ -1979,8 +1979,7 @@ shim_opened:
 	ldr	r1, [r6, #24]
 	cmp	r1, #1
 	bhi	.LBB17_13
-	cmp	r1, #0
-	beq	.LBB17_10
+	bne	.LBB17_10
 	mov	r0, r6
 	mov	r1, r2
 	str	r2, [sp, #4]
@@ -2286,67 +2285,65 @@ ee_clean:
 	push	{r4, r5, r6, r7, lr}
 	add	r7, sp, #12
 	sub	sp, #4
-	mov	r1, r0
-	movs	r0, #13
-	cmp	r1, #0
+	cmp	r0, #0
+	beq	.LBB23_5
 	mov	r4, r0
-	beq	.LBB23_2
-	mov	r4, r1
-.LBB23_2:
-	beq	.LBB23_14
-	ldrb	r2, [r1, #28]
+	ldrb	r1, [r0, #28]
 	movs	r0, #10
-	cmp	r2, #1
-	bhi	.LBB23_14
-	ldrb	r3, [r1, #12]
-	lsls	r3, r3, #31
-	bne	.LBB23_14
-	ldr	r0, [r1, #4]
-	lsls	r1, r2, #31
-	bne	.LBB23_7
+	cmp	r1, #1
+	bhi	.LBB23_13
+	ldrb	r2, [r4, #12]
+	lsls	r2, r2, #31
+	bne	.LBB23_13
+	ldr	r0, [r4, #4]
+	lsls	r1, r1, #31
+	bne	.LBB23_6
 	mov	r1, r0
-	b	.LBB23_8
-.LBB23_7:
+	b	.LBB23_7
+.LBB23_5:
+	movs	r0, #13
+	b	.LBB23_13
+.LBB23_6:
 	movs	r1, #0
-.LBB23_8:
+.LBB23_7:
 	adds	r0, r1, r0
 	cmp	r1, r0
 	mov	r6, r1
-	bhi	.LBB23_10
+	bhi	.LBB23_9
 	mov	r6, r0
-.LBB23_10:
+.LBB23_9:
 	mov	r5, r1
 	cmp	r6, r1
-	beq	.LBB23_13
+	beq	.LBB23_12
 	ldr	r1, [r4, #8]
 	ldr	r0, [r4]
 	mov	r2, r5
 	bl	ee_pages_state_is_blank
 	adds	r1, r5, #1
 	cmp	r0, #0
-	bne	.LBB23_10
+	bne	.LBB23_9
 	mov	r0, r4
 	mov	r1, r5
 	bl	ee_flash_device_Flash_erase
 	cmp	r0, #0
-	bne	.LBB23_15
-.LBB23_13:
+	bne	.LBB23_14
+.LBB23_12:
 	subs	r1, r6, r5
 	rsbs	r0, r1, #0
 	adcs	r0, r1
-.LBB23_14:
+.LBB23_13:
 	add	sp, #4
 	pop	{r4, r5, r6, r7, pc}
-.LBB23_15:
+.LBB23_14:
 	mov	r0, r4
 	bl	store_Store_cut
 	cmp	r0, #0
-	bne	.LBB23_17
+	bne	.LBB23_16
 	movs	r0, #10
-	b	.LBB23_14
-.LBB23_17:
+	b	.LBB23_13
+.LBB23_16:
 	movs	r0, #9
-	b	.LBB23_14
+	b	.LBB23_13
 	.size	ee_clean, .-ee_clean
 
 	.section	.text.ee_counts,"ax",%progbits
@@ -2358,133 +2355,127 @@ ee_clean:
 ee_counts:
 	push	{r4, r5, r6, r7, lr}
 	add	r7, sp, #12
-	sub	sp, #76
-	mov	r6, r0
-	movs	r0, #13
-	cmp	r6, #0
-	str	r0, [sp, #52]
-	beq	.LBB24_2
-	str	r6, [sp, #52]
-.LBB24_2:
-	beq	.LBB24_22
-	cmp	r1, #0
-	beq	.LBB24_22
-	ldrb	r2, [r6, #28]
-	cmp	r2, #1
-	bls	.LBB24_6
-	movs	r0, #10
-	b	.LBB24_22
-.LBB24_6:
-	str	r1, [sp, #20]
-	ldr	r1, [r6, #4]
-	ldr	r0, [r6, #8]
-	str	r0, [sp, #48]
-	movs	r4, #0
-	lsls	r0, r2, #31
-	str	r4, [sp, #24]
-	bne	.LBB24_8
-	mov	r4, r1
-.LBB24_8:
-	ldr	r0, [sp, #48]
-	subs	r0, r0, #4
-	str	r0, [sp, #32]
-	str	r1, [sp, #36]
-	adds	r5, r4, r1
-	ldr	r0, [r6, #16]
-	str	r0, [sp, #16]
-	ldr	r0, [r6, #20]
-	str	r0, [sp, #12]
-	mov	r0, r6
-	str	r2, [sp, #44]
-	mov	r1, r2
-	bl	ee_pages_read_live_count
-	str	r0, [sp, #8]
-	cmp	r4, r5
-	ldr	r0, [sp, #24]
-	bhs	.LBB24_11
-	movs	r0, #0
-	ldr	r5, [sp, #36]
-.LBB24_10:
-	str	r0, [sp, #40]
-	ldr	r1, [r6, #8]
-	ldr	r0, [r6]
-	mov	r2, r4
-	bl	ee_pages_state_is_blank
-	movs	r1, #1
-	eors	r1, r0
-	ldr	r0, [sp, #40]
-	adds	r0, r0, r1
-	adds	r4, r4, #1
-	subs	r5, r5, #1
-	bne	.LBB24_10
-.LBB24_11:
-	str	r0, [sp, #40]
-	ldr	r1, [sp, #36]
-	mov	r2, r1
-	ldr	r0, [sp, #32]
-	muls	r2, r0, r2
-	str	r2, [sp, #4]
-	cmp	r1, #0
-	ldr	r5, [sp, #24]
-	beq	.LBB24_21
-	movs	r0, #1
-	ldr	r2, [sp, #44]
-	ands	r2, r0
-	str	r1, [sp, #28]
-	bne	.LBB24_14
-	str	r2, [sp, #28]
-.LBB24_14:
-	movs	r5, #0
-	mov	r1, r5
-.LBB24_15:
-	ldr	r0, [sp, #32]
+	sub	sp, #60
+	movs	r2, #13
 	cmp	r0, #0
-	str	r1, [sp, #44]
-	beq	.LBB24_20
-	ldr	r0, [sp, #28]
-	adds	r4, r1, r0
+	beq	.LBB24_21
+	cmp	r1, #0
+	beq	.LBB24_21
+	ldrb	r6, [r0, #28]
+	cmp	r6, #1
+	bls	.LBB24_4
+	movs	r2, #10
+	b	.LBB24_21
+.LBB24_4:
+	str	r1, [sp, #12]
+	ldr	r4, [r0, #4]
+	ldr	r5, [r0, #8]
+	subs	r1, r5, #4
+	str	r1, [sp, #24]
+	ldr	r1, [r0, #20]
+	str	r1, [sp, #8]
+	str	r0, [sp, #36]
+	mov	r1, r6
+	bl	ee_pages_read_live_count
+	str	r0, [sp, #4]
+	cmp	r4, #0
+	str	r6, [sp]
+	beq	.LBB24_14
+	movs	r0, #1
+	ands	r0, r6
+	str	r4, [sp, #16]
+	bne	.LBB24_7
+	str	r0, [sp, #16]
+.LBB24_7:
+	movs	r3, #0
+	str	r3, [sp, #32]
+	ldr	r2, [sp, #36]
+	str	r4, [sp, #20]
+.LBB24_8:
+	ldr	r0, [sp, #24]
+	cmp	r0, #0
+	str	r3, [sp, #28]
+	beq	.LBB24_13
+	ldr	r0, [sp, #16]
+	adds	r4, r3, r0
 	movs	r6, #4
-.LBB24_17:
-	ldr	r0, [sp, #52]
-	ldr	r1, [r0]
-	add	r0, sp, #56
+.LBB24_10:
+	ldr	r1, [r2]
+	add	r0, sp, #40
 	mov	r2, r4
 	mov	r3, r6
 	bl	ee_flash_device_Flash_word
 	movs	r0, #2
-	ldr	r1, [sp, #56]
-	eors	r1, r0
-	ldr	r0, [sp, #60]
-	orrs	r0, r1
-	bne	.LBB24_19
-	adds	r5, r5, #1
-.LBB24_19:
-	adds	r6, r6, #1
-	ldr	r0, [sp, #48]
-	cmp	r0, r6
-	bne	.LBB24_17
-.LBB24_20:
-	ldr	r1, [sp, #44]
-	adds	r1, r1, #1
-	ldr	r0, [sp, #36]
-	cmp	r1, r0
-	bne	.LBB24_15
-.LBB24_21:
-	ldr	r0, [sp, #20]
-	ldr	r1, [sp, #4]
-	str	r1, [r0]
-	ldr	r1, [sp, #12]
-	str	r1, [r0, #4]
-	ldr	r1, [sp, #8]
-	str	r1, [r0, #8]
 	ldr	r1, [sp, #40]
-	str	r1, [r0, #12]
-	str	r5, [r0, #16]
-	ldr	r1, [sp, #16]
-	str	r1, [r0, #20]
+	eors	r1, r0
+	ldr	r0, [sp, #44]
+	orrs	r0, r1
+	bne	.LBB24_12
+	ldr	r0, [sp, #32]
+	adds	r0, r0, #1
+	str	r0, [sp, #32]
+.LBB24_12:
+	adds	r6, r6, #1
+	cmp	r5, r6
+	ldr	r2, [sp, #36]
+	bne	.LBB24_10
+.LBB24_13:
+	ldr	r3, [sp, #28]
+	adds	r3, r3, #1
+	ldr	r4, [sp, #20]
+	cmp	r3, r4
+	bne	.LBB24_8
+	b	.LBB24_15
+.LBB24_14:
+	movs	r0, #0
+	str	r0, [sp, #32]
+	ldr	r2, [sp, #36]
+.LBB24_15:
+	movs	r3, #0
+	ldr	r0, [sp]
+	lsls	r0, r0, #31
+	mov	r6, r3
+	bne	.LBB24_17
+	mov	r6, r4
+.LBB24_17:
 	ldr	r0, [sp, #24]
-.LBB24_22:
-	add	sp, #76
+	muls	r0, r4, r0
+	str	r0, [sp, #24]
+	adds	r0, r6, r4
+	cmp	r6, r0
+	str	r3, [sp, #28]
+	mov	r5, r3
+	bhs	.LBB24_20
+	movs	r5, #0
+.LBB24_19:
+	ldr	r1, [r2, #8]
+	ldr	r0, [r2]
+	mov	r2, r6
+	bl	ee_pages_state_is_blank
+	ldr	r2, [sp, #36]
+	movs	r1, #1
+	eors	r1, r0
+	adds	r5, r5, r1
+	adds	r6, r6, #1
+	subs	r4, r4, #1
+	bne	.LBB24_19
+.LBB24_20:
+	ldr	r0, [r2, #16]
+	ldr	r1, [sp, #12]
+	ldr	r2, [sp, #24]
+	str	r2, [r1]
+	ldr	r2, [sp, #8]
+	str	r2, [r1, #4]
+	ldr	r2, [sp, #4]
+	str	r2, [r1, #8]
+	str	r5, [r1, #12]
+	ldr	r2, [sp, #32]
+	str	r2, [r1, #16]
+	str	r0, [r1, #20]
+	ldr	r2, [sp, #28]
+.LBB24_21:
+	mov	r0, r2
+	add	sp, #60
 	pop	{r4, r5, r6, r7, pc}
 	.size	ee_counts, .-ee_counts
 
@@ -2607,31 +2598,27 @@ ee_next:
 	mov	r3, r0
 	movs	r0, #13
 	cmp	r3, #0
-	beq	.LBB27_17
+	beq	.LBB27_14
 	cmp	r1, #0
-	beq	.LBB27_17
+	beq	.LBB27_14
 	cmp	r2, #0
-	beq	.LBB27_17
-	ldrh	r4, [r1]
+	beq	.LBB27_14
+	ldrh	r5, [r1]
+	subs	r0, r5, #1
+	mov	r4, r5
+	sbcs	r4, r0
 	ldr	r0, .LCPI27_0
-	cmp	r4, r0
+	cmp	r5, r0
 	beq	.LBB27_6
-	cmp	r4, #0
-	bne	.LBB27_7
-	movs	r5, #0
-	b	.LBB27_8
-.LBB27_6:
-	movs	r0, #12
-	b	.LBB27_17
-.LBB27_7:
-	movs	r5, #1
-.LBB27_8:
 	ldrb	r6, [r3, #28]
 	cmp	r6, #1
-	bls	.LBB27_10
+	bls	.LBB27_7
 	movs	r0, #10
-	b	.LBB27_17
-.LBB27_10:
+	b	.LBB27_14
+.LBB27_6:
+	movs	r0, #12
+	b	.LBB27_14
+.LBB27_7:
 	str	r1, [sp, #4]
 	str	r2, [sp, #8]
 	add	r0, sp, #20
@@ -2642,30 +2629,30 @@ ee_next:
 	ldr	r1, [sp, #16]
 	adds	r1, #148
 	str	r1, [sp, #16]
-.LBB27_11:
+.LBB27_8:
 	add	r1, sp, #20
 	str	r1, [sp]
 	mov	r1, r6
-	mov	r2, r5
-	mov	r3, r4
+	mov	r2, r4
+	mov	r3, r5
 	bl	ee_pages_batch_next_batch
 	ldr	r0, [sp, #16]
 	ldr	r0, [r0]
 	cmp	r0, #17
-	bhs	.LBB27_18
+	bhs	.LBB27_15
 	cmp	r0, #0
-	bne	.LBB27_15
+	bne	.LBB27_12
 	add	r0, sp, #20
 	ldrh	r0, [r0]
 	cmp	r0, #1
-	bne	.LBB27_16
+	bne	.LBB27_13
 	ldr	r0, [sp, #12]
 	ldrb	r6, [r0, #28]
 	add	r1, sp, #20
-	ldrh	r4, [r1, #2]
-	movs	r5, #1
-	b	.LBB27_11
-.LBB27_15:
+	ldrh	r5, [r1, #2]
+	movs	r4, #1
+	b	.LBB27_8
+.LBB27_12:
 	ldr	r0, [sp, #44]
 	ldr	r1, [sp, #40]
 	ldr	r2, [sp, #4]
@@ -2673,13 +2660,13 @@ ee_next:
 	ldr	r1, [sp, #8]
 	str	r0, [r1]
 	movs	r0, #0
-	b	.LBB27_17
-.LBB27_16:
+	b	.LBB27_14
+.LBB27_13:
 	movs	r0, #1
-.LBB27_17:
+.LBB27_14:
 	add	sp, #172
 	pop	{r4, r5, r6, r7, pc}
-.LBB27_18:
+.LBB27_15:
 	bl	core_slice_index_slice_index_fail
 	.p2align	2
 .LCPI27_0:

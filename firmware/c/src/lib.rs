@@ -8,7 +8,8 @@ mod flash;
 
 use core::mem::{align_of, size_of};
 use ee_store::{
-    Address, CleanFault, Failed, ForgetFault, OpenFault, Pairs, ScanFault, Shape, Store, WriteFault,
+    Address, CleanFault, Failed, ForgetFault, Off, OpenFault, Pairs, ScanFault, Shape, Store,
+    WriteFault,
 };
 use flash::{Calls, Flash, Given};
 
@@ -104,7 +105,7 @@ unsafe fn opened(
     let (Some(shape), 0..=1) = (shape, given.pairs) else {
         return EE_WRONG_SHAPE;
     };
-    if given.pairs != 0 {
+    if given.pairs == 1 {
         let status = prepare(Calls { flash }, shape);
         if status != EE_OK {
             return status;
@@ -120,23 +121,10 @@ unsafe fn opened(
     }
 }
 
-/// The store in the memory that C lends, or the status of none. The pointer is null, or good and went through `opened`.
-unsafe fn kept<'a>(memory: *mut Memory) -> Result<&'a mut Kept, u32> {
+/// The store in the memory that C lends. The pointer is null, or good and went through `opened`.
+unsafe fn kept<'a>(memory: *mut Memory) -> Option<&'a mut Kept> {
     // SAFETY: `opened` wrote what is read here.
-    match unsafe { memory.cast::<Kept>().as_mut() } {
-        None => Err(EE_NULL),
-        Some(store) => Ok(store),
-    }
-}
-
-fn status(answer: Result<u32, u32>) -> u32 {
-    match answer {
-        Ok(status) | Err(status) => status,
-    }
-}
-
-fn proper(address: u16) -> Result<Address, u32> {
-    Address::new(address).ok_or(EE_WRONG_NUMBER)
+    unsafe { memory.cast::<Kept>().as_mut() }
 }
 
 #[no_mangle]
@@ -157,97 +145,118 @@ pub unsafe extern "C" fn ee_format(store: *mut Memory, flash: *const Flash) -> u
 
 #[no_mangle]
 pub unsafe extern "C" fn ee_write(store: *mut Memory, address: u16, value: u32) -> u32 {
-    let write = |store: &mut Kept| match store.write(proper(address)?, value) {
-        Ok(_) => Ok(EE_OK),
-        Err(WriteFault::Off) => Err(EE_OFF),
-        Err(WriteFault::Full) => Err(EE_FULL),
-        Err(WriteFault::Spent) => Err(EE_SPENT),
-        Err(WriteFault::Driver(())) => Err(EE_DRIVER),
+    let Some(store) = (unsafe { kept(store) }) else {
+        return EE_NULL;
     };
-    status(unsafe { kept(store) }.and_then(write))
+    let Some(address) = Address::new(address) else {
+        return EE_WRONG_NUMBER;
+    };
+    match store.write(address, value) {
+        Ok(_) => EE_OK,
+        Err(WriteFault::Off) => EE_OFF,
+        Err(WriteFault::Full) => EE_FULL,
+        Err(WriteFault::Spent) => EE_SPENT,
+        Err(WriteFault::Driver(())) => EE_DRIVER,
+    }
 }
 
 #[no_mangle]
 pub unsafe extern "C" fn ee_forget(store: *mut Memory, address: u16) -> u32 {
-    let forget = |store: &mut Kept| match store.forget(proper(address)?) {
-        Ok(_) => Ok(EE_OK),
-        Err(ForgetFault::Off) => Err(EE_OFF),
-        Err(ForgetFault::Absent) => Err(EE_ABSENT),
-        Err(ForgetFault::Spent) => Err(EE_SPENT),
-        Err(ForgetFault::Driver(())) => Err(EE_DRIVER),
+    let Some(store) = (unsafe { kept(store) }) else {
+        return EE_NULL;
     };
-    status(unsafe { kept(store) }.and_then(forget))
+    let Some(address) = Address::new(address) else {
+        return EE_WRONG_NUMBER;
+    };
+    match store.forget(address) {
+        Ok(_) => EE_OK,
+        Err(ForgetFault::Off) => EE_OFF,
+        Err(ForgetFault::Absent) => EE_ABSENT,
+        Err(ForgetFault::Spent) => EE_SPENT,
+        Err(ForgetFault::Driver(())) => EE_DRIVER,
+    }
 }
 
 #[no_mangle]
 pub unsafe extern "C" fn ee_clean(store: *mut Memory) -> u32 {
-    let clean = |store: &mut Kept| match store.clean_step() {
-        Ok(true) => Ok(EE_OK),
-        Ok(false) => Ok(EE_NOTHING),
-        Err(CleanFault::Off) => Err(EE_OFF),
-        Err(CleanFault::Driver(())) => Err(EE_DRIVER),
+    let Some(store) = (unsafe { kept(store) }) else {
+        return EE_NULL;
     };
-    status(unsafe { kept(store) }.and_then(clean))
+    match store.clean_step() {
+        Ok(true) => EE_OK,
+        Ok(false) => EE_NOTHING,
+        Err(CleanFault::Off) => EE_OFF,
+        Err(CleanFault::Driver(())) => EE_DRIVER,
+    }
 }
 
 #[no_mangle]
 pub unsafe extern "C" fn ee_read(store: *const Memory, address: u16, value: *mut u32) -> u32 {
-    let read = |store: &mut Kept| {
-        let Some(value) = (unsafe { value.as_mut() }) else {
-            return Err(EE_NULL);
-        };
-        match store.read(proper(address)?).map_err(|_| EE_OFF)? {
-            Some(held) => {
-                *value = held;
-                Ok(EE_OK)
-            }
-            None => Ok(EE_NOTHING),
-        }
+    let Some(store) = (unsafe { kept(store as *mut Memory) }) else {
+        return EE_NULL;
     };
-    status(unsafe { kept(store as *mut Memory) }.and_then(read))
+    let Some(value) = (unsafe { value.as_mut() }) else {
+        return EE_NULL;
+    };
+    let Some(address) = Address::new(address) else {
+        return EE_WRONG_NUMBER;
+    };
+    match store.read(address) {
+        Ok(Some(held)) => {
+            *value = held;
+            EE_OK
+        }
+        Ok(None) => EE_NOTHING,
+        Err(Off) => EE_OFF,
+    }
 }
 
 #[no_mangle]
 pub unsafe extern "C" fn ee_next(store: *const Memory, address: *mut u16, value: *mut u32) -> u32 {
-    let next = |store: &mut Kept| {
-        let (Some(address), Some(value)) = (unsafe { (address.as_mut(), value.as_mut()) }) else {
-            return Err(EE_NULL);
-        };
-        let after = match *address {
-            0 => None,
-            number => Some(proper(number)?),
-        };
-        match store.next_live(after).map_err(|_| EE_OFF)? {
-            Some((found, held)) => {
-                *address = found.get();
-                *value = held;
-                Ok(EE_OK)
-            }
-            None => Ok(EE_NOTHING),
-        }
+    let (Some(store), Some(address), Some(value)) =
+        (unsafe { (kept(store as *mut Memory), address.as_mut(), value.as_mut()) })
+    else {
+        return EE_NULL;
     };
-    status(unsafe { kept(store as *mut Memory) }.and_then(next))
+    let after = match (*address, Address::new(*address)) {
+        (0, _) => None,
+        (_, Some(after)) => Some(after),
+        (_, None) => return EE_WRONG_NUMBER,
+    };
+    match store.next_live(after) {
+        Ok(Some((found, held))) => {
+            *address = found.get();
+            *value = held;
+            EE_OK
+        }
+        Ok(None) => EE_NOTHING,
+        Err(Off) => EE_OFF,
+    }
+}
+
+/// How a store stands.
+fn numbers_of(store: &Kept) -> Result<Numbers, Off> {
+    Ok(Numbers {
+        slots: store.slots()? as u32,
+        fill: store.fill()? as u32,
+        live: store.live_count()? as u32,
+        torn: store.torn_slots()? as u32,
+        pending: store.pending()? as u32,
+        generation: store.generation()?,
+    })
 }
 
 #[no_mangle]
 pub unsafe extern "C" fn ee_counts(store: *const Memory, numbers: *mut Numbers) -> u32 {
-    let count = |store: &mut Kept| {
-        let Some(numbers) = (unsafe { numbers.as_mut() }) else {
-            return Err(EE_NULL);
-        };
-        let counted =
-            |count: Result<usize, ee_store::Off>| count.map_or(Err(EE_OFF), |n| Ok(n as u32));
-        *numbers = Numbers {
-            slots: counted(store.slots())?,
-            fill: counted(store.fill())?,
-            generation: store.generation().map_err(|_| EE_OFF)?,
-            live: counted(store.live_count())?,
-            pending: counted(store.pending())?,
-            torn: counted(store.torn_slots())?,
-        };
-        Ok(EE_OK)
+    let (Some(store), Some(numbers)) = (unsafe { (kept(store as *mut Memory), numbers.as_mut()) })
+    else {
+        return EE_NULL;
     };
-    status(unsafe { kept(store as *mut Memory) }.and_then(count))
+    let Ok(counted) = numbers_of(store) else {
+        return EE_OFF;
+    };
+    *numbers = counted;
+    EE_OK
 }
 
 /// No call comes here: an index out of range, which is all that could, is proved not to be.
