@@ -116,8 +116,8 @@ uint32_t ee_start(ee_store *store, const ee_flash *flash);
  * EE_OK; EE_UNFORMATTED, EE_NO_LIVE_SET, EE_TWO_LIVE, EE_FOREIGN, EE_DRIVER. */
 uint32_t ee_open(ee_store *store, const ee_flash *flash);
 
-/* Makes a store with nothing in it, whatever the flash held: each page that is not blank is erased. Where it is cut the flash may hold no store: format again.
- * EE_OK; EE_DRIVER. */
+/* Makes a store with nothing in it, whatever the flash held: each page that is not blank is erased. Where it is cut the flash
+ * may hold no store: format again. EE_OK; EE_DRIVER. */
 uint32_t ee_format(ee_store *store, const ee_flash *flash);
 
 /* Gives an address a value. Where no slot is free all variables move to the other set. EE_OK; EE_FULL, EE_SPENT, EE_DRIVER. */

@@ -1,6 +1,6 @@
 /* An example of a port: a store in the flash of an STM32F1, which has no error correction, so its words are pairs of numbers.
  * It was tested on a computer against a model of the registers (tests/stm32f1.c), and never on a board. Nothing of it is
- * proved. The internal oscillator (HSI) is on while flash is written, and no interrupt reads flash that is erased. */
+ * proved. The internal oscillator (HSI) is on while flash is written. */
 #ifndef STM32F1_H
 #define STM32F1_H
 
