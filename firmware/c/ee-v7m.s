@@ -1,7 +1,7 @@
 /* ee: variables in flash, the library of ee.h as one file, for Cortex-M3, M4, M7 and M33.
  *
- * sum of sources: 68fc529b9e1963229848ec525e3434b8cec75b1762ca7fcea742e7f1013fcfb5
- * sum of the text below: a3c93a67f4ee27e34d5cda59b4bf1abd8d39e8f3e387f801efbccb04765d72b3
+ * sum of sources: c0694462a0959d91ad515b0c5f7ba970e450412d3e8b329a195556ab3d6a793e
+ * sum of the text below: 250fab78443b6385a5c78a97bbc8e4d3e13f2111380eb3de4f91664149ab48e1
  * made by: firmware/c/assemble
  * compiler: rustc 1.96.0 (ac68faa20 2026-05-25) (built from a source tarball), LLVM 22.1.8
  * words: --target thumbv7m-none-eabi -C panic=abort -C embed-bitcode=yes -C opt-level=s -C llvm-args=--inline-threshold=40 -C codegen-units=1 -C lto=fat --emit asm,link
@@ -1488,47 +1488,44 @@ ee_pages_marking_mark:
 shim_wiped:
 	push	{r4, r5, r6, r7, lr}
 	add	r7, sp, #12
-	push.w	{r8, r9, r11}
+	push.w	{r8, r9, r10}
 	lsls.w	r8, r1, #1
-	beq	.LBB15_8
+	beq	.LBB15_7
 	mov	r4, r0
 	lsl.w	r9, r2, #1
-	movs	r5, #0
+	mov.w	r10, #0
 .LBB15_2:
-	cmp.w	r9, #0
-	beq	.LBB15_7
+	mov	r5, r10
+	add.w	r10, r10, #1
 	movs	r6, #0
-.LBB15_4:
+.LBB15_3:
+	cmp	r9, r6
+	beq	.LBB15_6
 	ldr	r0, [r4]
 	mov	r2, r5
 	ldr	r1, [r4, #12]
 	mov	r3, r6
 	bl	shim_Calls_numbers_NumberDriver_read
+	adds	r6, #1
 	ands	r0, r1
 	adds	r0, #1
-	bne	.LBB15_6
-	adds	r6, #1
-	cmp	r9, r6
-	bne	.LBB15_4
-	b	.LBB15_7
-.LBB15_6:
+	beq	.LBB15_3
 	ldr	r0, [r4]
 	mov	r1, r5
 	ldr	r2, [r4, #20]
 	blx	r2
-	cbnz	r0, .LBB15_10
-.LBB15_7:
-	adds	r5, #1
-	cmp	r5, r8
+	cbnz	r0, .LBB15_8
+.LBB15_6:
+	cmp	r10, r8
 	bne	.LBB15_2
-.LBB15_8:
+.LBB15_7:
 	movs	r0, #0
-.LBB15_9:
-	pop.w	{r8, r9, r11}
-	pop	{r4, r5, r6, r7, pc}
-.LBB15_10:
-	movs	r0, #9
 	b	.LBB15_9
+.LBB15_8:
+	movs	r0, #9
+.LBB15_9:
+	pop.w	{r8, r9, r10}
+	pop	{r4, r5, r6, r7, pc}
 	.size	shim_wiped, .-shim_wiped
 
 	.section	.text.shim_looked,"ax",%progbits
@@ -1540,51 +1537,53 @@ shim_looked:
 	push	{r4, r5, r6, r7, lr}
 	add	r7, sp, #12
 	push.w	{r8, r9, r10, r11}
-	sub	sp, #4
-	mov	r10, r0
+	sub	sp, #12
+	mov	r9, r0
 	lsls	r0, r1, #1
-	str	r0, [sp]
-	beq	.LBB16_7
-	mov	r11, r2
-	mov.w	r9, #0
-.LBB16_2:
-	cmp.w	r11, #0
+	str	r0, [sp, #4]
 	beq	.LBB16_6
-	movs	r4, #1
-	mov	r8, r11
-.LBB16_4:
-	ldr.w	r0, [r10]
-	subs	r3, r4, #1
-	ldr.w	r1, [r10, #12]
-	mov	r2, r9
+	add.w	r11, r2, #1
+	mov.w	r8, #0
+	str.w	r11, [sp]
+.LBB16_2:
+	movs	r6, #1
+	add.w	r0, r8, #1
+	str	r0, [sp, #8]
+.LBB16_3:
+	subs.w	r11, r11, #1
+	beq	.LBB16_5
+	ldr.w	r0, [r9]
+	subs	r3, r6, #1
+	ldr.w	r1, [r9, #12]
+	mov	r2, r8
+	add.w	r10, r6, #2
 	bl	shim_Calls_numbers_NumberDriver_read
-	mov	r6, r0
-	mov	r5, r1
-	ldr.w	r0, [r10]
-	mov	r2, r9
-	ldr.w	r1, [r10, #12]
-	mov	r3, r4
+	mov	r5, r0
+	mov	r4, r1
+	ldr.w	r0, [r9]
+	mov	r2, r8
+	ldr.w	r1, [r9, #12]
+	mov	r3, r6
 	bl	shim_Calls_numbers_NumberDriver_read
-	mvns	r3, r6
+	mvns	r3, r5
 	subs	r0, r0, r3
-	mvn.w	r2, r5
+	mov	r6, r10
+	mvn.w	r2, r4
 	sbcs.w	r0, r1, r2
-	blo	.LBB16_8
-	adds	r4, #2
-	subs.w	r8, r8, #1
-	bne	.LBB16_4
-.LBB16_6:
-	add.w	r9, r9, #1
-	ldr	r0, [sp]
-	cmp	r9, r0
+	bhs	.LBB16_3
+	b	.LBB16_7
+.LBB16_5:
+	ldr.w	r11, [sp]
+	ldrd	r0, r8, [sp, #4]
+	cmp	r8, r0
 	bne	.LBB16_2
-.LBB16_7:
+.LBB16_6:
 	movs	r0, #0
-	b	.LBB16_9
-.LBB16_8:
+	b	.LBB16_8
+.LBB16_7:
 	movs	r0, #8
-.LBB16_9:
-	add	sp, #4
+.LBB16_8:
+	add	sp, #12
 	pop.w	{r8, r9, r10, r11}
 	pop	{r4, r5, r6, r7, pc}
 	.size	shim_looked, .-shim_looked

@@ -1,7 +1,7 @@
 /* ee: variables in flash, the library of ee.h as one file, for Linux on x86-64.
  *
- * sum of sources: 68fc529b9e1963229848ec525e3434b8cec75b1762ca7fcea742e7f1013fcfb5
- * sum of the text below: b71284c6d21b97b998d754f38f81db8bb812bedee2deb10c849444a3ce9a3269
+ * sum of sources: c0694462a0959d91ad515b0c5f7ba970e450412d3e8b329a195556ab3d6a793e
+ * sum of the text below: 04c388d41c47540c0f8cad69dc54a8aac85a9d2ea38a1b0283b49def97ae322b
  * made by: firmware/c/assemble
  * compiler: rustc 1.96.0 (ac68faa20 2026-05-25) (built from a source tarball), LLVM 22.1.8
  * words: --target x86_64-unknown-linux-gnu -C panic=abort -C embed-bitcode=yes -C opt-level=s -C llvm-args=--inline-threshold=40 -C codegen-units=1 -C lto=fat --emit asm,link
@@ -1784,79 +1784,6 @@ ee_pages_marking_mark:
 	.type	shim_wiped,@function
 shim_wiped:
 	.cfi_startproc
-	pushq	%r15
-	.cfi_def_cfa_offset 16
-	pushq	%r14
-	.cfi_def_cfa_offset 24
-	pushq	%r13
-	.cfi_def_cfa_offset 32
-	pushq	%r12
-	.cfi_def_cfa_offset 40
-	pushq	%rbx
-	.cfi_def_cfa_offset 48
-	.cfi_offset %rbx, -48
-	.cfi_offset %r12, -40
-	.cfi_offset %r13, -32
-	.cfi_offset %r14, -24
-	.cfi_offset %r15, -16
-	movq	%rsi, %r14
-	addq	%rsi, %r14
-	je	.LBB14_7
-	movq	%rdx, %rbx
-	movq	%rdi, %r15
-	addq	%rdx, %rbx
-	xorl	%r12d, %r12d
-.LBB14_2:
-	testq	%rbx, %rbx
-	je	.LBB14_6
-	xorl	%r13d, %r13d
-.LBB14_4:
-	movq	(%r15), %rdi
-	movq	16(%r15), %rsi
-	movq	%r12, %rdx
-	movq	%r13, %rcx
-	callq	shim_Calls_numbers_NumberDriver_read
-	cmpq	$-1, %rax
-	jne	.LBB14_8
-	incq	%r13
-	cmpq	%r13, %rbx
-	jne	.LBB14_4
-	jmp	.LBB14_6
-.LBB14_8:
-	movq	(%r15), %rdi
-	movl	%r12d, %esi
-	callq	*32(%r15)
-	testl	%eax, %eax
-	jne	.LBB14_9
-.LBB14_6:
-	incq	%r12
-	cmpq	%r14, %r12
-	jne	.LBB14_2
-.LBB14_7:
-	xorl	%eax, %eax
-.LBB14_10:
-	popq	%rbx
-	.cfi_def_cfa_offset 40
-	popq	%r12
-	.cfi_def_cfa_offset 32
-	popq	%r13
-	.cfi_def_cfa_offset 24
-	popq	%r14
-	.cfi_def_cfa_offset 16
-	popq	%r15
-	.cfi_def_cfa_offset 8
-	retq
-.LBB14_9:
-	.cfi_def_cfa_offset 48
-	movl	$9, %eax
-	jmp	.LBB14_10
-	.size	shim_wiped, .-shim_wiped
-	.cfi_endproc
-
-	.section	.text.shim_looked,"ax",@progbits
-	.type	shim_looked,@function
-shim_looked:
-	.cfi_startproc
 	pushq	%rbp
 	.cfi_def_cfa_offset 16
 	pushq	%r15
@@ -1877,18 +1804,100 @@ shim_looked:
 	.cfi_offset %r14, -32
 	.cfi_offset %r15, -24
 	.cfi_offset %rbp, -16
-	movq	%rdx, (%rsp)
 	movq	%rsi, %r14
 	addq	%rsi, %r14
-	je	.LBB15_8
+	je	.LBB14_8
+	movq	%rdx, %rbx
 	movq	%rdi, %r15
+	addq	%rdx, %rbx
+	xorl	%r13d, %r13d
+.LBB14_2:
+	movq	%r13, %r12
+	incq	%r13
+	xorl	%ecx, %ecx
+.LBB14_3:
+	cmpq	%rcx, %rbx
+	je	.LBB14_7
+	leaq	1(%rcx), %rbp
+	movq	(%r15), %rdi
+	movq	16(%r15), %rsi
+	movq	%r12, %rdx
+	callq	shim_Calls_numbers_NumberDriver_read
+	movq	%rbp, %rcx
+	cmpq	$-1, %rax
+	je	.LBB14_3
+	movq	(%r15), %rdi
+	movl	%r12d, %esi
+	callq	*32(%r15)
+	testl	%eax, %eax
+	jne	.LBB14_6
+.LBB14_7:
+	cmpq	%r14, %r13
+	jne	.LBB14_2
+.LBB14_8:
+	xorl	%eax, %eax
+	jmp	.LBB14_9
+.LBB14_6:
+	movl	$9, %eax
+.LBB14_9:
+	addq	$8, %rsp
+	.cfi_def_cfa_offset 56
+	popq	%rbx
+	.cfi_def_cfa_offset 48
+	popq	%r12
+	.cfi_def_cfa_offset 40
+	popq	%r13
+	.cfi_def_cfa_offset 32
+	popq	%r14
+	.cfi_def_cfa_offset 24
+	popq	%r15
+	.cfi_def_cfa_offset 16
+	popq	%rbp
+	.cfi_def_cfa_offset 8
+	retq
+	.size	shim_wiped, .-shim_wiped
+	.cfi_endproc
+
+	.section	.text.shim_looked,"ax",@progbits
+	.type	shim_looked,@function
+shim_looked:
+	.cfi_startproc
+	pushq	%rbp
+	.cfi_def_cfa_offset 16
+	pushq	%r15
+	.cfi_def_cfa_offset 24
+	pushq	%r14
+	.cfi_def_cfa_offset 32
+	pushq	%r13
+	.cfi_def_cfa_offset 40
+	pushq	%r12
+	.cfi_def_cfa_offset 48
+	pushq	%rbx
+	.cfi_def_cfa_offset 56
+	subq	$24, %rsp
+	.cfi_def_cfa_offset 80
+	.cfi_offset %rbx, -56
+	.cfi_offset %r12, -48
+	.cfi_offset %r13, -40
+	.cfi_offset %r14, -32
+	.cfi_offset %r15, -24
+	.cfi_offset %rbp, -16
+	addq	%rsi, %rsi
+	movq	%rsi, 8(%rsp)
+	je	.LBB15_1
+	movq	%rdx, %r14
+	movq	%rdi, %r15
+	incq	%r14
 	xorl	%r12d, %r12d
-.LBB15_2:
-	cmpq	$0, (%rsp)
-	je	.LBB15_7
-	movl	$1, %r13d
-	movq	(%rsp), %rbx
+	movq	%r14, (%rsp)
 .LBB15_4:
+	leaq	1(%r12), %rax
+	movq	%rax, 16(%rsp)
+	movl	$1, %r13d
+.LBB15_5:
+	decq	%r14
+	je	.LBB15_2
+	leaq	2(%r13), %rbx
 	leaq	-1(%r13), %rcx
 	movq	(%r15), %rdi
 	movq	16(%r15), %rsi
@@ -1901,22 +1910,22 @@ shim_looked:
 	movq	%r13, %rcx
 	callq	shim_Calls_numbers_NumberDriver_read
 	notq	%rbp
+	movq	%rbx, %r13
 	cmpq	%rbp, %rax
-	jb	.LBB15_5
-	addq	$2, %r13
-	decq	%rbx
+	jae	.LBB15_5
+	jmp	.LBB15_7
+.LBB15_2:
+	movq	16(%rsp), %r12
+	cmpq	8(%rsp), %r12
+	movq	(%rsp), %r14
 	jne	.LBB15_4
-.LBB15_7:
-	incq	%r12
-	cmpq	%r14, %r12
-	jne	.LBB15_2
-.LBB15_8:
+.LBB15_1:
 	xorl	%eax, %eax
-	jmp	.LBB15_9
-.LBB15_5:
+	jmp	.LBB15_8
+.LBB15_7:
 	movl	$8, %eax
-.LBB15_9:
-	addq	$8, %rsp
+.LBB15_8:
+	addq	$24, %rsp
 	.cfi_def_cfa_offset 56
 	popq	%rbx
 	.cfi_def_cfa_offset 48

@@ -1,7 +1,7 @@
 /* ee: variables in flash, the library of ee.h as one file, for every Cortex-M.
  *
- * sum of sources: 68fc529b9e1963229848ec525e3434b8cec75b1762ca7fcea742e7f1013fcfb5
- * sum of the text below: 3095a4b3b6eb8f5dcef6dbca9742c83f76689ad007afbbf819a98e32430c0910
+ * sum of sources: c0694462a0959d91ad515b0c5f7ba970e450412d3e8b329a195556ab3d6a793e
+ * sum of the text below: 5bc65ded02ab585e0cc27d1f2ac78593030253388de16a7b82d81f15708f72f8
  * made by: firmware/c/assemble
  * compiler: rustc 1.96.0 (ac68faa20 2026-05-25) (built from a source tarball), LLVM 22.1.8
  * words: --target thumbv6m-none-eabi -C panic=abort -C embed-bitcode=yes -C opt-level=s -C llvm-args=--inline-threshold=40 -C codegen-units=1 -C lto=fat --emit asm,link
@@ -1823,20 +1823,23 @@ ee_pages_marking_mark:
 shim_wiped:
 	push	{r4, r5, r6, r7, lr}
 	add	r7, sp, #12
-	sub	sp, #12
+	sub	sp, #20
 	mov	r4, r0
 	lsls	r0, r1, #1
-	str	r0, [sp, #4]
-	beq	.LBB15_8
-	lsls	r0, r2, #1
 	str	r0, [sp, #8]
-	movs	r5, #0
-.LBB15_2:
-	ldr	r0, [sp, #8]
-	cmp	r0, #0
 	beq	.LBB15_7
-	movs	r6, #0
-.LBB15_4:
+	lsls	r0, r2, #1
+	str	r0, [sp, #16]
+	movs	r5, #0
+	str	r5, [sp, #4]
+.LBB15_2:
+	adds	r0, r5, #1
+	str	r0, [sp, #12]
+	ldr	r6, [sp, #4]
+.LBB15_3:
+	ldr	r0, [sp, #16]
+	cmp	r0, r6
+	beq	.LBB15_6
 	ldr	r1, [r4, #12]
 	ldr	r0, [r4]
 	mov	r2, r5
@@ -1844,32 +1847,28 @@ shim_wiped:
 	bl	shim_Calls_numbers_NumberDriver_read
 	ands	r1, r0
 	adds	r0, r1, #1
-	bne	.LBB15_6
 	adds	r6, r6, #1
-	ldr	r0, [sp, #8]
-	cmp	r0, r6
-	bne	.LBB15_4
-	b	.LBB15_7
-.LBB15_6:
+	cmp	r0, #0
+	beq	.LBB15_3
 	ldr	r0, [r4]
 	ldr	r2, [r4, #20]
 	mov	r1, r5
 	blx	r2
 	cmp	r0, #0
-	bne	.LBB15_10
-.LBB15_7:
-	adds	r5, r5, #1
-	ldr	r0, [sp, #4]
+	bne	.LBB15_8
+.LBB15_6:
+	ldr	r0, [sp, #8]
+	ldr	r5, [sp, #12]
 	cmp	r5, r0
 	bne	.LBB15_2
-.LBB15_8:
+.LBB15_7:
 	movs	r0, #0
-.LBB15_9:
-	add	sp, #12
-	pop	{r4, r5, r6, r7, pc}
-.LBB15_10:
-	movs	r0, #9
 	b	.LBB15_9
+.LBB15_8:
+	movs	r0, #9
+.LBB15_9:
+	add	sp, #20
+	pop	{r4, r5, r6, r7, pc}
 	.size	shim_wiped, .-shim_wiped
 
 	.section	.text.shim_looked,"ax",%progbits
@@ -1880,58 +1879,60 @@ shim_wiped:
 shim_looked:
 	push	{r4, r5, r6, r7, lr}
 	add	r7, sp, #12
-	sub	sp, #28
-	str	r2, [sp, #8]
-	str	r0, [sp, #12]
+	sub	sp, #36
+	str	r0, [sp, #16]
 	lsls	r0, r1, #1
-	str	r0, [sp, #4]
-	beq	.LBB16_7
-	movs	r0, #0
-	str	r0, [sp, #24]
-	ldr	r5, [sp, #12]
-.LBB16_2:
-	ldr	r0, [sp, #8]
-	cmp	r0, #0
+	str	r0, [sp, #8]
 	beq	.LBB16_6
-	movs	r4, #1
-	ldr	r6, [sp, #8]
-.LBB16_4:
-	ldr	r1, [r5, #12]
-	ldr	r0, [r5]
-	subs	r3, r4, #1
-	ldr	r2, [sp, #24]
+	adds	r5, r2, #1
+	movs	r0, #0
+	str	r5, [sp, #4]
+	ldr	r4, [sp, #16]
+.LBB16_2:
+	str	r0, [sp, #32]
+	adds	r0, r0, #1
+	str	r0, [sp, #12]
+	movs	r6, #1
+.LBB16_3:
+	subs	r5, r5, #1
+	beq	.LBB16_5
+	adds	r0, r6, #2
+	str	r0, [sp, #28]
+	ldr	r1, [r4, #12]
+	ldr	r0, [r4]
+	subs	r3, r6, #1
+	ldr	r2, [sp, #32]
 	bl	shim_Calls_numbers_NumberDriver_read
-	str	r0, [sp, #20]
-	str	r1, [sp, #16]
-	ldr	r0, [r5]
-	ldr	r1, [r5, #12]
-	ldr	r2, [sp, #24]
-	mov	r3, r4
+	str	r0, [sp, #24]
+	str	r1, [sp, #20]
+	ldr	r0, [r4]
+	ldr	r1, [r4, #12]
+	ldr	r2, [sp, #32]
+	mov	r3, r6
 	bl	shim_Calls_numbers_NumberDriver_read
-	ldr	r2, [sp, #16]
+	ldr	r2, [sp, #20]
 	mvns	r2, r2
-	ldr	r3, [sp, #20]
+	ldr	r3, [sp, #24]
 	mvns	r3, r3
 	subs	r0, r0, r3
 	sbcs	r1, r2
-	blo	.LBB16_8
-	adds	r4, r4, #2
-	subs	r6, r6, #1
-	bne	.LBB16_4
-.LBB16_6:
-	ldr	r1, [sp, #24]
-	adds	r1, r1, #1
-	ldr	r0, [sp, #4]
-	str	r1, [sp, #24]
+	ldr	r6, [sp, #28]
+	bhs	.LBB16_3
+	b	.LBB16_7
+.LBB16_5:
+	ldr	r0, [sp, #8]
+	ldr	r1, [sp, #12]
 	cmp	r1, r0
+	mov	r0, r1
+	ldr	r5, [sp, #4]
 	bne	.LBB16_2
-.LBB16_7:
+.LBB16_6:
 	movs	r0, #0
-	b	.LBB16_9
-.LBB16_8:
+	b	.LBB16_8
+.LBB16_7:
 	movs	r0, #8
-.LBB16_9:
-	add	sp, #28
+.LBB16_8:
+	add	sp, #36
 	pop	{r4, r5, r6, r7, pc}
 	.size	shim_looked, .-shim_looked
 

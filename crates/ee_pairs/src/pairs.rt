@@ -2,7 +2,7 @@
 ghost use Rattle.std.specs.Prelude.{◌≡◌, ℕ, IfErr, IfOk, true};
 ghost use Rattle.ee_flash.specs.Device.{all_ones};
 ghost use Rattle.ee_pairs.specs.Nor.{number_at};
-ghost use Rattle.ee_pairs.specs.Pairs.{IsFirstLow, NoLowPair, complement, word_of as word_of_numbers};
+ghost use Rattle.ee_pairs.specs.Pairs.{IsFirstLow, NoLowPair, complement, pair_word};
 ghost use Rattle.ee_pairs.specs.Wiping.{IsWipeCut, wiped};
 
 use crate::low_pair::{LowPair, first_low};
@@ -57,6 +57,15 @@ impl<N: Nor + Drop> Pairs<N> {
         }
     }
 
+    /// The device of words of a flash of which it is known that no word's numbers sum to less than `u64::MAX`, since it was
+    /// looked at before and only such devices wrote to it. Nothing is read.
+    pub fn known(nor: N) -> Pairs<N>
+        requires no_low_pair { NoLowPair (N.nor nor) }
+        ensures same { N.nor result.nor ≡ N.nor nor }
+    {
+        Pairs { nor }
+    }
+
     /// The flash, as it is.
     pub fn into_nor(self) -> N
         ensures same { N.nor result ≡ N.nor self.nor }
@@ -68,7 +77,7 @@ impl<N: Nor + Drop> Pairs<N> {
 
 /// The word that two numbers are.
 fn word_of(number: u64, check: u64) -> Word
-    ensures { result ≡ word_of_numbers number check }
+    ensures { result ≡ pair_word number check }
 {
     if number == u64::MAX {
         return if check == u64::MAX {
@@ -92,10 +101,10 @@ fn complement_of(number: u64) -> u64
 }
 
 impl<N: Nor + Drop> Flash for Pairs<N> {
-    ghost use Rattle.ee_pairs.specs.Pairs.{device_of};
+    ghost use Rattle.ee_pairs.specs.Pairs.{paired_device};
     ghost use Rattle.ee_pairs.specs.Formed.{pairs_are_formed};
 
-    ghost device = { λ pairs. device_of (N.nor pairs.nor) };
+    ghost device = { λ pairs. paired_device (N.nor pairs.nor) };
 
     ghost formed = { λ pairs. pairs_are_formed (N.nor pairs.nor) (N.formed pairs.nor) };
 

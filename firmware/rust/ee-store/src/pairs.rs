@@ -93,20 +93,9 @@ impl<N: NumberDriver> Driver for Pairs<N> {
 type Lent<N> = proved::Pairs<Numbers<N>>;
 
 // The proved words of a driver for one call. Its flash went through `of` or `wipe`, and by the proofs each step and each
-// cut keeps what they see to; so it is not looked through again. The proved `of` makes them of a part that is off, which
-// reads as blank; with power it reads as it is.
+// cut keeps what they see to; so it is not looked through again. Of its shape nothing is asked.
 fn lent<N: NumberDriver>(driver: N) -> Lent<N> {
-    let off = Numbers {
-        is_on: false,
-        ..Numbers::on(driver, SMALLEST)
-    };
-    match proved::Pairs::of(off) {
-        Ok(mut pairs) => {
-            pairs.power_on();
-            pairs
-        }
-        Err(_) => unreachable!("it reads as blank"),
-    }
+    proved::Pairs::known(Numbers::on(driver, SMALLEST))
 }
 
 const SMALLEST: Shape = match Shape::new(1, 5) {
@@ -138,7 +127,6 @@ impl<N: NumberDriver> NumberDriver for Read<'_, N> {
 struct Numbers<N: NumberDriver> {
     driver: N,
     shape: Shape,
-    is_on: bool,
     error: Option<N::Error>,
 }
 
@@ -147,7 +135,6 @@ impl<N: NumberDriver> Numbers<N> {
         Numbers {
             driver,
             shape,
-            is_on: true,
             error: None,
         }
     }
@@ -155,7 +142,6 @@ impl<N: NumberDriver> Numbers<N> {
     // A step ends: with an error the part is off from here on.
     fn end(&mut self, step: Result<(), N::Error>) -> Result<(), Cut> {
         step.map_err(|error| {
-            self.is_on = false;
             self.error = Some(error);
             Cut
         })
@@ -172,18 +158,15 @@ impl<N: NumberDriver> Nor for Numbers<N> {
     }
 
     fn is_on(&self) -> bool {
-        self.is_on
+        self.error.is_none()
     }
 
     fn read(&self, page: usize, at: usize) -> u64 {
-        match self.is_on {
-            true => self.driver.read(page, at),
-            false => u64::MAX,
-        }
+        self.driver.read(page, at)
     }
 
     fn program(&mut self, page: usize, at: usize, number: u64) -> Result<(), Cut> {
-        if !self.is_on {
+        if self.error.is_some() {
             return Err(Cut);
         }
         let step = self.driver.program(page, at, number);
@@ -191,7 +174,7 @@ impl<N: NumberDriver> Nor for Numbers<N> {
     }
 
     fn erase(&mut self, page: usize) -> Result<(), Cut> {
-        if !self.is_on {
+        if self.error.is_some() {
             return Err(Cut);
         }
         let step = self.driver.erase(page);
@@ -207,6 +190,6 @@ impl<N: NumberDriver> Nor for Numbers<N> {
     }
 
     fn power_on(&mut self) {
-        self.is_on = true;
+        self.error = None;
     }
 }

@@ -41,6 +41,12 @@ impl<N: Nor> Pairs<N> {
         }
     }
 
+    /// The device of words of a flash of which it is known that no word's numbers sum to less than `u64::MAX`, since it was
+    /// looked at before and only such devices wrote to it. Nothing is read.
+    pub fn known(nor: N) -> Pairs<N> {
+        Pairs { nor }
+    }
+
     /// The flash, as it is.
     pub fn into_nor(self) -> N {
         self.nor
