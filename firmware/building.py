@@ -12,6 +12,8 @@ LIBRARY = HERE / "c"
 STORE = HERE / "rust" / "ee-store" / "src" / "lib.rs"
 OUT = Path(os.environ.get("CARGO_TARGET_DIR", HERE / "rust" / "out"))
 RUSTC = os.environ.get("RUSTC", "rustc")
+# What keeps code small beside the level of optimisation: functions that are called from many places stay functions.
+SMALL = ["-C", "llvm-args=--inline-threshold=40"]
 # The targets of Rust whose own library may have to be built, and their conditions in compiler_builtins.
 CONDITIONS = {
     "thumbv6m-none-eabi": ["thumb", "thumb_1"],
@@ -24,7 +26,7 @@ class Tally:
     """What was tried in a temporary folder, and how it ended."""
 
     def __init__(self, folder):
-        self.folder, self.passed, self.failed, self.sum = Path(folder), 0, 0, None
+        self.folder, self.passed, self.failed, self.sums = Path(folder), 0, 0, {}
 
     def count(self, what, is_well, said=""):
         self.passed += bool(is_well)
@@ -100,6 +102,8 @@ def library_for(tally, own, target, level, *emit):
     """Builds the C library for a target at a level of optimisation, with Rust's own library from a folder, if one is named.
     Gives the archive; with more words to rustc its assembly stands beside it."""
     flags = ["--edition", "2021", "-C", f"opt-level={level}", "-C", "codegen-units=1", *(["-L", own] if own else [])]
+    if level == "s":
+        flags += SMALL
     store, archive = tally.folder / "libee_store.rlib", tally.folder / f"{target}-{level}.a"
     if rustc(tally, f"ee_store for {target}", target, *flags, "--crate-name", "ee_store", "--crate-type", "lib",
              "-o", store, STORE) is None:

@@ -4,6 +4,9 @@
  * from 0, those of the first set first, and the words of a page from 0. A set has pages * (page_words - 4) slots: as many
  * variables can have a value. A variable has 32 bits, and an address of 1 to 65534.
  *
+ * A part whose words have no error correction gives numbers of 64 bits in their place, and `pairs` says so: then a word is two
+ * numbers, a value beside its complement, which takes twice the flash. A cut number is told by its other half.
+ *
  * The library allocates nothing. It keeps what it knows in the `ee_store` that the caller lends, and reads and writes the
  * flash by the three functions of an `ee_flash`.
  *
@@ -27,6 +30,8 @@
  *     ee_read                           S                0                0
  *     ee_next                           N                0                0
  *     ee_counts                         N + W            0                0
+ *
+ * With `pairs` a word read or programmed is two numbers, and ee_start, ee_open and ee_format read W words more.
  *
  * The stack that a call takes stands in the head of ee.s, beside what the three functions take. README.md has more of this.
  */
@@ -52,6 +57,17 @@ typedef struct ee_flash {
     uint32_t (*program)(void *context, uint32_t page, uint32_t place, uint64_t value);
     /* Erases a page. 0 once every word of it reads as erased; any other number where it failed. */
     uint32_t (*erase)(void *context, uint32_t page);
+    /* 0 where the flash has words, as above. 1 where it has numbers, for a part without error correction: `word` and `program`
+     * are asked for numbers, of which a page has 2 * page_words. Any other is refused with EE_WRONG_SHAPE.
+     *
+     * With 1 this is what the part owes: cells go one way, from one to zero while a number is programmed and from zero to one
+     * while a page is erased. So a cut in `program` leaves a number with every bit of the one asked for, and a cut in `erase`
+     * leaves each number of the page with every bit that it had. A number may be programmed by parts, in any order.
+     *
+     * A number reads the same until it is written, and `word` answers 0. Where it answers another number, that number of the
+     * flash counts as 0, which stands in no word of a store: the word is torn, or is none of the store's, and the next opening
+     * may say EE_FOREIGN. */
+    uint32_t pairs;
 } ee_flash;
 
 /* A store, in memory that the caller lends. ee_start, ee_open or ee_format comes before every other call on it. */
@@ -70,13 +86,13 @@ enum {
     EE_UNFORMATTED = 5,    /* every word is erased */
     EE_NO_LIVE_SET = 6,    /* no set is live */
     EE_TWO_LIVE = 7,       /* both sets are */
-    EE_FOREIGN = 8,        /* a word of the live set is not the store's */
+    EE_FOREIGN = 8,        /* a word of the live set is not the store's; with `pairs`, a word of either set */
     /* A function of the flash failed, and the store is off: the change was made or was not, and all else is as before. */
     EE_DRIVER = 9,
     /* The store is off, or was never opened. Open it. */
     EE_OFF = 10,
     /* Refusals of the call itself. Nothing was written. */
-    EE_WRONG_SHAPE = 11,   /* `pages` or `page_words` is out of range */
+    EE_WRONG_SHAPE = 11,   /* `pages`, `page_words` or `pairs` is out of range */
     EE_WRONG_NUMBER = 12,  /* the address is 0 or 65535 */
     EE_NULL = 13           /* a pointer is NULL */
 };
@@ -100,8 +116,8 @@ uint32_t ee_start(ee_store *store, const ee_flash *flash);
  * EE_OK; EE_UNFORMATTED, EE_NO_LIVE_SET, EE_TWO_LIVE, EE_FOREIGN, EE_DRIVER. */
 uint32_t ee_open(ee_store *store, const ee_flash *flash);
 
-/* Makes a store with nothing in it, whatever the flash held. Where it is cut the flash may hold no store: format again.
- * EE_OK; EE_DRIVER. */
+/* Makes a store with nothing in it, whatever the flash held: each page that is not blank is erased. Where it is cut the flash
+ * may hold no store: format again. EE_OK; EE_DRIVER. */
 uint32_t ee_format(ee_store *store, const ee_flash *flash);
 
 /* Gives an address a value. Where no slot is free all variables move to the other set. EE_OK; EE_FULL, EE_SPENT, EE_DRIVER. */

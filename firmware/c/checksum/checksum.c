@@ -1,9 +1,13 @@
 /* Two and a half thousand calls on flash in an array: writes for the most part, and some of each other call. One step in
  * fifty or so is cut, torn in some way, and the store opened again. Then each word of the flash is damaged in turn, and a
- * variable is read. */
+ * variable is read. With PAIRS the flash has numbers, two for each word, and a cut leaves some of their bits. */
 #include "checksum.h"
 
 #include "../ee.h"
+
+#ifndef PAIRS
+#define PAIRS 0
+#endif
 
 enum { SHAPES = 5, CALLS = 500, MOST_PAGES = 8, MOST_WORDS = 128, MOST_ADDRESSES = 100 };
 
@@ -13,8 +17,8 @@ static const struct {
 
 const unsigned char *checksum_frame;
 static uint64_t sum, seed;
-static uint64_t words[MOST_PAGES * MOST_WORDS];
-static uint8_t torn[MOST_PAGES * MOST_WORDS];
+static uint64_t words[MOST_PAGES * MOST_WORDS << PAIRS];
+static uint8_t torn[MOST_PAGES * MOST_WORDS << PAIRS];
 static ee_flash flash;
 static ee_store store;
 static uint32_t steps_left;
@@ -36,8 +40,11 @@ static uint32_t below(uint32_t bound) {
     return (uint32_t)(seed >> 32) % bound;
 }
 
+/* The place of the first word of a page in the array, or of its first number. */
+static uint32_t first_of(uint32_t page) { return page * flash.page_words << PAIRS; }
+
 static uint32_t word(void *context, uint32_t page, uint32_t place, uint64_t *value) {
-    uint32_t i = page * flash.page_words + place;
+    uint32_t i = first_of(page) + place;
     (void)context;
     *value = words[i];
     return torn[i];
@@ -49,13 +56,15 @@ static void tear(uint32_t i, uint64_t value) {
     if (left == 1) {
         words[i] = value;
         torn[i] = 0;
+    } else if (left == 2 && PAIRS) {
+        words[i] = (words[i] & value) | (uint64_t)below(UINT32_MAX) << below(33);
     } else if (left == 2) {
         torn[i] = 1;
     }
 }
 
 static uint32_t program(void *context, uint32_t page, uint32_t place, uint64_t value) {
-    uint32_t i = page * flash.page_words + place;
+    uint32_t i = first_of(page) + place;
     (void)context;
     if (steps_left-- == 0) {
         tear(i, value);
@@ -66,10 +75,9 @@ static uint32_t program(void *context, uint32_t page, uint32_t place, uint64_t v
 }
 
 static uint32_t erase(void *context, uint32_t page) {
-    uint32_t first = page * flash.page_words;
     int is_cut = steps_left-- == 0;
     (void)context;
-    for (uint32_t i = first; i < first + flash.page_words; i++) {
+    for (uint32_t i = first_of(page); i < first_of(page + 1); i++) {
         if (is_cut) {
             tear(i, UINT64_MAX);
         } else {
@@ -154,7 +162,7 @@ static void read_damaged(uint32_t count) {
 }
 
 static int run(void) {
-    uint32_t slots = flash.pages * (flash.page_words - 4), count = 2 * flash.pages * flash.page_words;
+    uint32_t slots = flash.pages * (flash.page_words - 4), count = first_of(2 * flash.pages);
     uint32_t addresses = slots < MOST_ADDRESSES ? slots + 1 : MOST_ADDRESSES;
     for (uint32_t i = 0; i < count; i++) {
         words[i] = UINT64_MAX;
@@ -177,7 +185,7 @@ uint64_t checksum(void) {
     sum = 0;
     seed = 20261123;
     for (int shape = 0; shape < SHAPES; shape++) {
-        flash = (ee_flash){0, shapes[shape].pages, shapes[shape].page_words, word, program, erase};
+        flash = (ee_flash){0, shapes[shape].pages, shapes[shape].page_words, word, program, erase, PAIRS};
         if (!run()) return 0;
     }
     return sum;

@@ -1,34 +1,39 @@
 /* Prints how many ticks of the core's timer four calls take: a write into a free slot, a read that looks through all
  * slots, an opening, and a write that moves. The flash is in memory: two sets of one page of 256 words, with 50
- * variables. With QEMU's -icount a tick is so many instructions. */
+ * variables. With PAIRS it has numbers, two for each word. With QEMU's -icount a tick is so many instructions. */
 #include "../ee.h"
 #include "semihosting.h"
 
-enum { PAGE_WORDS = 256, VARIABLES = 50, SLOTS = PAGE_WORDS - 4 };
+#ifndef PAIRS
+#define PAIRS 0
+#endif
 
-static uint64_t words[2 * PAGE_WORDS];
+enum { PAGE_WORDS = 256, VARIABLES = 50, SLOTS = PAGE_WORDS - 4, PLACES = PAGE_WORDS << PAIRS };
+
+static uint64_t words[2 * PLACES];
 static ee_store store;
 static char line[64], *line_end;
 
 static uint32_t word(void *context, uint32_t page, uint32_t place, uint64_t *value) {
     (void)context;
-    *value = words[page * PAGE_WORDS + place];
+    *value = words[page * PLACES + place];
     return 0;
 }
 
 static uint32_t program(void *context, uint32_t page, uint32_t place, uint64_t value) {
     (void)context;
-    words[page * PAGE_WORDS + place] = value;
+    words[page * PLACES + place] = value;
     return 0;
 }
 
 static uint32_t erase(void *context, uint32_t page) {
     (void)context;
-    for (uint32_t i = 0; i < PAGE_WORDS; i++) words[page * PAGE_WORDS + i] = UINT64_MAX;
+    for (uint32_t i = 0; i < PLACES; i++) words[page * PLACES + i] = UINT64_MAX;
     return 0;
 }
 
-static const ee_flash flash = {.pages = 1, .page_words = PAGE_WORDS, .word = word, .program = program, .erase = erase};
+static const ee_flash flash = {
+    .pages = 1, .page_words = PAGE_WORDS, .word = word, .program = program, .erase = erase, .pairs = PAIRS};
 
 /* SysTick: control, reload and the count, which falls through 24 bits. */
 static volatile uint32_t *const timer = (volatile uint32_t *)0xe000e010;

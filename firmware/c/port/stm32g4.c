@@ -91,7 +91,7 @@ static uint32_t erase(void *context, uint32_t page) {
 }
 
 ee_flash stm32g4_flash(stm32g4 *part, uint32_t pages) {
-    ee_flash flash = {part, pages, part->page_words, word, program, erase};
+    ee_flash flash = {part, pages, part->page_words, word, program, erase, 0};
     return flash;
 }
 

@@ -77,7 +77,7 @@ void sim_new(sim *part, uint32_t pages, uint32_t page_words) {
 }
 
 ee_flash sim_flash(sim *part) {
-    ee_flash flash = {part, part->pages, part->page_words, word, program, erase};
+    ee_flash flash = {part, part->pages, part->page_words, word, program, erase, 0};
     return flash;
 }
 

@@ -1,15 +1,17 @@
-//! The store for C: `ee.h` says what each function does, and what C owes. This file is the only one with `unsafe`: it
-//! reads the pointers that C gives, and calls the functions of C's driver.
+//! The store for C: `ee.h` says what each function does, and what C owes. This file and `flash.rs` are the only ones with
+//! `unsafe`: this one reads the pointers that C gives, and the other calls the functions of C's driver.
 #![no_std]
 #![deny(unsafe_op_in_unsafe_fn)]
 #![allow(clippy::missing_safety_doc)] // `ee.h` says it.
 
-use core::ffi::c_void;
+mod flash;
+
 use core::mem::{align_of, size_of};
 use ee_store::{
-    Address, CleanFault, Driver, Failed, ForgetFault, OpenFault, ScanFault, Shape, Store, Word,
+    Address, CleanFault, Failed, ForgetFault, Off, OpenFault, Pairs, ScanFault, Shape, Store,
     WriteFault,
 };
+use flash::{Calls, Flash, Given};
 
 const EE_OK: u32 = 0;
 const EE_NOTHING: u32 = 1;
@@ -25,21 +27,6 @@ const EE_OFF: u32 = 10;
 const EE_WRONG_SHAPE: u32 = 11;
 const EE_WRONG_NUMBER: u32 = 12;
 const EE_NULL: u32 = 13;
-
-type WordCall = unsafe extern "C" fn(*mut c_void, u32, u32, *mut u64) -> u32;
-type ProgramCall = unsafe extern "C" fn(*mut c_void, u32, u32, u64) -> u32;
-type EraseCall = unsafe extern "C" fn(*mut c_void, u32) -> u32;
-
-/// `ee_flash` of `ee.h`.
-#[repr(C)]
-pub struct Flash {
-    context: *mut c_void,
-    pages: u32,
-    page_words: u32,
-    word: Option<WordCall>,
-    program: Option<ProgramCall>,
-    erase: Option<EraseCall>,
-}
 
 /// `ee_numbers` of `ee.h`.
 #[repr(C)]
@@ -58,58 +45,10 @@ pub struct Memory {
     words: [usize; 8],
 }
 
-type Kept = Store<Calls>;
+type Kept = Store<Given>;
 
 const _: () = assert!(size_of::<Kept>() <= size_of::<Memory>());
 const _: () = assert!(align_of::<Kept>() <= align_of::<Memory>());
-
-/// The functions of a driver in C, none of which is null, and what they are called with.
-struct Calls {
-    flash: *const Flash,
-}
-
-impl Driver for Calls {
-    type Error = ();
-
-    fn word(&self, page: usize, at: usize) -> Word {
-        let mut value = u64::MAX;
-        // SAFETY: `opened` found the function, and C keeps what the pointer shows while the store is open.
-        let failed = unsafe {
-            let flash = &*self.flash;
-            let call = flash.word.unwrap_unchecked();
-            call(flash.context, page as u32, at as u32, &mut value)
-        };
-        match failed {
-            0 => Word::from(value),
-            _ => Word::Torn,
-        }
-    }
-
-    fn program(&mut self, page: usize, at: usize, value: u64) -> Result<(), ()> {
-        // SAFETY: as in `word`.
-        done(unsafe {
-            let flash = &*self.flash;
-            let call = flash.program.unwrap_unchecked();
-            call(flash.context, page as u32, at as u32, value)
-        })
-    }
-
-    fn erase(&mut self, page: usize) -> Result<(), ()> {
-        // SAFETY: as in `word`.
-        done(unsafe {
-            let flash = &*self.flash;
-            let call = flash.erase.unwrap_unchecked();
-            call(flash.context, page as u32)
-        })
-    }
-}
-
-fn done(failed: u32) -> Result<(), ()> {
-    match failed {
-        0 => Ok(()),
-        _ => Err(()),
-    }
-}
 
 fn open_status(fault: OpenFault<()>) -> u32 {
     match fault {
@@ -121,18 +60,40 @@ fn open_status(fault: OpenFault<()>) -> u32 {
     }
 }
 
-/// Opens a store over C's driver in some way, and keeps it in the memory that C lends. Pointers are null or good.
+fn given_of(flash: *const Flash) -> Given {
+    Given(Pairs::known(Calls { flash }))
+}
+
+/// The status of a flash of numbers as it is.
+fn looked(calls: Calls, shape: Shape) -> u32 {
+    match Pairs::of(calls, shape) {
+        Ok(_) => EE_OK,
+        Err(_) => EE_FOREIGN,
+    }
+}
+
+/// Makes a flash of numbers blank.
+fn wiped(calls: Calls, shape: Shape) -> u32 {
+    match Pairs::wipe(calls, shape) {
+        Ok(_) => EE_OK,
+        Err(_) => EE_DRIVER,
+    }
+}
+
+/// Opens a store over C's driver in some way, and keeps it in the memory that C lends; a flash of numbers is prepared before.
+/// Pointers are null or good.
 unsafe fn opened(
     memory: *mut Memory,
     flash: *const Flash,
-    open: fn(Calls, Shape) -> Result<Store<Calls>, Failed<Calls>>,
+    prepare: fn(Calls, Shape) -> u32,
+    open: fn(Given, Shape) -> Result<Kept, Failed<Given>>,
 ) -> u32 {
     if memory.is_null() {
         return EE_NULL;
     }
     let kept: *mut Kept = memory.cast();
     // SAFETY: the memory is C's, large enough and aligned. What it held needs no drop.
-    unsafe { kept.write(Store::off(Calls { flash })) };
+    unsafe { kept.write(Store::off(given_of(flash))) };
     // SAFETY: a pointer that is not null is good.
     let Some(given) = (unsafe { flash.as_ref() }) else {
         return EE_NULL;
@@ -140,10 +101,17 @@ unsafe fn opened(
     if given.word.is_none() || given.program.is_none() || given.erase.is_none() {
         return EE_NULL;
     }
-    let Some(shape) = Shape::new(given.pages as usize, given.page_words as usize) else {
+    let shape = Shape::new(given.pages as usize, given.page_words as usize);
+    let (Some(shape), 0..=1) = (shape, given.pairs) else {
         return EE_WRONG_SHAPE;
     };
-    match open(Calls { flash }, shape) {
+    if given.pairs == 1 {
+        let status = prepare(Calls { flash }, shape);
+        if status != EE_OK {
+            return status;
+        }
+    }
+    match open(given_of(flash), shape) {
         Ok(store) => {
             // SAFETY: as above.
             unsafe { kept.write(store) };
@@ -153,134 +121,142 @@ unsafe fn opened(
     }
 }
 
-/// The store in the memory that C lends, or the status of none. The pointer is null, or good and went through `opened`.
-unsafe fn kept<'a>(memory: *mut Memory) -> Result<&'a mut Store<Calls>, u32> {
+/// The store in the memory that C lends. The pointer is null, or good and went through `opened`.
+unsafe fn kept<'a>(memory: *mut Memory) -> Option<&'a mut Kept> {
     // SAFETY: `opened` wrote what is read here.
-    match unsafe { memory.cast::<Kept>().as_mut() } {
-        None => Err(EE_NULL),
-        Some(store) => Ok(store),
-    }
-}
-
-fn status(answer: Result<u32, u32>) -> u32 {
-    match answer {
-        Ok(status) | Err(status) => status,
-    }
-}
-
-fn proper(address: u16) -> Result<Address, u32> {
-    Address::new(address).ok_or(EE_WRONG_NUMBER)
+    unsafe { memory.cast::<Kept>().as_mut() }
 }
 
 #[no_mangle]
 pub unsafe extern "C" fn ee_open(store: *mut Memory, flash: *const Flash) -> u32 {
     // SAFETY: as `ee.h` says, here and below.
-    unsafe { opened(store, flash, ee_store::open) }
+    unsafe { opened(store, flash, looked, ee_store::open) }
 }
 
 #[no_mangle]
 pub unsafe extern "C" fn ee_start(store: *mut Memory, flash: *const Flash) -> u32 {
-    unsafe { opened(store, flash, ee_store::start) }
+    unsafe { opened(store, flash, looked, ee_store::start) }
 }
 
 #[no_mangle]
 pub unsafe extern "C" fn ee_format(store: *mut Memory, flash: *const Flash) -> u32 {
-    unsafe { opened(store, flash, ee_store::format) }
+    unsafe { opened(store, flash, wiped, ee_store::format) }
 }
 
 #[no_mangle]
 pub unsafe extern "C" fn ee_write(store: *mut Memory, address: u16, value: u32) -> u32 {
-    let write = |store: &mut Store<Calls>| match store.write(proper(address)?, value) {
-        Ok(_) => Ok(EE_OK),
-        Err(WriteFault::Off) => Err(EE_OFF),
-        Err(WriteFault::Full) => Err(EE_FULL),
-        Err(WriteFault::Spent) => Err(EE_SPENT),
-        Err(WriteFault::Driver(())) => Err(EE_DRIVER),
+    let Some(store) = (unsafe { kept(store) }) else {
+        return EE_NULL;
     };
-    status(unsafe { kept(store) }.and_then(write))
+    let Some(address) = Address::new(address) else {
+        return EE_WRONG_NUMBER;
+    };
+    match store.write(address, value) {
+        Ok(_) => EE_OK,
+        Err(WriteFault::Off) => EE_OFF,
+        Err(WriteFault::Full) => EE_FULL,
+        Err(WriteFault::Spent) => EE_SPENT,
+        Err(WriteFault::Driver(())) => EE_DRIVER,
+    }
 }
 
 #[no_mangle]
 pub unsafe extern "C" fn ee_forget(store: *mut Memory, address: u16) -> u32 {
-    let forget = |store: &mut Store<Calls>| match store.forget(proper(address)?) {
-        Ok(_) => Ok(EE_OK),
-        Err(ForgetFault::Off) => Err(EE_OFF),
-        Err(ForgetFault::Absent) => Err(EE_ABSENT),
-        Err(ForgetFault::Spent) => Err(EE_SPENT),
-        Err(ForgetFault::Driver(())) => Err(EE_DRIVER),
+    let Some(store) = (unsafe { kept(store) }) else {
+        return EE_NULL;
     };
-    status(unsafe { kept(store) }.and_then(forget))
+    let Some(address) = Address::new(address) else {
+        return EE_WRONG_NUMBER;
+    };
+    match store.forget(address) {
+        Ok(_) => EE_OK,
+        Err(ForgetFault::Off) => EE_OFF,
+        Err(ForgetFault::Absent) => EE_ABSENT,
+        Err(ForgetFault::Spent) => EE_SPENT,
+        Err(ForgetFault::Driver(())) => EE_DRIVER,
+    }
 }
 
 #[no_mangle]
 pub unsafe extern "C" fn ee_clean(store: *mut Memory) -> u32 {
-    let clean = |store: &mut Store<Calls>| match store.clean_step() {
-        Ok(true) => Ok(EE_OK),
-        Ok(false) => Ok(EE_NOTHING),
-        Err(CleanFault::Off) => Err(EE_OFF),
-        Err(CleanFault::Driver(())) => Err(EE_DRIVER),
+    let Some(store) = (unsafe { kept(store) }) else {
+        return EE_NULL;
     };
-    status(unsafe { kept(store) }.and_then(clean))
+    match store.clean_step() {
+        Ok(true) => EE_OK,
+        Ok(false) => EE_NOTHING,
+        Err(CleanFault::Off) => EE_OFF,
+        Err(CleanFault::Driver(())) => EE_DRIVER,
+    }
 }
 
 #[no_mangle]
 pub unsafe extern "C" fn ee_read(store: *const Memory, address: u16, value: *mut u32) -> u32 {
-    let read = |store: &mut Store<Calls>| {
-        let Some(value) = (unsafe { value.as_mut() }) else {
-            return Err(EE_NULL);
-        };
-        match store.read(proper(address)?).map_err(|_| EE_OFF)? {
-            Some(held) => {
-                *value = held;
-                Ok(EE_OK)
-            }
-            None => Ok(EE_NOTHING),
-        }
+    let Some(store) = (unsafe { kept(store as *mut Memory) }) else {
+        return EE_NULL;
     };
-    status(unsafe { kept(store as *mut Memory) }.and_then(read))
+    let Some(value) = (unsafe { value.as_mut() }) else {
+        return EE_NULL;
+    };
+    let Some(address) = Address::new(address) else {
+        return EE_WRONG_NUMBER;
+    };
+    match store.read(address) {
+        Ok(Some(held)) => {
+            *value = held;
+            EE_OK
+        }
+        Ok(None) => EE_NOTHING,
+        Err(Off) => EE_OFF,
+    }
 }
 
 #[no_mangle]
 pub unsafe extern "C" fn ee_next(store: *const Memory, address: *mut u16, value: *mut u32) -> u32 {
-    let next = |store: &mut Store<Calls>| {
-        let (Some(address), Some(value)) = (unsafe { (address.as_mut(), value.as_mut()) }) else {
-            return Err(EE_NULL);
-        };
-        let after = match *address {
-            0 => None,
-            number => Some(proper(number)?),
-        };
-        match store.next_live(after).map_err(|_| EE_OFF)? {
-            Some((found, held)) => {
-                *address = found.get();
-                *value = held;
-                Ok(EE_OK)
-            }
-            None => Ok(EE_NOTHING),
-        }
+    let (Some(store), Some(address), Some(value)) =
+        (unsafe { (kept(store as *mut Memory), address.as_mut(), value.as_mut()) })
+    else {
+        return EE_NULL;
     };
-    status(unsafe { kept(store as *mut Memory) }.and_then(next))
+    let after = match (*address, Address::new(*address)) {
+        (0, _) => None,
+        (_, Some(after)) => Some(after),
+        (_, None) => return EE_WRONG_NUMBER,
+    };
+    match store.next_live(after) {
+        Ok(Some((found, held))) => {
+            *address = found.get();
+            *value = held;
+            EE_OK
+        }
+        Ok(None) => EE_NOTHING,
+        Err(Off) => EE_OFF,
+    }
+}
+
+/// How a store stands.
+fn numbers_of(store: &Kept) -> Result<Numbers, Off> {
+    Ok(Numbers {
+        slots: store.slots()? as u32,
+        fill: store.fill()? as u32,
+        live: store.live_count()? as u32,
+        torn: store.torn_slots()? as u32,
+        pending: store.pending()? as u32,
+        generation: store.generation()?,
+    })
 }
 
 #[no_mangle]
 pub unsafe extern "C" fn ee_counts(store: *const Memory, numbers: *mut Numbers) -> u32 {
-    let count = |store: &mut Store<Calls>| {
-        let Some(numbers) = (unsafe { numbers.as_mut() }) else {
-            return Err(EE_NULL);
-        };
-        let counted =
-            |count: Result<usize, ee_store::Off>| count.map_or(Err(EE_OFF), |n| Ok(n as u32));
-        *numbers = Numbers {
-            slots: counted(store.slots())?,
-            fill: counted(store.fill())?,
-            generation: store.generation().map_err(|_| EE_OFF)?,
-            live: counted(store.live_count())?,
-            pending: counted(store.pending())?,
-            torn: counted(store.torn_slots())?,
-        };
-        Ok(EE_OK)
+    let (Some(store), Some(numbers)) = (unsafe { (kept(store as *mut Memory), numbers.as_mut()) })
+    else {
+        return EE_NULL;
     };
-    status(unsafe { kept(store as *mut Memory) }.and_then(count))
+    let Ok(counted) = numbers_of(store) else {
+        return EE_OFF;
+    };
+    *numbers = counted;
+    EE_OK
 }
 
 /// No call comes here: an index out of range, which is all that could, is proved not to be.

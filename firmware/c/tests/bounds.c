@@ -1,14 +1,15 @@
 /* Counts the words that each call reads, the words that it programs and the pages that it erases, and holds them to the table
- * of ee.h: random calls on parts of several shapes, with cuts, many forgettings, and sets with a value in each slot. */
+ * of ee.h: random calls on parts of several shapes, of words and of pairs of numbers, with cuts, many forgettings, and sets
+ * with a value in each slot. */
+#define MOST_PAGES 16
+#define MOST_WORDS 40
 #include "part.h"
-
-#include "../sim/sim.c"
 
 enum { SHAPES = 5, CALLS = 3000 };
 enum kind { START, OPEN, FORMAT, WRITE, FORGET, CLEAN, READ, NEXT, COUNTS };
 
 static const uint32_t shapes[SHAPES][2] = {{1, 5}, {1, 40}, {2, 7}, {3, 20}, {8, 5}};
-static sim device;
+static part device;
 static ee_flash flash;
 static ee_store store;
 static uint64_t dice = 88172645463325252u;
@@ -46,16 +47,18 @@ static uint32_t counted(enum kind kind, uint16_t address, int is_room) {
         [FORGET] = {is_room ? s + 2 : n + 2 * w, is_room ? 3 : s + 3 * p + 1, is_room ? 0 : p},
         [CLEAN] = {w / 2, 0, 1},         [READ] = {s, 0, 0},
         [NEXT] = {n, 0, 0},              [COUNTS] = {n + w, 0, 0}};
+    uint32_t looked_at = device.pairs && kind <= FORMAT ? w : 0;
     device.read = device.programmed = device.erased = 0;
     uint32_t status = made(kind, address);
-    CHECK(device.read <= most[kind][0] && device.programmed <= most[kind][1] && device.erased <= most[kind][2]);
+    CHECK(device.read <= (most[kind][0] + looked_at) << device.pairs);
+    CHECK(device.programmed <= most[kind][1] << device.pairs && device.erased <= most[kind][2]);
     if (device.read > most_read) most_read = device.read;
     return status;
 }
 
 /* Opens the store again after a cut, or formats again. */
 static void opened_again(int is_format) {
-    sim_power(&device);
+    device.cut_in = 0;
     CHECK(counted(is_format ? FORMAT : below(2) ? OPEN : START, 0, 0) == EE_OK);
 }
 
@@ -65,25 +68,30 @@ static int is_room(void) {
     return ee_counts(&store, &numbers) == EE_OK && numbers.fill < numbers.slots;
 }
 
-static void run(uint32_t pages, uint32_t page_words, uint32_t addresses) {
-    sim_new(&device, pages, page_words);
-    flash = sim_flash(&device);
+static void run(uint32_t pages, uint32_t page_words, uint32_t addresses, uint32_t pairs) {
+    blank(&device, pages, page_words);
+    device.pairs = pairs;
+    flash = flash_of(&device);
     CHECK(counted(OPEN, 0, 0) == EE_UNFORMATTED && counted(START, 0, 0) == EE_OK);
     for (int i = 0; i < CALLS; i++) {
         enum kind kind = below(50) == 0 ? FORMAT : below(4) == 0 ? (enum kind)below(COUNTS + 1) : below(3) ? WRITE : FORGET;
-        sim_cut(&device, below(4) == 0 ? 1 + below(12) : 0, "ndtm"[below(4)]);
+        device.steps = 0;
+        device.cut_in = below(4) == 0 ? 1 + below(12) : 0;
+        device.tear = (enum tear)below(TEARS);
         if (counted(kind, (uint16_t)(1 + below(addresses)), is_room()) == EE_DRIVER) {
             opened_again(kind == FORMAT);
         }
-        sim_cut(&device, 0, SIM_NOTHING);
+        device.cut_in = 0;
     }
 }
 
 int main(void) {
     for (int i = 0; i < SHAPES; i++) {
         uint32_t slots = shapes[i][0] * (shapes[i][1] - 4);
-        run(shapes[i][0], shapes[i][1], slots + 1);
-        run(shapes[i][0], shapes[i][1], 3 * slots);
+        for (uint32_t pairs = 0; pairs < 2; pairs++) {
+            run(shapes[i][0], shapes[i][1], slots + 1, pairs);
+            run(shapes[i][0], shapes[i][1], 3 * slots, pairs);
+        }
     }
     return most_read == 0;
 }

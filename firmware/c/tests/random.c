@@ -1,4 +1,5 @@
-/* Random calls against an array, each with power cut in every step and in every way. */
+/* Random calls against an array, each with power cut in every step and in every way, on flashes of words and of pairs of
+ * numbers. */
 #include "part.h"
 
 enum { ADDRESSES = 8, STORES = 60, CALLS = 60 };
@@ -102,10 +103,12 @@ static void play(part *p, ee_store *store, map *m) {
     CHECK(listed == live_in(m));
 }
 
-int main(void) {
+static void run(uint32_t pairs) {
+    cuts = 0;
     for (int i = 0; i < STORES; i++) {
         part p;
         blank(&p, 1 + below(3), 5 + below(4));
+        p.pairs = pairs;
         ee_flash flash = flash_of(&p);
         ee_store store;
         CHECK(ee_format(&store, &flash) == EE_OK);
@@ -113,5 +116,10 @@ int main(void) {
         for (int j = 0; j < CALLS; j++) play(&p, &store, &m);
     }
     CHECK(cuts > 10000);
+}
+
+int main(void) {
+    run(0);
+    run(1);
     return 0;
 }

@@ -44,6 +44,10 @@ static void shapes(void) {
         CHECK(ee_format(&store, &flash) == EE_WRONG_SHAPE);
         CHECK(ee_write(&store, 1, 1) == EE_OFF);
     }
+    ee_flash flash = flash_of(&p);
+    for (flash.pairs = 2; flash.pairs != 0; flash.pairs <<= 1) {
+        CHECK(ee_start(&store, &flash) == EE_WRONG_SHAPE && ee_format(&store, &flash) == EE_WRONG_SHAPE);
+    }
 }
 
 static void statuses(void) {
@@ -110,7 +114,7 @@ static void first_starts(void) {
     CHECK(ee_read(&store, 1, &value) == EE_OK && value == 10);
     p.torn[0][1] = 1;
     part before = p;
-    CHECK(ee_start(&store, &flash) == EE_NO_LIVE_SET && memcmp(&before, &p, sizeof p) == 0);
+    CHECK(ee_start(&store, &flash) == EE_NO_LIVE_SET && holds_same(&before, &p));
 }
 
 static void failing(void) {
@@ -125,6 +129,58 @@ static void failing(void) {
     CHECK(ee_counts(&store, &numbers) == EE_OK && numbers.fill == 1 && numbers.torn == 1);
 }
 
+/* Numbers of which no store made words are refused, wherever they stand, and nothing is written; a format takes them. */
+static void foreign_numbers(void) {
+    for (uint32_t page = 0; page < 4; page++) {
+        for (uint32_t place = 0; place < 12; place++) {
+            blank(&p, 2, 6);
+            p.pairs = 1;
+            ee_flash flash = flash_of(&p);
+            p.words[page][place] = 5;
+            p.words[page][place ^ 1] = UINT64_MAX - 6;
+            part before = p;
+            CHECK(ee_open(&store, &flash) == EE_FOREIGN && ee_start(&store, &flash) == EE_FOREIGN);
+            CHECK(ee_write(&store, 1, 1) == EE_OFF && holds_same(&before, &p));
+            p.steps = 0, p.cut_in = 1, p.tear = TEAR_TORN;
+            CHECK(ee_format(&store, &flash) == EE_DRIVER && ee_write(&store, 1, 1) == EE_OFF);
+            p.cut_in = 0, p.erased = 0;
+            CHECK(ee_format(&store, &flash) == EE_OK && p.erased == 1);
+            CHECK(ee_write(&store, 1, 10) == EE_OK && ee_start(&store, &flash) == EE_OK);
+            CHECK(ee_read(&store, 1, &value) == EE_OK && value == 10);
+        }
+    }
+}
+
+/* A word is two numbers, and one that lacks its other half is torn. The word 0 has an erased one as its second. */
+static void halves(void) {
+    blank(&p, 1, 6);
+    p.pairs = 1;
+    ee_flash flash = flash_of(&p);
+    CHECK(ee_start(&store, &flash) == EE_OK && ee_write(&store, 1, 10) == EE_OK);
+    CHECK(p.words[0][8] == 0x0000000a00000001 && p.words[0][9] == ~p.words[0][8]);
+    p.words[0][9] |= 1;
+    CHECK(ee_start(&store, &flash) == EE_OK && ee_read(&store, 1, &value) == EE_NOTHING);
+    CHECK(ee_counts(&store, &numbers) == EE_OK && numbers.torn == 1 && numbers.fill == 1);
+    p.words[0][10] = 0;
+    CHECK(ee_start(&store, &flash) == EE_FOREIGN);
+}
+
+/* A number that can't be read is no part of a value, and its word is not programmed. */
+static void unreadable_numbers(void) {
+    for (uint32_t place = 8; place < 12; place++) {
+        blank(&p, 1, 6);
+        p.pairs = 1;
+        ee_flash flash = flash_of(&p);
+        CHECK(ee_format(&store, &flash) == EE_OK && ee_write(&store, 1, 10) == EE_OK);
+        p.torn[0][place] = 1;
+        CHECK(ee_read(&store, 1, &value) == (place < 10 ? EE_NOTHING : EE_OK) && value == 10);
+        uint32_t status = ee_start(&store, &flash);
+        CHECK(status == EE_FOREIGN || status == EE_OK);
+        p.torn[0][place] = 0;
+        CHECK(ee_start(&store, &flash) == EE_OK && ee_read(&store, 1, &value) == EE_OK && value == 10);
+    }
+}
+
 int main(void) {
     blank(&p, 1, 6);
     nulls();
@@ -133,5 +189,8 @@ int main(void) {
     no_store();
     first_starts();
     failing();
+    foreign_numbers();
+    halves();
+    unreadable_numbers();
     return 0;
 }

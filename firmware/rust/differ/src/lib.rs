@@ -3,7 +3,7 @@
 
 pub mod image;
 
-use ee_store::{Driver, Shape, Word};
+use ee_store::{Driver, NumberDriver, Pairs, Shape, Word};
 use std::cell::RefCell;
 use std::rc::Rc;
 
@@ -37,14 +37,18 @@ pub const TEARS: [(char, Tear); 4] = [
 pub struct Part {
     /// Its size.
     pub shape: Shape,
-    /// The words of each page.
+    /// The words of each page, where it has words.
     pub pages: Vec<Vec<Word>>,
+    /// The numbers of each page, where it has numbers: two for each word.
+    pub numbers: Vec<Vec<u64>>,
     /// How often each page was erased.
     pub wear: Vec<u64>,
     /// How many further steps pass before one is cut, and what that one leaves.
     pub fuse: Option<(u64, Tear)>,
     /// How many steps were begun.
     pub steps: u64,
+    /// What a cut leaves of a number is drawn from here.
+    pub dice: u64,
 }
 
 impl Part {
@@ -53,9 +57,43 @@ impl Part {
         Part {
             shape,
             pages: vec![vec![Word::Erased; shape.words()]; 2 * shape.pages()],
+            numbers: Vec::new(),
             wear: vec![0; 2 * shape.pages()],
             fuse: None,
             steps: 0,
+            dice: 88_172_645_463_325_252,
+        }
+    }
+
+    /// A part of which every number is erased.
+    pub fn blank_numbers(shape: Shape) -> Part {
+        Part {
+            pages: Vec::new(),
+            numbers: vec![vec![u64::MAX; 2 * shape.words()]; 2 * shape.pages()],
+            ..Part::blank(shape)
+        }
+    }
+
+    /// Whether it has numbers.
+    pub fn has_numbers(&self) -> bool {
+        !self.numbers.is_empty()
+    }
+
+    // Bits that look random: half of them, few, many, or one.
+    fn any_bits(&mut self) -> u64 {
+        let mut rows = [0; 3];
+        for row in &mut rows {
+            self.dice ^= self.dice << 13;
+            self.dice ^= self.dice >> 7;
+            self.dice ^= self.dice << 17;
+            *row = self.dice.wrapping_mul(0x9e37_79b9_7f4a_7c15);
+        }
+        let [first, second, third] = rows;
+        match first >> 62 {
+            0 => second,
+            1 => first & second & third,
+            2 => first | second | third,
+            _ => 1 << (second >> 58),
         }
     }
 
@@ -88,6 +126,35 @@ impl Part {
         tear.map_or(Ok(()), |_| Err(PowerCut))
     }
 
+    /// Programs a number, which is erased. Where it is cut it has every bit of the one asked for.
+    pub fn program_number(&mut self, page: usize, at: usize, number: u64) -> Result<(), PowerCut> {
+        assert_eq!(self.numbers[page][at], u64::MAX, "the number is written");
+        assert_ne!(number, u64::MAX, "the number is all ones");
+        let tear = self.begin();
+        self.numbers[page][at] = match tear {
+            None | Some(Tear::Done) => number,
+            Some(Tear::Nothing) => u64::MAX,
+            Some(Tear::Torn | Tear::Mixed) => number | self.any_bits(),
+        };
+        tear.map_or(Ok(()), |_| Err(PowerCut))
+    }
+
+    /// Erases a page of numbers. Where it is cut each has every bit that it had.
+    pub fn erase_numbers(&mut self, page: usize) -> Result<(), PowerCut> {
+        let tear = self.begin();
+        self.wear[page] = self.wear[page].saturating_add(1);
+        for at in 0..self.numbers[page].len() {
+            let bits = self.any_bits();
+            let number = &mut self.numbers[page][at];
+            *number |= match (tear, at % 3) {
+                (None | Some(Tear::Done), _) | (Some(Tear::Mixed), 1) => u64::MAX,
+                (Some(Tear::Nothing), _) | (Some(Tear::Mixed), 0) => 0,
+                _ => bits,
+            };
+        }
+        tear.map_or(Ok(()), |_| Err(PowerCut))
+    }
+
     /// Erases a page.
     pub fn erase(&mut self, page: usize) -> Result<(), PowerCut> {
         let tear = self.begin();
@@ -108,9 +175,41 @@ impl Part {
 pub struct Shared(pub Rc<RefCell<Part>>);
 
 impl Shared {
-    /// A part to be shared.
+    /// A part to be shared. If it has numbers, they are those of a store.
     pub fn new(part: Part) -> Shared {
-        Shared(Rc::new(RefCell::new(part)))
+        let (shape, has_numbers) = (part.shape, part.has_numbers());
+        let shared = Shared(Rc::new(RefCell::new(part)));
+        if has_numbers {
+            let found = Pairs::of(Numbers(shared.clone()), shape);
+            assert_eq!(found.err().map(|(_, low)| low), None, "no two numbers are low");
+        }
+        shared
+    }
+
+    // The words of its numbers, None if it has words.
+    fn pairs(&self) -> Option<Pairs<Numbers>> {
+        let has_numbers = self.0.borrow().has_numbers();
+        has_numbers.then(|| Pairs::known(Numbers(self.clone())))
+    }
+}
+
+/// The numbers of a part that is shared.
+#[derive(Clone)]
+pub struct Numbers(pub Shared);
+
+impl NumberDriver for Numbers {
+    type Error = PowerCut;
+
+    fn read(&self, page: usize, at: usize) -> u64 {
+        self.0 .0.borrow().numbers[page][at]
+    }
+
+    fn program(&mut self, page: usize, at: usize, number: u64) -> Result<(), PowerCut> {
+        self.0 .0.borrow_mut().program_number(page, at, number)
+    }
+
+    fn erase(&mut self, page: usize) -> Result<(), PowerCut> {
+        self.0 .0.borrow_mut().erase_numbers(page)
     }
 }
 
@@ -118,14 +217,23 @@ impl Driver for Shared {
     type Error = PowerCut;
 
     fn word(&self, page: usize, at: usize) -> Word {
-        self.0.borrow().pages[page][at]
+        match self.pairs() {
+            Some(pairs) => pairs.word(page, at),
+            None => self.0.borrow().pages[page][at],
+        }
     }
 
     fn program(&mut self, page: usize, at: usize, value: u64) -> Result<(), PowerCut> {
-        self.0.borrow_mut().program(page, at, value)
+        match self.pairs() {
+            Some(mut pairs) => pairs.program(page, at, value),
+            None => self.0.borrow_mut().program(page, at, value),
+        }
     }
 
     fn erase(&mut self, page: usize) -> Result<(), PowerCut> {
-        self.0.borrow_mut().erase(page)
+        match self.pairs() {
+            Some(mut pairs) => pairs.erase(page),
+            None => self.0.borrow_mut().erase(page),
+        }
     }
 }

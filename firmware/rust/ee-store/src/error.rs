@@ -1,5 +1,6 @@
 use crate::driver::Driver;
 use crate::ee_pages::ScanFault;
+use crate::ee_pairs::LowPair;
 use core::fmt;
 
 /// The store is off, since its driver failed. Take the driver with `into_driver`, and open it anew.
@@ -92,6 +93,13 @@ impl fmt::Display for ScanFault {
     }
 }
 
+impl fmt::Display for LowPair {
+    fn fmt(&self, f: &mut fmt::Formatter<'_>) -> fmt::Result {
+        let LowPair { page, word } = self;
+        write!(f, "word {word} of page {page} is not the store's")
+    }
+}
+
 impl<E: fmt::Display> fmt::Display for OpenFault<E> {
     fn fmt(&self, f: &mut fmt::Formatter<'_>) -> fmt::Result {
         match self {
@@ -144,12 +152,15 @@ impl<E: fmt::Display> fmt::Display for CleanFault<E> {
 #[cfg(feature = "error")]
 #[allow(clippy::incompatible_msrv)] // The feature says that it takes Rust 1.81.
 mod errors {
-    use super::{CleanFault, Driver, Failed, ForgetFault, Off, OpenFault, ScanFault, WriteFault};
+    use super::{
+        CleanFault, Driver, Failed, ForgetFault, LowPair, Off, OpenFault, ScanFault, WriteFault,
+    };
     use core::error::Error;
     use core::fmt::{Debug, Display};
 
     impl Error for Off {}
     impl Error for ScanFault {}
+    impl Error for LowPair {}
     impl<E: Debug + Display> Error for OpenFault<E> {}
     impl<E: Debug + Display> Error for WriteFault<E> {}
     impl<E: Debug + Display> Error for ForgetFault<E> {}

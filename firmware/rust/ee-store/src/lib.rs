@@ -2,7 +2,7 @@
 #![no_std]
 #![forbid(unsafe_code)]
 
-// These four are the proved sources with their contracts left out (`firmware/rust/erase`). Some of their parameters
+// These five are the proved sources with their contracts left out (`firmware/rust/erase`). Some of their parameters
 // are named by contracts alone, some items serve other programs, and loops are written as their proofs want them.
 #[allow(dead_code, unused_imports, unused_variables)]
 #[allow(clippy::complexity, clippy::style)]
@@ -20,15 +20,24 @@ mod ee_flash;
 #[allow(clippy::complexity, clippy::style)]
 #[rustfmt::skip]
 mod ee_pages;
+#[allow(dead_code, unused_imports, unused_variables)]
+#[allow(clippy::complexity, clippy::style)]
+#[rustfmt::skip]
+mod ee_pairs;
 
 mod driver;
 mod error;
+mod numbers;
+mod pairs;
 mod store;
 
 pub use crate::ee_codec::Address;
 pub use crate::ee_core::Written;
 pub use crate::ee_flash::{Shape, Word};
 pub use crate::ee_pages::ScanFault;
+pub use crate::ee_pairs::LowPair;
 pub use driver::Driver;
 pub use error::{CleanFault, Failed, ForgetFault, Off, OpenFault, WriteFault};
+pub use numbers::NumberDriver;
+pub use pairs::Pairs;
 pub use store::{format, open, start, Store};

@@ -1,8 +1,8 @@
 //! Random calls against a map, each with power cut at every step and in every way.
 //!
-//!     calls COUNT SEED
+//!     calls COUNT SEED [pairs]
 //!
-//! plays so many calls of stores of random sizes. Each is started on a new part, cut as often as it happens. A call is played first with a cut at its first step, at its second,
+//! on a part of words, or of pairs of numbers, plays so many calls of stores of random sizes. Each is started on a new part, cut as often as it happens. A call is played first with a cut at its first step, at its second,
 //! and so on, in each of the four ways, up to a step that it does not take; each time the store is opened again, with
 //! a cut in the opening too now and then, and must hold the map before the call or after it. Then it is played uncut.
 //! At last the part is formatted, cut in each step and then again. All these count as calls. The first difference ends the program with a panic; without one it ends with a line
@@ -60,18 +60,17 @@ struct Course {
 }
 
 fn main() {
-    let words: Vec<u64> = env::args()
-        .skip(1)
-        .filter_map(|word| word.parse().ok())
-        .collect();
-    let [count, seed] = words[..] else {
-        eprintln!("calls COUNT SEED");
+    let words: Vec<String> = env::args().skip(1).collect();
+    let has_numbers = words.get(2).map(String::as_str) == Some("pairs");
+    let numbers: Vec<u64> = words.iter().filter_map(|word| word.parse().ok()).collect();
+    let [count, seed] = numbers[..] else {
+        eprintln!("calls COUNT SEED [pairs]");
         process::exit(2);
     };
     let mut dice = Dice(seed.wrapping_mul(0x9e37_79b9_7f4a_7c15) | 1);
     let (mut calls, mut cuts, mut stores) = (0, 0, 0);
     while calls < count {
-        let mut course = Course::new(&mut dice);
+        let mut course = Course::new(&mut dice, has_numbers);
         for _ in 0..40 + dice.below(60) {
             course.play(&mut dice);
         }
@@ -85,7 +84,7 @@ fn main() {
 }
 
 impl Course {
-    fn new(dice: &mut Dice) -> Course {
+    fn new(dice: &mut Dice, has_numbers: bool) -> Course {
         let longest = if dice.below(10) == 0 { 36 } else { 6 };
         let words = 5 + dice.below(longest) as usize;
         let shape = Shape::new(1 + dice.below(3) as usize, words).unwrap();
@@ -96,7 +95,8 @@ impl Course {
         } else {
             1 + dice.below(500) as u16
         };
-        let (part, starts) = started(shape, dice);
+        let blank = blank(shape, has_numbers);
+        let (part, starts) = started(blank, dice);
         Course {
             shape,
             part,
@@ -190,10 +190,12 @@ impl Course {
             let store = format(shared.clone(), self.shape).expect("nothing is armed");
             self.calls += 1;
             assert_eq!(listed(&store), Map::new());
-            let left = shared.0.borrow().pages.clone();
-            let fresh = Shared::new(Part::blank(self.shape));
+            let left = shared.0.borrow();
+            let fresh = Shared::new(blank(self.shape, left.has_numbers()));
             assert!(format(fresh.clone(), self.shape).is_ok());
-            assert_eq!(left, fresh.0.borrow().pages, "formatted is as new");
+            let fresh = fresh.0.borrow();
+            assert_eq!(left.pages, fresh.pages, "formatted is as new");
+            assert_eq!(left.numbers, fresh.numbers, "formatted is as new");
             if !is_cut {
                 return;
             }
@@ -262,9 +264,17 @@ impl Course {
     }
 }
 
+/// A new part.
+fn blank(shape: Shape, has_numbers: bool) -> Part {
+    match has_numbers {
+        true => Part::blank_numbers(shape),
+        false => Part::blank(shape),
+    }
+}
+
 /// A new part on which a store was started, cut in as many steps as it happens, and how many starts that took.
-fn started(shape: Shape, dice: &mut Dice) -> (Part, u64) {
-    let mut part = Part::blank(shape);
+fn started(mut part: Part, dice: &mut Dice) -> (Part, u64) {
+    let shape = part.shape;
     for starts in 1.. {
         let (_, tear) = TEARS[dice.below(4) as usize];
         part.fuse = Some((dice.below(1 + 2 * starts.min(9)), tear));

@@ -1,0 +1,39 @@
+/* An example of a port: a store in the flash of an RP2040's board, which has no error correction, so its words are pairs of
+ * numbers. It was tested on a computer against a model of the boot ROM's functions and of the flash (tests/rp2040.c), and
+ * never on a board: rp2040_find_rom was never run. Nothing of it is proved. A flash chip that has error correction of its own
+ * doesn't fit, since 32 numbers are programmed into the same 256 bytes one after the other.
+ *
+ * While flash is written nothing is read from it: the port turns interrupts off, and what runs then stands in RAM, in the
+ * section .time_critical, which the linker scripts of the Pico SDK put there. The other core is yours to hold off flash. */
+#ifndef RP2040_H
+#define RP2040_H
+
+#include <stddef.h>
+#include <stdint.h>
+
+#include "../ee.h"
+
+/* The boot ROM's functions for flash (RP2040 Datasheet, "Flash Access Functions"). An offset is from the beginning of flash. */
+typedef struct rp2040_rom {
+    void (*connect)(void);
+    void (*exit_xip)(void);
+    void (*erase)(uint32_t offset, size_t count, uint32_t block_size, uint8_t block_command);
+    void (*program)(uint32_t offset, const uint8_t *bytes, size_t count);
+    void (*flush_cache)(void);
+    void (*enter_xip)(void); /* a faster one may stand here, in RAM: the board's second stage of booting */
+} rp2040_rom;
+
+/* A part of the flash for a store: whole sectors of 4 KB, that hold nothing else. It stands in RAM. */
+typedef struct rp2040 {
+    rp2040_rom rom;
+    const volatile uint32_t *flash; /* where the first of the sectors begins, as it is read: from 0x10000000 on */
+    uint32_t offset;                /* the same from the beginning of flash */
+} rp2040;
+
+/* The boot ROM's functions, as its table has them. */
+rp2040_rom rp2040_find_rom(void);
+
+/* The flash of the store: two sets of so many pages of 256 words, each a sector. */
+ee_flash rp2040_flash(rp2040 *part, uint32_t pages);
+
+#endif

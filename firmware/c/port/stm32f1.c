@@ -1,0 +1,107 @@
+#include "stm32f1.h"
+
+/* What a test puts in place of the part. On the part these are plain reads and writes, of registers and of half words. */
+#ifndef STM32F1_SET
+#define STM32F1_SET(address, value) (*(address) = (value))
+#define STM32F1_GET(address) (*(address))
+#define STM32F1_SET_HALF(address, value) (*(address) = (value))
+#define STM32F1_GET_HALF(address) (*(address))
+#endif
+
+enum {
+    KEY_1 = 0x45670123,
+    KEY_2 = (int32_t)0xcdef89ab,
+    SR_BSY = 1 << 0,
+    SR_ERRORS = 1 << 2 | 1 << 4, /* PGERR, WRPRTERR */
+    SR_EOP = 1 << 5,
+    CR_PG = 1 << 0,
+    CR_PER = 1 << 1,
+    CR_STRT = 1 << 6,
+    CR_LOCK = 1 << 7,
+    HALVES = 4, /* of a number */
+    /* A page takes 40 ms to be erased, and a turn of the loop some cycles of at most 72 MHz. */
+    MOST_TURNS = 4000000
+};
+
+/* Whether the flash ends what it does. */
+static int is_ready(stm32f1_registers *registers) {
+    for (uint32_t turn = 0; turn < MOST_TURNS; turn++) {
+        if ((STM32F1_GET(&registers->sr) & SR_BSY) == 0) return 1;
+    }
+    return 0;
+}
+
+/* Takes the errors of before away, and unlocks the control register. */
+static int begin(stm32f1_registers *registers) {
+    if (!is_ready(registers)) return 0;
+    STM32F1_SET(&registers->sr, SR_ERRORS | SR_EOP);
+    if (STM32F1_GET(&registers->cr) & CR_LOCK) {
+        STM32F1_SET(&registers->keyr, (uint32_t)KEY_1);
+        STM32F1_SET(&registers->keyr, (uint32_t)KEY_2);
+    }
+    return (STM32F1_GET(&registers->cr) & CR_LOCK) == 0;
+}
+
+/* Whether what was begun ended with no error. */
+static int is_done(stm32f1_registers *registers) {
+    return is_ready(registers) && (STM32F1_GET(&registers->sr) & SR_ERRORS) == 0;
+}
+
+/* Locks the control register. */
+static void lock(stm32f1_registers *registers) {
+    STM32F1_SET(&registers->cr, 0);
+    STM32F1_SET(&registers->cr, CR_LOCK);
+}
+
+static volatile uint16_t *number_at(const stm32f1 *part, uint32_t page, uint32_t place) {
+    return part->flash + HALVES * (2 * part->page_words * page + place);
+}
+
+static uint32_t word(void *context, uint32_t page, uint32_t place, uint64_t *value) {
+    volatile uint16_t *at = number_at(context, page, place);
+    *value = 0;
+    for (int i = HALVES - 1; i >= 0; i--) *value = *value << 16 | STM32F1_GET_HALF(&at[i]);
+    return 0;
+}
+
+/* Programs the half words of a number, but for those that stay erased. Whether there was no error. */
+static int program_halves(stm32f1_registers *registers, volatile uint16_t *at, uint64_t value) {
+    for (int i = 0; i < HALVES; i++) {
+        uint16_t half = (uint16_t)(value >> 16 * i);
+        if (half == UINT16_MAX) continue;
+        STM32F1_SET_HALF(&at[i], half);
+        if (!is_done(registers)) return 0;
+    }
+    return 1;
+}
+
+static uint32_t program(void *context, uint32_t page, uint32_t place, uint64_t value) {
+    stm32f1 *part = context;
+    uint64_t found;
+    if (!begin(part->registers)) return 1;
+    STM32F1_SET(&part->registers->cr, CR_PG);
+    int is_well = program_halves(part->registers, number_at(part, page, place), value);
+    lock(part->registers);
+    return !is_well || word(context, page, place, &found) != 0 || found != value;
+}
+
+static uint32_t erase(void *context, uint32_t page) {
+    stm32f1 *part = context;
+    uint64_t found;
+    if (!begin(part->registers)) return 1;
+    STM32F1_SET(&part->registers->cr, CR_PER);
+    STM32F1_SET(&part->registers->ar, (uint32_t)(uintptr_t)number_at(part, page, 0));
+    STM32F1_SET(&part->registers->cr, CR_PER | CR_STRT);
+    int is_well = is_done(part->registers);
+    lock(part->registers);
+    if (!is_well) return 1;
+    for (uint32_t place = 0; place < 2 * part->page_words; place++) {
+        if (word(context, page, place, &found) != 0 || found != UINT64_MAX) return 1;
+    }
+    return 0;
+}
+
+ee_flash stm32f1_flash(stm32f1 *part, uint32_t pages) {
+    ee_flash flash = {part, pages, part->page_words, word, program, erase, 1};
+    return flash;
+}

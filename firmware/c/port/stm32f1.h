@@ -1,0 +1,27 @@
+/* An example of a port: a store in the flash of an STM32F1, which has no error correction, so its words are pairs of numbers.
+ * It was tested on a computer against a model of the registers (tests/stm32f1.c), and never on a board. Nothing of it is
+ * proved. The internal oscillator (HSI) is on while flash is written. */
+#ifndef STM32F1_H
+#define STM32F1_H
+
+#include <stdint.h>
+
+#include "../ee.h"
+
+/* The registers of the flash, at 0x40022000 (PM0075, "Flash memory programming"); those of the second bank of an XL-density
+ * part begin at 0x40022040. */
+typedef struct stm32f1_registers {
+    volatile uint32_t acr, keyr, optkeyr, sr, cr, ar;
+} stm32f1_registers;
+
+/* A part of the flash for a store: whole pages of one bank, one behind the other, that hold nothing else. */
+typedef struct stm32f1 {
+    stm32f1_registers *registers; /* (stm32f1_registers *)0x40022000 */
+    volatile uint16_t *flash;     /* where the first of the pages begins */
+    uint32_t page_words;          /* 64 where pages have 1 KB (low and medium density), 128 where they have 2 KB */
+} stm32f1;
+
+/* The flash of the store: two sets of so many pages. */
+ee_flash stm32f1_flash(stm32f1 *part, uint32_t pages);
+
+#endif

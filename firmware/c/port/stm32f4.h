@@ -1,0 +1,32 @@
+/* An example of a port: a store in two sectors of the flash of an STM32F4, which has no error correction, so its words are
+ * pairs of numbers. It was tested on a computer against a model of the registers (tests/stm32f4.c), and never on a board.
+ * Nothing of it is proved. It programs by 32 bits, which takes a supply of 2.7 V at least. */
+#ifndef STM32F4_H
+#define STM32F4_H
+
+#include <stdint.h>
+
+#include "../ee.h"
+
+/* The registers of the flash, at 0x40023c00 (RM0090, "Embedded Flash memory interface"). */
+typedef struct stm32f4_registers {
+    volatile uint32_t acr, keyr, optkeyr, sr, cr, optcr;
+} stm32f4_registers;
+
+/* A sector, which holds nothing else. One of 16 KB is erased soonest; the sectors 1, 2 and 3 have that, and 0 the vectors. */
+typedef struct stm32f4_sector {
+    uint32_t number;          /* as SNB has it: 0 to 11, and 16 to 27 for the sectors 12 to 23 of a part with two banks */
+    volatile uint32_t *flash; /* where it begins */
+} stm32f4_sector;
+
+/* The flash of a store: a set is one page, which is the beginning of a sector. */
+typedef struct stm32f4 {
+    stm32f4_registers *registers; /* (stm32f4_registers *)0x40023c00 */
+    stm32f4_sector sectors[2];
+    uint32_t page_words; /* how many words of each sector are taken, 5 to 512: 16 bytes each, so 8 KB at most */
+} stm32f4;
+
+/* The flash of the store: two sets of one page. */
+ee_flash stm32f4_flash(stm32f4 *part);
+
+#endif

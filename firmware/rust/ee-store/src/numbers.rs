@@ -1,0 +1,57 @@
+/// How the store reads and writes a flash that has no error correction: as plain numbers of 64 bits, which
+/// [`Pairs`](crate::Pairs) makes words of.
+///
+/// The flash is two sets of as many pages, as for a [`Driver`](crate::Driver). A word of its
+/// [`Shape`](crate::Shape) takes two numbers, so a page has twice as many numbers as words; they are numbered from 0.
+///
+/// What the store's promises rest on:
+///
+/// - Cells go one way: from one to zero while a number is programmed, from zero to one while a page is erased. So where
+///   power fails in `program`, or it ends in an error, its number alone may have changed, and has every bit of the one
+///   asked for. Where that happens in `erase`, each number of its page has every bit that it had.
+/// - A number reads the same until it is programmed or its page is erased, power cuts included.
+/// - A call of `program` that is `Ok` leaves the number as given and all else as it was; one of `erase` that is `Ok`
+///   leaves each number of the page all ones and all else as it was.
+/// - No call of the store is made from inside one of these three.
+///
+/// A number may be programmed by parts of 8, 16 or 32 bits, in any order.
+///
+/// `&mut N` is such a driver too, so one can be lent.
+pub trait NumberDriver {
+    /// Why a number could not be programmed or a page not be erased.
+    type Error;
+
+    /// A number of a page. An erased one is all ones.
+    fn read(&self, page: usize, at: usize) -> u64;
+
+    /// Programs a number, which reads as all ones, with one that is not all ones.
+    ///
+    /// # Errors
+    ///
+    /// The call of the store ends with this error, as it would end with power, and the store is off then: take the
+    /// driver from it, and open it anew.
+    fn program(&mut self, page: usize, at: usize, number: u64) -> Result<(), Self::Error>;
+
+    /// Erases a page.
+    ///
+    /// # Errors
+    ///
+    /// As of `program`.
+    fn erase(&mut self, page: usize) -> Result<(), Self::Error>;
+}
+
+impl<N: NumberDriver> NumberDriver for &mut N {
+    type Error = N::Error;
+
+    fn read(&self, page: usize, at: usize) -> u64 {
+        (**self).read(page, at)
+    }
+
+    fn program(&mut self, page: usize, at: usize, number: u64) -> Result<(), N::Error> {
+        (**self).program(page, at, number)
+    }
+
+    fn erase(&mut self, page: usize) -> Result<(), N::Error> {
+        (**self).erase(page)
+    }
+}

@@ -1,0 +1,223 @@
+//! The store on a flash of numbers in memory, whose power is cut in a step.
+
+use ee_store::{
+    format, open, start, Address, Driver, Failed, LowPair, NumberDriver, OpenFault, Pairs, Shape,
+    Store, Word, WriteFault, Written,
+};
+
+/// Power was cut in this step.
+#[derive(Clone, Copy, Debug, PartialEq, Eq)]
+struct PowerCut(u32);
+
+/// Two sets of one page of six words, of two numbers each.
+#[derive(Clone)]
+struct Part {
+    numbers: [[u64; 12]; 2],
+    steps: u32,
+    /// The step that is cut, and the bits that it leaves of each number.
+    cut: Option<(u32, u64)>,
+}
+
+impl Part {
+    fn new() -> Part {
+        Part {
+            numbers: [[u64::MAX; 12]; 2],
+            steps: 0,
+            cut: None,
+        }
+    }
+
+    /// A step begins: the bits that a cut leaves, if it is cut.
+    fn begin(&mut self) -> Option<u64> {
+        self.steps += 1;
+        let (step, bits) = self.cut?;
+        (step == self.steps).then_some(bits)
+    }
+}
+
+impl NumberDriver for Part {
+    type Error = PowerCut;
+
+    fn read(&self, page: usize, at: usize) -> u64 {
+        self.numbers[page][at]
+    }
+
+    fn program(&mut self, page: usize, at: usize, number: u64) -> Result<(), PowerCut> {
+        assert_eq!(self.numbers[page][at], u64::MAX);
+        assert_ne!(number, u64::MAX);
+        let cut = self.begin();
+        self.numbers[page][at] = number | cut.unwrap_or(0);
+        cut.map_or(Ok(()), |_| Err(PowerCut(self.steps)))
+    }
+
+    fn erase(&mut self, page: usize) -> Result<(), PowerCut> {
+        let cut = self.begin();
+        for number in &mut self.numbers[page] {
+            *number |= cut.unwrap_or(u64::MAX);
+        }
+        cut.map_or(Ok(()), |_| Err(PowerCut(self.steps)))
+    }
+}
+
+const SHAPE: Shape = match Shape::new(1, 6) {
+    Some(shape) => shape,
+    None => panic!("1 to 64 pages, 5 to 512 words"),
+};
+const CUTS: [u64; 6] = [0, u64::MAX, 1, 1 << 63, 0x5555_5555_5555_5555, 0xffff_0000];
+
+fn address(number: u16) -> Address {
+    Address::new(number).unwrap()
+}
+
+fn pairs(part: Part) -> Pairs<Part> {
+    match Pairs::of(part, SHAPE) {
+        Ok(pairs) => pairs,
+        Err((_, low)) => panic!("{low}"),
+    }
+}
+
+fn started(part: Part) -> Store<Pairs<Part>> {
+    start(pairs(part), SHAPE).unwrap_or_else(|failed| panic!("{:?}", failed.fault))
+}
+
+fn part_of(store: Store<Pairs<Part>>) -> Part {
+    store.into_driver().into_driver()
+}
+
+#[test]
+fn a_word_is_a_number_and_its_complement() {
+    let mut store = started(Part::new());
+    assert_eq!(store.write(address(1), 10), Ok(Written::Appended));
+    let part = part_of(store);
+    let word = 0x0000_000a_0000_0001;
+    assert_eq!(part.numbers[0][8..10], [word, !word]);
+    let store = started(part);
+    assert_eq!(store.read(address(1)), Ok(Some(10)));
+}
+
+#[test]
+fn words_of_two_numbers() {
+    let rows = [
+        (u64::MAX, u64::MAX, Word::Erased),
+        (7, u64::MAX - 7, Word::Held(7)),
+        (0, u64::MAX, Word::Held(0)),
+        (u64::MAX - 1, 1, Word::Held(u64::MAX - 1)),
+        (u64::MAX, 0, Word::Torn),
+        (u64::MAX, u64::MAX - 1, Word::Torn),
+        (7, u64::MAX, Word::Torn),
+        (7, u64::MAX - 6, Word::Torn),
+    ];
+    for (number, check, word) in rows {
+        let mut part = Part::new();
+        part.numbers[1][10..].copy_from_slice(&[number, check]);
+        assert_eq!(pairs(part).word(1, 5), word);
+    }
+}
+
+#[test]
+fn the_word_0_is_one_step() {
+    let mut pairs = pairs(Part::new());
+    assert_eq!(pairs.program(0, 0, 0), Ok(()));
+    assert_eq!(pairs.driver().steps, 1);
+    assert_eq!(pairs.word(0, 0), Word::Held(0));
+    assert_eq!(pairs.erase(0), Ok(()));
+    assert_eq!(pairs.word(0, 0), Word::Erased);
+}
+
+#[test]
+fn numbers_of_no_store_are_refused_and_wiped() {
+    for page in 0..2 {
+        for word in 0..6 {
+            let mut part = Part::new();
+            part.numbers[page][2 * word] = 7;
+            part.numbers[page][2 * word + 1] = u64::MAX - 8;
+            let numbers = part.numbers;
+            let (part, low) = Pairs::of(part, SHAPE).err().unwrap();
+            assert_eq!(low, LowPair { page, word });
+            assert_eq!((part.numbers, part.steps), (numbers, 0));
+            let wiped = Pairs::wipe(part, SHAPE).ok().unwrap();
+            assert_eq!(wiped.driver().steps, 1);
+            let store = format(wiped, SHAPE).unwrap();
+            assert_eq!(store.live_count(), Ok(0));
+        }
+    }
+    let low = LowPair { page: 1, word: 4 };
+    assert_eq!(low.to_string(), "word 4 of page 1 is not the store's");
+}
+
+#[test]
+fn a_page_with_one_number_is_wiped() {
+    for page in 0..2 {
+        for at in 0..12 {
+            let mut part = Part::new();
+            part.numbers[page][at] = 7;
+            let wiped = Pairs::wipe(part, SHAPE).ok().unwrap().into_driver();
+            assert_eq!((wiped.numbers, wiped.steps), (Part::new().numbers, 1));
+        }
+    }
+}
+
+#[test]
+fn the_first_low_pair_is_named() {
+    let mut part = Part::new();
+    for (page, at) in [(0, 8), (0, 10), (1, 0)] {
+        part.numbers[page][at] = 7;
+        part.numbers[page][at + 1] = 7;
+    }
+    let low = Pairs::of(part, SHAPE).err().unwrap().1;
+    assert_eq!(low, LowPair { page: 0, word: 4 });
+}
+
+#[test]
+fn a_wipe_that_is_cut_gives_its_error() {
+    let mut part = Part::new();
+    part.numbers = [[7; 12]; 2];
+    for step in 1..=2 {
+        part.steps = 0;
+        part.cut = Some((step, 1 << 5));
+        let (cut, error) = Pairs::wipe(part.clone(), SHAPE).err().unwrap();
+        assert_eq!(error, PowerCut(step));
+        assert_eq!(cut.numbers[1][0], if step == 2 { 7 | 1 << 5 } else { 7 });
+    }
+    part.cut = None;
+    assert_eq!(Pairs::wipe(part, SHAPE).ok().unwrap().driver().steps, 2);
+}
+
+#[test]
+fn no_value_is_lost_by_a_cut() {
+    let mut full = started(Part::new());
+    assert_eq!(full.write(address(1), 10), Ok(Written::Appended));
+    assert_eq!(full.write(address(1), 11), Ok(Written::Appended));
+    let full = part_of(full);
+    for bits in CUTS {
+        for step in 1.. {
+            let mut part = full.clone();
+            part.steps = 0;
+            part.cut = Some((step, bits));
+            let mut store = started(part);
+            let written = store.write(address(2), 5);
+            if written == Ok(Written::Moved) {
+                assert!(step > 8);
+                break;
+            }
+            assert_eq!(written, Err(WriteFault::Driver(PowerCut(step))));
+            let store = started(part_of(store));
+            assert_eq!(store.read(address(1)), Ok(Some(11)));
+            let second = store.read(address(2)).unwrap();
+            assert!(second.is_none() || second == Some(5));
+        }
+    }
+}
+
+#[test]
+fn the_driver_is_opened_again_after_a_cut() {
+    let mut part = Part::new();
+    part.cut = Some((1, 0xff));
+    let failed: Failed<Pairs<Part>> = start(pairs(part), SHAPE).err().unwrap();
+    assert_eq!(failed.fault, OpenFault::Driver(PowerCut(1)));
+    let mut store = start(failed.driver, SHAPE).unwrap();
+    assert_eq!(store.write(address(1), 10), Ok(Written::Appended));
+    let mut part = part_of(store);
+    let store = open(Pairs::known(&mut part), SHAPE).unwrap();
+    assert_eq!(store.read(address(1)), Ok(Some(10)));
+}
