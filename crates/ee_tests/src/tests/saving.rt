@@ -168,15 +168,15 @@ fn what_is_not_what_was_read_stays(rt: HostRuntime) -> Result<(), Fail> {
 #[test]
 fn what_is_held_stays(rt: HostRuntime) -> Result<(), Fail> {
     let changed = Err(SaveFault::Changed);
-    fs::write(&rt, "other", b"".as_slice())?;
-    let held = fs::open(&rt, "other")?;
+    fs::write(&rt, "held", b"".as_slice())?;
+    let held = fs::open(&rt, "held")?;
     same(&rt, rt.try_lock(&held).is_ok(), true);
-    same(&rt, save(&rt, "other", None, FORMATTED), changed);
-    same(&rt, save(&rt, "other", Some(b""), FORMATTED), changed);
-    holds(&rt, 0, "other", b"")?;
+    same(&rt, save(&rt, "held", None, FORMATTED), changed);
+    same(&rt, save(&rt, "held", Some(b""), FORMATTED), changed);
+    holds(&rt, 0, "held", b"")?;
     drop(held);
-    same(&rt, save(&rt, "other", None, FORMATTED), Ok(()));
-    holds(&rt, 0, "other", FORMATTED)
+    same(&rt, save(&rt, "held", None, FORMATTED), Ok(()));
+    holds(&rt, 0, "held", FORMATTED)
 }
 
 /// What a broken run left doesn't hinder, and stays.

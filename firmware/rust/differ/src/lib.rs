@@ -74,6 +74,21 @@ impl Part {
         }
     }
 
+    /// The same part with pairs of numbers for its words. A torn one is a first number of all ones beside zeros.
+    pub fn doubled(&self) -> Part {
+        let pair = |word: &Word| match *word {
+            Word::Erased => [u64::MAX, u64::MAX],
+            Word::Held(number) => [number, !number],
+            Word::Torn => [u64::MAX, 0],
+        };
+        let numbers = self.pages.iter().map(|words| words.iter().flat_map(pair).collect());
+        Part {
+            pages: Vec::new(),
+            numbers: numbers.collect(),
+            ..self.clone()
+        }
+    }
+
     /// Whether it has numbers.
     pub fn has_numbers(&self) -> bool {
         !self.numbers.is_empty()
