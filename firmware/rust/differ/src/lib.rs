@@ -81,7 +81,10 @@ impl Part {
             Word::Held(number) => [number, !number],
             Word::Torn => [u64::MAX, 0],
         };
-        let numbers = self.pages.iter().map(|words| words.iter().flat_map(pair).collect());
+        let numbers = self
+            .pages
+            .iter()
+            .map(|words| words.iter().flat_map(pair).collect());
         Part {
             pages: Vec::new(),
             numbers: numbers.collect(),
@@ -196,7 +199,11 @@ impl Shared {
         let shared = Shared(Rc::new(RefCell::new(part)));
         if has_numbers {
             let found = Pairs::of(Numbers(shared.clone()), shape);
-            assert_eq!(found.err().map(|(_, low)| low), None, "no two numbers are low");
+            assert_eq!(
+                found.err().map(|(_, low)| low),
+                None,
+                "no two numbers are low"
+            );
         }
         shared
     }

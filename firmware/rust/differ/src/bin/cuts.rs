@@ -73,7 +73,14 @@ fn cut_everywhere(part: &Part, change: Change, after: &[(u16, u32)]) -> u64 {
             let (mut store, shared) = opened(part);
             {
                 let mut part = shared.0.borrow_mut();
-                part.fuse = Some((step, if way % 4 == 3 { Tear::Mixed } else { Tear::Torn }));
+                part.fuse = Some((
+                    step,
+                    if way % 4 == 3 {
+                        Tear::Mixed
+                    } else {
+                        Tear::Torn
+                    },
+                ));
                 part.dice = (way + 1).wrapping_mul(0x9e37_79b9_7f4a_7c15) | 1;
             }
             if !is_cut(&mut store, change) {
@@ -82,7 +89,10 @@ fn cut_everywhere(part: &Part, change: Change, after: &[(u16, u32)]) -> u64 {
             cuts += 1;
             let left = shared.0.borrow().clone();
             let map = held(&opened(&left).0);
-            assert!(map == before || map == after, "{change:?} cut at {step}, way {way}, on {part:?}");
+            assert!(
+                map == before || map == after,
+                "{change:?} cut at {step}, way {way}, on {part:?}"
+            );
         }
     }
     cuts
@@ -98,15 +108,21 @@ fn changed(part: &Part, change: Change) -> (Part, Vec<(u16, u32)>) {
 
 /// A store on a copy of a part, whose power stays on.
 fn opened(part: &Part) -> (Store<Shared>, Shared) {
-    let shared = Shared::new(Part { fuse: None, ..part.clone() });
-    let store = open(shared.clone(), part.shape).unwrap_or_else(|failed| panic!("{part:?} opens as {:?}", failed.fault));
+    let shared = Shared::new(Part {
+        fuse: None,
+        ..part.clone()
+    });
+    let store = open(shared.clone(), part.shape)
+        .unwrap_or_else(|failed| panic!("{part:?} opens as {:?}", failed.fault));
     (store, shared)
 }
 
 /// Makes a change, and says whether power was cut in it.
 fn is_cut(store: &mut Store<Shared>, change: Change) -> bool {
     match change {
-        Change::Write(address, value) => store.write(address, value) == Err(WriteFault::Driver(PowerCut)),
+        Change::Write(address, value) => {
+            store.write(address, value) == Err(WriteFault::Driver(PowerCut))
+        }
         Change::Forget(address) => store.forget(address) == Err(ForgetFault::Driver(PowerCut)),
         Change::Clean => store.clean_step() == Err(CleanFault::Driver(PowerCut)),
     }
