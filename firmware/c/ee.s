@@ -1,6 +1,6 @@
 /* ee: variables in flash, the library of ee.h as one file, for every Cortex-M.
  *
- * sum of sources: c0694462a0959d91ad515b0c5f7ba970e450412d3e8b329a195556ab3d6a793e
+ * sum of sources: bfc1393a9bd1a9f05947ed116145e7323b97799db04f87a62c684d76a1e715a5
  * sum of the text below: 5bc65ded02ab585e0cc27d1f2ac78593030253388de16a7b82d81f15708f72f8
  * made by: firmware/c/assemble
  * compiler: rustc 1.96.0 (ac68faa20 2026-05-25) (built from a source tarball), LLVM 22.1.8

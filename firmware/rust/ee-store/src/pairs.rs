@@ -93,12 +93,13 @@ impl<N: NumberDriver> Driver for Pairs<N> {
 type Lent<N> = proved::Pairs<Numbers<N>>;
 
 // The proved words of a driver for one call. Its flash went through `of` or `wipe`, and by the proofs each step and each
-// cut keeps what they see to; so it is not looked through again. Of its shape nothing is asked.
+// cut keeps what they see to; so it is not looked through again. A step doesn't ask for the shape, so it is the largest, by
+// which each page and place that the store asks for is in range.
 fn lent<N: NumberDriver>(driver: N) -> Lent<N> {
-    proved::Pairs::known(Numbers::on(driver, SMALLEST))
+    proved::Pairs::known(Numbers::on(driver, LARGEST))
 }
 
-const SMALLEST: Shape = match Shape::new(1, 5) {
+const LARGEST: Shape = match Shape::new(64, 512) {
     Some(shape) => shape,
     None => unreachable!(),
 };
