@@ -8,6 +8,7 @@ use Rattle.ee_flash.specs.Device.{Device}
 use Rattle.ee_flash.specs.declared.word.Word.{Word}
 use Rattle.ee_flash.specs.declared.word.Word.TheVariants.{Erased, Held, Torn}
 use Rattle.ee_dump.specs.Dump.{IsDump, IsFirstTorn, IsWholePage, words_of}
+use Rattle.ee_dump.specs.declared.form.Form.{Form}
 use Rattle.ee_dump.proofs.Words.{erased_whole, held_whole}
 
 -- ---- none
@@ -148,5 +149,5 @@ one_first device page at other place first second =
     (same, omega (arith, place_not_before device page at place first here, place_not_before device page place at here first))
 
 -- a dump has none
-pub no_torn : (device : Device) (dump : List ℕ) (page at : ℕ) → IsDump device dump → IsFirstTorn device page at → ⊥
-no_torn device dump page at is first = is.whole page at first.torn
+pub no_torn : (form : Form) (device : Device) (dump : List ℕ) (page at : ℕ) → IsDump form device dump → IsFirstTorn device page at → ⊥
+no_torn form device dump page at is first = is.whole page at first.torn

@@ -1,3 +1,4 @@
+pub mod Pair
 pub mod Dump
 pub mod Fault
 pub mod Reading

@@ -6,8 +6,11 @@ use std::alloc::AllocError;
 /// Source: ours.
 #[derive(Clone, Copy, Debug, PartialEq, Eq)]
 pub enum DumpFault {
-    /// The bytes are not eight for each word of both sets.
+    /// The bytes are not as many as the words of both sets have.
     Length,
+    /// The first word whose two numbers sum to less than `u64::MAX`, by its page, counted from 0 over both sets, and then by
+    /// its place there. No store wrote it.
+    LowPair { page: usize, at: usize },
     /// Memory ran out.
     Memory,
 }

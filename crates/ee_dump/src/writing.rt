@@ -7,9 +7,9 @@ ghost use Rattle.ee_dump.specs.Dump.{IsDump, IsFirstTorn, IsWholePage, word_byte
 ghost use Rattle.ee_dump.specs.Fault.{IsWriteFault};
 ghost use Rattle.ee_dump.specs.Writing.{IsTornPageFault};
 
-use crate::WriteFault;
-use crate::word::bytes_of;
-use ee_flash::Flash;
+use crate::word::push_word;
+use crate::{Form, WriteFault};
+use ee_flash::{Flash, Word};
 use std::alloc::Allocator;
 
 /// The dump of a device.
@@ -19,8 +19,12 @@ use std::alloc::Allocator;
 /// `TornWord`, the first torn word; `Memory` can come in place of any answer.
 ///
 /// Source: ours.
-pub fn write_dump<F: Flash, A: Allocator>(alloc: A, flash: &F) -> Result<Vec<u8, A>, WriteFault>
-    ensures written { IfOk result (λ dump. IsDump (F.device flash.now) dump.items) }
+pub fn write_dump<F: Flash, A: Allocator>(
+    alloc: A,
+    form: Form,
+    flash: &F,
+) -> Result<Vec<u8, A>, WriteFault>
+    ensures written { IfOk result (λ dump. IsDump form (F.device flash.now) dump.items) }
     ensures fault { IfErr result (IsWriteFault (F.device flash.now)) }
     // A torn word is never passed over.
     ensures names { (page at : ℕ) → IsFirstTorn (F.device flash.now) page at
@@ -29,16 +33,16 @@ pub fn write_dump<F: Flash, A: Allocator>(alloc: A, flash: &F) -> Result<Vec<u8,
         (λ fault. (fault ≡ WriteFault.TornWord page at) ⊎ (fault ≡ WriteFault.Memory)) }
 {
     let shape = flash.shape();
-    let pages = 2 * shape.pages();
-    let mut dump = Vec::with_capacity(alloc, 8 * (pages * shape.words()))?;
-    for page in 0..pages {
-        push_page(flash, page, &mut dump)?;
+    let mut dump = Vec::with_capacity(alloc, form.dump_length(shape))?;
+    for page in 0..2 * shape.pages() {
+        push_page(form, flash, page, &mut dump)?;
     }
     Ok(dump)
 }
 
 /// Writes the words of a page. After an error there may be a part of them.
 fn push_page<F: Flash, A: Allocator>(
+    form: Form,
     flash: &F,
     page: usize,
     out: &mut Vec<u8, A>,
@@ -46,14 +50,14 @@ fn push_page<F: Flash, A: Allocator>(
     requires { page < page_count (F.device flash.now).size }
     ensures whole { OnOk result (IsWholePage (F.device flash.now) page) }
     ensures written { OnOk result (out.new.items
-        ≡ out.old.items ++ flat_map word_bytes (page_at (F.device flash.now) page)) }
+        ≡ out.old.items ++ flat_map (word_bytes form) (page_at (F.device flash.now) page)) }
     ensures fault { IfErr result (IsTornPageFault (F.device flash.now) page) }
 {
     for at in 0..flash.shape().words() {
-        let Some(bytes) = bytes_of(flash.word(page, at)) else {
-            return Err(WriteFault::TornWord { page, at });
-        };
-        out.extend_from_slice(&bytes)?;
+        match flash.word(page, at) {
+            Word::Torn => return Err(WriteFault::TornWord { page, at }),
+            word => push_word(form, word, out)?,
+        }
     }
     Ok(())
 }

@@ -9,7 +9,7 @@ use Rattle.ee_flash.specs.declared.word.Word.TheVariants.{Erased, Held, Torn}
 use Rattle.ee_pairs.specs.Nor.{HasBits, IsNorNumber, KeepsBits, NorDevice, number_in, numbers_at, with_numbers, with_numbers_erased}
 use Rattle.ee_pairs.specs.Pairs.{paired_device, pair_in, sum_in, pair_word, pair_words}
 use Rattle.ee_pairs.specs.Formed.{get_or-pair_words, length-pair_words, word_cases}
-use Rattle.ee_pairs.proofs.Bits.{no_less}
+use Rattle.ee_pairs.proofs.Bits.{makes_no_number, no_less}
 
 -- where one word's numbers change, that word does
 pub pair_words-changed : (count : ℕ) (old new : List ℕ) (word : ℕ) → ((other : ℕ) → other ≢ word → pair_in new other ≡ pair_in old other) → pair_words count new ≡ set (pair_words count old) word (pair_in new word)
@@ -77,13 +77,7 @@ second_cut value check below = elim (word_cases value check) [
 pub erase_cut : (number check left left_check : ℕ) → IsNorNumber left → all_ones ≤ number + check → HasBits left number → HasBits left_check check → (pair_word left left_check ≡ pair_word number check) ⊎ ((pair_word left left_check ≡ Erased) ⊎ (pair_word left left_check ≡ Torn))
 erase_cut number check left left_check fits high has has_check = elim (word_cases left left_check) [
   | inl erased ↦ inr (inl erased.2)
-  | inr (inl held) ↦
-      let other = held.1 in
-      let least = no_less left number has in
-      let least_check = no_less left_check check has_check in
-      let same : left ≡ number = omega arith in
-      let same_check : left_check ≡ check = omega arith in
-      inl (rw (same, same_check) refl)
+  | inr (inl held) ↦ inl (held.2 ∙ sym (makes_no_number number check left left_check left fits high has has_check held.2))
   | inr (inr torn) ↦ inr (inr torn)
 ]
 

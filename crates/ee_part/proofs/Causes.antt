@@ -4,12 +4,14 @@ use Rattle.ee_flash.specs.Device.{Device, IsFormed}
 use Rattle.ee_flash.specs.Size.{Size}
 use Rattle.ee_image.specs.Text.{at_rest}
 use Rattle.ee_dump.specs.Dump.{IsDump, IsFirstTorn, IsImport, dump_length}
-use Rattle.ee_dump.specs.Fault.{IsDumpFault, IsWriteFault}
+use Rattle.ee_dump.specs.Fault.{HasLowPair, IsDumpFault, IsWriteFault}
+use Rattle.ee_dump.specs.declared.form.Form.{Form}
+use Rattle.ee_dump.specs.declared.form.Form.TheVariants.{Words, Pairs}
 use Rattle.ee_dump.specs.declared.fault.DumpFault.{DumpFault}
 use Rattle.ee_dump.specs.declared.fault.DumpFault.TheVariants as dump
 use Rattle.ee_dump.specs.declared.fault.WriteFault.{WriteFault}
 use Rattle.ee_dump.specs.declared.fault.WriteFault.TheVariants as write
-use Rattle.ee_dump.proofs.Public.{dumps_are_read_lem, no_torn, one_first}
+use Rattle.ee_dump.proofs.Public.{imports_are_read, no_torn, one_first, one_low_fault}
 use Rattle.ee_image_store.specs.Opening.{SpellsDevice}
 use Rattle.ee_image_store.proofs.Public.{one_file_fault, only_memory, reading_good, same_at_rest}
 use Rattle.ee_faults.specs.declared.fault.Fault.{Fault}
@@ -27,8 +29,8 @@ IsNamed fault cause = (fault ≡ cause) ⊎ (fault ≡ Memory)
 moved_torn : (device other : Device) (page at : ℕ) → at_rest device ≡ at_rest other → IsFirstTorn device page at → IsFirstTorn other page at
 moved_torn device other page at same first = search rules
 
-pub moved_dump : (device other : Device) (bytes : List ℕ) → at_rest device ≡ at_rest other → IsDump device bytes → IsDump other bytes
-moved_dump device other bytes same is = search rules
+pub moved_dump : (form : Form) (device other : Device) (bytes : List ℕ) → at_rest device ≡ at_rest other → IsDump form device bytes → IsDump form other bytes
+moved_dump form device other bytes same is = search rules
 
 pub same_size : (device other : Device) → at_rest device ≡ at_rest other → device.size ≡ other.size
 same_size device other same = ap (λ (d : Device). d.size) same
@@ -44,14 +46,14 @@ one_write_fault device other (write.TornWord page at) (write.TornWord torn_page 
 pub one_device_fault : (device other : Device) (cause fault : Fault) → at_rest device ≡ at_rest other → cause ≢ Memory → IsDeviceFault device cause → IsDeviceFault other fault → IsNamed fault cause
 one_device_fault device other cause fault same some h i = search (rules, one_write_fault)
 
-dump_has_none : (device : Device) (bytes : List ℕ) (cause : WriteFault) → IsDump device bytes → IsWriteFault device cause → cause ≡ write.Memory
-dump_has_none device bytes (write.TornWord page at) is first = absurd (no_torn device bytes page at is first)
-dump_has_none device bytes write.Memory is lack = refl
+dump_has_none : (form : Form) (device : Device) (bytes : List ℕ) (cause : WriteFault) → IsDump form device bytes → IsWriteFault device cause → cause ≡ write.Memory
+dump_has_none form device bytes (write.TornWord page at) is first = absurd (no_torn form device bytes page at is first)
+dump_has_none form device bytes write.Memory is lack = refl
 
 -- a device with a dump has no cause
-pub device_good : (device other : Device) (bytes : List ℕ) (cause : Fault) → at_rest device ≡ at_rest other → IsDump other bytes → cause ≢ Memory → IsDeviceFault device cause → ⊥
-device_good device other bytes cause same is some h =
-    some (h.fault_is ∙ ap fault_of_write (dump_has_none device bytes h.cause (moved_dump other device bytes (sym same) is) h.applies))
+pub device_good : (form : Form) (device other : Device) (bytes : List ℕ) (cause : Fault) → at_rest device ≡ at_rest other → IsDump form other bytes → cause ≢ Memory → IsDeviceFault device cause → ⊥
+device_good form device other bytes cause same is some h =
+    some (h.fault_is ∙ ap fault_of_write (dump_has_none form device bytes h.cause (moved_dump form other device bytes (sym same) is) h.applies))
 
 -- ---- exports
 
@@ -61,44 +63,60 @@ one_export_fault image cause fault some (inl h) (inr i) = absurd (reading_good i
 one_export_fault image cause fault some (inr h) (inl i) = inr (only_memory Image image h.0 fault h.1 i)
 one_export_fault image cause fault some (inr h) (inr i) = one_device_fault h.0 i.0 cause fault (same_at_rest image h.0 i.0 h.1 i.1) some h.2 i.2
 
-pub exported_good : (image bytes : List ℕ) (cause : Fault) → IsExported image bytes → cause ≢ Memory → IsExportFault image cause → ⊥
-exported_good image bytes cause is some (inl h) = reading_good image is.device cause is.spelled some h
-exported_good image bytes cause is some (inr h) = device_good h.0 is.device bytes cause (same_at_rest image h.0 is.device h.1 is.spelled) is.dump_is some h.2
+pub exported_good : (form : Form) (image bytes : List ℕ) (cause : Fault) → IsExported form image bytes → cause ≢ Memory → IsExportFault image cause → ⊥
+exported_good form image bytes cause is some (inl h) = reading_good image is.device cause is.spelled some h
+exported_good form image bytes cause is some (inr h) = device_good form h.0 is.device bytes cause (same_at_rest image h.0 is.device h.1 is.spelled) is.dump_is some h.2
 
 -- ---- imports
 
-one_dump_fault : (size : Size) (bytes : List ℕ) (cause fault : DumpFault) → IsDumpFault size bytes cause → IsDumpFault size bytes fault → (fault ≡ cause) ⊎ (fault ≡ dump.Memory) ⊎ (cause ≡ dump.Memory)
-one_dump_fault size bytes cause dump.Memory h i = inr (inl refl)
-one_dump_fault size bytes dump.Memory fault h i = inr (inr refl)
-one_dump_fault size bytes dump.Length dump.Length h i = inl refl
+low_long : (form : Form) (size : Size) (bytes : List ℕ) (page at : ℕ) → HasLowPair form size bytes page at → length bytes ≡ dump_length form size
+low_long Words size bytes page at has = absurd has
+low_long Pairs size bytes page at has = has.0
 
-pub one_import_fault : (size : Size) (bytes : List ℕ) (cause fault : Fault) → cause ≢ Memory → IsImportFault size bytes cause → IsImportFault size bytes fault → IsNamed fault cause
-one_import_fault size bytes cause fault some h i = search (rules, one_dump_fault)
+one_low : (form : Form) (size : Size) (bytes : List ℕ) (page at other place : ℕ) → HasLowPair form size bytes page at → HasLowPair form size bytes other place → dump.LowPair other place ≡ dump.LowPair page at
+one_low Words size bytes page at other place has also = absurd has
+one_low Pairs size bytes page at other place has also = one_low_fault size bytes page at other place has.1 also.1
 
-long_has_none : (size : Size) (bytes : List ℕ) (cause : DumpFault) → length bytes ≡ dump_length size → IsDumpFault size bytes cause → cause ≡ dump.Memory
-long_has_none size bytes dump.Length long other = absurd (other long)
-long_has_none size bytes dump.Memory long same = refl
+one_dump_fault : (form : Form) (size : Size) (bytes : List ℕ) (cause fault : DumpFault) → IsDumpFault form size bytes cause → IsDumpFault form size bytes fault
+    → (fault ≡ cause) ⊎ (fault ≡ dump.Memory) ⊎ (cause ≡ dump.Memory)
+one_dump_fault form size bytes cause dump.Memory h i = inr (inl refl)
+one_dump_fault form size bytes dump.Memory fault h i = inr (inr refl)
+one_dump_fault form size bytes dump.Length dump.Length h i = inl refl
+one_dump_fault form size bytes dump.Length (dump.LowPair page at) h i = absurd (h (low_long form size bytes page at i))
+one_dump_fault form size bytes (dump.LowPair page at) dump.Length h i = absurd (i (low_long form size bytes page at h))
+one_dump_fault form size bytes (dump.LowPair page at) (dump.LowPair other place) h i = inl (one_low form size bytes page at other place h i)
 
--- where the length is right, nothing but memory was wanting
-pub import_lacks : (size : Size) (bytes : List ℕ) (fault : Fault) → length bytes ≡ dump_length size → IsImportFault size bytes fault → fault ≡ Memory
-import_lacks size bytes fault long h = h.fault_is ∙ ap fault_of_dump (long_has_none size bytes h.cause long h.applies)
+pub one_import_fault : (form : Form) (size : Size) (bytes : List ℕ) (cause fault : Fault) → cause ≢ Memory → IsImportFault form size bytes cause → IsImportFault form size bytes fault → IsNamed fault cause
+one_import_fault form size bytes cause fault some h i = search (rules, one_dump_fault)
 
--- the length of what was imported
-pub imported_length : (size : Size) (bytes image : List ℕ) → IsImported size bytes image → length bytes ≡ dump_length size
-imported_length size bytes image is =
-    dumps_are_read_lem is.device bytes is.spelled.formed is.made.dump_is ∙ ap (λ (d : Device). dump_length d.size) is.made.never_used
+-- there is a device with this dump
+abbrev pub IsADump : Form → Size → List ℕ → Type 0
+IsADump form size bytes = (length bytes ≡ dump_length form size) × ((page at : ℕ) → HasLowPair form size bytes page at → ⊥)
 
-pub imported_good : (size : Size) (bytes image : List ℕ) (cause : Fault) → IsImported size bytes image → cause ≢ Memory → IsImportFault size bytes cause → ⊥
-imported_good size bytes image cause is some h = some (import_lacks size bytes cause (imported_length size bytes image is) h)
+dump_has_no_cause : (form : Form) (size : Size) (bytes : List ℕ) (cause : DumpFault) → IsADump form size bytes → IsDumpFault form size bytes cause → cause ≡ dump.Memory
+dump_has_no_cause form size bytes dump.Length is other = absurd (other is.0)
+dump_has_no_cause form size bytes (dump.LowPair page at) is low = absurd (is.1 page at low)
+dump_has_no_cause form size bytes dump.Memory is lack = refl
+
+-- where there is one, nothing but memory was wanting
+pub import_lacks : (form : Form) (size : Size) (bytes : List ℕ) (fault : Fault) → IsADump form size bytes → IsImportFault form size bytes fault → fault ≡ Memory
+import_lacks form size bytes fault is h = h.fault_is ∙ ap fault_of_dump (dump_has_no_cause form size bytes h.cause is h.applies)
+
+-- what was imported is one
+pub imported_is : (form : Form) (size : Size) (bytes image : List ℕ) → IsImported form size bytes image → IsADump form size bytes
+imported_is form size bytes image is = imports_are_read form size bytes is.device is.spelled.formed is.made
+
+pub imported_good : (form : Form) (size : Size) (bytes image : List ℕ) (cause : Fault) → IsImported form size bytes image → cause ≢ Memory → IsImportFault form size bytes cause → ⊥
+imported_good form size bytes image cause is some h = some (import_lacks form size bytes cause (imported_is form size bytes image is) h)
 
 -- memory may run out where a dump was read
-pub import_memory : (size : Size) (bytes : List ℕ) (device : Device) → IsFormed device → IsImport size bytes device → IsImportFault size bytes Memory
-import_memory size bytes device formed made = search (rules, dumps_are_read_lem)
+pub import_memory : (form : Form) (size : Size) (bytes : List ℕ) (device : Device) → IsFormed device → IsImport form size bytes device → IsImportFault form size bytes Memory
+import_memory form size bytes device formed made = record { cause = dump.Memory; applies = (imports_are_read form size bytes device formed made).0; fault_is = refl }
 
 -- ---- a device that was read, and then written as bytes, or not
 
-module _ {T : Type 0} (items : T → List ℕ) (image : List ℕ) (device : Device) (spelled : SpellsDevice image device) where
-  pub is_exported : (r : Result T Fault) → IfOk r (λ t. IsDump device (items t)) → IfOk r (λ t. IsExported image (items t))
+module _ {T : Type 0} (items : T → List ℕ) (form : Form) (image : List ℕ) (device : Device) (spelled : SpellsDevice image device) where
+  pub is_exported : (r : Result T Fault) → IfOk r (λ t. IsDump form device (items t)) → IfOk r (λ t. IsExported form image (items t))
   is_exported (Ok t) is = record { device = device; spelled = spelled; dump_is = is }
   is_exported (Err fault) is = tt
 
@@ -106,7 +124,7 @@ module _ {T : Type 0} (items : T → List ℕ) (image : List ℕ) (device : Devi
   is_not_exported (Ok t) wrong = tt
   is_not_exported (Err fault) wrong = inr (device, spelled, wrong)
 
-  pub export_named : (r : Result T Fault) (cause : Fault) → IfOk r (λ t. IsDump device (items t)) → IfErr r (IsDeviceFault device) → cause ≢ Memory → IsExportFault image cause
+  pub export_named : (r : Result T Fault) (cause : Fault) → IfOk r (λ t. IsDump form device (items t)) → IfErr r (IsDeviceFault device) → cause ≢ Memory → IsExportFault image cause
       → MatchResult r (λ _. ⊥) (λ fault. (fault ≡ cause) ⊎ (fault ≡ Memory))
-  export_named (Ok t) cause is wrong some h = exported_good image (items t) cause (is_exported (Ok t) is) some h
+  export_named (Ok t) cause is wrong some h = exported_good form image (items t) cause (is_exported (Ok t) is) some h
   export_named (Err fault) cause is wrong some h = one_export_fault image cause fault some h (inr (device, spelled, wrong))

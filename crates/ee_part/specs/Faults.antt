@@ -3,6 +3,7 @@ use Rattle.std.specs.Prelude.{◌≡◌, ◌⊎◌, ℕ, List}
 use Rattle.ee_flash.specs.Size.{Size}
 use Rattle.ee_flash.specs.Device.{Device}
 use Rattle.ee_dump.specs.Fault.{IsDumpFault, IsWriteFault}
+use Rattle.ee_dump.specs.declared.form.Form.{Form}
 use Rattle.ee_dump.specs.declared.fault.DumpFault.{DumpFault}
 use Rattle.ee_dump.specs.declared.fault.DumpFault.TheVariants as dump
 use Rattle.ee_dump.specs.declared.fault.WriteFault.{WriteFault}
@@ -10,12 +11,13 @@ use Rattle.ee_dump.specs.declared.fault.WriteFault.TheVariants as write
 use Rattle.ee_image_store.specs.Opening.{SpellsDevice}
 use Rattle.ee_image_store.specs.FileFaults.{IsReadingFault}
 use Rattle.ee_faults.specs.declared.fault.Fault.{Fault}
-use Rattle.ee_faults.specs.declared.fault.Fault.TheVariants.{DumpLength, Memory, TornWord}
+use Rattle.ee_faults.specs.declared.fault.Fault.TheVariants.{DumpLength, LowPair, Memory, TornWord}
 
 -- ---- as they are told
 
 abbrev pub fault_of_dump : DumpFault → Fault
 fault_of_dump dump.Length = DumpLength
+fault_of_dump (dump.LowPair page at) = LowPair page at
 fault_of_dump dump.Memory = Memory
 
 abbrev pub fault_of_write : WriteFault → Fault
@@ -25,9 +27,9 @@ fault_of_write write.Memory = Memory
 -- ---- the causes
 
 -- why bytes are no dump of a part of this size
-pub record IsImportFault (size : Size) (bytes : List ℕ) (fault : Fault) : Type 0 where
+pub record IsImportFault (form : Form) (size : Size) (bytes : List ℕ) (fault : Fault) : Type 0 where
   pub cause : DumpFault
-  pub applies : IsDumpFault size bytes cause
+  pub applies : IsDumpFault form size bytes cause
   pub fault_is : fault ≡ fault_of_dump cause
 
 -- why a device has no dump

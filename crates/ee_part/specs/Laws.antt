@@ -2,7 +2,10 @@
 use Rattle.std.specs.Prelude.{◌≡◌, ℕ, List}
 use Rattle.ee_flash.specs.Size.{Size}
 use Rattle.ee_flash.specs.Device.{Device}
+use Rattle.ee_dump.specs.Dump.{IsWholePage}
 use Rattle.ee_dump.specs.Laws.{unworn_device}
+use Rattle.ee_dump.specs.declared.form.Form.{Form}
+use Rattle.ee_dump.specs.declared.form.Form.TheVariants.{Words, Pairs}
 use Rattle.ee_image_store.specs.Opening.{SpellsDevice}
 use Rattle.ee_faults.specs.declared.fault.Fault.{Fault}
 use Rattle.ee_faults.specs.declared.fault.Fault.TheVariants.{Memory}
@@ -14,17 +17,24 @@ use Rattle.ee_part.specs.Moving.{IsExported, IsImported}
 -- device, unworn
 abbrev pub ImportOfExport : Type 0
 ImportOfExport =
-    (image dump : List ℕ) (device : Device) → SpellsDevice image device → IsExported image dump
-    → ((fault : Fault) → IsImportFault device.size dump fault → fault ≡ Memory)
-    × ((other : List ℕ) → IsImported device.size dump other → SpellsDevice other (unworn_device device))
+    (form : Form) (image dump : List ℕ) (device : Device) → SpellsDevice image device → IsExported form image dump
+    → ((fault : Fault) → IsImportFault form device.size dump fault → fault ≡ Memory)
+    × ((other : List ℕ) → IsImported form device.size dump other → SpellsDevice other (unworn_device device))
 
 -- the image that a dump makes is exported as that dump
 abbrev pub ExportOfImport : Type 0
-ExportOfImport = (image dump : List ℕ) (size : Size) → IsImported size dump image → IsExported image dump × ((other : List ℕ) → IsExported image other → other ≡ dump)
+ExportOfImport = (image dump : List ℕ) (size : Size) → IsImported Words size dump image → IsExported Words image dump × ((other : List ℕ) → IsExported Words image other → other ≡ dump)
+
+-- and so it is of pairs, where no word of it is torn
+abbrev pub PairsExportOfImport : Type 0
+PairsExportOfImport =
+    (image dump : List ℕ) (size : Size) → (imported : IsImported Pairs size dump image)
+    → (((page : ℕ) → IsWholePage imported.device page) → IsExported Pairs image dump)
+    × ((other : List ℕ) → IsExported Pairs image other → other ≡ dump)
 
 -- and so it is by Intel HEX, from the address on that it was exported at
 abbrev pub HexImportOfExport : Type 0
 HexImportOfExport =
-    (image hex : List ℕ) (base : ℕ) (device : Device) → SpellsDevice image device → IsHexExported image base hex
-    → ((fault : Fault) → IsHexImportFault device.size base hex fault → fault ≡ Memory)
-    × ((other : List ℕ) → IsHexImported device.size base hex other → SpellsDevice other (unworn_device device))
+    (form : Form) (image hex : List ℕ) (base : ℕ) (device : Device) → SpellsDevice image device → IsHexExported form image base hex
+    → ((fault : Fault) → IsHexImportFault form device.size base hex fault → fault ≡ Memory)
+    × ((other : List ℕ) → IsHexImported form device.size base hex other → SpellsDevice other (unworn_device device))

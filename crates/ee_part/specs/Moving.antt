@@ -3,16 +3,17 @@ use Rattle.std.specs.Prelude.{ℕ, List}
 use Rattle.ee_flash.specs.Size.{Size}
 use Rattle.ee_flash.specs.Device.{Device}
 use Rattle.ee_dump.specs.Dump.{IsDump, IsImport}
+use Rattle.ee_dump.specs.declared.form.Form.{Form}
 use Rattle.ee_image_store.specs.Opening.{SpellsDevice}
 
 -- the image of the device that a dump makes
-pub record IsImported (size : Size) (dump image : List ℕ) : Type 0 where
+pub record IsImported (form : Form) (size : Size) (dump image : List ℕ) : Type 0 where
   pub device : Device
-  pub made : IsImport size dump device
+  pub made : IsImport form size dump device
   pub spelled : SpellsDevice image device
 
 -- the dump of the device that an image spells
-pub record IsExported (image dump : List ℕ) : Type 0 where
+pub record IsExported (form : Form) (image dump : List ℕ) : Type 0 where
   pub device : Device
   pub spelled : SpellsDevice image device
-  pub dump_is : IsDump device dump
+  pub dump_is : IsDump form device dump

@@ -1,11 +1,11 @@
 //! Images from Intel HEX, and Intel HEX from images.
 ghost use Rattle.std.specs.Prelude.{◌≡◌, ◌↔◌, IfErr, IfOk, IsTrue};
-ghost use Rattle.ee_dump.specs.Dump.{dump_length};
 ghost use Rattle.ee_part.specs.Hex.{PartFits, IsHexExportFault, IsHexExported, IsHexImportFault, IsHexImported, fault_of_hex};
 ghost use Rattle.ee_faults.specs.Causes.{NamesEach};
 
 use crate::dump::{dump_of, import_image};
 use crate::image::read_part;
+use ee_dump::Form;
 use ee_faults::{Fault, File};
 use ee_flash::{Flash, Shape};
 use ee_hex::{HexFault, read_hex, write_hex};
@@ -19,27 +19,29 @@ use std::alloc::Allocator;
 ///
 /// # Errors
 ///
-/// The first that applies: `Base`, where `base + 16 × pages × words` is past `2^32`; `BadLine` of the
-/// dump, the first line of the text that is bad. `Memory` can come in place of any answer but `Base`.
+/// The first that applies: `Base`, where `base + 16 × pages × words`, or with twice as many of pairs, is past `2^32`; `BadLine`
+/// of the dump, the first line of the text that is bad; `LowPair`, as in `import_image`. `Memory` can come in place of any
+/// answer but `Base`.
 pub fn import_hex<A: Allocator + Copy>(
     alloc: A,
     shape: Shape,
+    form: Form,
     base: u32,
     hex: &[u8],
 ) -> Result<Vec<u8, A>, Fault>
-    ensures imported { IfOk result (λ image. IsHexImported shape base hex.now image.items) }
-    ensures fault { IfErr result (IsHexImportFault shape base hex.now) }
+    ensures imported { IfOk result (λ image. IsHexImported form shape base hex.now image.items) }
+    ensures fault { IfErr result (IsHexImportFault form shape base hex.now) }
     // No cause is passed over.
-    ensures names { NamesEach Fault.Memory (IsHexImportFault shape base hex.now) result }
+    ensures names { NamesEach Fault.Memory (IsHexImportFault form shape base hex.now) result }
 {
-    if !fits(base, shape) {
+    if !fits(base, form, shape) {
         return Err(Fault::Base);
     }
-    let dump = match read_hex(alloc, hex, base, length_of(shape)) {
+    let dump = match read_hex(alloc, hex, base, form.dump_length(shape)) {
         Ok(dump) => dump,
         Err(fault) => return Err(hex_fault(fault)),
     };
-    import_image(alloc, shape, &dump)
+    import_image(alloc, shape, form, &dump)
 }
 
 /// The Intel HEX text of the part that an image's text spells, with its first word at the address
@@ -49,39 +51,33 @@ pub fn import_hex<A: Allocator + Copy>(
 ///
 /// # Errors
 ///
-/// The first that applies: the image is no device's; `Base`, where `base + 16 × pages × words` is past
-/// `2^32`; `TornWord`, its first torn word. `Memory` can come in place of any answer.
+/// The first that applies: the image is no device's; `Base`, where `base + 16 × pages × words`, or with twice as many of pairs,
+/// is past `2^32`; `TornWord`, its first torn word. `Memory` can come in place of any answer.
 pub fn export_hex<A: Allocator + Copy>(
     alloc: A,
+    form: Form,
     image: &[u8],
     base: u32,
 ) -> Result<Vec<u8, A>, Fault>
-    ensures exported { IfOk result (λ hex. IsHexExported image.now base hex.items) }
-    ensures fault { IfErr result (IsHexExportFault image.now base) }
+    ensures exported { IfOk result (λ hex. IsHexExported form image.now base hex.items) }
+    ensures fault { IfErr result (IsHexExportFault form image.now base) }
     // No cause is passed over.
-    ensures names { NamesEach Fault.Memory (IsHexExportFault image.now base) result }
+    ensures names { NamesEach Fault.Memory (IsHexExportFault form image.now base) result }
 {
     let flash = read_part(alloc, image)?;
-    if !fits(base, flash.shape()) {
+    if !fits(base, form, flash.shape()) {
         return Err(Fault::Base);
     }
-    let dump = dump_of(alloc, &flash)?;
+    let dump = dump_of(alloc, form, &flash)?;
     let hex = write_hex(alloc, base, &dump)?;
     Ok(hex)
 }
 
-/// The bytes of a part of this shape.
-fn length_of(shape: Shape) -> usize
-    ensures { result ≡ dump_length shape }
-{
-    8 * (2 * shape.pages() * shape.words())
-}
-
 /// Whether each byte of a part of this shape has an address of 32 bits, where its first has this one.
-fn fits(base: u32, shape: Shape) -> bool
-    ensures { IsTrue result ↔ PartFits base shape }
+fn fits(base: u32, form: Form, shape: Shape) -> bool
+    ensures { IsTrue result ↔ PartFits form base shape }
 {
-    u64::from(base) + length_of(shape) as u64 <= 1 << 32
+    u64::from(base) + form.dump_length(shape) as u64 <= 1 << 32
 }
 
 /// The fault of a text that says no bytes.

@@ -1,6 +1,6 @@
 //! What holds of every image and every dump. Each function does nothing: its contract is the law.
 ghost use Rattle.ee_part.specs.InspectLaws.{DoubtsAreTold, ScanIsToldAsItsFault, UsedSlotsAddUp};
-ghost use Rattle.ee_part.specs.Laws.{ExportOfImport, HexImportOfExport, ImportOfExport};
+ghost use Rattle.ee_part.specs.Laws.{ExportOfImport, HexImportOfExport, ImportOfExport, PairsExportOfImport};
 
 /// An image that was exported is imported as it was, with no wear.
 pub fn import_of_export()
@@ -10,6 +10,11 @@ pub fn import_of_export()
 /// A dump that was imported is exported as it was.
 pub fn export_of_import()
     ensures { ExportOfImport }
+{}
+
+/// And so is a dump of pairs, where no word of it is torn.
+pub fn pairs_export_of_import()
+    ensures { PairsExportOfImport }
 {}
 
 /// An image that was exported as Intel HEX is imported as it was, with no wear, from every address.

@@ -59,5 +59,5 @@ pub use ee_commands::{
     wear_text,
 };
 pub use ee_image_store::ImageAndText;
-pub use ee_part::{export_hex, export_image, import_hex, import_image, inspect_text};
+pub use ee_part::{Form, export_hex, export_image, import_hex, import_image, inspect_text};
 pub use ee_replay::{Replayed, replay, replay_indexed, replay_reader, try_script};

@@ -1,12 +1,10 @@
-use Rattle.std.proofs.Common.{rules, ◌≡◌, length, replicate}
+use Rattle.std.proofs.Common.{rules, ◌≡◌, replicate}
 use Rattle.ee_flash.specs.Memory.{memory_of}
 use Rattle.ee_flash.specs.Size.{page_count}
-use Rattle.ee_dump.specs.Dump.{dump_length}
 use Rattle.ee_dump.proofs.Dumps.{read_device}
 use Rattle.ee_dump.proofs.reading.read_dump.Goals as goal
 
 pub returns-clause-read : goal.returns-clause-read
 returns-clause-read g c =
-    let long : length c.args.dump.now ≡ dump_length c.args.shape = search rules in
     let wear : c.in_ok-wear.wear.items ≡ replicate (page_count c.args.shape) 0 = search rules in
-    read_device c.args.shape c.args.dump.now c.in_ok-cells.cells.items c.in_ok-wear.wear.items (memory_of c.in-Ok.flash) c.in_ok-cells.ensures long wear c.in-Ok.ensures.device
+    read_device c.args.form c.args.shape c.args.dump.now c.in_ok-cells.cells.items c.in_ok-wear.wear.items (memory_of c.in-Ok.flash) c.in_ok-cells.ensures.read wear c.in-Ok.ensures.device

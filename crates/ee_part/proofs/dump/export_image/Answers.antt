@@ -16,13 +16,13 @@ returns-in_err-flash-clause-names g c = λ cause some applies.
 
 pub returns-clause-exported : goal.returns-clause-exported
 returns-clause-exported g c =
-    is_exported (λ (bytes : Vec ℕ g.row.A.Denot). bytes.items) c.args.image.now (device_of c.in_ok-flash.flash) c.in_ok-flash.ensures.read c.dump_of.result (search rules)
+    is_exported (λ (bytes : Vec ℕ g.row.A.Denot). bytes.items) c.args.form c.args.image.now (device_of c.in_ok-flash.flash) c.in_ok-flash.ensures.read c.dump_of.result (search rules)
 
 pub returns-clause-fault : goal.returns-clause-fault
 returns-clause-fault g c =
-    is_not_exported (λ (bytes : Vec ℕ g.row.A.Denot). bytes.items) c.args.image.now (device_of c.in_ok-flash.flash) c.in_ok-flash.ensures.read c.dump_of.result (search rules)
+    is_not_exported (λ (bytes : Vec ℕ g.row.A.Denot). bytes.items) c.args.form c.args.image.now (device_of c.in_ok-flash.flash) c.in_ok-flash.ensures.read c.dump_of.result (search rules)
 
 pub returns-clause-names : goal.returns-clause-names
 returns-clause-names g c = λ cause some applies.
-    export_named (λ (bytes : Vec ℕ g.row.A.Denot). bytes.items) c.args.image.now (device_of c.in_ok-flash.flash) c.in_ok-flash.ensures.read c.dump_of.result cause
+    export_named (λ (bytes : Vec ℕ g.row.A.Denot). bytes.items) c.args.form c.args.image.now (device_of c.in_ok-flash.flash) c.in_ok-flash.ensures.read c.dump_of.result cause
     (search rules) (search rules) some applies
