@@ -1,15 +1,19 @@
-"""What bench/test tries of dumps: bytes and Intel HEX of random parts, written by `ee` and by this file, read by `ee`, by
-this file and by objcopy where there is one; broken lines; and a HEX text as long as may be read, with its time."""
+"""What bench/test tries of dumps: bytes and Intel HEX of random parts, with ECC and without, written by `ee` and by this file,
+read by `ee`, by this file and by objcopy where there is one; pairs that a cut left, and others; broken lines; and a HEX text as
+long as may be read, with its time."""
 import os
 import random
 import shutil
 import subprocess
 import time
+from collections import namedtuple
+from itertools import product
 
 # The sizes that are tried: the least, one page of 2 KiB, and the greatest.
 SIZES = [(1, 5), (1, 6), (2, 7), (1, 256), (64, 512)]
 BASES = [0, 8, 0xFFF8, 0x10000, 0x0807F000]
 ALL_ONES = b"\xff" * 8
+MOST_NUMBER = (1 << 64) - 1
 # The most bytes that are read of a file, and the seconds that this may take.
 MOST_BYTES = 1 << 24
 MOST_SECONDS = 4
@@ -57,13 +61,47 @@ def random_dump(chance, pages, words):
     return b"".join(word() for _ in range(2 * pages * words))
 
 
-def image_of(dump, pages, words):
-    """The image of these bytes, whose pages were never erased."""
-    word = lambda at: "-" if dump[at:at + 8] == ALL_ONES else dump[at:at + 8][::-1].hex()
+def paired(dump):
+    """The bytes of a part without ECC that has these words: each number and its complement, or all ones."""
+    numbers = (dump[at:at + 8] for at in range(0, len(dump), 8))
+    return b"".join(2 * ALL_ONES if number == ALL_ONES else number + bytes(255 - byte for byte in number) for number in numbers)
+
+
+def image_text(texts, pages, words):
+    """The image of words with these texts, whose pages were never erased."""
     lines = [f"ee {pages} {words}"]
-    for page in range(2 * pages):
-        lines.append(" ".join(["0", *(word(8 * (page * words + at)) for at in range(words))]))
+    lines += [" ".join(["0", *texts[page * words:(page + 1) * words]]) for page in range(2 * pages)]
     return "".join(line + "\n" for line in lines).encode()
+
+
+def image_of(dump, pages, words):
+    """The image of these bytes."""
+    word = lambda at: "-" if dump[at:at + 8] == ALL_ONES else dump[at:at + 8][::-1].hex()
+    return image_text([word(at) for at in range(0, len(dump), 8)], pages, words)
+
+
+def image_of_pairs(dump, pages, words):
+    """The image of these bytes of a part without ECC, or the page and the place of the first two numbers that are too low."""
+    texts = []
+    for at in range(0, len(dump), 16):
+        number, other = (int.from_bytes(dump[place:place + 8], "little") for place in (at, at + 8))
+        if number + other < MOST_NUMBER:
+            return divmod(at // 16, words)
+        whole = number + other == MOST_NUMBER and number != MOST_NUMBER
+        texts.append("-" if number == other == MOST_NUMBER else f"{number:016x}" if whole else "?")
+    return image_text(texts, pages, words)
+
+
+# A form of a dump: what stands behind the commands' names, the bytes of a part with these words, and the image of such bytes.
+Form = namedtuple("Form", "flag written read")
+FORMS = [Form("", bytes, image_of), Form(" --pairs", paired, image_of_pairs)]
+
+
+def told_of(found):
+    """What an import says where this was found: an image, a bad line, or the page and the place of numbers that are too low."""
+    if isinstance(found, bytes):
+        return 0, "imported\n"
+    return 3, f"ee: dump line {found}\n" if isinstance(found, int) else "ee: dump pair {} {}\n".format(*found)
 
 
 def record(address, kind, data):
@@ -120,21 +158,20 @@ def read_hex(text, base, size):
 def bytes_and_texts(place):
     """A part and its image, its bytes and its text are each other's."""
     chance = random.Random(1)
-    for pages, words in SIZES:
-        for base in BASES:
-            dump = random_dump(chance, pages, words)
-            image, text = image_of(dump, pages, words), hex_of(dump, base)
-            place.put("image", image)
-            place.expect("export image dump", (0, "exported\n"))
-            place.same("dump", dump, f"{pages} {words}")
-            place.expect(f"export-hex image {base:08x} hex", (0, "exported\n"))
-            place.same("hex", text, f"{pages} {words} {base:x}")
-            place.expect(f"import {pages} {words} dump again", (0, "imported\n"))
-            place.same("again", image, f"import {pages} {words}")
-            place.put("rows", hex_of(dump, base, chance.choice([1, 7, 32, 255])))
-            for name in ("hex", "rows"):
-                place.expect(f"import-hex {pages} {words} {base:08X} {name} again", (0, "imported\n"))
-                place.same("again", image, f"import-hex {pages} {words} {base:x} of {name}")
+    for (flag, written, read), (pages, words), base in product(FORMS, SIZES, BASES):
+        dump = written(random_dump(chance, pages, words))
+        image, text = read(dump, pages, words), hex_of(dump, base)
+        place.put("image", image)
+        place.expect(f"export{flag} image dump", (0, "exported\n"))
+        place.same("dump", dump, f"export{flag} {pages} {words}")
+        place.expect(f"export-hex{flag} image {base:08x} hex", (0, "exported\n"))
+        place.same("hex", text, f"export-hex{flag} {pages} {words} {base:x}")
+        place.expect(f"import{flag} {pages} {words} dump again", (0, "imported\n"))
+        place.same("again", image, f"import{flag} {pages} {words}")
+        place.put("rows", hex_of(dump, base, chance.choice([1, 7, 32, 255])))
+        for name in ("hex", "rows"):
+            place.expect(f"import-hex{flag} {pages} {words} {base:08X} {name} again", (0, "imported\n"))
+            place.same("again", image, f"import-hex{flag} {pages} {words} {base:x} of {name}")
 
 
 def objcopy(place):
@@ -144,16 +181,16 @@ def objcopy(place):
         return
     chance, base = random.Random(2), 0x0807F000
     copy = lambda *words: subprocess.run(["objcopy", *words], cwd=place.folder, check=True)
-    for pages, words in SIZES:
-        dump = random_dump(chance, pages, words)
-        place.put("image", image_of(dump, pages, words))
-        place.expect("export image dump", (0, "exported\n"))
+    for (flag, written, read), (pages, words) in product(FORMS, SIZES):
+        dump = written(random_dump(chance, pages, words))
+        place.put("image", read(dump, pages, words))
+        place.expect(f"export{flag} image dump", (0, "exported\n"))
         copy("-I", "binary", "-O", "ihex", "--change-addresses", hex(base), "dump", "theirs")
-        place.expect(f"import-hex {pages} {words} {base:08x} theirs again", (0, "imported\n"))
-        place.same("again", place.get("image"), f"objcopy's HEX, {pages} {words}")
-        place.expect(f"export-hex image {base:08x} ours", (0, "exported\n"))
+        place.expect(f"import-hex{flag} {pages} {words} {base:08x} theirs again", (0, "imported\n"))
+        place.same("again", place.get("image"), f"objcopy's HEX{flag}, {pages} {words}")
+        place.expect(f"export-hex{flag} image {base:08x} ours", (0, "exported\n"))
         copy("-I", "ihex", "-O", "binary", "ours", "back")
-        place.same("back", dump, f"what objcopy reads, {pages} {words}")
+        place.same("back", dump, f"what objcopy reads{flag}, {pages} {words}")
 
 
 def mutated(chance, text):
@@ -184,21 +221,70 @@ def mutated(chance, text):
 def broken_texts(place):
     """Changed texts are read as this file reads them, or have the bad line that it finds."""
     chance, base = random.Random(3), 0xFFD0
-    for number in range(MUTATIONS):
-        text = hex_of(random_dump(chance, 1, 6), base, chance.choice([5, 16, 32]))
+    for (flag, written, read), number in product(FORMS, range(MUTATIONS)):
+        dump = written(random_dump(chance, 1, 6))
+        text = hex_of(dump, base, chance.choice([5, 16, 32]))
         for _ in range(chance.randrange(1, 3)):
             text = mutated(chance, text) or b"\n"
         place.put("hex", text)
-        found = read_hex(text, base, 96)
-        told = (3, f"ee: dump line {found}\n") if isinstance(found, int) else (0, "imported\n")
-        place.expect(f"import-hex 1 6 {base:08x} hex image", told)
-        if not isinstance(found, int):
-            place.same("image", image_of(found, 1, 6), f"text {number}")
+        found = read_hex(text, base, len(dump))
+        if isinstance(found, bytes):
+            found = read(found, 1, 6)
+        place.expect(f"import-hex{flag} 1 6 {base:08x} hex image", told_of(found))
+        if isinstance(found, bytes):
+            place.same("image", found, f"text{flag} {number}")
+
+
+def damaged(chance, dump):
+    """Pairs with bits that a cut may leave there, and in every second part with some taken away, as none does."""
+    takes, cuts, pairs = chance.randrange(2), chance.choice([3, 60]), []
+    for at in range(0, len(dump), 16):
+        bits = int.from_bytes(dump[at:at + 16], "little")
+        if chance.randrange(cuts) == 0:
+            bits |= chance.choice([chance.getrandbits(128), MOST_NUMBER, MOST_NUMBER << 64])
+        if takes and chance.randrange(6) == 0:
+            bits &= chance.getrandbits(128)
+        pairs.append(bits.to_bytes(16, "little"))
+    return b"".join(pairs)
+
+
+def told_of_torn(image):
+    """What an export says of an image: its first torn word, if it has one."""
+    for page, line in enumerate(image.split(b"\n")[1:]):
+        if b"?" in line:
+            return 4, f"ee: torn word {page} {line.split().index(b'?') - 1}\n"
+    return 0, "exported\n"
+
+
+def damaged_pairs(place):
+    """Pairs that a cut left are imported as torn words, which have no dump; the first that is too low is named, and a length
+    goes before it."""
+    chance, base = random.Random(5), 0xFF40
+    for number in range(MUTATIONS):
+        pages, words = chance.choice(SIZES[:3])
+        dump = damaged(chance, paired(random_dump(chance, pages, words)))
+        found = image_of_pairs(dump, pages, words)
+        place.put("dump", dump)
+        place.put("hex", hex_of(dump, base))
+        place.expect(f"import --pairs {pages} {words} dump image", told_of(found))
+        place.expect(f"import-hex --pairs {pages} {words} {base:08x} hex again", told_of(found))
+        if isinstance(found, bytes):
+            for name in ("image", "again"):
+                place.same(name, found, f"pairs {number}")
+            place.expect("export --pairs image back", told_of_torn(found))
+            place.expect(f"export-hex --pairs image {base:08x} back", told_of_torn(found))
+        place.put("dump", chance.choice([dump[:-1], dump + dump[-1:], dump[:len(dump) // 2], b""]))
+        place.expect(f"import --pairs {pages} {words} dump image", (3, "ee: dump length\n"))
 
 
 def greatest_text(place):
     """A text as long as may be read says the greatest part over and over; one that is longer isn't read."""
-    dump = random_dump(random.Random(4), 64, 512)
+    for form in FORMS:
+        greatest_text_of(place, form)
+
+
+def greatest_text_of(place, form):
+    dump = form.written(random_dump(random.Random(4), 64, 512))
     rows = hex_of(dump, 0)
     end = record(0, 1, b"")
     rows = rows[: -len(end)]
@@ -208,19 +294,19 @@ def greatest_text(place):
     text = nothing * ((MOST_BYTES - len(text)) // len(nothing)) + text
     place.put("hex", text)
     began = time.monotonic()
-    place.expect("import-hex 64 512 00000000 hex image", (0, "imported\n"))
+    place.expect(f"import-hex{form.flag} 64 512 00000000 hex image", (0, "imported\n"))
     seconds = time.monotonic() - began
-    print(f"a HEX text of {len(text)} bytes was imported in {seconds:.2f} seconds", flush=True)
-    place.same("image", image_of(dump, 64, 512), "the greatest text")
+    print(f"import-hex{form.flag} of a text of {len(text)} bytes took {seconds:.2f} seconds", flush=True)
+    place.same("image", form.read(dump, 64, 512), f"the greatest text{form.flag}")
     if seconds > MOST_SECONDS:
-        raise Wrong(f"the greatest text took {seconds:.2f} seconds")
+        raise Wrong(f"the greatest text{form.flag} took {seconds:.2f} seconds")
     place.put("hex", text + b" " * (MOST_BYTES + 1 - len(text)))
-    place.expect("import-hex 64 512 00000000 hex never", (3, "ee: dump too long\n"))
+    place.expect(f"import-hex{form.flag} 64 512 00000000 hex never", (3, "ee: dump too long\n"))
 
 
 def checks(program, folder):
     """Makes each check in a folder of its own, and gives its name and what was found, if anything."""
-    for check in (bytes_and_texts, objcopy, broken_texts, greatest_text):
+    for check in (bytes_and_texts, objcopy, broken_texts, damaged_pairs, greatest_text):
         try:
             check(Place(program, os.path.join(folder, check.__name__)))
         except (Wrong, OSError, subprocess.SubprocessError) as found:
