@@ -1,6 +1,5 @@
 -- What was exported by Intel HEX is imported as it was.
-use Rattle.std.proofs.Common.{◌≡◌, sym, subst, ℕ, ◌+◌, ◌≤◌, ◌^◌, List, length, arith}
-use Rattle.std.proofs.lemmas.Grind.{common_steps}
+use Rattle.std.proofs.Common.{◌≡◌, sym, subst, ℕ, ◌+◌, ◌≤◌, ◌^◌, List, length}
 use Rattle.ee_flash.specs.Device.{Device}
 use Rattle.ee_dump.specs.Dump.{IsDump, dump_length}
 use Rattle.ee_dump.specs.Laws.{unworn_device}
@@ -20,7 +19,8 @@ use Rattle.ee_image_store.proofs.Public.{same_at_rest}
 
 -- the text of an export fits each device that the image spells
 fits_here : (form : Form) (image hex : List ℕ) (base : ℕ) (device : Device) → SpellsDevice image device → IsHexExported form image base hex → PartFits form base device.size
-fits_here form image hex base device spelled is = grind (arith, common_steps, same_at_rest, same_size)
+fits_here form image hex base device spelled is =
+    subst (PartFits form base) (same_size is.exported.device device (same_at_rest image is.exported.device device is.exported.spelled spelled)) is.fits
 
 -- and says its dump, from its address on
 says_dump : (form : Form) (image hex : List ℕ) (base : ℕ) (device : Device) → SpellsDevice image device → (is : IsHexExported form image base hex) → IsHexOf hex base (dump_length form device.size) is.dump
