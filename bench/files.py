@@ -12,6 +12,7 @@ import subprocess
 import time
 
 from cases import worked
+from dumps import hex_of
 
 SAVING = "image.ee-saving-0"
 # The worked example all-live, which begins with the image that two moves leave, and its tight certificate.
@@ -20,9 +21,11 @@ MOVED = ALL_LIVE.files["image"]
 CERTIFICATE = next(step.printed for step in ALL_LIVE.steps if step.words == "cat certificate").encode()
 DUMP = worked.example("dumps").files["dump"]
 HEX = worked.example("hex").files["part"]
+PAIRS = worked.example("pairs").files["dump"]
 SETTINGS = worked.example("second-schema").files["settings"]
 INPUTS = {"image": MOVED, "script": ALL_LIVE.files["script"], "settings": SETTINGS, "certificate": CERTIFICATE,
-          "bad": b"w 2 6\nw 2 6 \n", "before": MOVED, "values": b"volume = 9\n", "dump": DUMP, "hex": HEX}
+          "bad": b"w 2 6\nw 2 6 \n", "before": MOVED, "values": b"volume = 9\n", "dump": DUMP, "hex": HEX,
+          "pairs": PAIRS, "pairs-hex": hex_of(PAIRS, 0x0807F000)}
 # The commands that write an image, and those that don't. Each of the first changes the image.
 WRITERS = {
     "run": ["run", "image", "script"],
@@ -30,7 +33,9 @@ WRITERS = {
     "format": ["format", "2", "8", "image"],
     "set": ["set", "image", "settings", "volume", "10"],
     "import": ["import", "1", "6", "dump", "image"],
+    "import --pairs": ["import", "--pairs", "1", "6", "pairs", "image"],
     "import-hex": ["import-hex", "1", "6", "0807f000", "hex", "image"],
+    "import-hex --pairs": ["import-hex", "--pairs", "1", "6", "0807f000", "pairs-hex", "image"],
     "apply": ["apply", "image", "settings", "values"],
     "clean": ["clean", "image"],
     "tidy": ["tidy", "image", "settings"],

@@ -12,10 +12,10 @@ use Rattle.ee_command_line.specs.declared.jobs.Job.TheVariants as job
 pub data Row : Type 0 where
   Try : Size → Row
   Format : Size → List ℕ → Row
-  Import : Size → List ℕ → List ℕ → Row
-  Export : List ℕ → List ℕ → Row
-  ImportHex : Size → ℕ → List ℕ → List ℕ → Row
-  ExportHex : List ℕ → ℕ → List ℕ → Row
+  Import : Bool → Size → List ℕ → List ℕ → Row
+  Export : Bool → List ℕ → List ℕ → Row
+  ImportHex : Bool → Size → ℕ → List ℕ → List ℕ → Row
+  ExportHex : Bool → List ℕ → ℕ → List ℕ → Row
   Inspect : List ℕ → Row
   Run : Bool → List ℕ → List ℕ → Row
   Get : List ℕ → List ℕ → List ℕ → Row
@@ -38,10 +38,10 @@ pub data Row : Type 0 where
 abbrev pub row_of : Job → Row
 row_of (job.Try size) = Try size
 row_of (job.Format size image) = Format size image.now
-row_of (job.Import size dump image) = Import size dump.now image.now
-row_of (job.Export image dump) = Export image.now dump.now
-row_of (job.ImportHex size base dump image) = ImportHex size base dump.now image.now
-row_of (job.ExportHex image base dump) = ExportHex image.now base dump.now
+row_of (job.Import pairs size dump image) = Import pairs size dump.now image.now
+row_of (job.Export pairs image dump) = Export pairs image.now dump.now
+row_of (job.ImportHex pairs size base dump image) = ImportHex pairs size base dump.now image.now
+row_of (job.ExportHex pairs image base dump) = ExportHex pairs image.now base dump.now
 row_of (job.Inspect image) = Inspect image.now
 row_of (job.Run indexed image script) = Run indexed image.now script.now
 row_of (job.Get image settings name) = Get image.now settings.now name.now
@@ -76,23 +76,29 @@ IsCount count = (1 ≤ count) × (count < 2 ^ 32)
 unfoldable pub IsBase : ℕ → Type 0
 IsBase base = (base < 2 ^ 32) × (base % 8 ≡ 0)
 
+-- the bytes of a part of this size: 16 for each word of one set, and 32 where it has each word beside its complement
+abbrev pub part_bytes : Bool → Size → ℕ
+part_bytes false size = 16 * (size.pages * size.words)
+part_bytes true size = 32 * (size.pages * size.words)
+
 -- a part of this size that begins there ends within the addresses of 32 bits
-unfoldable pub EndsWithin : Size → ℕ → Type 0
-EndsWithin size base = base + 16 * (size.pages * size.words) ≤ 2 ^ 32
+unfoldable pub EndsWithin : Bool → Size → ℕ → Type 0
+EndsWithin pairs size base = base + part_bytes pairs size ≤ 2 ^ 32
 
 -- eight hexadecimal digits in either case: the four bytes of the base, the greatest first
 unfoldable pub HasBase : List ℕ → ℕ → Type 0
 HasBase word base = decode_of word ≡ Ok (to_be_bytes w32 base)
 
 -- its size is within the limits, its value has 32 bits, its base is one, from which a part that is imported ends within 32 bits,
--- an image to run on is not named `--indexed`, settings to tell are not named `--rust`, and cycles and runs are counts
+-- an image to export is not named `--pairs`, one to run on is not named `--indexed`, settings to tell are not named `--rust`,
+-- and cycles and runs are counts
 abbrev pub IsRow : Row → Type 0
 IsRow (Try size) = IsWithinLimits size
 IsRow (Format size image) = IsWithinLimits size
-IsRow (Import size dump image) = IsWithinLimits size
-IsRow (Export image dump) = Unit {0}
-IsRow (ImportHex size base dump image) = IsWithinLimits size × IsBase base × EndsWithin size base
-IsRow (ExportHex image base dump) = IsBase base
+IsRow (Import pairs size dump image) = IsWithinLimits size
+IsRow (Export pairs image dump) = image ≢ codes "--pairs"
+IsRow (ImportHex pairs size base dump image) = IsWithinLimits size × IsBase base × EndsWithin pairs size base
+IsRow (ExportHex pairs image base dump) = image ≢ codes "--pairs" × IsBase base
 IsRow (Inspect image) = Unit {0}
 IsRow (Run indexed image script) = image ≢ codes "--indexed"
 IsRow (Get image settings name) = Unit {0}
@@ -116,13 +122,20 @@ abbrev pub AreWordsOf : List (List ℕ) → Row → Type 0
 AreWordsOf words (Try size) = (words ≡ codes "try" ∷ decimal size.pages ∷ decimal size.words ∷ [])
     ⊎ ((words ≡ []) × (size ≡ size_of 1 6))
 AreWordsOf words (Format size image) = words ≡ codes "format" ∷ decimal size.pages ∷ decimal size.words ∷ image ∷ []
-AreWordsOf words (Import size dump image) =
+AreWordsOf words (Import false size dump image) =
     words ≡ codes "import" ∷ decimal size.pages ∷ decimal size.words ∷ dump ∷ image ∷ []
-AreWordsOf words (Export image dump) = words ≡ codes "export" ∷ image ∷ dump ∷ []
-AreWordsOf words (ImportHex size base dump image) = (digits : List ℕ) × HasBase digits base
+AreWordsOf words (Import true size dump image) =
+    words ≡ codes "import" ∷ codes "--pairs" ∷ decimal size.pages ∷ decimal size.words ∷ dump ∷ image ∷ []
+AreWordsOf words (Export false image dump) = words ≡ codes "export" ∷ image ∷ dump ∷ []
+AreWordsOf words (Export true image dump) = words ≡ codes "export" ∷ codes "--pairs" ∷ image ∷ dump ∷ []
+AreWordsOf words (ImportHex false size base dump image) = (digits : List ℕ) × HasBase digits base
     × (words ≡ codes "import-hex" ∷ decimal size.pages ∷ decimal size.words ∷ digits ∷ dump ∷ image ∷ [])
-AreWordsOf words (ExportHex image base dump) = (digits : List ℕ) × HasBase digits base
+AreWordsOf words (ImportHex true size base dump image) = (digits : List ℕ) × HasBase digits base
+    × (words ≡ codes "import-hex" ∷ codes "--pairs" ∷ decimal size.pages ∷ decimal size.words ∷ digits ∷ dump ∷ image ∷ [])
+AreWordsOf words (ExportHex false image base dump) = (digits : List ℕ) × HasBase digits base
     × (words ≡ codes "export-hex" ∷ image ∷ digits ∷ dump ∷ [])
+AreWordsOf words (ExportHex true image base dump) = (digits : List ℕ) × HasBase digits base
+    × (words ≡ codes "export-hex" ∷ codes "--pairs" ∷ image ∷ digits ∷ dump ∷ [])
 AreWordsOf words (Inspect image) = words ≡ codes "inspect" ∷ image ∷ []
 AreWordsOf words (Run false image script) = words ≡ codes "run" ∷ image ∷ script ∷ []
 AreWordsOf words (Run true image script) = words ≡ codes "run" ∷ codes "--indexed" ∷ image ∷ script ∷ []

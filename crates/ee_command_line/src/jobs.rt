@@ -2,7 +2,8 @@
 
 use ee_flash::Shape;
 
-/// What the words ask for. Files are named by their paths.
+/// What the words ask for. Files are named by their paths. `pairs` says that a part has each word beside its
+/// complement.
 ///
 /// Source: ours.
 #[derive(Clone, Copy)]
@@ -16,28 +17,32 @@ pub enum Job<'a> {
         shape: Shape,
         image: &'a str,
     },
-    /// `import P W DUMP IMAGE`: writes the image of a part, from its bytes.
+    /// `import P W DUMP IMAGE` or `import --pairs P W DUMP IMAGE`: writes the image of a part, from its bytes.
     Import {
+        pairs: bool,
         shape: Shape,
         dump: &'a str,
         image: &'a str,
     },
-    /// `export IMAGE DUMP`: writes the bytes of the image's part.
+    /// `export IMAGE DUMP` or `export --pairs IMAGE DUMP`: writes the bytes of the image's part.
     Export {
+        pairs: bool,
         image: &'a str,
         dump: &'a str,
     },
-    /// `import-hex P W BASE DUMP IMAGE`: writes the image of a part, from Intel HEX. The part's first byte stands
-    /// at BASE, a multiple of 8, and its last within 32 bits.
+    /// `import-hex P W BASE DUMP IMAGE` or `import-hex --pairs P W BASE DUMP IMAGE`: writes the image of a part,
+    /// from Intel HEX. The part's first byte stands at BASE, a multiple of 8, and its last within 32 bits.
     ImportHex {
+        pairs: bool,
         shape: Shape,
         base: u32,
         dump: &'a str,
         image: &'a str,
     },
-    /// `export-hex IMAGE BASE DUMP`: writes the bytes of the image's part as Intel HEX, from BASE on, a multiple
-    /// of 8.
+    /// `export-hex IMAGE BASE DUMP` or `export-hex --pairs IMAGE BASE DUMP`: writes the bytes of the image's part
+    /// as Intel HEX, from BASE on, a multiple of 8.
     ExportHex {
+        pairs: bool,
         image: &'a str,
         base: u32,
         dump: &'a str,

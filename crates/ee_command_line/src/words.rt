@@ -33,6 +33,9 @@ pub fn job<'a>(words: &[&'a str]) -> Option<Job<'a>>
         [command, first, second, third, fourth, fifth] => {
             job_of_six(command, first, second, third, fourth, fifth)
         }
+        [command, first, second, third, fourth, fifth, sixth] => {
+            job_of_seven(command, first, second, third, fourth, fifth, sixth)
+        }
         _ => None,
     }
 }
@@ -90,7 +93,9 @@ fn job_of_three<'a>(command: &'a str, first: &'a str, second: &'a str) -> Option
             image: first,
             script: second,
         }),
-        "export" => Some(Job::Export {
+        // This word says what part it is, and names no image.
+        "export" if first != "--pairs" => Some(Job::Export {
+            pairs: false,
             image: first,
             dump: second,
         }),
@@ -142,6 +147,11 @@ fn job_of_four<'a>(
             image: second,
             script: third,
         }),
+        "export" if first == "--pairs" && second != "--pairs" => Some(Job::Export {
+            pairs: true,
+            image: second,
+            dump: third,
+        }),
         "get" => Some(Job::Get {
             image: first,
             settings: second,
@@ -157,7 +167,8 @@ fn job_of_four<'a>(
             script: second,
             certificate: third,
         }),
-        "export-hex" => Some(Job::ExportHex {
+        "export-hex" if first != "--pairs" => Some(Job::ExportHex {
+            pairs: false,
             image: first,
             base: base_of(second)?,
             dump: third,
@@ -179,9 +190,16 @@ fn job_of_five<'a>(
 {
     match command {
         "import" => Some(Job::Import {
+            pairs: false,
             shape: shape_of(first, second)?,
             dump: third,
             image: fourth,
+        }),
+        "export-hex" if first == "--pairs" && second != "--pairs" => Some(Job::ExportHex {
+            pairs: true,
+            image: second,
+            base: base_of(third)?,
+            dump: fourth,
         }),
         "set" => Some(Job::Set {
             image: first,
@@ -214,13 +232,50 @@ fn job_of_six<'a>(
         (command.now ∷ first.now ∷ second.now ∷ third.now ∷ fourth.now ∷ fifth.now ∷ []) result }
 {
     match command {
+        "import" if first == "--pairs" => Some(Job::Import {
+            pairs: true,
+            shape: shape_of(second, third)?,
+            dump: fourth,
+            image: fifth,
+        }),
         "import-hex" => {
             let shape = shape_of(first, second)?;
             Some(Job::ImportHex {
+                pairs: false,
                 shape,
-                base: base_for(shape, third)?,
+                base: base_for(false, shape, third)?,
                 dump: fourth,
                 image: fifth,
+            })
+        }
+        _ => None,
+    }
+}
+
+/// The job of a command on six texts.
+fn job_of_seven<'a>(
+    command: &'a str,
+    first: &'a str,
+    second: &'a str,
+    third: &'a str,
+    fourth: &'a str,
+    fifth: &'a str,
+    sixth: &'a str,
+) -> Option<Job<'a>>
+    ensures found { IsSaid (command.now ∷ first.now ∷ second.now ∷ third.now ∷ fourth.now
+        ∷ fifth.now ∷ sixth.now ∷ []) result }
+    ensures only { IsFound (command.now ∷ first.now ∷ second.now ∷ third.now ∷ fourth.now
+        ∷ fifth.now ∷ sixth.now ∷ []) result }
+{
+    match command {
+        "import-hex" if first == "--pairs" => {
+            let shape = shape_of(second, third)?;
+            Some(Job::ImportHex {
+                pairs: true,
+                shape,
+                base: base_for(true, shape, fourth)?,
+                dump: fifth,
+                image: sixth,
             })
         }
         _ => None,
@@ -280,14 +335,15 @@ fn digits_of(word: &str) -> Option<u32>
 
 /// The base that a word spells, where a part of this size that begins there ends within the addresses of 32 bits.
 #[tactic(auto, unfolding(crate::specs::Job::EndsWithin))]
-fn base_for(shape: Shape, word: &str) -> Option<u32>
-    ensures found { IfSome result (λ base. IsBase base × EndsWithin shape base × HasBase word.now base) }
-    ensures only { (base : ℕ) → IsBase base → EndsWithin shape base → HasBase word.now base
+fn base_for(pairs: bool, shape: Shape, word: &str) -> Option<u32>
+    ensures found { IfSome result (λ base. IsBase base × EndsWithin pairs shape base × HasBase word.now base) }
+    ensures only { (base : ℕ) → IsBase base → EndsWithin pairs shape base → HasBase word.now base
         → result ≡ Some base }
 {
     let base = base_of(word)?;
-    // 16 bytes for each word of one set, which the shape keeps below 2 ^ 20.
-    let bytes = 16 * (shape.pages() * shape.words()) as u64;
+    // The words of one set, which the shape keeps at 2 ^ 15 or below.
+    let words = (shape.pages() * shape.words()) as u64;
+    let bytes = if pairs { 32 * words } else { 16 * words };
     if u64::from(base) + bytes > 1 << 32 {
         return None;
     }

@@ -109,6 +109,8 @@ pub enum Fault {
     NoSizeEnough,
     /// The dump has not as many bytes as a part of the size has.
     DumpLength,
+    /// The first word of the dump whose two numbers sum to less than all ones, by its page and its place.
+    LowPair { page: usize, at: usize },
     /// The first torn word of the image, by its page and its place: no dump has one.
     TornWord { page: usize, at: usize },
     /// The part would reach past the addresses of 32 bits.
@@ -168,6 +170,7 @@ impl fmt::Display for Fault {
             Fault::Backwards(page) => write!(f, "wear backwards {page}"),
             Fault::NoSizeEnough => f.write_str("no size is enough"),
             Fault::DumpLength => f.write_str("dump length"),
+            Fault::LowPair { page, at } => write!(f, "dump pair {page} {at}"),
             Fault::TornWord { page, at } => write!(f, "torn word {page} {at}"),
             Fault::Base => f.write_str("base"),
             Fault::ValuesText => f.write_str("values text"),
@@ -353,6 +356,7 @@ pub fn status_of(fault: &Fault) -> u8
         | Fault::BadRange(_)
         | Fault::SameAddress(_)
         | Fault::DumpLength
+        | Fault::LowPair { .. }
         | Fault::ValuesText
         | Fault::BadValue(_) => 3,
         Fault::UnknownName

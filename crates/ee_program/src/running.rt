@@ -6,10 +6,10 @@ use ee_faults::{Fault, File, fault_line, status_of};
 use ee_files::{FileLocks, save};
 use ee_flash::Shape;
 use ee_shell::{
-    ImageAndText, Language, apply_values, check_script, clean_image, export_hex, export_image,
-    format_image, get_setting, header_text, import_hex, import_image, inspect_text, list_text,
-    plan_script, replay, replay_indexed, set_setting, size_parts, stale_text, states_text,
-    tidy_image, try_script, wear_text,
+    Form, ImageAndText, Language, apply_values, check_script, clean_image, export_hex,
+    export_image, format_image, get_setting, header_text, import_hex, import_image, inspect_text,
+    list_text, plan_script, replay, replay_indexed, set_setting, size_parts, stale_text,
+    states_text, tidy_image, try_script, wear_text,
 };
 use std::alloc::Global;
 use std::rt::Files;
@@ -47,15 +47,26 @@ fn work<R: FileLocks + Input + Print + AllocGlobal>(rt: &R, job: &Job<'_>) -> Re
     match *job {
         Job::Try { shape } => try_input(rt, shape),
         Job::Format { shape, image } => format_file(rt, shape, image),
-        Job::Import { shape, dump, image } => import_file(rt, shape, dump, image),
-        Job::Export { image, dump } => export_file(rt, image, dump),
+        Job::Import {
+            pairs,
+            shape,
+            dump,
+            image,
+        } => import_file(rt, pairs, shape, dump, image),
+        Job::Export { pairs, image, dump } => export_file(rt, pairs, image, dump),
         Job::ImportHex {
+            pairs,
             shape,
             base,
             dump,
             image,
-        } => import_hex_file(rt, shape, base, dump, image),
-        Job::ExportHex { image, base, dump } => export_hex_file(rt, image, base, dump),
+        } => import_hex_file(rt, pairs, shape, base, dump, image),
+        Job::ExportHex {
+            pairs,
+            image,
+            base,
+            dump,
+        } => export_hex_file(rt, pairs, image, base, dump),
         Job::Inspect { image } => tell_inside(rt, image),
         Job::Run {
             indexed,
@@ -123,15 +134,21 @@ fn format_file<R: FileLocks + Print + AllocGlobal>(
     print(rt, b"formatted\n")
 }
 
+/// How a part keeps its words: `pairs` says that each stands beside its complement.
+fn form_of(pairs: bool) -> Form {
+    if pairs { Form::Pairs } else { Form::Words }
+}
+
 /// Writes the image of a part, from its bytes.
 fn import_file<R: FileLocks + Print + AllocGlobal>(
     rt: &R,
+    pairs: bool,
     shape: Shape,
     dump: &str,
     image: &str,
 ) -> Result<(), Fault> {
     let bytes = read_file(rt, File::Dump, dump)?;
-    let imported = import_image(rt.alloc(), shape, bytes.as_slice())?;
+    let imported = import_image(rt.alloc(), shape, form_of(pairs), bytes.as_slice())?;
     write_image(rt, image, None, imported.as_slice())?;
     print(rt, b"imported\n")
 }
@@ -139,11 +156,12 @@ fn import_file<R: FileLocks + Print + AllocGlobal>(
 /// Writes the bytes of the part of an image.
 fn export_file<R: FileLocks + Print + AllocGlobal>(
     rt: &R,
+    pairs: bool,
     image: &str,
     dump: &str,
 ) -> Result<(), Fault> {
     let text = read_file(rt, File::Image, image)?;
-    let bytes = export_image(rt.alloc(), text.as_slice())?;
+    let bytes = export_image(rt.alloc(), form_of(pairs), text.as_slice())?;
     write_dump(rt, dump, bytes.as_slice())?;
     print(rt, b"exported\n")
 }
@@ -151,13 +169,14 @@ fn export_file<R: FileLocks + Print + AllocGlobal>(
 /// Writes the image of a part, from Intel HEX. The part begins at the base.
 fn import_hex_file<R: FileLocks + Print + AllocGlobal>(
     rt: &R,
+    pairs: bool,
     shape: Shape,
     base: u32,
     dump: &str,
     image: &str,
 ) -> Result<(), Fault> {
     let lines = read_file(rt, File::Dump, dump)?;
-    let imported = import_hex(rt.alloc(), shape, base, lines.as_slice())?;
+    let imported = import_hex(rt.alloc(), shape, form_of(pairs), base, lines.as_slice())?;
     write_image(rt, image, None, imported.as_slice())?;
     print(rt, b"imported\n")
 }
@@ -165,12 +184,13 @@ fn import_hex_file<R: FileLocks + Print + AllocGlobal>(
 /// Writes the bytes of the part of an image as Intel HEX. The part begins at the base.
 fn export_hex_file<R: FileLocks + Print + AllocGlobal>(
     rt: &R,
+    pairs: bool,
     image: &str,
     base: u32,
     dump: &str,
 ) -> Result<(), Fault> {
     let text = read_file(rt, File::Image, image)?;
-    let lines = export_hex(rt.alloc(), text.as_slice(), base)?;
+    let lines = export_hex(rt.alloc(), form_of(pairs), text.as_slice(), base)?;
     write_dump(rt, dump, lines.as_slice())?;
     print(rt, b"exported\n")
 }

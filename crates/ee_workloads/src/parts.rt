@@ -6,7 +6,7 @@ use super::scripts::Mixture;
 use ee_faults::Fault;
 use ee_flash::Shape;
 use ee_shell::{
-    export_hex, export_image, import_hex, import_image, inspect_text, replay, states_text,
+    Form, export_hex, export_image, import_hex, import_image, inspect_text, replay, states_text,
     wear_text,
 };
 use std::alloc::Global;
@@ -66,11 +66,11 @@ fn through_hex(
     image: &[u8],
     digest: &mut Digest,
 ) -> Result<Vec<u8>, Fault> {
-    let hex = export_hex(alloc, image, BASE)?;
+    let hex = export_hex(alloc, Form::Words, image, BASE)?;
     digest.take(hex.as_slice());
     let inside = inspect_text(alloc, image)?;
     digest.take(inside.as_slice());
-    import_hex(alloc, shape, BASE, hex.as_slice())
+    import_hex(alloc, shape, Form::Words, BASE, hex.as_slice())
 }
 
 /// Exports an image as a part's bytes, and gives what an import makes of them.
@@ -80,11 +80,11 @@ fn through_bytes(
     image: &[u8],
     digest: &mut Digest,
 ) -> Result<Vec<u8>, Fault> {
-    let dump = export_image(alloc, image)?;
+    let dump = export_image(alloc, Form::Words, image)?;
     digest.take(dump.as_slice());
     let states = states_text(alloc, image)?;
     digest.take(states.as_slice());
     let wear = wear_text(alloc, image, None)?;
     digest.take(wear.as_slice());
-    import_image(alloc, shape, dump.as_slice())
+    import_image(alloc, shape, Form::Words, dump.as_slice())
 }

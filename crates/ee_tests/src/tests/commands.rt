@@ -8,10 +8,10 @@ use std::test::Fail;
 const ROWS: &str = "\
 try P W
 format P W IMAGE
-import P W DUMP IMAGE
-export IMAGE DUMP
-import-hex P W BASE DUMP IMAGE
-export-hex IMAGE BASE DUMP
+import --pairs P W DUMP IMAGE
+export --pairs IMAGE DUMP
+import-hex --pairs P W BASE DUMP IMAGE
+export-hex --pairs IMAGE BASE DUMP
 inspect IMAGE
 run --indexed IMAGE SCRIPT
 get IMAGE SETTINGS NAME
@@ -33,9 +33,13 @@ const LINES: &str = "\
 ee try 2 5
 ee format 64 512 a.image
 ee import 1 6 a.bin a.image
+ee import --pairs 1 6 a.bin a.image
 ee export a.image a.bin
+ee export --pairs a.image a.bin
 ee import-hex 1 256 0807F000 a.hex a.image
+ee import-hex --pairs 1 256 0807F000 a.hex a.image
 ee export-hex a.image 0807f000 a.hex
+ee export-hex --pairs a.image 0807f000 a.hex
 ee inspect a.image
 ee apply a.image a.settings a.values
 ee header a.settings

@@ -94,6 +94,8 @@ const CALLS: &[(Call, u64)] = &[
     (Call::Text(Text::ListNamed), 6),
     (Call::Text(Text::Import), 3),
     (Call::Text(Text::Export), 3),
+    (Call::Text(Text::ImportPairs), 3),
+    (Call::Text(Text::ExportPairs), 3),
     (Call::Text(Text::ImportHex), 4),
     (Call::Text(Text::ExportHex), 4),
     (Call::Text(Text::Inspect), 3),

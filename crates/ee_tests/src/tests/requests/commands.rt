@@ -9,7 +9,7 @@ use ee_flash::Shape;
 use ee_image::read_image;
 use ee_pages::ScanFault;
 use ee_shell::{
-    ImageAndText, Language, Replayed, apply_values, check_script, clean_image, export_hex,
+    Form, ImageAndText, Language, Replayed, apply_values, check_script, clean_image, export_hex,
     export_image, format_image, get_setting, header_text, import_hex, import_image, inspect_text,
     list_text, plan_script, replay, replay_indexed, replay_reader, set_setting, size_parts,
     stale_text, states_text, tidy_image, try_script, wear_text,
@@ -55,6 +55,20 @@ const HEX: &[u8] = b":020000040807EB
 const SCAN: &[u8] = b"scan ok
 set 0 generation 1 fill 0 room 2 live 0 pending 0 superseded 0 torn 0\n";
 
+/// The bytes of that part where it has each word beside its complement.
+const PAIRS: &[u8] = b"\x01\x00\x00\x00\xaa\xaa\xaa\xaa\xfe\xff\xff\xff\x55\x55\x55\x55\
+\xaa\xaa\xaa\xaa\xaa\xaa\xaa\xaa\x55\x55\x55\x55\x55\x55\x55\x55\
+\xff\xff\xff\xff\xff\xff\xff\xff\xff\xff\xff\xff\xff\xff\xff\xff\
+\xff\xff\xff\xff\xff\xff\xff\xff\xff\xff\xff\xff\xff\xff\xff\xff\
+\xff\xff\xff\xff\xff\xff\xff\xff\xff\xff\xff\xff\xff\xff\xff\xff\
+\xff\xff\xff\xff\xff\xff\xff\xff\xff\xff\xff\xff\xff\xff\xff\xff\
+\xff\xff\xff\xff\xff\xff\xff\xff\xff\xff\xff\xff\xff\xff\xff\xff\
+\xff\xff\xff\xff\xff\xff\xff\xff\xff\xff\xff\xff\xff\xff\xff\xff\
+\xff\xff\xff\xff\xff\xff\xff\xff\xff\xff\xff\xff\xff\xff\xff\xff\
+\xff\xff\xff\xff\xff\xff\xff\xff\xff\xff\xff\xff\xff\xff\xff\xff\
+\xff\xff\xff\xff\xff\xff\xff\xff\xff\xff\xff\xff\xff\xff\xff\xff\
+\xff\xff\xff\xff\xff\xff\xff\xff\xff\xff\xff\xff\xff\xff\xff\xff";
+
 /// The header of the schema.
 const HEADER: &[u8] = b"// Made by `ee header --rust` from a file of settings.
 
@@ -84,6 +98,8 @@ pub enum Text {
     ListNamed,
     Import,
     Export,
+    ImportPairs,
+    ExportPairs,
     ImportHex,
     ExportHex,
     Inspect,
@@ -123,10 +139,12 @@ pub fn text_given(text: Text, alloc: &Refusing<Global>, heap: Global) -> Option<
             list_text(alloc, heap, TWO_MOVES, Some(VOLUME)),
             b"1 13 stale volume\n2 5\n",
         ),
-        Text::Import => gives(import_image(alloc, shape, DUMP), FORMATTED),
-        Text::Export => gives(export_image(alloc, FORMATTED), DUMP),
-        Text::ImportHex => gives(import_hex(alloc, shape, BASE, HEX), FORMATTED),
-        Text::ExportHex => gives(export_hex(alloc, FORMATTED, BASE), HEX),
+        Text::Import => gives(import_image(alloc, shape, Form::Words, DUMP), FORMATTED),
+        Text::Export => gives(export_image(alloc, Form::Words, FORMATTED), DUMP),
+        Text::ImportPairs => gives(import_image(alloc, shape, Form::Pairs, PAIRS), FORMATTED),
+        Text::ExportPairs => gives(export_image(alloc, Form::Pairs, FORMATTED), PAIRS),
+        Text::ImportHex => gives(import_hex(alloc, shape, Form::Words, BASE, HEX), FORMATTED),
+        Text::ExportHex => gives(export_hex(alloc, Form::Words, FORMATTED, BASE), HEX),
         Text::Inspect => gives(inspect_text(alloc, FORMATTED), SCAN),
         Text::Header => gives(header_text(alloc, heap, VOLUME, Language::Rust), HEADER),
     }
