@@ -34,7 +34,9 @@ fn first_low_in<N: Nor>(nor: &N, page: usize) -> Option<usize> {
     None
 }
 
-/// Whether two numbers sum to less than all ones.
-fn is_low(number: u64, check: u64) -> bool {
+/// Whether two numbers sum to less than `u64::MAX`, as those of no word do that a store wrote.
+///
+/// Source: ours.
+pub fn is_low(number: u64, check: u64) -> bool {
     check < u64::MAX - number
 }

@@ -24,6 +24,6 @@ mod nor;
 mod pairs;
 mod wiping;
 
-pub use low_pair::LowPair;
+pub use low_pair::{LowPair, is_low};
 pub use nor::Nor;
-pub use pairs::Pairs;
+pub use pairs::{Pairs, complement_of, word_of};

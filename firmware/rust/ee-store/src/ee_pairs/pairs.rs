@@ -53,8 +53,11 @@ impl<N: Nor> Pairs<N> {
     }
 }
 
-/// The word that two numbers are.
-fn word_of(number: u64, check: u64) -> Word {
+/// The word that two numbers are: erased where both are `u64::MAX`, held where the second is the complement of the first, which
+/// is below `u64::MAX`; else torn.
+///
+/// Source: ours.
+pub fn word_of(number: u64, check: u64) -> Word {
     if number == u64::MAX {
         return if check == u64::MAX {
             Word::Erased
@@ -70,7 +73,9 @@ fn word_of(number: u64, check: u64) -> Word {
 }
 
 /// The number that has a one where this one has a zero.
-fn complement_of(number: u64) -> u64 {
+///
+/// Source: ours.
+pub fn complement_of(number: u64) -> u64 {
     u64::MAX - number
 }
 
