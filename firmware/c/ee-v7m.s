@@ -1,6 +1,6 @@
 /* ee: variables in flash, the library of ee.h as one file, for Cortex-M3, M4, M7 and M33.
  *
- * sum of sources: bfc1393a9bd1a9f05947ed116145e7323b97799db04f87a62c684d76a1e715a5
+ * sum of sources: b9f484230a04aa1cfe84455aa986b83a18f526ebed9103e53cfcd1ba3881f6d0
  * sum of the text below: 250fab78443b6385a5c78a97bbc8e4d3e13f2111380eb3de4f91664149ab48e1
  * made by: firmware/c/assemble
  * compiler: rustc 1.96.0 (ac68faa20 2026-05-25) (built from a source tarball), LLVM 22.1.8

@@ -1,6 +1,6 @@
 /* ee: variables in flash, the library of ee.h as one file, for Linux on x86-64.
  *
- * sum of sources: bfc1393a9bd1a9f05947ed116145e7323b97799db04f87a62c684d76a1e715a5
+ * sum of sources: b9f484230a04aa1cfe84455aa986b83a18f526ebed9103e53cfcd1ba3881f6d0
  * sum of the text below: 04c388d41c47540c0f8cad69dc54a8aac85a9d2ea38a1b0283b49def97ae322b
  * made by: firmware/c/assemble
  * compiler: rustc 1.96.0 (ac68faa20 2026-05-25) (built from a source tarball), LLVM 22.1.8
