@@ -1,8 +1,8 @@
 /* Random calls against an array, each with power cut in every step and in every way, on flashes of words and of pairs of
- * numbers. */
+ * numbers. On each it asks the library more than half a million calls, on pairs more than a million. */
 #include "part.h"
 
-enum { ADDRESSES = 8, STORES = 60, CALLS = 60 };
+enum { ADDRESSES = 8, STORES = 120, CALLS = 60 };
 
 typedef struct map {
     uint32_t values[ADDRESSES];
@@ -115,7 +115,7 @@ static void run(uint32_t pairs) {
         map m = held(&store);
         for (int j = 0; j < CALLS; j++) play(&p, &store, &m);
     }
-    CHECK(cuts > 10000);
+    CHECK(cuts > 40000);
 }
 
 int main(void) {
