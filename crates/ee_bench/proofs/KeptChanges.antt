@@ -74,7 +74,11 @@ pub record Does (serving : Bool) (event : Event) (answer : Answer) (found : Opti
 whole : (call : Call) (event : Event) (answer : Answer) (found : Option Bool) (old new : Device) → is_cut call ≡ false → IsOn old × Follows call old new × IsStore new
     → found ≡ None → changes_of_call call ≡ kept_by event answer None → tells_of_a_cut answer ≡ false → is_scan_fault answer ≡ false → IsValueIn (state_of old).map event answer
     → Does true event answer found old new
-whole call event answer found old new is_whole called looked same not_cut good value = search (rules, goes)
+whole call event answer found old new is_whole called looked same not_cut good value =
+    let did = goes call old new is_whole called.1 in
+    let power = did.power in
+    let map = did.map_is in
+    rw looked (search (rules, power, map))
 
 put_kept : (address value : ℕ) (held : Bool) (old new : Device) → IsLegal old → IsCutChange old (meaning.Put address value) new
     → (held ≡ true → (state_of new).map address ≡ Some value) → ((state_of new).map address ≡ Some value → held ≡ true)

@@ -1,5 +1,5 @@
 -- What is read and set by name, and that one cause at most applies for which it is not.
-use Rattle.std.proofs.Common.{◌≡◌, ◌≢◌, ◌⊎◌, ◌∙◌, ℕ, List, inl, inr, refl, sym, ap, subst, codes, Ok, Err, rules}
+use Rattle.std.proofs.Common.{◌≡◌, ◌≢◌, ◌⊎◌, ◌∙◌, ℕ, List, inl, inr, refl, sym, ap, subst, codes, Ok, Err, rules, [], ◌∷◌}
 use Rattle.toml.specs.Data.{Members}
 use Rattle.ee_text.specs.Line.{line_of}
 use Rattle.ee_flash.specs.Device.{Device}
@@ -85,7 +85,7 @@ is_written settings old new name value written.Moved on set = record {
   in_range = set.2;
   served = inr (
     record {
-      step = (set.3.proceeds.accepted, set.3.all_used, set.3.state_is);
+      step = (set.3.proceeds.accepted, set.3.needed, set.3.state_is);
       same_size = set.3.goes_on.same_size;
       erases = by_move old (Put set.0.numbers.address value) new set.3;
     },
@@ -169,16 +169,16 @@ one_refusal settings size state name value fault cause rising some (inr (inl h))
 one_refusal settings size state name value fault cause rising some (inr (inl h)) (inr (inl k)) =
     inl (one_value h.0 size state value fault cause h.2 (subst (λ (s : Setting). IsValueRefusal s size state value cause) (one_named settings name k.0 h.0 rising k.1 h.1) k.2))
 
-accepted_write : (size : Size) (state : State) (address value : ℕ) (cause : Fault) → IsAccepted (slot_count size) state (Put address value) → IsWriteRefusal size state address cause → ⊥
+accepted_write : (size : Size) (state : State) (address value : ℕ) (cause : Fault) → IsAccepted (slot_count size) state (Put address value ∷ []) → IsWriteRefusal size state address cause → ⊥
 accepted_write size state address value cause accepted (inl h) = accepted.has_place h.0
 accepted_write size state address value cause accepted (inr h) = accepted.not_spent h.1
 
-accepted_value : (setting : Setting) (size : Size) (state : State) (value : ℕ) (cause : Fault) → IsInRange setting.numbers value → IsAccepted (slot_count size) state (Put setting.numbers.address value)
+accepted_value : (setting : Setting) (size : Size) (state : State) (value : ℕ) (cause : Fault) → IsInRange setting.numbers value → IsAccepted (slot_count size) state (Put setting.numbers.address value ∷ [])
     → IsValueRefusal setting size state value cause → ⊥
 accepted_value setting size state value cause within accepted (inl h) = h.0 within
 accepted_value setting size state value cause within accepted (inr h) = accepted_write size state setting.numbers.address value cause accepted h.1
 
-pub accepted_by : (old new : Device) (address value : ℕ) → IsWriteServed old address value new → IsAccepted (slot_count old.size) (state_of old) (Put address value)
+pub accepted_by : (old new : Device) (address value : ℕ) → IsWriteServed old address value new → IsAccepted (slot_count old.size) (state_of old) (Put address value ∷ [])
 accepted_by old new address value (inl h) = h.0.step.0
 accepted_by old new address value (inr h) = h.0.step.0
 

@@ -114,7 +114,7 @@ refused_there : (settings : List Setting) (one other : Device) (number : ℕ) (e
 refused_there settings one other number entry fault same refused =
     subst (λ (s : State). IsEntryRefusal settings other.size s number entry fault) same.state (subst (λ (s : Size). IsEntryRefusal settings s (state_of one) number entry fault) same.size refused)
 
-accepted : (size : Size) (state : State) (number address value : ℕ) (fault : Fault) → IsAccepted (slot_count size) state (Put address value) → IsWriteRefusalAt size state number address fault → ⊥
+accepted : (size : Size) (state : State) (number address value : ℕ) (fault : Fault) → IsAccepted (slot_count size) state (Put address value ∷ []) → IsWriteRefusalAt size state number address fault → ⊥
 accepted size state number address value fault takes (inl h) = takes.has_place h.0
 accepted size state number address value fault takes (inr h) = takes.not_spent h.1
 

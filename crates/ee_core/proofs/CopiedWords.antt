@@ -1,14 +1,13 @@
 -- The elements of the addresses that are copied, address by address.
-use Rattle.std.proofs.Common.{◌≡◌, inl, inr, ℕ, ◌<◌, ◌≤◌, Some, None, List, [], ◌∷◌, ◌++◌, refl, ap, ◌∙◌, arith, suc, zero, append-nil}
-use Rattle.std.proofs.lemmas.Bool.{cases_eq, cases_lt}
+use Rattle.std.proofs.Common.{◌≡◌, inl, inr, ℕ, ◌<◌, ◌≤◌, true, false, Some, None, List, [], ◌∷◌, ◌++◌, refl, ap, ◌∙◌, arith, suc, zero, append-nil}
+use Rattle.std.proofs.lemmas.Bool.{cases_Bool, cases_eq, cases_lt}
 use Rattle.ee_codec.specs.Words.{element}
 use Rattle.ee_flash.specs.declared.word.Word.{Word}
 use Rattle.ee_flash.specs.declared.word.Word.TheVariants.{Held}
-use Rattle.ee_pages.specs.Meaning.{Change, Forget, IsNextLive, Map, Put, map_after}
-use Rattle.ee_pages.specs.Pending.{address_of}
-use Rattle.ee_core.proofs.CopiedMaps.{forget-at, forget-other}
-use Rattle.ee_core.specs.Parts.{put_words}
-use Rattle.ee_core.specs.Picture.{element_at, elements_of, elements_to, moved_words}
+use Rattle.ee_pages.specs.Meaning.{Change, IsNextLive, Map}
+use Rattle.ee_core.proofs.CopiedMaps.{without-at, without-other}
+use Rattle.ee_core.specs.Picture.{element_at, elements_of, elements_to, map_without}
+use Rattle.ee_core.specs.Puts.{names}
 
 pub no_elements : (map : Map) → elements_to map zero ≡ []
 unfolding elements_to
@@ -38,24 +37,24 @@ next_element map above (suc next) value is =
     ∙ ap (λ held. elements_to map next ++ element_at (suc next) held) is.1
     ∙ ap (λ (words : List Word). words ++ (Held (element (suc next) value) ∷ [])) (none_between map above next (omega (arith, is.0)) (λ address low high. is.2 address low (omega arith)))
 
-module _ (map : Map) (except : ℕ) where
+module _ (map : Map) (changes : List Change) where
   abbrev pub others : Map
-  others = map_after (Forget except) map
+  others = map_without changes map
 
   other_none : (address : ℕ) → map address ≡ None → others address ≡ None
-  other_none address none = elim (cases_eq address except) [
-    | inl same ↦ forget-at map except address same
-    | inr away ↦ forget-other map except address away ∙ none
+  other_none address none = elim (cases_Bool (names changes address)) [
+    | inl same ↦ without-at changes map address same
+    | inr away ↦ without-other changes map address away ∙ none
   ]
 
   -- the next address is copied
-  pub copied_word : (above next value : ℕ) → IsNextLive map above (Some (next, value)) → (next ≡ except → ⊥) → elements_to others next ≡ elements_to others above ++ (Held (element next value) ∷ [])
-  copied_word above next value is away = next_element others above next value (is.0, forget-other map except next away ∙ is.1, λ address low high. other_none address (is.2 address low high))
+  pub copied_word : (above next value : ℕ) → IsNextLive map above (Some (next, value)) → names changes next ≡ false → elements_to others next ≡ elements_to others above ++ (Held (element next value) ∷ [])
+  copied_word above next value is away = next_element others above next value (is.0, without-other changes map next away ∙ is.1, λ address low high. other_none address (is.2 address low high))
 
-  -- or it is the one that is not
-  pub passed_word : (above next value : ℕ) → IsNextLive map above (Some (next, value)) → next ≡ except → elements_to others next ≡ elements_to others above
+  -- or it is one that is not
+  pub passed_word : (above next value : ℕ) → IsNextLive map above (Some (next, value)) → names changes next ≡ true → elements_to others next ≡ elements_to others above
   passed_word above next value is here = none_between others above next (omega (arith, is.0)) (λ address low high. elim (cases_eq address next) [
-    | inl last ↦ forget-at map except address (last ∙ here)
+    | inl last ↦ without-at changes map address (ap (names changes) last ∙ here)
     | inr earlier ↦ other_none address (is.2 address low (omega arith))
   ])
 
@@ -65,8 +64,3 @@ module _ (map : Map) (except : ℕ) where
 
   pub no_words : elements_to others 0 ≡ []
   no_words = no_elements others
-
--- the change first, and then the others
-pub all_moved : (change : Change) (map : Map) → put_words change ++ elements_of (others map (address_of change)) ≡ moved_words change map
-all_moved (Put address value) map = refl
-all_moved (Forget address) map = refl

@@ -1,5 +1,5 @@
 -- What a cut in a change leaves of the map.
-use Rattle.std.proofs.Common.{◌⊎◌, inl, inr, ◌≤◌, length, filter, ◌≡◌, ℕ, Option, Some, None, ap, arith}
+use Rattle.std.proofs.Common.{◌⊎◌, inl, inr, ◌≤◌, length, filter, ◌≡◌, ℕ, Option, Some, None, [], ◌∷◌, ap, arith}
 use Rattle.std.proofs.lemmas.Bool.{cases_lt}
 use Rattle.std.proofs.lemmas.List.Sums.{count_by-le-length, length-filter}
 use Rattle.ee_flash.specs.Device.{Device, IsFormed}
@@ -25,14 +25,14 @@ pub fill_within : (device : Device) → IsFormed device → (state_of device).fi
 fill_within device formed = fill_in device (live_of device) formed
 
 cut_cases : (old new : Device) (change : Change) → IsCutChange old change new
-    → IsCutAppend (state_of old) change (state_of new) ⊎ IsCutMove old.size.pages (state_of old) change (state_of new)
+    → IsCutAppend (state_of old) change (state_of new) ⊎ IsCutMove old.size.pages old.size.pages (state_of old) (change ∷ []) (state_of new)
 cut_cases old new change cut =
     elim (cases_lt (state_of old).fill (capacity old)) [
       | inl h ↦ inl (cut.free h)
       | inr h ↦ (let e : (state_of old).fill ≡ capacity old = omega (arith, cut.within) in inr (cut.all_used e))
     ]
 
-cut_state : (old new : State) (pages : ℕ) (change : Change) → IsCutAppend old change new ⊎ IsCutMove pages old change new → (new.map ≡ old.map) ⊎ (new.map ≡ map_after change old.map)
+cut_state : (old new : State) (pages : ℕ) (change : Change) → IsCutAppend old change new ⊎ IsCutMove pages pages old (change ∷ []) new → (new.map ≡ old.map) ⊎ (new.map ≡ map_after change old.map)
 cut_state old new pages change (inl (inl e)) = inl (ap (λ (s : State). s.map) e)
 cut_state old new pages change (inl (inr (inl e))) = inl (ap (λ (s : State). s.map) e)
 cut_state old new pages change (inl (inr (inr e))) = inr (ap (λ (s : State). s.map) e)

@@ -12,13 +12,13 @@ use Rattle.ee_pages.specs.declared.side.Side.{Side}
 use Rattle.ee_pages.specs.declared.state.Mark.TheVariants.{Active, Erasing, Valid}
 use Rattle.ee_core.proofs.Cuts.{IsOnTheWay, drawn_before, drawn_between, drawn_whole, mark_drawn_partly, put_partly}
 use Rattle.ee_core.proofs.Drawings.{active_last, mark_drawn, drawn_as, retired_more, same_drawn, valid_drawn, valid_more, valid_to, with_mark, with_word-elsewhere}
-use Rattle.ee_core.proofs.MarkedSets.{retired_to, waits}
+use Rattle.ee_core.proofs.MarkedSets.{retired_to}
 use Rattle.ee_core.proofs.SetPages.{same_page}
 use Rattle.ee_core.specs.Cuts.{IsDrawnPartly, IsPartlyDone, PutsPartly, SetsPartly}
 use Rattle.ee_core.specs.Finished.{last_used}
 use Rattle.ee_core.specs.Openings.{ShowsCutMarks}
 use Rattle.ee_core.specs.Parts.{IsSameSet, SetsMark}
-use Rattle.ee_core.specs.Picture.{IsDrawn, Picture, marked_to, picture_of, retired_pages, with_change}
+use Rattle.ee_core.specs.Picture.{IsDrawn, Picture, is_used, marked_to, picture_of, retired_pages, with_change}
 
 -- ---- the marks that are set so far are on the way
 
@@ -57,13 +57,13 @@ active_partly side mid new last picture formed sizes h sets drawn =
     (λ page at _ _. (valid_way last last picture page at (omega arith), inr (active_last last picture page at)))
     (mark_drawn_partly side mid new last Active (valid_to last picture) formed sizes h drawn sets)
 
-pub retired_partly : (side : Side) (old mid new : Device) (k : ℕ) → IsFormed mid → new.size ≡ mid.size → k < mid.size.pages → waits side old k ≡ true → SetsPartly (first_page mid.size side + k) Erasing mid new → IsDrawn side mid (retired_to side old k) → IsDrawnPartly side new (picture_of side old) (retired_pages (waits side old) (picture_of side old))
+pub retired_partly : (side : Side) (old mid new : Device) (k : ℕ) → IsFormed mid → new.size ≡ mid.size → k < mid.size.pages → is_used side old k ≡ true → SetsPartly (first_page mid.size side + k) Erasing mid new → IsDrawn side mid (retired_to side old k) → IsDrawnPartly side new (picture_of side old) (retired_pages (is_used side old) (picture_of side old))
 retired_partly side old mid new k formed sizes h waiting sets drawn =
     let picture = picture_of side old in
-    drawn_between side new picture (retired_pages (waits side old) picture) (retired_to side old k) (with_mark k Erasing (retired_to side old k))
+    drawn_between side new picture (retired_pages (is_used side old) picture) (retired_to side old k) (with_mark k Erasing (retired_to side old k))
     (λ page at _ _. (
-      retired_way k (waits side old) picture page at,
-      subst (λ (word : Word). IsOnTheWay (picture page at) (retired_pages (waits side old) picture page at) word) (sym (retired_more k (waits side old) picture page at waiting)) (retired_way (k + 1) (waits side old) picture page at),
+      retired_way k (is_used side old) picture page at,
+      subst (λ (word : Word). IsOnTheWay (picture page at) (retired_pages (is_used side old) picture page at) word) (sym (retired_more k (is_used side old) picture page at waiting)) (retired_way (k + 1) (is_used side old) picture page at),
     ))
     (mark_drawn_partly side mid new k Erasing (retired_to side old k) formed sizes h drawn sets)
 
@@ -78,7 +78,7 @@ cut_live side old new sizes live same = record {
 
 -- or of the other one
 pub cut_old : (side : Side) (old mid new : Device) → mid.size ≡ old.size → new.size ≡ mid.size → IsDrawn side mid (marked_to (last_used old side) (picture_of side old)) → IsSameSet (other side) old mid → IsSameSet side mid new
-    → IsDrawnPartly (other side) new (picture_of (other side) mid) (retired_pages (waits (other side) mid) (picture_of (other side) mid)) → ShowsCutMarks old new side
+    → IsDrawnPartly (other side) new (picture_of (other side) mid) (retired_pages (is_used (other side) mid) (picture_of (other side) mid)) → ShowsCutMarks old new side
 cut_old side old mid new first_sizes second_sizes live_first old_first live_then old_then = record {
   live_pages = drawn_whole side new (picture_of side old) (marked_to (last_used old side) (picture_of side old)) (λ page at h within.
       same_drawn side mid new second_sizes live_then page at h within

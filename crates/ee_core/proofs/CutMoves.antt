@@ -5,12 +5,11 @@ use Rattle.std.proofs.lemmas.Bool.{cases_eq, cases_lt, le-leb, le-ltb, lt-leb, l
 use Rattle.std.proofs.lemmas.List.{get_or_append_left, get_or_past}
 use Rattle.std.proofs.lemmas.Nat.{le-div}
 use Rattle.ee_flash.specs.Device.{Device, IsFormed}
-use Rattle.ee_flash.specs.Size.{Size, slot_count}
+use Rattle.ee_flash.specs.Size.{Size}
 use Rattle.ee_flash.specs.declared.word.Word.{Word}
 use Rattle.ee_flash.specs.declared.word.Word.TheVariants.{Erased}
-use Rattle.ee_pages.specs.Legal.{IsLive, slots_before}
-use Rattle.ee_core.proofs.MarkedSets.{waits}
-use Rattle.ee_pages.specs.Sets.{fill_of, first_page, other, page_of_slot, place_of_slot, set_of, slots_of}
+use Rattle.ee_pages.specs.Legal.{slots_before}
+use Rattle.ee_pages.specs.Sets.{first_page, other, page_of_slot, place_of_slot}
 use Rattle.ee_pages.specs.declared.side.Side.{Side}
 use Rattle.ee_pages.specs.declared.side.Side.TheVariants.{First, Second}
 use Rattle.ee_pages.specs.Laws.{IsPageOf}
@@ -23,12 +22,12 @@ use Rattle.ee_core.proofs.Cuts.{IsOnTheWay, drawn_between, mark_drawn_partly, pu
 use Rattle.ee_core.proofs.Drawings.{drawn_both, page_of_its_set, put_apart, with_mark}
 use Rattle.ee_core.proofs.FilledSets.{near, one_word_more, opens_further}
 use Rattle.ee_core.specs.Transfers.{OpensForSlot}
-use Rattle.ee_core.proofs.MovedSets.{all_marked, all_waiting, blank_drawn, committed, first_opened, opens_blank}
+use Rattle.ee_core.proofs.MovedSets.{all_marked, blank_drawn, committed, first_opened, opens_blank, same_retired}
 use Rattle.ee_core.specs.Cuts.{AddsPartly, FillsPartly, IsDrawnPartly, PutsPartly, SetsPartly}
 use Rattle.ee_core.specs.Parts.{AddsWords, Holds, SetsMark, opened_set}
 use Rattle.ee_core.proofs.CopiedWords.{one_further}
 use Rattle.ee_pages.specs.Meaning.{Map}
-use Rattle.ee_core.specs.Picture.{IsDrawn, blank, element_at, elements_to, filled_set, marked_to, picture_of, retired_pages}
+use Rattle.ee_core.specs.Picture.{IsDrawn, blank, element_at, elements_to, filled_set, is_used, marked_to, picture_of, retired_pages}
 
 page_later : (size : Size) (n m : ℕ) → 0 < size.words - 4 → n ≤ m → page_of_slot size n ≤ page_of_slot size m
 page_later size n m some h = let fits = div-mul-le_self n (size.words - 4) in le-div (n / (size.words - 4)) m (size.words - 4) some (omega (arith, fits))
@@ -254,14 +253,14 @@ elements_front map n (suc m) h = elim (cases_lt n (suc m)) [
 ]
 
 -- cut in a mark of the set that was left
-pub retires_partly : (side : Side) (old mid new : Device) (generation : ℕ) → IsLive old side generation → fill_of (slots_of (set_of side old)) ≡ slot_count old.size → IsFormed mid → mid.size ≡ old.size → new.size ≡ mid.size → IsDrawn side mid (picture_of side old)
-    → IsDrawnPartly side new (picture_of side mid) (retired_pages (waits side mid) (picture_of side mid)) → IsDrawnPartly side new (picture_of side old) (retired_pages (λ page. true) (picture_of side old))
-retires_partly side old mid new generation live full formed first_sizes second_sizes same drawn =
+pub retires_partly : (side : Side) (old mid new : Device) → IsFormed old → IsFormed mid → mid.size ≡ old.size → new.size ≡ mid.size → IsDrawn side mid (picture_of side old)
+    → IsDrawnPartly side new (picture_of side mid) (retired_pages (is_used side mid) (picture_of side mid)) → IsDrawnPartly side new (picture_of side old) (retired_pages (is_used side old) (picture_of side old))
+retires_partly side old mid new old_formed formed first_sizes second_sizes same drawn =
     let picture = picture_of side old in
-    drawn_between side new picture (retired_pages (λ page. true) picture) (picture_of side mid) (retired_pages (waits side mid) (picture_of side mid))
+    drawn_between side new picture (retired_pages (is_used side old) picture) (picture_of side mid) (retired_pages (is_used side mid) (picture_of side mid))
     (λ page at h within.
     let below : page < mid.size.pages = omega (arith, ap (λ (size : Size). size.pages) second_sizes) in
     let inside : at < mid.size.words = omega (arith, ap (λ (size : Size). size.words) second_sizes) in (
       inl (same page at below inside),
-      inr (all_waiting side old mid generation live full formed first_sizes same page at below inside),
+      inr (same_retired side old mid old_formed formed first_sizes same page at below inside),
     )) drawn

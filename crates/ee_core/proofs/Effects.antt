@@ -4,26 +4,38 @@ use Rattle.ee_flash.specs.Device.{Device}
 use Rattle.ee_pages.specs.Meaning.{Change, Put, Forget}
 use Rattle.ee_core.specs.Calls.{ErasesOne}
 use Rattle.ee_core.specs.Changes.{Appends, Moves}
-use Rattle.ee_core.specs.Runs.{Call, Wrote, Forgot, Cleaned, DidRead, Follows, changes_of_call, is_cut, is_transfer}
+use Rattle.ee_core.specs.Puts.{puts_of}
+use Rattle.ee_core.specs.declared.variables.WriteAllFault.TheVariants as all
+use Rattle.ee_core.specs.Runs.{Call, Wrote, WroteAll, Forgot, Cleaned, DidRead, Follows, changes_of_call, is_cut, is_transfer}
 use Rattle.ee_core.specs.declared.variables.ForgetFault.TheVariants as forget
 use Rattle.ee_core.specs.declared.variables.WriteFault.TheVariants as write
 use Rattle.ee_core.specs.declared.variables.Written.TheVariants.{Appended, Moved}
 
 -- A property of whether the map moved, and of the changes that were made, holds of the call if it holds where the call left
--- the device as it was, appended a change, moved the map with one, or was a clean step that erased a page.
+-- the device as it was, appended a change, moved the map with some, or was a clean step that erased a page.
 pub by_effect : (holds : Bool → List Change → Type 0) (call : Call) (old new : Device) → is_cut call ≡ false → Follows call old new
     → (new ≡ old → holds false []) → ((change : Change) → Appends old change new → holds false (change ∷ []))
-    → ((change : Change) → Moves old change new → holds true (change ∷ [])) → (call ≡ Cleaned (Ok true) → ErasesOne old new → holds false [])
+    → ((changes : List Change) → Moves old changes new → holds true changes) → (call ≡ Cleaned (Ok true) → ErasesOne old new → holds false [])
     → holds (is_transfer call) (changes_of_call call)
 by_effect holds (Wrote address value (Ok Appended)) old new whole done nothing appends moves erases = appends (Put address value) done
-by_effect holds (Wrote address value (Ok Moved)) old new whole done nothing appends moves erases = moves (Put address value) done
+by_effect holds (Wrote address value (Ok Moved)) old new whole done nothing appends moves erases = moves (Put address value ∷ []) done
 by_effect holds (Wrote address value (Err write.Off)) old new whole done nothing appends moves erases = nothing done.1
 by_effect holds (Wrote address value (Err write.Full)) old new whole done nothing appends moves erases = nothing done.2
 by_effect holds (Wrote address value (Err write.Spent)) old new whole done nothing appends moves erases = nothing done.3
 by_effect holds (Wrote address value (Err write.Memory)) old new whole done nothing appends moves erases = nothing done.2
 by_effect holds (Wrote address value (Err write.Cut)) old new whole done nothing appends moves erases = absurd cc
+by_effect holds (WroteAll [] (Ok Appended)) old new whole done nothing appends moves erases = nothing done.1
+by_effect holds (WroteAll (put ∷ []) (Ok Appended)) old new whole done nothing appends moves erases = appends (Put put.address put.value) done
+by_effect holds (WroteAll (first ∷ second ∷ more) (Ok Appended)) old new whole done nothing appends moves erases = absurd done
+by_effect holds (WroteAll puts (Ok Moved)) old new whole done nothing appends moves erases = moves (puts_of puts) done.1
+by_effect holds (WroteAll puts (Err all.Off)) old new whole done nothing appends moves erases = nothing done.1
+by_effect holds (WroteAll puts (Err (all.Twice place))) old new whole done nothing appends moves erases = nothing done.2
+by_effect holds (WroteAll puts (Err all.Full)) old new whole done nothing appends moves erases = nothing done.3
+by_effect holds (WroteAll puts (Err all.Spent)) old new whole done nothing appends moves erases = nothing done.4
+by_effect holds (WroteAll puts (Err all.Memory)) old new whole done nothing appends moves erases = nothing done.3
+by_effect holds (WroteAll puts (Err all.Cut)) old new whole done nothing appends moves erases = absurd cc
 by_effect holds (Forgot address (Ok Appended)) old new whole done nothing appends moves erases = appends (Forget address) done
-by_effect holds (Forgot address (Ok Moved)) old new whole done nothing appends moves erases = moves (Forget address) done
+by_effect holds (Forgot address (Ok Moved)) old new whole done nothing appends moves erases = moves (Forget address ∷ []) done
 by_effect holds (Forgot address (Err forget.Off)) old new whole done nothing appends moves erases = nothing done.1
 by_effect holds (Forgot address (Err forget.Absent)) old new whole done nothing appends moves erases = nothing done.2
 by_effect holds (Forgot address (Err forget.Spent)) old new whole done nothing appends moves erases = nothing done.3

@@ -1,23 +1,26 @@
 -- What the parts of a transfer leave in the set that it fills, one after another.
-use Rattle.std.proofs.Common.{◌≡◌, inl, inr, ℕ, ◌+◌, ◌<◌, ◌≤◌, Some, None, List, [], ◌∷◌, ◌++◌, length, refl, sym, subst, ap, ◌∙◌, arith, length-append}
+use Rattle.std.proofs.Common.{◌≡◌, inl, inr, ℕ, ◌+◌, ◌<◌, ◌≤◌, Bool, true, false, cond, Some, None, List, [], ◌∷◌, ◌++◌, length, get_or, take, drop, refl, sym, subst, ap, ◌∙◌, arith, suc, length-append}
+use Rattle.std.specs.Prelude.{◌==◌, ◌||◌}
 use Rattle.std.proofs.Math.Path.{fun_ext}
-use Rattle.std.proofs.lemmas.Bool.{cases_eq}
-use Rattle.ee_codec.specs.Words.{IsAddress, element}
+use Rattle.std.proofs.lemmas.Bool.{cases_Bool}
+use Rattle.std.proofs.lemmas.List.{length-take-le, take-append-drop, take_all, take_more}
+use Rattle.ee_codec.specs.Words.{element}
 use Rattle.ee_flash.specs.Device.{Device}
 use Rattle.ee_flash.specs.Size.{slot_count}
 use Rattle.ee_flash.specs.declared.word.Word.{Word}
 use Rattle.ee_flash.specs.declared.word.Word.TheVariants.{Held}
-use Rattle.ee_pages.specs.Meaning.{Change, IsNextLive, Map, Put, map_after, live_in}
-use Rattle.ee_pages.specs.Pending.{address_of}
+use Rattle.ee_pages.specs.Meaning.{Change, Forget, IsNextLive, Map, Put, changed_by, map_after, live_in}
 use Rattle.ee_pages.specs.Sets.{other, set_of, slots_of}
 use Rattle.ee_pages.specs.declared.find.Layout.{Layout}
 use Rattle.ee_core.specs.Cuts.{AddsPartly}
-use Rattle.ee_core.specs.Parts.{AddsWords, map_in, put_words, replaced_map}
-use Rattle.ee_core.specs.Picture.{elements_of, elements_to, moved_words}
-use Rattle.ee_core.specs.Transfers.{Filled, FilledPartly, IsOpenAt}
+use Rattle.ee_core.specs.Parts.{AddsWords, map_in, replaced_map}
+use Rattle.ee_core.specs.Picture.{elements_of, elements_to, map_without, moved_words, put_words}
+use Rattle.ee_core.specs.Puts.{AreApart, carried, forgets_of, names, puts_of}
+use Rattle.ee_core.specs.Transfers.{Filled, FilledPartly, IsNewlyOpened, IsOpenAt}
+use Rattle.ee_core.specs.declared.change.Put as listed
 use Rattle.ee_core.specs.declared.copying.Place.{Place}
-use Rattle.ee_core.proofs.CopiedMaps.{at_first, at_last, copied_to, meaning-zero, nothing, passed, so_far, then_all}
-use Rattle.ee_core.proofs.CopiedWords.{all_moved, all_words, copied_word, no_words, others, passed_word}
+use Rattle.ee_core.proofs.CopiedMaps.{at_first, at_last, changed_by-append, changed_by-other, copied_to, meaning-zero, nothing, passed, so_far, then_all}
+use Rattle.ee_core.proofs.CopiedWords.{all_words, copied_word, no_words, others, passed_word}
 use Rattle.ee_core.proofs.CutMoves.{adds_then, elements_front, partly_longer}
 use Rattle.ee_core.proofs.FilledSets.{adds_both, adds_none}
 use Rattle.ee_core.proofs.MovingFacts.{keeps_both, keeps_same}
@@ -52,8 +55,8 @@ partly_filled old new layout count words rest partly = record {
   wear = partly.wear;
 }
 
--- the live addresses are copied behind what stands there, but for one
-module _ (old : Device) (layout : Layout) (place : Place) (except : ℕ) where
+-- the live addresses are copied behind what stands there, but for those that changes name
+module _ (old : Device) (layout : Layout) (place : Place) (changes : List Change) where
   abbrev start : Map
   start = map_in (other layout.side) old
 
@@ -62,61 +65,209 @@ module _ (old : Device) (layout : Layout) (place : Place) (except : ℕ) where
 
   -- up to this address
   abbrev pub FilledTo : ℕ → Device → ℕ → Type 0
-  FilledTo above now slot = Filled old now layout place.slot (elements_to (others map except) above) (so_far start map except above) slot
+  FilledTo above now slot = Filled old now layout place.slot (elements_to (others map changes) above) (so_far start map (names changes) above) slot
 
-  pub none_filled : IsOpenAt old layout place → ((address : ℕ) → (address ≡ except → ⊥) → start address ≡ None) → FilledTo 0 old place.slot
+  pub none_filled : IsOpenAt old layout place → ((address : ℕ) → names changes address ≡ false → start address ≡ None) → FilledTo 0 old place.slot
   none_filled at only = record {
     keeps = keeps_same old layout at.found;
     filling = at.filling;
-    map_is = at_first start map except (meaning-zero (slots_of (set_of layout.side old))) only;
-    adds = rw (no_words map except) (adds_none old layout.side (layout.generation + 1) place.slot);
-    as_many = rw (no_words map except) (omega arith);
+    map_is = at_first start map (names changes) (meaning-zero (slots_of (set_of layout.side old))) only;
+    adds = rw (no_words map changes) (adds_none old layout.side (layout.generation + 1) place.slot);
+    as_many = rw (no_words map changes) (omega arith);
     wear = refl;
   }
 
-  pub all_filled : (above : ℕ) (now : Device) (slot : ℕ) → FilledTo above now slot → above < 65535 → IsNextLive map above None → Filled old now layout place.slot (elements_of (others map except)) (replaced_map start except map) slot
+  pub all_filled : (above : ℕ) (now : Device) (slot : ℕ) → FilledTo above now slot → above < 65535 → IsNextLive map above None → Filled old now layout place.slot (elements_of (others map changes)) (replaced_map start (names changes) map) slot
   all_filled above now slot filled below none =
-      subst (λ (words : List Word). Filled old now layout place.slot words (replaced_map start except map) slot) (sym (all_words map except above below none))
-      (subst (λ (said : Map). Filled old now layout place.slot (elements_to (others map except) above) said slot) (fun_ext (at_last start map except above none)) filled)
+      subst (λ (words : List Word). Filled old now layout place.slot words (replaced_map start (names changes) map) slot) (sym (all_words map changes above below none))
+      (subst (λ (said : Map). Filled old now layout place.slot (elements_to (others map changes) above) said slot) (fun_ext (at_last start map (names changes) above none)) filled)
 
   module _ (above next value : ℕ) (mid new : Device) (slot : ℕ) (is : IsNextLive map above (Some (next, value))) (filled : FilledTo above mid slot) where
     abbrev word : List Word
     word = Held (element next value) ∷ []
 
-    -- the next one, unless it is the one that is not copied
-    pub next_filled : (more : ℕ) → (next ≡ except → (more ≡ slot) × (new ≡ mid)) → ((next ≡ except → ⊥) → Filled mid new layout slot word (map_after (Put next value) (map_in (other layout.side) mid)) more) → FilledTo next new more
-    next_filled more passing copying = elim (cases_eq next except) [
+    -- the next one, unless it is one that is not copied
+    pub next_filled : (more : ℕ) → (names changes next ≡ true → (more ≡ slot) × (new ≡ mid)) → (names changes next ≡ false → Filled mid new layout slot word (map_after (Put next value) (map_in (other layout.side) mid)) more) → FilledTo next new more
+    next_filled more passing copying = elim (cases_Bool (names changes next)) [
       | inl here ↦
-          let words = subst (λ (words : List Word). Filled old mid layout place.slot words (so_far start map except above) slot) (sym (passed_word map except above next value is here)) filled in
-          let same = subst (λ (said : Map). Filled old mid layout place.slot (elements_to (others map except) next) said slot) (fun_ext (passed start map except above next value is here)) words in
+          let words = subst (λ (words : List Word). Filled old mid layout place.slot words (so_far start map (names changes) above) slot) (sym (passed_word map changes above next value is here)) filled in
+          let same = subst (λ (said : Map). Filled old mid layout place.slot (elements_to (others map changes) next) said slot) (fun_ext (passed start map (names changes) above next value is here)) words in
           subst (λ n. FilledTo next new n) (sym (passing here).0) (subst (λ (device : Device). FilledTo next device slot) (sym (passing here).1) same)
       | inr apart ↦
-          let further = both_filled old mid new layout place.slot slot more (elements_to (others map except) above) word (so_far start map except above) (map_after (Put next value) (map_in (other layout.side) mid)) filled (copying apart) in
-          let words = subst (λ (words : List Word). Filled old new layout place.slot words (map_after (Put next value) (map_in (other layout.side) mid)) more) (sym (copied_word map except above next value is apart)) further in
-          subst (λ (said : Map). Filled old new layout place.slot (elements_to (others map except) next) said more) (fun_ext (copied_to start map except (map_in (other layout.side) mid) above next value filled.map_is is apart)) words
+          let further = both_filled old mid new layout place.slot slot more (elements_to (others map changes) above) word (so_far start map (names changes) above) (map_after (Put next value) (map_in (other layout.side) mid)) filled (copying apart) in
+          let words = subst (λ (words : List Word). Filled old new layout place.slot words (map_after (Put next value) (map_in (other layout.side) mid)) more) (sym (copied_word map changes above next value is apart)) further in
+          subst (λ (said : Map). Filled old new layout place.slot (elements_to (others map changes) next) said more) (fun_ext (copied_to start map (names changes) (map_in (other layout.side) mid) above next value filled.map_is is apart)) words
     ]
 
-    module _ (apart : next ≡ except → ⊥) (proper : next < 65535) where
+    module _ (apart : names changes next ≡ false) (proper : next < 65535) where
       -- it is one of all words
-      front : (rest : List Word) × (elements_of (others map except) ≡ elements_to (others map except) above ++ word ++ rest)
+      front : (rest : List Word) × (elements_of (others map changes) ≡ elements_to (others map changes) above ++ word ++ rest)
       front =
-          let found = elements_front (others map except) next 65534 (omega arith) in
-          (found.0, found.1 ∙ ap (λ (words : List Word). words ++ found.0) (copied_word map except above next value is apart))
+          let found = elements_front (others map changes) next 65534 (omega arith) in
+          (found.0, found.1 ∙ ap (λ (words : List Word). words ++ found.0) (copied_word map changes above next value is apart))
 
-      pub next_partly : FilledPartly mid new layout slot word → FilledPartly old new layout place.slot (elements_of (others map except))
+      pub next_partly : FilledPartly mid new layout slot word → FilledPartly old new layout place.slot (elements_of (others map changes))
       next_partly copying =
           subst (λ (words : List Word). FilledPartly old new layout place.slot words) (sym front.1)
-          (partly_filled old new layout place.slot (elements_to (others map except) above ++ word) front.0
-          (then_partly old mid new layout place.slot slot (elements_to (others map except) above) word (so_far start map except above) filled copying))
+          (partly_filled old new layout place.slot (elements_to (others map changes) above ++ word) front.0
+          (then_partly old mid new layout place.slot slot (elements_to (others map changes) above) word (so_far start map (names changes) above) filled copying))
 
       -- so there is room for it
-      pub room : (capacity : ℕ) → place.slot + length (elements_of (others map except)) ≤ capacity → slot < capacity
+      pub room : (capacity : ℕ) → place.slot + length (elements_of (others map changes)) ≤ capacity → slot < capacity
       room capacity fits =
-          let all = elements_to (others map except) above ++ word in
-          omega (arith, filled.as_many, ap length front.1, length-append all front.0, length-append (elements_to (others map except) above) word)
+          let all = elements_to (others map changes) above ++ word in
+          omega (arith, filled.as_many, ap length front.1, length-append all front.0, length-append (elements_to (others map changes) above) word)
 
--- the change comes first, and then the other addresses
-module _ (change : Change) (old mid new : Device) (layout : Layout) (except slot : ℕ) (named : except ≡ address_of change) (first : Filled old mid layout 0 (put_words change) (map_after change nothing) slot) where
+-- ---- the values that are put come first
+
+puts-append : (puts more : List listed.Put) → puts_of (puts ++ more) ≡ puts_of puts ++ puts_of more
+puts-append [] more = refl
+puts-append (put ∷ puts) more = ap (λ (changes : List Change). Put put.address put.value ∷ changes) (puts-append puts more)
+
+words-append : (changes more : List Change) → put_words (changes ++ more) ≡ put_words changes ++ put_words more
+words-append [] more = refl
+words-append (Put address value ∷ changes) more = ap (λ (words : List Word). Held (element address value) ∷ words) (words-append changes more)
+words-append (Forget address ∷ changes) more = words-append changes more
+
+pub length-put_words : (puts : List listed.Put) → length (put_words (puts_of puts)) ≡ length puts
+length-put_words [] = refl
+length-put_words (put ∷ puts) = ap suc (length-put_words puts)
+
+-- after the first values
+abbrev pub words_to : List listed.Put → ℕ → List Word
+words_to puts count = put_words (puts_of (take count puts))
+
+abbrev pub map_of_first : List listed.Put → ℕ → Map
+map_of_first puts count = changed_by (puts_of (take count puts)) nothing
+
+module _ (puts : List listed.Put) (count : ℕ) (put : listed.Put) (within : count < length puts) (is : put ≡ get_or puts count put) where
+  one_put_more : take (count + 1) puts ≡ take count puts ++ (put ∷ [])
+  one_put_more = take_more puts count put within ∙ ap (λ (last : listed.Put). take count puts ++ (last ∷ [])) (sym is)
+
+  pub words_more : words_to puts (count + 1) ≡ words_to puts count ++ (Held (element put.address put.value) ∷ [])
+  words_more =
+      ap (λ (some : List listed.Put). put_words (puts_of some)) one_put_more
+      ∙ ap put_words (puts-append (take count puts) (put ∷ []))
+      ∙ words-append (puts_of (take count puts)) (Put put.address put.value ∷ [])
+
+  map_more_on : (map : Map) → changed_by (puts_of (take (count + 1) puts)) map ≡ map_after (Put put.address put.value) (changed_by (puts_of (take count puts)) map)
+  map_more_on map =
+      ap (λ (some : List listed.Put). changed_by (puts_of some) map) one_put_more
+      ∙ ap (λ (changes : List Change). changed_by changes map) (puts-append (take count puts) (put ∷ []))
+      ∙ changed_by-append (puts_of (take count puts)) (Put put.address put.value ∷ []) map
+
+  pub map_more : map_of_first puts (count + 1) ≡ map_after (Put put.address put.value) (map_of_first puts count)
+  map_more = map_more_on nothing
+
+pub map_with_more : (map : Map) (puts : List listed.Put) (count : ℕ) (put : listed.Put) (within : count < length puts) (is : put ≡ get_or puts count put)
+    → changed_by (puts_of (take (count + 1) puts)) map ≡ map_after (Put put.address put.value) (changed_by (puts_of (take count puts)) map)
+map_with_more map puts count put within is = map_more_on puts count put within is map
+
+words_rest : (puts : List listed.Put) (count : ℕ) → put_words (puts_of puts) ≡ words_to puts count ++ put_words (puts_of (drop count puts))
+words_rest puts count =
+    ap (λ (all : List listed.Put). put_words (puts_of all)) (sym (take-append-drop count puts))
+    ∙ ap put_words (puts-append (take count puts) (drop count puts))
+    ∙ words-append (puts_of (take count puts)) (puts_of (drop count puts))
+
+module _ (old : Device) (layout : Layout) (puts : List listed.Put) where
+  -- so many of them stand in the set
+  abbrev pub FilledBy : ℕ → Device → ℕ → Type 0
+  FilledBy count now slot = Filled old now layout 0 (words_to puts count) (map_of_first puts count) slot
+
+  pub none_put : IsNewlyOpened old layout → FilledBy 0 old 0
+  none_put opened = record {
+    keeps = keeps_same old layout opened.found;
+    filling = opened.filling;
+    map_is = opened.nothing;
+    adds = adds_none old layout.side (layout.generation + 1) 0;
+    as_many = refl;
+    wear = refl;
+  }
+
+  module _ (count : ℕ) (put : listed.Put) (mid new : Device) (slot : ℕ) (within : count < length puts) (is : put ≡ get_or puts count put) (filled : FilledBy count mid slot) where
+    abbrev put_word : List Word
+    put_word = Held (element put.address put.value) ∷ []
+
+    pub one_put : (more : ℕ) → Filled mid new layout slot put_word (map_after (Put put.address put.value) (map_in (other layout.side) mid)) more → FilledBy (count + 1) new more
+    one_put more staged =
+        let held : map_in (other layout.side) mid ≡ map_of_first puts count = fun_ext filled.map_is in
+        let here = subst (λ (said : Map). Filled mid new layout slot put_word (map_after (Put put.address put.value) said) more) held staged in
+        let both = both_filled old mid new layout 0 slot more (words_to puts count) put_word (map_of_first puts count) (map_after (Put put.address put.value) (map_of_first puts count)) filled here in
+        subst (λ (words : List Word). Filled old new layout 0 words (map_of_first puts (count + 1)) more) (sym (words_more puts count put within is))
+        (subst (λ (said : Map). Filled old new layout 0 (words_to puts count ++ put_word) said more) (sym (map_more puts count put within is)) both)
+
+    pub one_put_partly : FilledPartly mid new layout slot put_word → FilledPartly old new layout 0 (put_words (puts_of puts))
+    one_put_partly partly =
+        let there = then_partly old mid new layout 0 slot (words_to puts count) put_word (map_of_first puts count) filled partly in
+        subst (λ (words : List Word). FilledPartly old new layout 0 words) (sym (words_rest puts (count + 1)))
+        (partly_filled old new layout 0 (words_to puts (count + 1)) (put_words (puts_of (drop (count + 1) puts)))
+        (subst (λ (words : List Word). FilledPartly old new layout 0 words) (sym (words_more puts count put within is)) there))
+
+    -- so there is room for it
+    pub put_room : (capacity : ℕ) → length puts ≤ capacity → slot < capacity
+    put_room capacity fits = omega (arith, filled.as_many, length-put_words (take count puts), length-take-le count puts (omega arith))
+
+  pub all_put : (count : ℕ) (now : Device) (slot : ℕ) → length puts ≤ count → FilledBy count now slot → Filled old now layout 0 (put_words (puts_of puts)) (changed_by (puts_of puts) nothing) slot
+  all_put count now slot past filled = subst (λ (first : List listed.Put). Filled old now layout 0 (put_words (puts_of first)) (changed_by (puts_of first) nothing) slot) (take_all count puts past) filled
+
+-- ---- what a transfer carries: values that are put, or the forgettings of their addresses, which have no words
+
+forgets_words : (puts : List listed.Put) → put_words (forgets_of puts) ≡ []
+forgets_words [] = refl
+forgets_words (put ∷ puts) = forgets_words puts
+
+forgets_nothing : (named : ℕ) → map_after (Forget named) nothing ≡ nothing
+forgets_nothing named = fun_ext (λ address. elim (cases_Bool (named == address)) [ inl here ↦ rw here refl | inr away ↦ rw away refl ])
+
+forgets_map : (puts : List listed.Put) → changed_by (forgets_of puts) nothing ≡ nothing
+forgets_map [] = refl
+forgets_map (put ∷ puts) = ap (changed_by (forgets_of puts)) (forgets_nothing put.address) ∙ forgets_map puts
+
+forgets_without : (puts : List listed.Put) (map : Map) → map_without (forgets_of puts) map ≡ map_without (puts_of puts) map
+forgets_without [] map = refl
+forgets_without (put ∷ puts) map = forgets_without puts (map_after (Forget put.address) map)
+
+forgets_names : (puts : List listed.Put) (address : ℕ) → names (forgets_of puts) address ≡ names (puts_of puts) address
+forgets_names [] address = refl
+forgets_names (put ∷ puts) address = ap (λ (later : Bool). (put.address == address) || later) (forgets_names puts address)
+
+-- either way the same addresses are not copied
+pub carried_without : (puts : List listed.Put) (forgets : Bool) (map : Map) → map_without (carried puts forgets) map ≡ map_without (puts_of puts) map
+carried_without puts true map = forgets_without puts map
+carried_without puts false map = refl
+
+pub carried_names : (puts : List listed.Put) (forgets : Bool) (address : ℕ) → names (carried puts forgets) address ≡ names (puts_of puts) address
+carried_names puts true address = forgets_names puts address
+carried_names puts false address = refl
+
+module _ (old new : Device) (layout : Layout) (puts : List listed.Put) where
+  pub carried_first : (forgets : Bool) (values : List listed.Put) (slot : ℕ) → values ≡ cond forgets [] puts → Filled old new layout 0 (put_words (puts_of values)) (changed_by (puts_of values) nothing) slot
+      → Filled old new layout 0 (put_words (carried puts forgets)) (changed_by (carried puts forgets) nothing) slot
+  carried_first true values slot is filled =
+      let none = subst (λ (found : List listed.Put). Filled old new layout 0 (put_words (puts_of found)) (changed_by (puts_of found) nothing) slot) is filled in
+      subst (λ (words : List Word). Filled old new layout 0 words (changed_by (forgets_of puts) nothing) slot) (sym (forgets_words puts))
+      (subst (λ (said : Map). Filled old new layout 0 [] said slot) (sym (forgets_map puts)) none)
+  carried_first false values slot is filled = subst (λ (found : List listed.Put). Filled old new layout 0 (put_words (puts_of found)) (changed_by (puts_of found) nothing) slot) is filled
+
+  pub carried_partly : (forgets : Bool) (values : List listed.Put) → values ≡ cond forgets [] puts → FilledPartly old new layout 0 (put_words (puts_of values)) → FilledPartly old new layout 0 (put_words (carried puts forgets))
+  carried_partly true values is partly =
+      let none = subst (λ (found : List listed.Put). FilledPartly old new layout 0 (put_words (puts_of found))) is partly in
+      subst (λ (words : List Word). FilledPartly old new layout 0 words) (sym (forgets_words puts)) none
+  carried_partly false values is partly = subst (λ (found : List listed.Put). FilledPartly old new layout 0 (put_words (puts_of found))) is partly
+
+  -- and so the others are those that the list leaves
+  pub others_carried : (forgets : Bool) (slot written : ℕ) (start map : Map) → Filled old new layout slot (elements_of (map_without (puts_of puts) map)) (replaced_map start (names (puts_of puts)) map) written
+      → Filled old new layout slot (elements_of (map_without (carried puts forgets) map)) (replaced_map start (names (carried puts forgets)) map) written
+  others_carried forgets slot written start map filled =
+      let named : names (puts_of puts) ≡ names (carried puts forgets) = fun_ext (λ address. sym (carried_names puts forgets address)) in
+      subst (λ (left : Map). Filled old new layout slot (elements_of left) (replaced_map start (names (carried puts forgets)) map) written) (sym (carried_without puts forgets map))
+      (subst (λ (which : ℕ → Bool). Filled old new layout slot (elements_of (map_without (puts_of puts) map)) (replaced_map start which map) written) named filled)
+
+  pub others_carried_partly : (forgets : Bool) (slot : ℕ) (map : Map) → FilledPartly old new layout slot (elements_of (map_without (puts_of puts) map)) → FilledPartly old new layout slot (elements_of (map_without (carried puts forgets) map))
+  others_carried_partly forgets slot map partly = subst (λ (left : Map). FilledPartly old new layout slot (elements_of left)) (sym (carried_without puts forgets map)) partly
+
+-- the changes come first, and then the other addresses
+module _ (changes : List Change) (old mid new : Device) (layout : Layout) (slot : ℕ) (first : Filled old mid layout 0 (put_words changes) (changed_by changes nothing) slot) where
   abbrev before : Map
   before = map_in layout.side old
 
@@ -126,34 +277,38 @@ module _ (change : Change) (old mid new : Device) (layout : Layout) (except slot
   abbrev started : Map
   started = map_in (other layout.side) mid
 
-  words_are : put_words change ++ elements_of (others now except) ≡ moved_words change before
-  words_are =
-      ap (λ n. put_words change ++ elements_of (others now n)) named
-      ∙ ap (λ (map : Map). put_words change ++ elements_of (others map (address_of change))) (fun_ext first.keeps.same_map)
-      ∙ all_moved change before
+  words_are : put_words changes ++ elements_of (others now changes) ≡ moved_words changes before
+  words_are = ap (moved_words changes) (fun_ext first.keeps.same_map)
 
-  map_is : (address : ℕ) → replaced_map started except now address ≡ map_after change before address
+  map_is : (address : ℕ) → replaced_map started (names changes) now address ≡ changed_by changes before address
   map_is address =
-      ap (λ n. replaced_map started n now address) named
-      ∙ then_all started now change first.map_is address
-      ∙ ap (λ (map : Map). map_after change map address) (fun_ext first.keeps.same_map)
+      then_all started now changes first.map_is address
+      ∙ ap (λ (map : Map). changed_by changes map address) (fun_ext first.keeps.same_map)
 
-  pub others_fit : IsAddress (address_of change) → live_in (map_after change before) ≤ slot_count old.size → slot + length (elements_of (others now except)) ≤ slot_count mid.size
-  others_fit proper fits =
-      omega (arith, first.as_many, ap length words_are, length-append (put_words change) (elements_of (others now except)), moved_words_are_live_lem change before proper, ap slot_count first.keeps.same_size)
+  -- the set has nothing else yet
+  pub only_these : (address : ℕ) → names changes address ≡ false → started address ≡ None
+  only_these address other = first.map_is address ∙ changed_by-other changes nothing address other
 
-  pub others_filled : (written : ℕ) → Filled mid new layout slot (elements_of (others now except)) (replaced_map started except now) written → Filled old new layout 0 (moved_words change before) (map_after change before) written
+  pub others_fit : AreApart changes → live_in (changed_by changes before) ≤ slot_count old.size → slot + length (elements_of (others now changes)) ≤ slot_count mid.size
+  others_fit apart fits =
+      omega (arith, first.as_many, ap length words_are, length-append (put_words changes) (elements_of (others now changes)), moved_words_are_live_lem changes before apart, ap slot_count first.keeps.same_size)
+
+  pub others_filled : (written : ℕ) → Filled mid new layout slot (elements_of (others now changes)) (replaced_map started (names changes) now) written → Filled old new layout 0 (moved_words changes before) (changed_by changes before) written
   others_filled written second =
-      subst (λ (words : List Word). Filled old new layout 0 words (map_after change before) written) words_are
-      (subst (λ (map : Map). Filled old new layout 0 (put_words change ++ elements_of (others now except)) map written) (fun_ext map_is)
-      (both_filled old mid new layout 0 slot written (put_words change) (elements_of (others now except)) (map_after change nothing) (replaced_map started except now) first second))
+      subst (λ (words : List Word). Filled old new layout 0 words (changed_by changes before) written) words_are
+      (subst (λ (map : Map). Filled old new layout 0 (put_words changes ++ elements_of (others now changes)) map written) (fun_ext map_is)
+      (both_filled old mid new layout 0 slot written (put_words changes) (elements_of (others now changes)) (changed_by changes nothing) (replaced_map started (names changes) now) first second))
 
-  pub others_partly : FilledPartly mid new layout slot (elements_of (others now except)) → FilledPartly old new layout 0 (moved_words change before)
+  pub others_partly : FilledPartly mid new layout slot (elements_of (others now changes)) → FilledPartly old new layout 0 (moved_words changes before)
   others_partly second =
       subst (λ (words : List Word). FilledPartly old new layout 0 words) words_are
-      (then_partly old mid new layout 0 slot (put_words change) (elements_of (others now except)) (map_after change nothing) first second)
+      (then_partly old mid new layout 0 slot (put_words changes) (elements_of (others now changes)) (changed_by changes nothing) first second)
 
-pub first_partly : (change : Change) (old new : Device) (layout : Layout) (map : Map) → FilledPartly old new layout 0 (put_words change) → FilledPartly old new layout 0 (moved_words change map)
-first_partly change old new layout map partly =
-    subst (λ (words : List Word). FilledPartly old new layout 0 words) (all_moved change map)
-    (partly_filled old new layout 0 (put_words change) (elements_of (others map (address_of change))) partly)
+pub first_partly : (changes : List Change) (old new : Device) (layout : Layout) (map : Map) → FilledPartly old new layout 0 (put_words changes) → FilledPartly old new layout 0 (moved_words changes map)
+first_partly changes old new layout map partly = partly_filled old new layout 0 (put_words changes) (elements_of (others map changes)) partly
+
+-- the values that are put find room
+pub puts_fit : (puts : List listed.Put) (forgets : Bool) (values : List listed.Put) (map : Map) (capacity : ℕ) → values ≡ cond forgets [] puts → AreApart (carried puts forgets) → live_in (changed_by (carried puts forgets) map) ≤ capacity → length values ≤ capacity
+puts_fit puts true values map capacity is apart fits = omega (arith, ap length is)
+puts_fit puts false values map capacity is apart fits =
+    omega (arith, ap length is, moved_words_are_live_lem (puts_of puts) map apart, length-append (put_words (puts_of puts)) (elements_of (map_without (puts_of puts) map)), length-put_words puts)

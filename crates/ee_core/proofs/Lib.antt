@@ -20,6 +20,8 @@ mod CopiedMaps
 mod Courses
 mod MovingFacts
 mod Fillings
+mod Listed
+mod Several
 mod OtherSteps
 mod Making
 mod Effects

@@ -1,6 +1,7 @@
 -- What an append or a transfer makes of a state, and when each is done.
 use Rattle.std.proofs.Common.{◌≡◌, ◌≢◌, ◌⊎◌, inl, inr, ℕ, ◌+◌, ◌-◌, ◌<◌, ◌≤◌, ◌&&◌, Bool, true, false, cond, Option, Some, None, is_some, List, [], ◌∷◌, length, nat_lt, refl, sym, subst, ap, ◌∙◌, arith}
 use Rattle.std.specs.Prelude.{Result, Ok, Err, OnErr, OnOk, not}
+use Rattle.std.proofs.lemmas.Bool.{cases_lt}
 use Rattle.std.proofs.lemmas.Grind.{common_steps}
 use Rattle.std.specs.List.{filter}
 use Rattle.ee_flash.specs.Device.{Device, IsFormed, IsOff, IsOn}
@@ -13,7 +14,7 @@ use Rattle.ee_codec.specs.Words.{IsAddress, IsGeneration}
 use Rattle.ee_pages.specs.Laws.{KeepsLiveSet}
 use Rattle.ee_pages.specs.Layout.{IsLayout}
 use Rattle.ee_pages.specs.Legal.{IsLive}
-use Rattle.ee_pages.specs.Meaning.{Change, Map, Put, Forget, map_after, live_in, meaning}
+use Rattle.ee_pages.specs.Meaning.{Change, Map, Put, Forget, changed_by, map_after, live_in, meaning}
 use Rattle.ee_pages.specs.Page.{is_blank, is_written}
 use Rattle.ee_pages.specs.Pending.{address_of}
 use Rattle.ee_pages.specs.Pushing.{TakesSlot}
@@ -21,18 +22,34 @@ use Rattle.ee_pages.specs.Sets.{fill_of, first_page, is_mark, other, pending_of,
 use Rattle.ee_pages.specs.declared.find.Layout.{Layout}
 use Rattle.ee_pages.specs.declared.side.Side.{Side}
 use Rattle.ee_pages.specs.declared.side.Side.TheVariants.{First}
-use Rattle.ee_pages.proofs.Public.{live_commits, change_counts, live_within_fill, length-set_of, length-slots}
-use Rattle.ee_core.specs.Changes.{Appends, IsAccepted, IsCutAppend, IsCutChange, IsCutMove, IsFull, IsSpent, Moves, Proceeds, ShowsAppended, ShowsCutAppend, ShowsCutMove, ShowsMoved, greatest_generation}
+use Rattle.ee_pages.proofs.Public.{live_commits, change_counts, full_set_has_no_blank_page, live_within_fill, length-set_of, length-slots}
+use Rattle.ee_core.specs.Changes.{Appends, HaveNoGeneration, IsAccepted, IsCutAppend, IsCutChange, IsCutMaking, IsCutMove, IsFull, Moves, NeedsTransfer, Proceeds, ShowsAppended, ShowsCutAppend, ShowsCutMove, ShowsMoved, greatest_generation, is_left, pages_left}
 use Rattle.ee_core.specs.Cuts.{ErasesPartly, IsDrawnPartly, MovesPartly}
-use Rattle.ee_core.specs.Picture.{IsDrawn, filled_set, moved_words, number_of_change, picture_of, retired_pages, with_change}
+use Rattle.ee_core.specs.Picture.{IsDrawn, filled_set, is_used, moved_words, number_of_change, picture_of, retired_pages, with_change}
+use Rattle.ee_core.specs.Puts.{AreApart}
 use Rattle.ee_core.specs.declared.change.Change as declared
 use Rattle.ee_core.specs.declared.change.Change.TheVariants as kinds
-use Rattle.ee_core.proofs.Drawings.{same_drawn}
+use Rattle.ee_core.proofs.Drawings.{drawn_as, same_drawn}
+use Rattle.ee_core.proofs.MovedSets.{used_where_full}
 use Rattle.ee_core.specs.Finished.{IsMarked, IsStore}
 use Rattle.ee_core.specs.Parts.{ForgetsHeld, HasMoved, IsSameSet, meant, number_written}
-use Rattle.ee_core.specs.State.{State, Wears, WearsFront, appended_state, capacity, not_blank_from, not_blank_in, pending_pages, pending_pages_in, torn_state, state_of, next_live}
+use Rattle.ee_core.specs.State.{State, Wears, WearsFront, appended_state, capacity, moved_state, not_blank_from, not_blank_in, pending_pages, pending_pages_in, torn_state, state_of, next_live, used_pages_in}
 use Rattle.ee_core.proofs.States.{same_states, state_is, state_kept, state_moved}
 use Rattle.ee_core.proofs.MovingFacts.{layout_kept}
+
+kept_few : {X : Type 0} (b : Bool) (x : X) (ys xs : List X) → length ys ≤ length xs → length (cond b (x ∷ ys) ys) ≤ length (x ∷ xs)
+kept_few true x ys xs h = omega arith
+kept_few false x ys xs h = omega arith
+
+filter_few : {X : Type 0} (p : X → Bool) (xs : List X) → length (filter p xs) ≤ length xs
+filter_few p [] = omega arith
+filter_few p (x ∷ xs) = kept_few (p x) x (filter p xs) xs (filter_few p xs)
+
+-- no more pages wait than a set has
+pub few_pending : (device : Device) (side : Side) → IsFormed device → pending_of (set_of side device) ≤ device.size.pages
+few_pending device side formed =
+    let most = filter_few (λ page. not (is_blank page)) (set_of side device) in
+    omega (arith, most, length-set_of side device formed)
 
 module _ (old new : Device) (side : Side) (generation : ℕ) (live : IsLive old side generation) where
   pub fill_was : (state_of old).fill ≡ fill_of (slots_of (set_of side old))
@@ -87,20 +104,38 @@ module _ (old new : Device) (side : Side) (generation : ℕ) (live : IsLive old 
     old_pages = same_drawn (other side) old new sizes same;
   }
 
-  pub shows_moved : (change : Change) → IsDrawn (other side) new (filled_set old.size (generation + 1) (moved_words change (meaning (slots_of (set_of side old))))) → IsDrawn side new (retired_pages (λ page. true) (picture_of side old)) → ShowsMoved old change new side generation
-  shows_moved change new_drawn old_drawn = record {
+  -- the slots that one change needs a transfer for are all used
+  all_used : (change : Change) → NeedsTransfer (capacity old) (state_of old) (change ∷ []) → fill_of (slots_of (set_of side old)) ≡ capacity old
+  all_used change needed = sym fill_was ∙ needed
+
+  -- so each page of the set waits afterwards
+  used_are_left : (changes : List Change) (page : ℕ) → NeedsTransfer (capacity old) (state_of old) changes → page < old.size.pages → is_used side old page ≡ is_left changes side old page
+  used_are_left [] page needed h = absurd needed
+  used_are_left (change ∷ []) page needed h = used_where_full side old generation page live (all_used change needed) h
+  used_are_left (first ∷ second ∷ more) page needed h = refl
+
+  pending_left : (changes : List Change) → NeedsTransfer (capacity old) (state_of old) changes → pending_of (set_of side old) ≡ pages_left changes old
+  pending_left [] needed = absurd needed
+  pending_left (change ∷ []) needed = full_set_has_no_blank_page old side generation live (all_used change needed)
+  pending_left (first ∷ second ∷ more) needed = sym (ap (used_pages_in old) live.live)
+
+  pub shows_moved : (changes : List Change) → NeedsTransfer (capacity old) (state_of old) changes → new.size ≡ old.size
+      → IsDrawn (other side) new (filled_set old.size (generation + 1) (moved_words changes (meaning (slots_of (set_of side old))))) → IsDrawn side new (retired_pages (is_used side old) (picture_of side old)) → ShowsMoved old changes new side generation
+  shows_moved changes needed sizes new_drawn old_drawn = record {
     new_pages =
         let map : (state_of old).map ≡ meaning (slots_of (set_of side old)) = ap (λ (state : State). state.map) (state_is old side generation live) in
-        subst (λ (said : Map). IsDrawn (other side) new (filled_set old.size (generation + 1) (moved_words change said))) (sym map) new_drawn;
-    old_pages = old_drawn;
+        subst (λ (said : Map). IsDrawn (other side) new (filled_set old.size (generation + 1) (moved_words changes said))) (sym map) new_drawn;
+    old_pages =
+        drawn_as side new (retired_pages (is_used side old) (picture_of side old)) (retired_pages (is_left changes side old) (picture_of side old)) old_drawn
+        (λ page at h within. ap (λ (waits : Bool). retired_pages (λ p. waits) (picture_of side old) page at) (used_are_left changes page needed (omega (arith, ap (λ (size : Size). size.pages) sizes))));
   }
 
-  pub shows_cut_move : (change : Change) → (let first = first_page old.size (other side) in ErasesPartly first (first + old.size.pages) old new ⊎ MovesPartly old new side generation (moved_words change (meaning (slots_of (set_of side old))))) → ShowsCutMove old change new side generation
-  shows_cut_move change left =
+  pub shows_cut_move : (changes : List Change) → (let first = first_page old.size (other side) in ErasesPartly first (first + old.size.pages) old new ⊎ MovesPartly old new side generation (moved_words changes (meaning (slots_of (set_of side old))))) → ShowsCutMove old changes new side generation
+  shows_cut_move changes left =
       let map : (state_of old).map ≡ meaning (slots_of (set_of side old)) = ap (λ (state : State). state.map) (state_is old side generation live) in
-      subst (λ (said : Map). let first = first_page old.size (other side) in ErasesPartly first (first + old.size.pages) old new ⊎ MovesPartly old new side generation (moved_words change said)) (sym map) left
+      subst (λ (said : Map). let first = first_page old.size (other side) in ErasesPartly first (first + old.size.pages) old new ⊎ MovesPartly old new side generation (moved_words changes said)) (sym map) left
 
-  pub appends : (change : Change) → Proceeds old change → GoesOn old new → fill_of (slots_of (set_of side old)) < capacity old → TakesSlot old new side generation (map_after change (meaning (slots_of (set_of side old)))) → IsSameSet (other side) old new → new.wear ≡ old.wear → ShowsAppended old change new side → Appends old change new
+  pub appends : (change : Change) → Proceeds old (change ∷ []) → GoesOn old new → fill_of (slots_of (set_of side old)) < capacity old → TakesSlot old new side generation (map_after change (meaning (slots_of (set_of side old)))) → IsSameSet (other side) old new → new.wear ≡ old.wear → ShowsAppended old change new side → Appends old change new
   appends change proceeds goes_on free takes same wear shows = record {
     image = (side, generation, live.live, shows);
     proceeds = proceeds;
@@ -119,7 +154,7 @@ module _ (old new : Device) (side : Side) (generation : ℕ) (live : IsLive old 
   cut_append change same (inr (inl torn)) = inr (inl (state_spoiled torn same))
   cut_append change same (inr (inr whole)) = inr (inr (state_appended change whole same))
 
-  pub cut_in_append : (change : Change) → Proceeds old change → IsCut old new → fill_of (slots_of (set_of side old)) < capacity old → IsSameSet (other side) old new
+  pub cut_in_append : (change : Change) → Proceeds old (change ∷ []) → IsCut old new → fill_of (slots_of (set_of side old)) < capacity old → IsSameSet (other side) old new
       → KeepsLiveSet old new side generation ⊎ TakesSlot old new side generation (meaning (slots_of (set_of side old))) ⊎ TakesSlot old new side generation (map_after change (meaning (slots_of (set_of side old))))
       → new.wear ≡ old.wear → ShowsCutAppend old change new side → IsCutChange old change new
   cut_in_append change proceeds cut free same left wear shows = record {
@@ -134,34 +169,52 @@ module _ (old new : Device) (side : Side) (generation : ℕ) (live : IsLive old 
     wear = λ all. absurd (omega (arith, fill_was));
   }
 
-  pub moves : (change : Change) → Proceeds old change → GoesOn old new → fill_of (slots_of (set_of side old)) ≡ capacity old → HasMoved old new side generation change → Wears (not_blank_in (other side) old) old new → ShowsMoved old change new side generation → Moves old change new
-  moves change proceeds goes_on all has wear shows = record {
+  state_left : (changes : List Change) → NeedsTransfer (capacity old) (state_of old) changes → HasMoved old new side generation changes → state_of new ≡ moved_state (pages_left changes old) changes (state_of old)
+  state_left changes needed has =
+      state_moved old new side generation live changes has ∙ ap (λ n. moved_state n changes (state_of old)) (pending_left changes needed)
+
+  pub moves : (changes : List Change) → Proceeds old changes → GoesOn old new → NeedsTransfer (capacity old) (state_of old) changes → HasMoved old new side generation changes → Wears (not_blank_in (other side) old) old new → ShowsMoved old changes new side generation → Moves old changes new
+  moves changes proceeds goes_on needed has wear shows = record {
     image = (side, generation, live.live, shows);
     proceeds = proceeds;
     goes_on = goes_on;
-    all_used = fill_was ∙ all;
-    state_is = state_moved old new side generation live change has;
+    needed = needed;
+    few_left = omega (arith, pending_left changes needed, few_pending old side live.formed);
+    state_is = state_left changes needed has;
     live_is = has.live.live ∙ ap next_live (sym live.live);
     wear = subst (λ pages. Wears pages old new) (sym pending_was) wear;
   }
 
-  cut_move : (change : Change) → pending_of (set_of (other side) new) ≤ old.size.pages → KeepsLiveSet old new side generation ⊎ HasMoved old new side generation change → IsCutMove old.size.pages (state_of old) change (state_of new)
-  cut_move change few (inl keeps) = inl (pending_of (set_of (other side) new), few, state_kept old new side generation live keeps _ refl)
-  cut_move change few (inr has) = inr (state_moved old new side generation live change has)
+  cut_move : (changes : List Change) → NeedsTransfer (capacity old) (state_of old) changes → pending_of (set_of (other side) new) ≤ old.size.pages → KeepsLiveSet old new side generation ⊎ HasMoved old new side generation changes
+      → IsCutMove old.size.pages (pages_left changes old) (state_of old) changes (state_of new)
+  cut_move changes needed few (inl keeps) = inl (pending_of (set_of (other side) new), few, state_kept old new side generation live keeps _ refl)
+  cut_move changes needed few (inr has) = inr (state_left changes needed has)
 
-  pub cut_in_move : (change : Change) → Proceeds old change → IsCut old new → fill_of (slots_of (set_of side old)) ≡ capacity old → pending_of (set_of (other side) new) ≤ old.size.pages
-      → KeepsLiveSet old new side generation ⊎ HasMoved old new side generation change → WearsFront (not_blank_in (other side) old) old new → ShowsCutMove old change new side generation → IsCutChange old change new
-  cut_in_move change proceeds cut all few left begun shows = record {
-    used_words = λ _. (side, generation, live.live, shows);
-    free_words = λ less. absurd (omega (arith, fill_was));
-    proceeds = proceeds;
-    cut = cut;
-    within = omega (arith, fill_was);
-    free = λ less. absurd (omega (arith, fill_was));
-    all_used = λ _. cut_move change few left;
-    no_wear = λ less. absurd (omega (arith, fill_was));
-    wear = λ _. subst (λ pages. WearsFront pages old new) (sym pending_was) begun;
-  }
+  module _ (cut : IsCut old new) (few : pending_of (set_of (other side) new) ≤ old.size.pages) (begun : WearsFront (not_blank_in (other side) old) old new) where
+    begun_pages : WearsFront (pending_pages old) old new
+    begun_pages = subst (λ pages. WearsFront pages old new) (sym pending_was) begun
+
+    pub cut_in_move : (changes : List Change) → Proceeds old changes → NeedsTransfer (capacity old) (state_of old) changes
+        → KeepsLiveSet old new side generation ⊎ HasMoved old new side generation changes → ShowsCutMove old changes new side generation → IsCutMaking old changes new
+    cut_in_move [] proceeds needed left shows = absurd needed
+    cut_in_move (change ∷ []) proceeds needed left shows = record {
+      used_words = λ _. (side, generation, live.live, shows);
+      free_words = λ less. absurd (omega (arith, needed));
+      proceeds = proceeds;
+      cut = cut;
+      within = omega (arith, needed);
+      free = λ less. absurd (omega (arith, needed));
+      all_used = λ _. cut_move (change ∷ []) needed few left;
+      no_wear = λ less. absurd (omega (arith, needed));
+      wear = λ _. begun_pages;
+    }
+    cut_in_move (first ∷ second ∷ more) proceeds needed left shows = record {
+      proceeds = proceeds;
+      cut = cut;
+      state_is = cut_move (first ∷ second ∷ more) needed few left;
+      wear = begun_pages;
+      words = (side, generation, live.live, shows);
+    }
 
 -- the word of a change of a map, with the value that it forgets
 pub number_is : (change : declared.Change) (map : Map) → ForgetsHeld map change → number_written change ≡ number_of_change map (meant change)
@@ -182,7 +235,7 @@ module _ (device : Device) (side : Side) (generation : ℕ) (live : IsLive devic
   held = let most = live_within_fill (slots_of (set_of side device)) in omega arith
 
   -- a change that is accepted keeps the live addresses within the slots
-  pub change_fits : (change : Change) → IsAddress (address_of change) → IsAccepted (capacity device) (state_of device) change → live_in (map_after change (meaning (slots_of (set_of side device)))) ≤ capacity device
+  change_fits : (change : Change) → IsAddress (address_of change) → IsAccepted (capacity device) (state_of device) (change ∷ []) → live_in (map_after change (meaning (slots_of (set_of side device)))) ≤ capacity device
   change_fits (Put address value) proper accepted =
       let map = meaning (slots_of (set_of side device)) in
       put_count (live_in map) _ (capacity device) (is_some (map address)) (change_counts (Put address value) map proper) held
@@ -193,6 +246,19 @@ module _ (device : Device) (side : Side) (generation : ℕ) (live : IsLive devic
   change_fits (Forget address) proper accepted =
       let counts = change_counts (Forget address) (meaning (slots_of (set_of side device))) proper in
       omega (arith, held)
+
+  -- and so do several
+  pub changes_fit : (changes : List Change) → AreApart changes → IsAccepted (capacity device) (state_of device) changes → live_in (changed_by changes (meaning (slots_of (set_of side device)))) ≤ capacity device
+  changes_fit [] apart accepted = held
+  changes_fit (change ∷ []) apart accepted = change_fits change apart.0 accepted
+  changes_fit (first ∷ second ∷ more) apart accepted =
+      let changes = first ∷ second ∷ more in
+      let same : live_in (changed_by changes (state_of device).map) ≡ live_in (changed_by changes (meaning (slots_of (set_of side device)))) =
+      ap (λ (state : State). live_in (changed_by changes state.map)) (state_is device side generation live) in
+      elim (cases_lt (capacity device) (live_in (changed_by changes (state_of device).map))) [
+        | inl more_than ↦ absurd (accepted.has_place more_than)
+        | inr fits ↦ omega (arith, fits, same)
+      ]
 
 -- a receive word's generation is proper
 receives : (number generation : ℕ) (above below : Bool) → nat_lt 0xAAAAAAAA00000000 number ≡ above → nat_lt number 0xAAAAAAAAFFFFFFFF ≡ below → cond (above && below) (Some (number - 0xAAAAAAAA00000000)) None ≡ Some generation → IsGeneration generation
@@ -212,23 +278,22 @@ pub generation_proper : (device : Device) (side : Side) (generation : ℕ) → I
 generation_proper device side generation live = commit_proper (is_mark (mark_of (word_of (set_of side device) 0 1))) (word_of (set_of side device) 0 0) generation (live_commits side device generation live.live)
 
 -- where a transfer is accepted, a generation is left for it
-pub generation_left : (device : Device) (side : Side) (generation : ℕ) → IsLive device side generation → fill_of (slots_of (set_of side device)) ≡ capacity device → ¬ IsSpent (capacity device) (state_of device) → IsGeneration (generation + 1)
-generation_left device side generation live all left =
-    let proper = generation_proper device side generation live in
-    let not_last : generation ≢ greatest_generation = λ last. left (record {
-      all_used = fill_was device device side generation live ∙ all;
-      last_generation = ap (λ (state : State). state.generation) (state_is device side generation live) ∙ last;
-    }) in
-    (omega arith, omega (arith, proper.1))
+module _ (device : Device) (side : Side) (generation : ℕ) (live : IsLive device side generation) where
+  not_greatest : ((state_of device).generation ≡ greatest_generation → ⊥) → IsGeneration (generation + 1)
+  not_greatest left =
+      let proper = generation_proper device side generation live in
+      let not_last : generation ≢ greatest_generation = λ last. left (ap (λ (state : State). state.generation) (state_is device side generation live) ∙ last) in
+      (omega arith, omega (arith, proper.1))
+
+  pub generation_left : (changes : List Change) → NeedsTransfer (capacity device) (state_of device) changes → ¬ HaveNoGeneration (capacity device) (state_of device) changes → IsGeneration (generation + 1)
+  generation_left [] needed left = absurd needed
+  generation_left (change ∷ []) needed left = not_greatest (λ last. left (record { all_used = needed; last_generation = last }))
+  generation_left (first ∷ second ∷ more) needed left = not_greatest left
 
 -- the side of a live set
 abbrev side_in : Option (Side × ℕ) → Side
 side_in None = First
 side_in (Some live) = live.0
-
-kept_few : {X : Type 0} (b : Bool) (x : X) (ys xs : List X) → length ys ≤ length xs → length (cond b (x ∷ ys) ys) ≤ length (x ∷ xs)
-kept_few true x ys xs h = omega arith
-kept_few false x ys xs h = omega arith
 
 -- a claim that holds in any case holds at an error
 pub always_on_err : {T E X : Type 0} (result : Result T E) → X → OnErr result X
@@ -258,19 +323,9 @@ live_after_append old new side generation torn whole (inl keeps) = keeps.live
 live_after_append old new side generation torn whole (inr (inl takes)) = takes.live
 live_after_append old new side generation torn whole (inr (inr takes)) = takes.live
 
-pub store_after_move : (old new : Device) (side : Side) (generation : ℕ) (change : Change) → IsOff new → KeepsLiveSet old new side generation ⊎ HasMoved old new side generation change → IsStore new
-store_after_move old new side generation change off (inl keeps) = off_store new side generation keeps.live off
-store_after_move old new side generation change off (inr has) = off_store new (other side) (generation + 1) has.live off
-
-filter_few : {X : Type 0} (p : X → Bool) (xs : List X) → length (filter p xs) ≤ length xs
-filter_few p [] = omega arith
-filter_few p (x ∷ xs) = kept_few (p x) x (filter p xs) xs (filter_few p xs)
-
--- no more pages wait than a set has
-pub few_pending : (device : Device) (side : Side) → IsFormed device → pending_of (set_of side device) ≤ device.size.pages
-few_pending device side formed =
-    let most = filter_few (λ page. not (is_blank page)) (set_of side device) in
-    omega (arith, most, length-set_of side device formed)
+pub store_after_move : (old new : Device) (side : Side) (generation : ℕ) (changes : List Change) → IsOff new → KeepsLiveSet old new side generation ⊎ HasMoved old new side generation changes → IsStore new
+store_after_move old new side generation changes off (inl keeps) = off_store new side generation keeps.live off
+store_after_move old new side generation changes off (inr has) = off_store new (other side) (generation + 1) has.live off
 
 -- while a slot is free no address is refused
 pub not_full_yet : (device : Device) (side : Side) (generation : ℕ) (address : ℕ) → IsLive device side generation → fill_of (slots_of (set_of side device)) < capacity device → ¬ IsFull (capacity device) (state_of device) address

@@ -1,5 +1,5 @@
 -- The pictures of both sets while an opening sets the marks, page after page.
-use Rattle.std.proofs.Common.{◌≡◌, inl, inr, ℕ, ◌+◌, ◌-◌, ◌<◌, ◌≤◌, Bool, true, false, List, get_or, sym, subst, ap, ◌∙◌, arith}
+use Rattle.std.proofs.Common.{◌≡◌, inl, inr, ℕ, ◌+◌, ◌-◌, ◌<◌, ◌≤◌, true, false, List, get_or, sym, subst, ap, ◌∙◌, arith}
 use Rattle.std.specs.Prelude.{◌&&◌, not, nat_lt}
 use Rattle.std.proofs.lemmas.Bool.{cases_Bool}
 use Rattle.ee_flash.specs.Device.{Device, IsFormed, page_at}
@@ -15,7 +15,7 @@ use Rattle.ee_pages.proofs.Public.{other_twice}
 use Rattle.ee_core.proofs.Drawings.{active_last, drawn_as, drawn_same, mark_drawn, put_drawn, retired_all, retired_more, retired_none, retired_past, same_drawn, valid_drawn, valid_more, valid_none, valid_to, with_mark}
 use Rattle.ee_core.proofs.SetPages.{same_other, same_page}
 use Rattle.ee_core.specs.Parts.{IsSameBut, IsSameSet, PutsWord, SetsMark}
-use Rattle.ee_core.specs.Picture.{IsDrawn, Picture, marked_to, picture_of, retired_pages, with_change}
+use Rattle.ee_core.specs.Picture.{IsDrawn, Picture, is_used, marked_to, picture_of, retired_pages, with_change}
 
 module _ (side : Side) (old : Device) (first : ℕ) (first_is : first ≡ first_page old.size side) where
   place : (mid : Device) (page : ℕ) → mid.size ≡ old.size → first ≤ page → page ≡ first_page mid.size side + (page - first)
@@ -62,44 +62,40 @@ pub record RetiresPage (mid new : Device) (page : ℕ) : Type 0 where
   pub passed : is_blank (page_at mid page) ≡ true → new ≡ mid
   pub others : IsSameBut page mid new
 
--- the pages of the set that are not blank
-abbrev pub waits : Side → Device → ℕ → Bool
-waits side device page = not (is_blank (page_at device (first_page device.size side + page)))
-
 -- those of them before this one are marked
 abbrev pub retired_to : Side → Device → ℕ → Picture
-retired_to side device last = retired_pages (λ p. nat_lt p last && waits side device p) (picture_of side device)
+retired_to side device last = retired_pages (λ p. nat_lt p last && is_used side device p) (picture_of side device)
 
 module _ (side : Side) (old : Device) (first : ℕ) (first_is : first ≡ first_page old.size side) where
   pub retired_start : (page : ℕ) → page ≡ first → IsDrawn side old (retired_to side old (page - first))
   retired_start page is =
       let none : 0 ≡ page - first = omega arith in
       subst (λ n. IsDrawn side old (retired_to side old n)) none
-      (drawn_as side old (picture_of side old) (retired_to side old 0) (drawn_same side old) (λ p at _ _. retired_none (waits side old) (picture_of side old) p at))
+      (drawn_as side old (picture_of side old) (retired_to side old 0) (drawn_same side old) (λ p at _ _. retired_none (is_used side old) (picture_of side old) p at))
 
   pub retired_next : (mid new : Device) (page : ℕ) → IsFormed mid → mid.size ≡ old.size → first ≤ page → page - first < mid.size.pages → page_at mid page ≡ page_at old page → RetiresPage mid new page → IsDrawn side mid (retired_to side old (page - first)) → IsDrawn side new (retired_to side old (page + 1 - first))
   retired_next mid new page formed sizes from h same step drawn =
       let is : page ≡ first_page mid.size side + (page - first) = omega (arith, first_is, ap (λ (size : Size). first_page size side) sizes) in
       let here : first_page old.size side + (page - first) ≡ page = omega (arith, first_is) in
       let more : page - first + 1 ≡ page + 1 - first = omega (arith, from) in
-      let as_now : waits side old (page - first) ≡ not (is_blank (page_at mid page)) = ap (λ n. not (is_blank (page_at old n))) here ∙ ap (λ words. not (is_blank words)) (sym same) in
+      let as_now : is_used side old (page - first) ≡ not (is_blank (page_at mid page)) = ap (λ n. not (is_blank (page_at old n))) here ∙ ap (λ words. not (is_blank words)) (sym same) in
       subst (λ n. IsDrawn side new (retired_to side old n)) more (elim (cases_Bool (is_blank (page_at mid page))) [
         | inl blank ↦
             subst (λ (device : Device). IsDrawn side device (retired_to side old (page - first + 1))) (sym (step.passed blank))
             (drawn_as side mid (retired_to side old (page - first)) (retired_to side old (page - first + 1)) drawn
-            (λ p at _ _. retired_past (page - first) (waits side old) (picture_of side old) p at (as_now ∙ ap not blank)))
+            (λ p at _ _. retired_past (page - first) (is_used side old) (picture_of side old) p at (as_now ∙ ap not blank)))
         | inr written ↦
             let there = subst (λ n. SetsMark n Erasing mid new) is (step.waiting written) in
             drawn_as side new (with_mark (page - first) Erasing (retired_to side old (page - first))) (retired_to side old (page - first + 1))
             (mark_drawn side mid new (page - first) Erasing (retired_to side old (page - first)) formed step.sizes h drawn there)
-            (λ p at _ _. retired_more (page - first) (waits side old) (picture_of side old) p at (as_now ∙ ap not written))
+            (λ p at _ _. retired_more (page - first) (is_used side old) (picture_of side old) p at (as_now ∙ ap not written))
       ])
 
-  pub retired_end : (new : Device) (page : ℕ) → new.size ≡ old.size → page ≡ first + old.size.pages → IsDrawn side new (retired_to side old (page - first)) → IsDrawn side new (retired_pages (waits side old) (picture_of side old))
+  pub retired_end : (new : Device) (page : ℕ) → new.size ≡ old.size → page ≡ first + old.size.pages → IsDrawn side new (retired_to side old (page - first)) → IsDrawn side new (retired_pages (is_used side old) (picture_of side old))
   retired_end new page sizes is drawn =
       let all : page - first ≡ old.size.pages = omega arith in
-      drawn_as side new (retired_to side old old.size.pages) (retired_pages (waits side old) (picture_of side old)) (subst (λ n. IsDrawn side new (retired_to side old n)) all drawn)
-      (λ p at h _. retired_all old.size.pages (waits side old) (picture_of side old) p at (omega (arith, ap (λ (size : Size). size.pages) sizes)))
+      drawn_as side new (retired_to side old old.size.pages) (retired_pages (is_used side old) (picture_of side old)) (subst (λ n. IsDrawn side new (retired_to side old n)) all drawn)
+      (λ p at h _. retired_all old.size.pages (is_used side old) (picture_of side old) p at (omega (arith, ap (λ (size : Size). size.pages) sizes)))
 
 -- and the live set is as before
 pub live_stays : (side : Side) (old mid new : Device) (page : ℕ) → IsFormed mid → IsFormed new → new.size ≡ mid.size → IsPageOf mid.size (other side) page → IsSameBut page mid new → IsSameSet side old mid → IsSameSet side old new
@@ -108,8 +104,8 @@ live_stays side old mid new page formed new_formed sizes of others same =
 
 -- both sets, after the marks of the one and then those of the other
 pub shows : (side : Side) (old mid new : Device) (last : ℕ) → mid.size ≡ old.size → new.size ≡ mid.size → IsDrawn side mid (marked_to last (picture_of side old)) → IsSameSet (other side) old mid → IsSameSet side mid new
-    → IsDrawn (other side) new (retired_pages (waits (other side) mid) (picture_of (other side) mid))
-    → IsDrawn side new (marked_to last (picture_of side old)) × IsDrawn (other side) new (retired_pages (waits (other side) old) (picture_of (other side) old))
+    → IsDrawn (other side) new (retired_pages (is_used (other side) mid) (picture_of (other side) mid))
+    → IsDrawn side new (marked_to last (picture_of side old)) × IsDrawn (other side) new (retired_pages (is_used (other side) old) (picture_of (other side) old))
 shows side old mid new last first_sizes second_sizes live_first old_first live_then old_then = (
   λ page at h within.
       same_drawn side mid new second_sizes live_then page at h within
@@ -119,7 +115,7 @@ shows side old mid new last first_sizes second_sizes live_first old_first live_t
       let words = same_page (other side) old mid page first_sizes old_first below in
       old_then page at h within
       ∙ ap (λ (found : List Word). retired_pages (λ p. not (is_blank found)) (picture_of (other side) mid) page at) words
-      ∙ ap (λ (found : List Word). retired_pages (λ p. waits (other side) old page) (λ p k. get_or found at Erased) page at) words,
+      ∙ ap (λ (found : List Word). retired_pages (λ p. is_used (other side) old page) (λ p k. get_or found at Erased) page at) words,
 )
 
 -- the marks of a further page that is opened

@@ -4,7 +4,7 @@ use Rattle.std.specs.Prelude.{◌==◌, ◌&&◌, not, nat_lt, if◌then◌else�
 use Rattle.std.specs.List.{All}
 use Rattle.std.proofs.Math.Nat.{zero-div}
 use Rattle.std.proofs.lemmas.Bool.{cases_Bool, cases_eq, cases_lt, eq-eqb, le-leb, le-ltb, lt-leb, lt-ltb, ne_eqb}
-use Rattle.std.proofs.lemmas.List.{get_or_past}
+use Rattle.std.proofs.lemmas.List.{ext_get_or, get_or_past}
 use Rattle.std.proofs.lemmas.List.Elements.{All-drop, All-get_or, All-take}
 use Rattle.std.proofs.lemmas.List.Folds.{list_any_at}
 use Rattle.std.proofs.lemmas.List.Sums.{prefix_len_passes}
@@ -26,7 +26,7 @@ use Rattle.ee_core.proofs.Drawings.{drawn_as, drawn_both, mark_drawn, marked-wri
 use Rattle.ee_core.proofs.SetPages.{page_in_device, page_of_set}
 use Rattle.ee_core.specs.Finished.{last_used}
 use Rattle.ee_core.specs.Parts.{Holds, IsCommittedWith, SetsMark, opened_set}
-use Rattle.ee_core.specs.Picture.{IsDrawn, Picture, blank, filled_set, mark_where, marked_to, picture_of, retired_pages}
+use Rattle.ee_core.specs.Picture.{IsDrawn, Picture, blank, filled_set, is_used, mark_where, marked_to, picture_of, retired_pages}
 
 -- blank pages
 pub blank_drawn : (side : Side) (device : Device) → IsFormed device → All (λ page. is_blank page ≡ true) (set_of side device) → IsDrawn side device blank
@@ -123,25 +123,48 @@ full_written side device generation page live full h =
     ∙ sym (ap is_written same)
     ∙ first
 
--- so each page of a set that was left waits
-pub all_waiting : (side : Side) (old mid : Device) (generation : ℕ) → IsLive old side generation → fill_of (slots_of (set_of side old)) ≡ slot_count old.size → IsFormed mid → mid.size ≡ old.size → IsDrawn side mid (picture_of side old)
-    → (page at : ℕ) → page < mid.size.pages → at < mid.size.words → retired_pages (λ page. not (is_blank (page_at mid (first_page mid.size side + page)))) (picture_of side mid) page at ≡ retired_pages (λ page. true) (picture_of side old) page at
-all_waiting side old mid generation live full formed sizes same page at below inside =
-    let some : 4 < mid.size.words = omega (arith, formed.within_limits.some_words) in
-    let written : is_written (picture_of side mid page 4) ≡ true =
-    ap is_written (same page 4 below some) ∙ full_written side old generation page live full (omega (arith, ap (λ (size : Size). size.pages) sizes)) in
-    let long = length-page_at mid (first_page mid.size side + page) formed (page_in_device mid.size side page below) in
-    let any = list_any_at is_written (page_at mid (first_page mid.size side + page)) 4 Erased (omega (arith, long)) written in
+-- so each page of such a set is used
+pub used_where_full : (side : Side) (device : Device) (generation page : ℕ) → IsLive device side generation → fill_of (slots_of (set_of side device)) ≡ slot_count device.size → page < device.size.pages → is_used side device page ≡ true
+used_where_full side device generation page live full h =
+    let some : 4 < device.size.words = omega (arith, live.formed.within_limits.some_words) in
+    let long = length-page_at device (first_page device.size side + page) live.formed (page_in_device device.size side page h) in
+    let any = list_any_at is_written (page_at device (first_page device.size side + page)) 4 Erased (omega (arith, long)) (full_written side device generation page live full h) in
     rw any refl
-    ∙ ap (λ (held : Word). retired_pages (λ p. true) (λ p a. held) page at) (same page at below inside)
 
--- and is marked
-pub all_retired : (side : Side) (old mid new : Device) (generation : ℕ) → IsLive old side generation → fill_of (slots_of (set_of side old)) ≡ slot_count old.size → IsFormed mid → mid.size ≡ old.size → new.size ≡ mid.size
-    → IsDrawn side mid (picture_of side old) → IsDrawn side new (retired_pages (λ page. not (is_blank (page_at mid (first_page mid.size side + page)))) (picture_of side mid))
-    → IsDrawn side new (retired_pages (λ page. true) (picture_of side old))
-all_retired side old mid new generation live full formed first_sizes second_sizes same drawn page at h within =
+-- ---- a set that is drawn as before
+
+-- has the same pages
+same_page_drawn : (side : Side) (old new : Device) (page : ℕ) → IsFormed old → IsFormed new → new.size ≡ old.size → IsDrawn side new (picture_of side old) → page < new.size.pages
+    → page_at new (first_page new.size side + page) ≡ page_at old (first_page old.size side + page)
+same_page_drawn side old new page old_formed formed sizes drawn h =
+    let widths = ap (λ (size : Size). size.words) sizes in
+    let before : page < old.size.pages = omega (arith, ap (λ (size : Size). size.pages) sizes) in
+    let long = length-page_at new (first_page new.size side + page) formed (page_in_device new.size side page h) in
+    let long_before = length-page_at old (first_page old.size side + page) old_formed (page_in_device old.size side page before) in
+    ext_get_or Erased (page_at new (first_page new.size side + page)) (page_at old (first_page old.size side + page)) (omega (arith, long, long_before, widths)) (λ at within.
+    drawn page at h (omega (arith, within, long)))
+
+pub same_set_drawn : (side : Side) (old new : Device) → IsFormed old → IsFormed new → new.size ≡ old.size → IsDrawn side new (picture_of side old) → set_of side new ≡ set_of side old
+same_set_drawn side old new old_formed formed sizes drawn =
+    let pages = ap (λ (size : Size). size.pages) sizes in
+    let long = length-set_of side new formed in
+    ext_get_or [] (set_of side new) (set_of side old) (omega (arith, long, length-set_of side old old_formed, pages)) (λ page within.
+    let h : page < new.size.pages = omega (arith, within, long) in
+    page_of_set side new page h ∙ same_page_drawn side old new page old_formed formed sizes drawn h ∙ sym (page_of_set side old page (omega (arith, h, pages))))
+
+-- and so the same marks are set in it
+pub same_retired : (side : Side) (old mid : Device) → IsFormed old → IsFormed mid → mid.size ≡ old.size → IsDrawn side mid (picture_of side old)
+    → (page at : ℕ) → page < mid.size.pages → at < mid.size.words → retired_pages (is_used side mid) (picture_of side mid) page at ≡ retired_pages (is_used side old) (picture_of side old) page at
+same_retired side old mid old_formed formed sizes same page at below inside =
+    ap (λ (words : List Word). retired_pages (λ p. not (is_blank words)) (picture_of side mid) page at) (same_page_drawn side old mid page old_formed formed sizes same below)
+    ∙ ap (λ (held : Word). retired_pages (is_used side old) (λ p a. held) page at) (same page at below inside)
+
+pub all_retired : (side : Side) (old mid new : Device) → IsFormed old → IsFormed mid → mid.size ≡ old.size → new.size ≡ mid.size
+    → IsDrawn side mid (picture_of side old) → IsDrawn side new (retired_pages (is_used side mid) (picture_of side mid))
+    → IsDrawn side new (retired_pages (is_used side old) (picture_of side old))
+all_retired side old mid new old_formed formed first_sizes second_sizes same drawn page at h within =
     drawn page at h within
-    ∙ all_waiting side old mid generation live full formed first_sizes same page at (omega (arith, ap (λ (size : Size). size.pages) second_sizes)) (omega (arith, ap (λ (size : Size). size.words) second_sizes))
+    ∙ same_retired side old mid old_formed formed first_sizes same page at (omega (arith, ap (λ (size : Size). size.pages) second_sizes)) (omega (arith, ap (λ (size : Size). size.words) second_sizes))
 
 -- a set with no word needs no further mark
 no_further : (picture : Picture) (page at : ℕ) → is_written (picture 0 1) ≡ true → marked_to 0 picture page at ≡ picture page at

@@ -5,17 +5,17 @@ use Rattle.std.proofs.lemmas.List.Elements.{All-from_get_or}
 use Rattle.std.proofs.Math.Path.{fun_ext}
 use Rattle.std.proofs.lemmas.Nat.{mul-le}
 use Rattle.ee_flash.specs.Device.{Device, IsFormed, page_at}
-use Rattle.ee_flash.specs.Size.{Size, slot_count}
+use Rattle.ee_flash.specs.Size.{slot_count}
 use Rattle.ee_flash.specs.declared.word.Word.{Word}
 use Rattle.ee_pages.specs.Filling.{IsCommitted, IsFilling}
 use Rattle.ee_pages.specs.Laws.{KeepsLiveSet}
 use Rattle.ee_pages.specs.Layout.{IsLayout}
-use Rattle.ee_pages.specs.Meaning.{Change, Map, map_after, live_in, meaning}
+use Rattle.ee_pages.specs.Meaning.{Change, Map, changed_by, live_in, meaning}
 use Rattle.ee_pages.specs.Page.{is_blank}
 use Rattle.ee_pages.specs.Sets.{fill_of, first_page, other, page_of_slot, pending_of, set_of, slots_of}
 use Rattle.ee_pages.specs.declared.find.Layout.{Layout}
 use Rattle.ee_pages.specs.declared.side.Side.{Side}
-use Rattle.ee_pages.proofs.Public.{length-set_of, full_set_has_no_blank_page, other_twice}
+use Rattle.ee_pages.proofs.Public.{length-set_of, other_twice}
 use Rattle.ee_core.specs.Parts.{HasMoved, Stays}
 use Rattle.ee_core.specs.State.{not_blank_in}
 use Rattle.ee_core.proofs.PendingPages.{as_many_not_blank}
@@ -50,22 +50,21 @@ all_blank side device formed each = All-from_get_or (λ page. is_blank page ≡ 
     let within : k < device.size.pages = omega (arith, length-set_of side device formed) in
     ap is_blank (page_of_set side device k within) ∙ each (first_page device.size side + k) (omega arith) (omega arith))
 
--- the set that was filled is live, and the other has no blank page
-pub has_moved : (old opened filled new : Device) (side : Side) (generation count : ℕ) (change : Change) → KeepsLiveSet old opened side generation → KeepsLiveSet opened filled side generation → fill_of (slots_of (set_of side old)) ≡ slot_count old.size → IsFilling filled (other side) (generation + 1) count → ((address : ℕ) → meaning (slots_of (set_of (other side) filled)) address ≡ map_after change (meaning (slots_of (set_of side opened))) address) → count ≡ live_in (map_after change (meaning (slots_of (set_of side opened)))) → set_of side new ≡ set_of side filled → IsCommitted filled new (other side) (generation + 1) → HasMoved old new side generation change
-has_moved old opened filled new side generation count change first second full filling map each_once same committed =
+-- the set that was filled is live, and of the other as many pages are not blank as before
+pub has_moved : (old opened filled new : Device) (side : Side) (generation count : ℕ) (changes : List Change) → KeepsLiveSet old opened side generation → KeepsLiveSet opened filled side generation → pending_of (set_of side filled) ≡ pending_of (set_of side old) → IsFilling filled (other side) (generation + 1) count → ((address : ℕ) → meaning (slots_of (set_of (other side) filled)) address ≡ changed_by changes (meaning (slots_of (set_of side opened))) address) → count ≡ live_in (changed_by changes (meaning (slots_of (set_of side opened)))) → set_of side new ≡ set_of side filled → IsCommitted filled new (other side) (generation + 1) → HasMoved old new side generation changes
+has_moved old opened filled new side generation count changes first second as_used filling map each_once same committed =
     let keeps = keeps_both old opened filled side generation first second in
     let later : meaning (slots_of (set_of side opened)) ≡ meaning (slots_of (set_of side old)) = fun_ext first.same_map in
-    let filled_up : fill_of (slots_of (set_of side filled)) ≡ slot_count filled.size = keeps.same_fill ∙ full ∙ ap slot_count (sym keeps.same_size) in
     record {
       live = committed.live;
       same_size = committed.same_size ∙ keeps.same_size;
-      map_is = λ address. ap (λ (slots : List Word). meaning slots address) committed.same_slots ∙ map address ∙ ap (λ (said : Map). map_after change said address) later;
-      fill_is = ap fill_of committed.same_slots ∙ filling.fill ∙ each_once ∙ ap (λ (said : Map). live_in (map_after change said)) later;
-      pending_is = ap pending_of same ∙ full_set_has_no_blank_page filled side generation keeps.live filled_up ∙ ap (λ (size : Size). size.pages) keeps.same_size;
+      map_is = λ address. ap (λ (slots : List Word). meaning slots address) committed.same_slots ∙ map address ∙ ap (λ (said : Map). changed_by changes said address) later;
+      fill_is = ap fill_of committed.same_slots ∙ filling.fill ∙ each_once ∙ ap (λ (said : Map). live_in (changed_by changes said)) later;
+      pending_is = ap pending_of same ∙ as_used;
     }
 
-pub moved_stays : (old moved new : Device) (side : Side) (generation : ℕ) (change : Change) → HasMoved old moved side generation change → Stays moved new (other side) (generation + 1) → HasMoved old new side generation change
-moved_stays old moved new side generation change has stays =
+pub moved_stays : (old moved new : Device) (side : Side) (generation : ℕ) (changes : List Change) → HasMoved old moved side generation changes → Stays moved new (other side) (generation + 1) → HasMoved old new side generation changes
+moved_stays old moved new side generation changes has stays =
     let pending : pending_of (set_of side new) ≡ pending_of (set_of side moved) = as_many_not_blank side moved new (subst (λ (set : Side). not_blank_in set new ≡ not_blank_in set moved) (other_twice side) stays.same_pending) in
     record {
       live = stays.keeps.live;

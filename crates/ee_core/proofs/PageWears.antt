@@ -90,8 +90,8 @@ stays old new sizes live_is same_pending no_wear =
 appends : (old new : Device) (change : Change) → Appends old change new → Ages false old new
 appends old new change done = stays old new done.goes_on.same_size done.live_is done.same_pending done.no_wear
 
-moves : (old new : Device) (change : Change) → Moves old change new → Ages true old new
-moves old new change done =
+moves : (old new : Device) (changes : List Change) → Moves old changes new → Ages true old new
+moves old new changes done =
     let wear : (page : ℕ) → wear_at new page ≤ wear_at old page + times page (pending_pages old) = λ page.
     subst (λ (list : List ℕ). get_or list page 0 ≤ wear_at old page + times page (pending_pages old)) (sym done.wear.wear_is) (worn_at_most (pending_pages old) old.wear page) in
     record {

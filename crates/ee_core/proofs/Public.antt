@@ -1,7 +1,7 @@
 -- The lemmas that other crates may use. The files that they stand in are this crate's own.
 pub use Rattle.ee_core.proofs.AfterCalls.{goes_on_both, goes_on_same, not_both}
 pub use Rattle.ee_core.proofs.Appending.{slot_erased}
-pub use Rattle.ee_core.proofs.CopiedMaps.{apart, forget-at, forget-other, live_in-nothing, made, map_to-above, map_to-below, meaning-zero, put-at, put-other, same_counts}
+pub use Rattle.ee_core.proofs.CopiedMaps.{apart, changed_by-append, forget-at, forget-other, live_in-nothing, made, map_to-above, map_to-below, meaning-zero, put-at, put-other, same_counts}
 pub use Rattle.ee_core.proofs.CopiedWords.{next_element, no_words, none_between, one_further}
 pub use Rattle.ee_core.proofs.CutMaps.{cut_map, fill_within}
 pub use Rattle.ee_core.proofs.CutMoves.{elements_front}
@@ -14,7 +14,7 @@ pub use Rattle.ee_core.proofs.OpeningFacts.{opening_cut, opens}
 pub use Rattle.ee_core.proofs.PageWears.{Aged, Ages, ages, each_page_wears_every_second_transfer_lem, few_wait, in_either, no_page_wears_more_lem, none_more, one_more, same_side, side_in, stays, wears_at_most}
 pub use Rattle.ee_core.proofs.PendingPages.{length-pending_pages, times_in_set, waits}
 pub use Rattle.ee_core.proofs.Powered.{legal_on, legal_powered, live_powered, state_in_on, state_in_powered}
-pub use Rattle.ee_core.proofs.Running.{changed_by-append, goes, runs_go_on_lem}
+pub use Rattle.ee_core.proofs.Running.{goes, runs_go_on_lem}
 pub use Rattle.ee_core.proofs.SetPages.{page_of_set}
 pub use Rattle.ee_core.proofs.States.{state_is}
 pub use Rattle.ee_core.proofs.Wears.{no_wear, times, times_few, wear_adds, wears_both, wears_none, wears_rise}

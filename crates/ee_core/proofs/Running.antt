@@ -1,21 +1,22 @@
 -- What each call of a run does to power, wear, pending pages and the map, and so what a run does.
-use Rattle.std.proofs.Common.{◌≡◌, ℕ, ◌+◌, ◌-◌, ◌*◌, ◌++◌, Bool, true, false, cond, Ok, Err, List, [], ◌∷◌, refl, sym, ◌∙◌, ap, subst, arith}
+use Rattle.std.proofs.Common.{length, ◌≤◌, ◌≡◌, ℕ, ◌+◌, ◌-◌, ◌*◌, Bool, true, false, cond, Ok, Err, List, [], ◌∷◌, refl, sym, ◌∙◌, ap, subst, arith}
 use Rattle.std.specs.List.{All, flat_map}
-use Rattle.std.proofs.lemmas.List.Elements.{All-tail}
+use Rattle.std.proofs.lemmas.List.Elements.{All-head, All-tail}
 use Rattle.std.proofs.lemmas.List.Sums.{sum_by-cons}
 use Rattle.ee_flash.proofs.Public.{calls_compose}
 use Rattle.ee_flash.specs.Device.{Device}
 use Rattle.ee_flash.specs.Power.{GoesOn}
 use Rattle.ee_flash.specs.Size.{Size}
 use Rattle.ee_flash.specs.Wear.{total_wear_of}
-use Rattle.ee_pages.specs.Meaning.{Change, Map, map_after, changed_by}
+use Rattle.ee_pages.specs.Meaning.{Change, Map, changed_by}
+use Rattle.ee_core.proofs.CopiedMaps.{changed_by-append}
 use Rattle.ee_core.proofs.Effects.{by_effect}
 use Rattle.ee_core.proofs.PendingPages.{length-pending_pages}
 use Rattle.ee_core.proofs.Wears.{no_wear, total_rises, wears_rise}
 use Rattle.ee_core.specs.Calls.{ErasesOne}
-use Rattle.ee_core.specs.Changes.{Appends, Moves}
-use Rattle.ee_core.specs.Runs.{Call, Wrote, Forgot, Cleaned, DidRead, AreAnsweredFrom, Follows, IsAnsweredBy, IsRun, changes_of_call, is_cut, is_transfer, transfers, IsWholeRun}
-use Rattle.ee_core.specs.State.{CountsWear, State, pending_pages, state_of}
+use Rattle.ee_core.specs.Changes.{Appends, Moves, NeedsTransfer, pages_left}
+use Rattle.ee_core.specs.Runs.{Call, Wrote, WroteAll, Forgot, Cleaned, DidRead, AreAnsweredFrom, Follows, IsAnsweredBy, IsRun, changes_of_call, is_cut, is_single, is_transfer, transfers, IsWholeRun}
+use Rattle.ee_core.specs.State.{CountsWear, State, capacity, pending_pages, state_of}
 
 -- ---- one call
 
@@ -27,10 +28,13 @@ Adds more old new = CountsWear new → CountsWear old × (total_wear_of new + (s
 abbrev pub cost : Bool → Device → ℕ
 cost transfer device = cond transfer device.size.pages 0
 
--- what a call does where power is not cut in it
+-- what a call does where power is not cut in it: by several changes less than a set may be left to erase
 pub record Goes (transfer : Bool) (changes : List Change) (old new : Device) : Type 0 where
   pub power : GoesOn old new
-  pub adds : Adds (cost transfer old) old new
+  pub more : ℕ
+  pub adds : Adds more old new
+  pub few : more ≤ cost transfer old
+  pub whole : length changes ≤ 1 → more ≡ cost transfer old
   pub map_is : (state_of new).map ≡ changed_by changes (state_of old).map
 
 nothing : (old new : Device) → new ≡ old → Goes false [] old new
@@ -42,37 +46,55 @@ nothing old new same = record {
     same_cuts_left = ap (λ (device : Device). device.cuts_left) same;
     same_while_off = λ off. same;
   };
+  more = 0;
   adds = rw same (λ counts. (counts, omega arith));
+  few = omega arith;
+  whole = λ short. refl;
   map_is = ap (λ (device : Device). (state_of device).map) same;
 }
 
 appends : (old new : Device) (change : Change) → Appends old change new → Goes false (change ∷ []) old new
 appends old new change done = record {
   power = done.goes_on;
+  more = 0;
   adds = λ counts.
       let wear = total_rises 0 old new (no_wear old new done.no_wear) counts in
       let pending : (state_of new).pending ≡ (state_of old).pending = ap (λ (state : State). state.pending) done.state_is in
       (wear.0, omega (arith, wear.1, pending));
+  few = omega arith;
+  whole = λ short. refl;
   map_is = ap (λ (state : State). state.map) done.state_is;
 }
 
-moves : (old new : Device) (change : Change) → Moves old change new → Goes true (change ∷ []) old new
-moves old new change done = record {
+-- one change leaves all pages of a set
+one_left : (changes : List Change) (device : Device) → NeedsTransfer (capacity device) (state_of device) changes → length changes ≤ 1 → pages_left changes device ≡ device.size.pages
+one_left [] device needed short = absurd needed
+one_left (change ∷ []) device needed short = refl
+one_left (first ∷ second ∷ more) device needed short = absurd (omega (arith, short))
+
+moves : (old new : Device) (changes : List Change) → Moves old changes new → Goes true changes old new
+moves old new changes done = record {
   power = done.goes_on;
+  more = pages_left changes old;
   adds = λ counts.
       let wear = total_rises (state_of old).pending old new (wears_rise (pending_pages old) (state_of old).pending old new done.wear (length-pending_pages old)) counts in
-      let pending : (state_of new).pending ≡ old.size.pages = ap (λ (state : State). state.pending) done.state_is in
+      let pending : (state_of new).pending ≡ pages_left changes old = ap (λ (state : State). state.pending) done.state_is in
       (wear.0, omega (arith, wear.1, pending));
+  few = done.few_left;
+  whole = one_left changes old done.needed;
   map_is = ap (λ (state : State). state.map) done.state_is;
 }
 
 erases : (old new : Device) → ErasesOne old new → Goes false [] old new
 erases old new done = record {
   power = done.goes_on;
+  more = 0;
   adds = λ counts.
       let wear = total_rises 1 old new (wears_rise (done.lowest.page ∷ []) 1 old new done.lowest.wear refl) counts in
       let pending : (state_of new).pending ≡ (state_of old).pending - 1 = ap (λ (state : State). state.pending) done.state_is in
       (wear.0, omega (arith, wear.1, pending, done.some));
+  few = omega arith;
+  whole = λ short. refl;
   map_is = ap (λ (state : State). state.map) done.state_is;
 }
 
@@ -80,8 +102,22 @@ pub goes : (call : Call) (old new : Device) → is_cut call ≡ false → Follow
 goes call old new whole done =
     by_effect (λ transfer changes. Goes transfer changes old new) call old new whole done (nothing old new) (appends old new) (moves old new) (λ is. erases old new)
 
+-- a call that isn't of a list of several makes one change at the most
+single_changes : (call : Call) → is_single call ≡ true → length (changes_of_call call) ≤ 1
+single_changes (Wrote address value (Ok written)) single = omega arith
+single_changes (Wrote address value (Err fault)) single = omega arith
+single_changes (WroteAll [] (Ok written)) single = omega arith
+single_changes (WroteAll (put ∷ []) (Ok written)) single = omega arith
+single_changes (WroteAll (first ∷ second ∷ more) (Ok written)) single = absurd (cc single)
+single_changes (WroteAll puts (Err fault)) single = omega arith
+single_changes (Forgot address (Ok written)) single = omega arith
+single_changes (Forgot address (Err fault)) single = omega arith
+single_changes (Cleaned answer) single = omega arith
+single_changes (DidRead address answer) single = omega arith
+
 answered : (call : Call) (old new : Device) → Follows call old new → IsAnsweredBy (state_of old).map call
 answered (Wrote address value answer) old new done = tt
+answered (WroteAll puts answer) old new done = tt
 answered (Forgot address answer) old new done = tt
 answered (Cleaned answer) old new done = tt
 answered (DidRead address (Ok value)) old new done = done.0.1
@@ -92,43 +128,51 @@ answered (DidRead address (Err off)) old new done = tt
 -- what a run does where power is not cut in it
 record Went (calls : List Call) (old new : Device) : Type 0 where
   pub power : GoesOn old new
-  pub adds : Adds (transfers calls * old.size.pages) old new
+  pub more : ℕ
+  pub adds : Adds more old new
+  pub few : more ≤ transfers calls * old.size.pages
+  pub whole : All (λ call. is_single call ≡ true) calls → more ≡ transfers calls * old.size.pages
   pub map_is : (state_of new).map ≡ changed_by (flat_map changes_of_call calls) (state_of old).map
   pub answers : AreAnsweredFrom (state_of old).map calls
 
 -- what a call adds, and then what the calls after it add
-sum_of_more : (transfer : Bool) (pages later_pages rest all start middle end : ℕ) → later_pages ≡ pages → all ≡ cond transfer 1 0 + rest
-    → middle ≡ start + cond transfer pages 0 → end ≡ middle + rest * later_pages → end ≡ start + all * pages
-sum_of_more true pages later_pages rest all start middle end same is first more = rw (more, first, is, same) (grind arith)
-sum_of_more false pages later_pages rest all start middle end same is first more = rw (more, first, is, same) (grind arith)
+few_of_more : (transfer : Bool) (pages later_pages rest all first then : ℕ) → later_pages ≡ pages → all ≡ cond transfer 1 0 + rest → first ≤ cond transfer pages 0 → then ≤ rest * later_pages → first + then ≤ all * pages
+few_of_more true pages later_pages rest all first then same is one more = rw (is) (let later = rw same at more in grind arith)
+few_of_more false pages later_pages rest all first then same is one more = rw (is) (let later = rw same at more in grind arith)
 
-pub changed_by-append : (changes more : List Change) (map : Map) → changed_by (changes ++ more) map ≡ changed_by more (changed_by changes map)
-changed_by-append [] more map = refl
-changed_by-append (change ∷ changes) more map = changed_by-append changes more (map_after change map)
+sum_of_more : (transfer : Bool) (pages later_pages rest all first then : ℕ) → later_pages ≡ pages → all ≡ cond transfer 1 0 + rest → first ≡ cond transfer pages 0 → then ≡ rest * later_pages → first + then ≡ all * pages
+sum_of_more true pages later_pages rest all first then same is one more = rw (is, one, more, same) (grind arith)
+sum_of_more false pages later_pages rest all first then same is one more = rw (is, one, more, same) (grind arith)
 
 went : (calls : List Call) (old new : Device) → IsRun calls old new → All (λ call. is_cut call ≡ false) calls → Went calls old new
 went [] old new run whole =
     let done = nothing old new run in
     record {
       power = done.power;
-      adds = λ counts.
-          let none = done.adds counts in
-          (none.0, omega (arith, none.1));
+      more = done.more;
+      adds = done.adds;
+      few = omega (arith, done.few);
+      whole = λ singles. omega (arith, done.few);
       map_is = done.map_is;
       answers = tt;
     }
 went (call ∷ calls) old new run whole =
     let first = goes call old run.0 (whole 0 call (omega arith)) run.1 in
     let rest = went calls run.0 new run.2 (All-tail (λ (one : Call). is_cut one ≡ false) call calls whole) in
+    let pages = ap (λ (size : Size). size.pages) first.power.same_size in
+    let counted = sum_by-cons (λ (one : Call). cond (is_transfer one) 1 0) call calls in
     record {
       power = (calls_compose old run.0 new first.power).0 rest.power;
+      more = first.more + rest.more;
       adds = λ counts.
           let later = rest.adds counts in
-          let sooner = first.adds later.0 in (
-            sooner.0,
-            sum_of_more (is_transfer call) old.size.pages run.0.size.pages (transfers calls) (transfers (call ∷ calls)) _ _ _
-                (ap (λ (size : Size). size.pages) first.power.same_size) (sum_by-cons (λ (one : Call). cond (is_transfer one) 1 0) call calls) sooner.1 later.1,
-          );
+          let sooner = first.adds later.0 in
+          (sooner.0, omega (arith, sooner.1, later.1));
+      few = few_of_more (is_transfer call) old.size.pages run.0.size.pages (transfers calls) (transfers (call ∷ calls)) first.more rest.more pages counted first.few rest.few;
+      whole = λ singles.
+          sum_of_more (is_transfer call) old.size.pages run.0.size.pages (transfers calls) (transfers (call ∷ calls)) first.more rest.more pages counted
+          (first.whole (single_changes call (All-head (λ (one : Call). is_single one ≡ true) call calls singles)))
+          (rest.whole (All-tail (λ (one : Call). is_single one ≡ true) call calls singles));
       map_is = rest.map_is ∙ ap (changed_by (flat_map changes_of_call calls)) first.map_is ∙ sym (changed_by-append (changes_of_call call) (flat_map changes_of_call calls) (state_of old).map);
       answers = (answered call old run.0 run.1, subst (λ (map : Map). AreAnsweredFrom map calls) first.map_is rest.answers);
     }
@@ -136,19 +180,29 @@ went (call ∷ calls) old new run whole =
 pub runs_go_on_lem : (calls : List Call) (old new : Device) → IsWholeRun calls old new → GoesOn old new
 runs_go_on_lem calls old new whole = assumption (went calls old new whole.run whole.without_cuts)
 
-pub each_transfer_erases_a_set_lem : (calls : List Call) (old new : Device) → IsWholeRun calls old new → CountsWear new
+pub each_transfer_erases_a_set_lem : (calls : List Call) (old new : Device) → IsWholeRun calls old new → All (λ call. is_single call ≡ true) calls → CountsWear new
     → total_wear_of new + (state_of new).pending ≡ total_wear_of old + (state_of old).pending + transfers calls * old.size.pages
-each_transfer_erases_a_set_lem calls old new whole counts =
+each_transfer_erases_a_set_lem calls old new whole singles counts =
     let counted : CountsWear new = assumption counts in
-    let sum = (went calls old new whole.run whole.without_cuts).adds counted in
-    omega (arith, sum.1)
+    let did = went calls old new whole.run whole.without_cuts in
+    let sum = did.adds counted in
+    omega (arith, sum.1, did.whole singles)
 
-pub clean_runs_erase_sets_lem : (calls : List Call) (old new : Device) → IsWholeRun calls old new → CountsWear new → (state_of old).pending ≡ 0
-    → (state_of new).pending ≡ 0 → total_wear_of new ≡ total_wear_of old + transfers calls * old.size.pages
-clean_runs_erase_sets_lem calls old new whole counts clean cleaned =
+pub no_transfer_erases_more_lem : (calls : List Call) (old new : Device) → IsWholeRun calls old new → CountsWear new
+    → total_wear_of new + (state_of new).pending ≤ total_wear_of old + (state_of old).pending + transfers calls * old.size.pages
+no_transfer_erases_more_lem calls old new whole counts =
     let counted : CountsWear new = assumption counts in
-    let sum = (went calls old new whole.run whole.without_cuts).adds counted in
-    omega (arith, sum.1, clean, cleaned)
+    let did = went calls old new whole.run whole.without_cuts in
+    let sum = did.adds counted in
+    omega (arith, sum.1, did.few)
+
+pub clean_runs_erase_sets_lem : (calls : List Call) (old new : Device) → IsWholeRun calls old new → All (λ call. is_single call ≡ true) calls → CountsWear new → (state_of old).pending ≡ 0
+    → (state_of new).pending ≡ 0 → total_wear_of new ≡ total_wear_of old + transfers calls * old.size.pages
+clean_runs_erase_sets_lem calls old new whole singles counts clean cleaned =
+    let counted : CountsWear new = assumption counts in
+    let did = went calls old new whole.run whole.without_cuts in
+    let sum = did.adds counted in
+    omega (arith, sum.1, did.whole singles, clean, cleaned)
 
 pub the_store_is_a_map_lem : (calls : List Call) (old new : Device) → IsWholeRun calls old new
     → ((state_of new).map ≡ changed_by (flat_map changes_of_call calls) (state_of old).map) × AreAnsweredFrom (state_of old).map calls

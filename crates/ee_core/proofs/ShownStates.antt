@@ -1,5 +1,5 @@
 -- What the pictures say of the states of the pages.
-use Rattle.std.proofs.Common.{◌≡◌, inl, inr, ℕ, ◌+◌, ◌-◌, ◌<◌, Bool, true, false, cond, not, Option, Some, None, is_some, List, [], length, get_or, refl, sym, subst, ap, ◌∙◌, arith, suc, zero, length-append}
+use Rattle.std.proofs.Common.{◌≡◌, inl, inr, ℕ, ◌+◌, ◌-◌, ◌<◌, Bool, true, false, cond, not, Option, Some, None, is_some, List, [], ◌∷◌, length, get_or, refl, sym, subst, ap, ◌∙◌, arith, suc, zero, length-append}
 use Rattle.std.specs.Prelude.{◌==◌, ◌&&◌}
 use Rattle.std.proofs.Math.Nat.{zero-div}
 use Rattle.std.proofs.lemmas.Bool.{cases_Bool, cases_eq, cases_lt, eq-eqb, le-ltb, lt-leb, lt-ltb, ne_eqb}
@@ -10,7 +10,7 @@ use Rattle.ee_flash.specs.declared.word.Word.{Word}
 use Rattle.ee_flash.specs.declared.word.Word.TheVariants.{Erased, Held, Torn}
 use Rattle.ee_flash.proofs.Public.{length-page_at}
 use Rattle.ee_pages.specs.Legal.{IsLegal, IsLive}
-use Rattle.ee_pages.specs.Meaning.{Forget, Map, Put, map_after, live_in, live_to}
+use Rattle.ee_pages.specs.Meaning.{Change, Forget, Map, Put, changed_by, map_after, live_in, live_to}
 use Rattle.ee_pages.specs.Page.{is_blank, is_written, state_of_words}
 use Rattle.ee_pages.specs.Sets.{first_page, live_of, other, page_of_slot, place_of_slot}
 use Rattle.ee_pages.specs.declared.side.Side.{Side}
@@ -20,13 +20,13 @@ use Rattle.ee_pages.specs.declared.state.Mark.TheVariants as marks
 use Rattle.ee_pages.specs.declared.state.State.TheVariants.{Erased as Unused, Erasing}
 use Rattle.ee_pages.proofs.Public.{live_to-zero, change_counts, blank_word, live_to-suc}
 use Rattle.ee_core.specs.Calls.{IsLowestPending}
-use Rattle.ee_core.specs.Changes.{ShowsAppended, ShowsMoved}
+use Rattle.ee_core.specs.Changes.{ShowsAppended, ShowsMoved, is_left}
 use Rattle.ee_core.specs.Finished.{last_used}
 use Rattle.ee_core.specs.Openings.{ShowsMarks}
 use Rattle.ee_core.specs.PageStates.{MovedWordsAreLive, PicturesTellImages, StatesAfterAppend, StatesAfterClean, StatesAfterFormat, StatesAfterOpening, StatesAfterTransfer, filled_state, marked_state, state_at}
-use Rattle.ee_core.specs.Picture.{IsDrawn, OfLive, Picture, element_at, elements_to, filled_set, marked_word, marked_to, moved_words, picture_of, retired_pages}
+use Rattle.ee_core.specs.Picture.{IsDrawn, OfLive, Picture, element_at, elements_to, filled_set, is_used, marked_word, marked_to, moved_words, picture_of, retired_pages}
 use Rattle.ee_core.specs.State.{State, state_of}
-use Rattle.ee_core.proofs.CopiedMaps.{forget-at, same_counts}
+use Rattle.ee_core.proofs.CopiedMaps.{changed_by-other, forget-at, put_last, same_counts}
 use Rattle.ee_core.proofs.CopiedWords.{no_elements, one_further}
 use Rattle.ee_core.proofs.Drawings.{with_word-elsewhere}
 use Rattle.ee_core.proofs.SetPages.{page_of_set}
@@ -168,33 +168,58 @@ words_counted map (suc n) =
     ∙ ap (λ k. live_to map n + k) (element_counts (suc n) (map (suc n)))
     ∙ sym (live_to-suc map n)
 
-put_again : (map : Map) (named value address : ℕ) → map_after (Put named value) (map_after (Forget named) map) address ≡ map_after (Put named value) map address
-put_again map named value address = elim (cases_Bool (named == address)) [
-  | inl here ↦ rw here refl
-  | inr away ↦ rw away refl
-]
-
 pub moved_words_are_live_lem : MovedWordsAreLive
-moved_words_are_live_lem (Put address value) map proper =
+moved_words_are_live_lem [] map apart = words_counted map 65534
+moved_words_are_live_lem (Put address value ∷ changes) map apart =
     let others = map_after (Forget address) map in
-    let counts = change_counts (Put address value) others proper in
-    let none : others address ≡ None = forget-at map address address refl in
-    let same = same_counts (map_after (Put address value) others) (map_after (Put address value) map) (put_again map address value) in
-    let one : live_in (map_after (Put address value) others) ≡ live_in others + 1 = counts ∙ ap (λ (held : Option ℕ). live_in others + cond (is_some held) 0 1) none in
-    omega (arith, words_counted others 65534, one, same)
-moved_words_are_live_lem (Forget address) map proper = words_counted (map_after (Forget address) map) 65534
+    let after = changed_by changes others in
+    let rest = moved_words_are_live_lem changes others apart.2 in
+    let none : after address ≡ None = changed_by-other changes others address apart.1 ∙ forget-at map address address refl in
+    let counts = change_counts (Put address value) after apart.0 in
+    let one : live_in (map_after (Put address value) after) ≡ live_in after + 1 = counts ∙ ap (λ (held : Option ℕ). live_in after + cond (is_some held) 0 1) none in
+    let same = same_counts (map_after (Put address value) after) (changed_by changes (map_after (Put address value) map)) (put_last changes map address value apart.1) in
+    omega (arith, rest, one, same)
+moved_words_are_live_lem (Forget address ∷ changes) map apart = moved_words_are_live_lem changes (map_after (Forget address) map) apart.2
+
+-- a page that is left and may not be erased is blank
+left_blank : (changes : List Change) (side : Side) (device : Device) (page : ℕ) → is_left changes side device page ≡ false → is_used side device page ≡ false
+left_blank [] side device page e = e
+left_blank (change ∷ []) side device page e = absurd (cc e)
+left_blank (first ∷ second ∷ more) side device page e = e
+
+not_used : (blank : Bool) → not blank ≡ false → blank ≡ true
+not_used true e = refl
+not_used false e = absurd (cc e)
+
+blank_state : (words : List Word) → is_blank words ≡ true → state_of_words words ≡ Unused
+blank_state words blank =
+    let third = blank_word words 3 blank in
+    let second = blank_word words 2 blank in
+    let first = blank_word words 1 blank in
+    let zeroth = blank_word words 0 blank in
+    rw (third, second, first, zeroth) refl
+
+-- where a page may not be erased, its words stay
+kept_word : (waits : ℕ → Bool) (picture : Picture) (page at : ℕ) → waits page ≡ false → retired_pages waits picture page at ≡ picture page at
+kept_word waits picture page at e = elim (cases_Bool (at == 3)) [ inl three ↦ rw (three, e) refl | inr away ↦ rw away refl ]
 
 pub states_after_transfer_lem : StatesAfterTransfer
-states_after_transfer_lem old change new side generation page store moves proper live h =
-    let shows = of_live (λ set n. ShowsMoved old change new set n) old side generation moves.image live in
+states_after_transfer_lem old changes new side generation page store moves proper live h =
+    let shows = of_live (λ set n. ShowsMoved old changes new set n) old side generation moves.image live in
     let now : page < new.size.pages = omega (arith, h, ap (λ (size : Size). size.pages) moves.goes_on.same_size) in
     let is = live_here old side generation store.legal live in
     let inside : 4 < new.size.words = omega (arith, is.formed.within_limits.some_words, ap (λ (size : Size). size.words) moves.goes_on.same_size) in
-    let words = moved_words change (state_of old).map in
-    let fill : (state_of new).fill ≡ length words = ap (λ (state : State). state.fill) moves.state_is ∙ sym (moved_words_are_live_lem change (state_of old).map proper) in (
+    let words = moved_words changes (state_of old).map in
+    let fill : (state_of new).fill ≡ length words = ap (λ (state : State). state.fill) moves.state_is ∙ sym (moved_words_are_live_lem changes (state_of old).map proper) in (
       filled_shown (other side) new old.size (generation + 1) words page (λ at low. shows.new_pages page at now (omega (arith, low, inside)))
           ∙ ap (λ n. filled_state (page_of_slot old.size (n - 1)) page) (sym fill),
-      retired_shown side new page (ap is_written (shows.old_pages page 3 now (omega (arith, inside))) ∙ marked-is_written marks.Erasing (picture_of side old page 3)),
+      elim (cases_Bool (is_left changes side old page)) [
+        | inl left ↦
+            rw left (retired_shown side new page (ap is_written (shows.old_pages page 3 now (omega (arith, inside))) ∙ rw left (marked-is_written marks.Erasing (picture_of side old page 3))))
+        | inr stays ↦
+            rw stays (same_shown side old new page (λ at low. shows.old_pages page at now (omega (arith, low, inside)) ∙ kept_word (is_left changes side old) (picture_of side old) page at stays)
+            ∙ blank_state (page_at old (first_page old.size side + page)) (not_used (is_blank (page_at old (first_page old.size side + page))) (left_blank changes side old page stays)))
+      ],
     )
 
 -- one page waits below the others
@@ -206,14 +231,6 @@ lowest_is device first second one two = elim (cases_lt first second) [
     | inr to ↦ omega arith
   ]
 ]
-
-blank_state : (words : List Word) → is_blank words ≡ true → state_of_words words ≡ Unused
-blank_state words blank =
-    let third = blank_word words 3 blank in
-    let second = blank_word words 2 blank in
-    let first = blank_word words 1 blank in
-    let zeroth = blank_word words 0 blank in
-    rw (third, second, first, zeroth) refl
 
 pub states_after_clean_lem : StatesAfterClean
 states_after_clean_lem old new lowest page erases is =

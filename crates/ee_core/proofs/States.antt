@@ -1,5 +1,5 @@
 -- What a live set says is the state of its device.
-use Rattle.std.proofs.Common.{◌≡◌, ℕ, ◌+◌, refl, sym, ap, ◌∙◌}
+use Rattle.std.proofs.Common.{◌≡◌, ℕ, ◌+◌, List, refl, sym, ap, ◌∙◌}
 use Rattle.std.proofs.Math.Path.{fun_ext}
 use Rattle.ee_flash.specs.Device.{Device}
 use Rattle.ee_pages.specs.Laws.{KeepsLiveSet}
@@ -40,9 +40,9 @@ module _ (old new : Device) (side : Side) (generation : ℕ) (live : IsLive old 
       ∙ sym (state_is old side generation live)
 
   -- the map was moved
-  pub state_moved : (change : Change) → HasMoved old new side generation change → state_of new ≡ moved_state old.size.pages change (state_of old)
-  state_moved change has =
+  pub state_moved : (changes : List Change) → HasMoved old new side generation changes → state_of new ≡ moved_state (pending_of (set_of side old)) changes (state_of old)
+  state_moved changes has =
       let was = state_is old side generation live in
       state_is new (other side) (generation + 1) has.live
       ∙ same_states _ _ _ _ (generation + 1) (generation + 1) _ _ has.map_is has.fill_is refl (ap (λ (side : Side). pending_of (set_of side new)) (other_twice side) ∙ has.pending_is)
-      ∙ ap (moved_state old.size.pages change) (sym was)
+      ∙ ap (moved_state (pending_of (set_of side old)) changes) (sym was)

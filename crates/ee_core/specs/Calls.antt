@@ -1,6 +1,6 @@
 -- What each call of a store answers, and what it leaves: one relation for each, by cases on the answer. Every store keeps
 -- them.
-use Rattle.std.specs.Prelude.{◌≡◌, ◌≢◌, ◌<◌, ◌⊎◌, ℕ, ◌-◌, Option, Some, None, Result, Ok, Err, Bool, true, false, [], ◌∷◌}
+use Rattle.std.specs.Prelude.{◌≡◌, ◌≢◌, ◌<◌, ◌⊎◌, ℕ, ◌-◌, Option, Some, None, Result, Ok, Err, Bool, true, false, List, [], ◌∷◌}
 use Rattle.ee_flash.specs.Device.{Device, IsOff, IsOn, page_at}
 use Rattle.ee_flash.specs.Power.{GoesOn, IsCut}
 use Rattle.ee_flash.specs.Step.{IsPartlyErased}
@@ -9,11 +9,15 @@ use Rattle.ee_pages.specs.Meaning.{Put, Forget}
 use Rattle.ee_pages.specs.Page.{is_blank}
 use Rattle.ee_pages.specs.Sets.{live_of, other}
 use Rattle.ee_pages.specs.declared.side.Side.{Side}
-use Rattle.ee_core.specs.Changes.{Appends, IsCutChange, IsFull, IsSpent, Moves, Proceeds}
+use Rattle.ee_core.specs.Changes.{Appends, HaveNoGeneration, HaveNoPlace, IsCutChange, IsCutMaking, IsFull, IsSpent, Moves, Proceeds}
 use Rattle.ee_core.specs.Parts.{IsSameBut}
+use Rattle.ee_core.specs.Puts.{HasNew, IsEachOnce, IsFirstTwice, puts_of}
 use Rattle.ee_core.specs.State.{Wears, capacity, pending_pages, state_of, with_pending}
+use Rattle.ee_core.specs.declared.change.Put as listed
 use Rattle.ee_core.specs.declared.variables.Written.{Written}
 use Rattle.ee_core.specs.declared.variables.Written.TheVariants.{Appended, Moved}
+use Rattle.ee_core.specs.declared.variables.WriteAllFault.{WriteAllFault}
+use Rattle.ee_core.specs.declared.variables.WriteAllFault.TheVariants as all
 use Rattle.ee_core.specs.declared.variables.WriteFault.{WriteFault}
 use Rattle.ee_core.specs.declared.variables.WriteFault.TheVariants as write
 use Rattle.ee_core.specs.declared.variables.ForgetFault.{ForgetFault}
@@ -28,21 +32,41 @@ Reads device address (Err off) = IsOff device
 -- for an address that has no value, and nothing changed; or power was cut.
 abbrev pub Writes : Device → ℕ → ℕ → Result Written WriteFault → Device → Type 0
 Writes old address value (Ok Appended) new = Appends old (Put address value) new
-Writes old address value (Ok Moved) new = Moves old (Put address value) new
+Writes old address value (Ok Moved) new = Moves old (Put address value ∷ []) new
 Writes old address value (Err write.Off) new = IsOff old × (new ≡ old)
 Writes old address value (Err write.Full) new = IsOn old × IsFull (capacity old) (state_of old) address × (new ≡ old)
 Writes old address value (Err write.Spent) new = IsOn old × ¬ IsFull (capacity old) (state_of old) address × IsSpent (capacity old) (state_of old) × (new ≡ old)
-Writes old address value (Err write.Memory) new = Proceeds old (Put address value) × ((state_of old).map address ≡ None) × (new ≡ old)
+Writes old address value (Err write.Memory) new = Proceeds old (Put address value ∷ []) × ((state_of old).map address ≡ None) × (new ≡ old)
 Writes old address value (Err write.Cut) new = IsCutChange old (Put address value) new
 
 -- a forgetting likewise, of an address that has a value; it needs no memory
 abbrev pub Forgets : Device → ℕ → Result Written ForgetFault → Device → Type 0
 Forgets old address (Ok Appended) new = Appends old (Forget address) new
-Forgets old address (Ok Moved) new = Moves old (Forget address) new
+Forgets old address (Ok Moved) new = Moves old (Forget address ∷ []) new
 Forgets old address (Err forget.Off) new = IsOff old × (new ≡ old)
 Forgets old address (Err forget.Absent) new = IsOn old × ((state_of old).map address ≡ None) × (new ≡ old)
 Forgets old address (Err forget.Spent) new = IsOn old × ((state_of old).map address ≢ None) × IsSpent (capacity old) (state_of old) × (new ≡ old)
 Forgets old address (Err forget.Cut) new = IsCutChange old (Forget address) new
+
+-- what is stored of a list of values with no transfer: nothing, or its one value in a free slot
+abbrev pub AppendsAll : Device → List listed.Put → Device → Type 0
+AppendsAll old [] new = IsOn old × (new ≡ old)
+AppendsAll old (put ∷ []) new = Appends old (Put put.address put.value) new
+AppendsAll old puts new = ⊥
+
+-- A list of values is written whole: of an empty one nothing changes, one value is appended or moved, and several are moved
+-- with one transfer. Or the list was refused, for the first cause that applies, and nothing changed; or memory ran out for
+-- an address that has no value, and nothing changed; or power was cut, and the map is as it was or has them all.
+abbrev pub WritesAll : Device → List listed.Put → Result Written WriteAllFault → Device → Type 0
+WritesAll old puts (Ok Appended) new = AppendsAll old puts new
+WritesAll old puts (Ok Moved) new = IsEachOnce puts × Moves old (puts_of puts) new
+WritesAll old puts (Err all.Off) new = IsOff old × (new ≡ old)
+WritesAll old puts (Err (all.Twice place)) new = IsOn old × IsFirstTwice puts place × (new ≡ old)
+WritesAll old puts (Err all.Full) new = IsOn old × IsEachOnce puts × HaveNoPlace (capacity old) (state_of old) (puts_of puts) × (new ≡ old)
+WritesAll old puts (Err all.Spent) new =
+    IsOn old × IsEachOnce puts × ¬ HaveNoPlace (capacity old) (state_of old) (puts_of puts) × HaveNoGeneration (capacity old) (state_of old) (puts_of puts) × (new ≡ old)
+WritesAll old puts (Err all.Memory) new = IsEachOnce puts × Proceeds old (puts_of puts) × HasNew puts (state_of old).map × (new ≡ old)
+WritesAll old puts (Err all.Cut) new = IsEachOnce puts × IsCutMaking old (puts_of puts) new
 
 -- the page waits to be erased: it is one of the set that is not live, and it is not blank
 pub record IsPending (device : Device) (page : ℕ) : Type 0 where

@@ -1,13 +1,13 @@
 -- What a change of a store's map leaves, and when none is made.
-use Rattle.std.specs.Prelude.{◌≡◌, ◌<◌, ◌≤◌, ◌⊎◌, ℕ, ◌+◌, true, Some, None}
+use Rattle.std.specs.Prelude.{◌≡◌, ◌<◌, ◌≤◌, ◌⊎◌, ℕ, ◌+◌, Bool, true, Some, None, List, [], ◌∷◌}
 use Rattle.ee_flash.specs.Device.{Device, IsOn}
 use Rattle.ee_flash.specs.Power.{GoesOn, IsCut}
-use Rattle.ee_pages.specs.Meaning.{Change, Map, Put, Forget, live_in}
+use Rattle.ee_pages.specs.Meaning.{Change, Map, Put, Forget, changed_by, live_in}
 use Rattle.ee_pages.specs.Sets.{first_page, live_of, other}
 use Rattle.ee_pages.specs.declared.side.Side.{Side}
 use Rattle.ee_core.specs.Cuts.{ErasesPartly, IsDrawnPartly, MovesPartly}
-use Rattle.ee_core.specs.Picture.{IsDrawn, OfLive, filled_set, moved_words, number_of_change, picture_of, retired_pages, with_change}
-use Rattle.ee_core.specs.State.{State, Wears, WearsFront, appended_state, capacity, moved_state, pending_pages, torn_state, state_of, next_live, with_pending}
+use Rattle.ee_core.specs.Picture.{IsDrawn, OfLive, filled_set, is_used, moved_words, number_of_change, picture_of, retired_pages, with_change}
+use Rattle.ee_core.specs.State.{State, Wears, WearsFront, appended_state, capacity, moved_state, pending_pages, torn_state, state_of, next_live, used_pages_of, with_pending}
 
 -- the greatest generation: no transfer follows it
 abbrev pub greatest_generation : ℕ
@@ -28,15 +28,33 @@ abbrev pub HasNoPlace : ℕ → State → Change → Type 0
 HasNoPlace slots state (Put address value) = IsFull slots state address
 HasNoPlace slots state (Forget address) = state.map address ≡ None
 
--- no refusal applies to the change
-pub record IsAccepted (slots : ℕ) (state : State) (change : Change) : Type 0 where
-  pub has_place : ¬ HasNoPlace slots state change
-  pub not_spent : ¬ IsSpent slots state
+-- so it is of one change; and after several, more addresses would have a value than there are slots
+abbrev pub HaveNoPlace : ℕ → State → List Change → Type 0
+HaveNoPlace slots state [] = ⊥
+HaveNoPlace slots state (change ∷ []) = HasNoPlace slots state change
+HaveNoPlace slots state changes = slots < live_in (changed_by changes state.map)
+
+-- one change needs a transfer where every slot is used, and several always
+abbrev pub NeedsTransfer : ℕ → State → List Change → Type 0
+NeedsTransfer slots state [] = ⊥
+NeedsTransfer slots state (change ∷ []) = state.fill ≡ slots
+NeedsTransfer slots state changes = Unit {0}
+
+-- they need one, and no generation is left for it
+abbrev pub HaveNoGeneration : ℕ → State → List Change → Type 0
+HaveNoGeneration slots state [] = ⊥
+HaveNoGeneration slots state (change ∷ []) = IsSpent slots state
+HaveNoGeneration slots state changes = state.generation ≡ greatest_generation
+
+-- no refusal applies to the changes
+pub record IsAccepted (slots : ℕ) (state : State) (changes : List Change) : Type 0 where
+  pub has_place : ¬ HaveNoPlace slots state changes
+  pub not_spent : ¬ HaveNoGeneration slots state changes
 
 -- the device is on, and no refusal applies
-pub record Proceeds (device : Device) (change : Change) : Type 0 where
+pub record Proceeds (device : Device) (changes : List Change) : Type 0 where
   pub on : IsOn device
-  pub accepted : IsAccepted (capacity device) (state_of device) change
+  pub accepted : IsAccepted (capacity device) (state_of device) changes
 
 -- the map has the change: its address has the value, or has none
 abbrev pub HasChange : Change → Map → Type 0
@@ -48,15 +66,25 @@ pub record ShowsAppended (old : Device) (change : Change) (new : Device) (side :
   pub live_pages : IsDrawn side new (with_change old.size (state_of old).fill (number_of_change (state_of old).map change) (picture_of side old))
   pub old_pages : IsDrawn (other side) new (picture_of (other side) old)
 
--- what is drawn after a transfer: the other set is filled with the map, and each page of the set that was live may be
--- erased
-pub record ShowsMoved (old : Device) (change : Change) (new : Device) (side : Side) (generation : ℕ) : Type 0 where
-  pub new_pages : IsDrawn (other side) new (filled_set old.size (generation + 1) (moved_words change (state_of old).map))
-  pub old_pages : IsDrawn side new (retired_pages (λ page. true) (picture_of side old))
+-- the pages of the set that a transfer leaves which may be erased then: for one change all, since each slot was used; for
+-- several those that are not blank
+abbrev pub is_left : List Change → Side → Device → ℕ → Bool
+is_left (change ∷ []) side device page = true
+is_left changes side device page = is_used side device page
+
+-- how many these are
+abbrev pub pages_left : List Change → Device → ℕ
+pages_left (change ∷ []) device = device.size.pages
+pages_left changes device = used_pages_of device
+
+-- what is drawn after a transfer: the other set is filled with the map, and pages of the set that was live may be erased
+pub record ShowsMoved (old : Device) (changes : List Change) (new : Device) (side : Side) (generation : ℕ) : Type 0 where
+  pub new_pages : IsDrawn (other side) new (filled_set old.size (generation + 1) (moved_words changes (state_of old).map))
+  pub old_pages : IsDrawn side new (retired_pages (is_left changes side old) (picture_of side old))
 
 -- a slot was free, and the change stands in it; the same set is live, the same pages wait, and none was erased
 pub record Appends (old : Device) (change : Change) (new : Device) : Type 0 where
-  pub proceeds : Proceeds old change
+  pub proceeds : Proceeds old (change ∷ [])
   pub goes_on : GoesOn old new
   pub free : (state_of old).fill < capacity old
   pub state_is : state_of new ≡ appended_state change (state_of old)
@@ -65,25 +93,26 @@ pub record Appends (old : Device) (change : Change) (new : Device) : Type 0 wher
   pub image : OfLive old (λ side generation. ShowsAppended old change new side)
   pub no_wear : new.wear ≡ old.wear
 
--- no slot was free, and the map was moved to the other set with the change; the pages of that set which waited to be
+-- a transfer was needed, and the map was moved to the other set with the changes; the pages of that set which waited to be
 -- erased were erased, each once, and no other
-pub record Moves (old : Device) (change : Change) (new : Device) : Type 0 where
-  pub proceeds : Proceeds old change
+pub record Moves (old : Device) (changes : List Change) (new : Device) : Type 0 where
+  pub proceeds : Proceeds old changes
   pub goes_on : GoesOn old new
-  pub all_used : (state_of old).fill ≡ capacity old
-  pub state_is : state_of new ≡ moved_state old.size.pages change (state_of old)
+  pub needed : NeedsTransfer (capacity old) (state_of old) changes
+  pub few_left : pages_left changes old ≤ old.size.pages
+  pub state_is : state_of new ≡ moved_state (pages_left changes old) changes (state_of old)
   pub live_is : live_of new ≡ next_live (live_of old)
-  pub image : OfLive old (λ side generation. ShowsMoved old change new side generation)
+  pub image : OfLive old (λ side generation. ShowsMoved old changes new side generation)
   pub wear : Wears (pending_pages old) old new
 
 -- With a slot free, a cut leaves the state as it was, or a slot more torn, or the change appended.
 abbrev pub IsCutAppend : State → Change → State → Type 0
 IsCutAppend old change new = (new ≡ old) ⊎ (new ≡ torn_state old) ⊎ (new ≡ appended_state change old)
 
--- With no slot free, it leaves the state as it was but for the pages that wait to be erased, or the map moved with the
--- change.
-abbrev pub IsCutMove : ℕ → State → Change → State → Type 0
-IsCutMove pages old change new = ((pending : ℕ) × (pending ≤ pages) × (new ≡ with_pending pending old)) ⊎ (new ≡ moved_state pages change old)
+-- In a transfer, it leaves the state as it was but for the pages that wait to be erased, of which a set has so many, or the
+-- map moved with the changes, and so many waiting.
+abbrev pub IsCutMove : ℕ → ℕ → State → List Change → State → Type 0
+IsCutMove pages left old changes new = ((pending : ℕ) × (pending ≤ pages) × (new ≡ with_pending pending old)) ⊎ (new ≡ moved_state left changes old)
 
 -- what is drawn when power was cut in an append: of the change's word and the marks of its page each is as before, as the
 -- whole append leaves it, or torn; each other word and the other set are as before
@@ -93,20 +122,34 @@ pub record ShowsCutAppend (old : Device) (change : Change) (new : Device) (side 
   pub old_pages : IsDrawn (other side) new (picture_of (other side) old)
 
 -- power was cut in a transfer: in erasing the pages of the other set, or behind that
-abbrev pub ShowsCutMove : Device → Change → Device → Side → ℕ → Type 0
-ShowsCutMove old change new side generation =
+abbrev pub ShowsCutMove : Device → List Change → Device → Side → ℕ → Type 0
+ShowsCutMove old changes new side generation =
     let first = first_page old.size (other side) in
-    ErasesPartly first (first + old.size.pages) old new ⊎ MovesPartly old new side generation (moved_words change (state_of old).map)
+    ErasesPartly first (first + old.size.pages) old new ⊎ MovesPartly old new side generation (moved_words changes (state_of old).map)
 
 -- Power was cut in a change. With a slot free no page was erased; with none free, a front of those that waited. No more
 -- slots were used than there are, so it is the one or the other.
 pub record IsCutChange (old : Device) (change : Change) (new : Device) : Type 0 where
-  pub proceeds : Proceeds old change
+  pub proceeds : Proceeds old (change ∷ [])
   pub cut : IsCut old new
   pub within : (state_of old).fill ≤ capacity old
   pub free : (state_of old).fill < capacity old → IsCutAppend (state_of old) change (state_of new)
-  pub all_used : (state_of old).fill ≡ capacity old → IsCutMove old.size.pages (state_of old) change (state_of new)
+  pub all_used : (state_of old).fill ≡ capacity old → IsCutMove old.size.pages old.size.pages (state_of old) (change ∷ []) (state_of new)
   pub no_wear : (state_of old).fill < capacity old → new.wear ≡ old.wear
   pub wear : (state_of old).fill ≡ capacity old → WearsFront (pending_pages old) old new
   pub free_words : (state_of old).fill < capacity old → OfLive old (λ side generation. ShowsCutAppend old change new side)
-  pub used_words : (state_of old).fill ≡ capacity old → OfLive old (λ side generation. ShowsCutMove old change new side generation)
+  pub used_words : (state_of old).fill ≡ capacity old → OfLive old (λ side generation. ShowsCutMove old (change ∷ []) new side generation)
+
+-- Power was cut in a transfer with several changes: the map is as it was, or has them all.
+pub record IsCutTransfer (old : Device) (changes : List Change) (new : Device) : Type 0 where
+  pub proceeds : Proceeds old changes
+  pub cut : IsCut old new
+  pub state_is : IsCutMove old.size.pages (pages_left changes old) (state_of old) changes (state_of new)
+  pub wear : WearsFront (pending_pages old) old new
+  pub words : OfLive old (λ side generation. ShowsCutMove old changes new side generation)
+
+-- power was cut in making these changes
+abbrev pub IsCutMaking : Device → List Change → Device → Type 0
+IsCutMaking old [] new = ⊥
+IsCutMaking old (change ∷ []) new = IsCutChange old change new
+IsCutMaking old changes new = IsCutTransfer old changes new

@@ -9,7 +9,7 @@ use Rattle.ee_pages.specs.declared.side.Side.{Side}
 use Rattle.ee_pages.specs.declared.state.Mark.{Mark}
 use Rattle.ee_pages.specs.Sets.{other, page_of_slot}
 use Rattle.ee_core.specs.Parts.{Holds, opened_set}
-use Rattle.ee_core.specs.Picture.{IsDrawn, Picture, blank, filled_set, marked_word, picture_of, retired_pages}
+use Rattle.ee_core.specs.Picture.{IsDrawn, Picture, blank, filled_set, is_used, marked_word, picture_of, retired_pages}
 
 -- A word, when power was cut in a call that programs words: it is as before, or as the whole call leaves it, or torn, where
 -- the whole call would have changed it.
@@ -34,11 +34,11 @@ pub record ErasesPartly (first last : ℕ) (old new : Device) : Type 0 where
   pub others : (other : ℕ) → (other < first) ⊎ (page < other) → page_at new other ≡ page_at old other
 
 -- Power was cut in a transfer, behind its erases: in the other set each word is erased, as the whole transfer leaves it, or
--- torn; in the set that was live each mark that its page may be erased is as before, set or torn, and each other word is as
--- before.
+-- torn; in the set that was live each mark that its page may be erased, if that isn't blank, is as before, set or torn, and
+-- each other word is as before.
 pub record MovesPartly (old new : Device) (side : Side) (generation : ℕ) (words : List Word) : Type 0 where
   pub new_pages : IsDrawnPartly (other side) new blank (filled_set old.size (generation + 1) words)
-  pub old_pages : IsDrawnPartly side new (picture_of side old) (retired_pages (λ page. true) (picture_of side old))
+  pub old_pages : IsDrawnPartly side new (picture_of side old) (retired_pages (is_used side old) (picture_of side old))
 
 -- ---- the parts of a call
 

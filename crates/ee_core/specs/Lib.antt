@@ -1,4 +1,5 @@
 pub mod State
+pub mod Puts
 pub mod Picture
 pub mod Finished
 pub mod Changes

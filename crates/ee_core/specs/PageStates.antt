@@ -1,10 +1,8 @@
 -- The states of the pages after each call that ends whole: each law is proved by the function of its name.
-use Rattle.std.specs.Prelude.{◌≡◌, ◌<◌, ℕ, ◌+◌, ◌-◌, ◌==◌, ◌&&◌, not, nat_lt, if◌then◌else◌, Some, length}
-use Rattle.ee_codec.specs.Words.{IsAddress}
+use Rattle.std.specs.Prelude.{◌≡◌, ◌<◌, ℕ, ◌+◌, ◌-◌, ◌==◌, ◌&&◌, not, nat_lt, if◌then◌else◌, Some, List, length}
 use Rattle.ee_flash.specs.Device.{Device, IsFormed, page_at}
-use Rattle.ee_pages.specs.Meaning.{Change, Map, map_after, live_in}
+use Rattle.ee_pages.specs.Meaning.{Change, Map, changed_by, live_in}
 use Rattle.ee_pages.specs.Page.{is_blank, is_marked, state_of_words}
-use Rattle.ee_pages.specs.Pending.{address_of}
 use Rattle.ee_pages.specs.Sets.{first_page, live_of, other, page_of_slot}
 use Rattle.ee_pages.specs.declared.side.Side.{Side}
 use Rattle.ee_pages.specs.declared.side.Side.TheVariants.{First, Second}
@@ -12,10 +10,11 @@ use Rattle.ee_pages.specs.declared.state.Mark.TheVariants as marks
 use Rattle.ee_pages.specs.declared.state.State.{State}
 use Rattle.ee_pages.specs.declared.state.State.TheVariants.{Active, Erased, Erasing, Valid}
 use Rattle.ee_core.specs.Calls.{ErasesOne, IsLowestPending}
-use Rattle.ee_core.specs.Changes.{Appends, Moves}
+use Rattle.ee_core.specs.Changes.{Appends, Moves, is_left}
 use Rattle.ee_core.specs.Finished.{IsStore, last_used}
 use Rattle.ee_core.specs.Openings.{IsFormatted, Opens}
 use Rattle.ee_core.specs.Picture.{IsDrawn, moved_words, picture_of}
+use Rattle.ee_core.specs.Puts.{AreApart}
 use Rattle.ee_core.specs.State.{state_of}
 
 -- the state of a page of a set
@@ -41,13 +40,14 @@ StatesAfterAppend =
     → (state_at side new page ≡ marked_state side old (page_of_slot old.size (state_of old).fill) page)
     × (state_at (other side) new page ≡ state_at (other side) old page)
 
--- a transfer fills the other set, as far as the live addresses need, and each page of the set that it leaves may be erased
+-- a transfer fills the other set, as far as the live addresses need; each page of the set that it leaves may be erased, or
+-- is blank
 abbrev pub StatesAfterTransfer : Type 0
 StatesAfterTransfer =
-    (old : Device) (change : Change) (new : Device) (side : Side) (generation page : ℕ) → IsStore old → Moves old change new → IsAddress (address_of change)
+    (old : Device) (changes : List Change) (new : Device) (side : Side) (generation page : ℕ) → IsStore old → Moves old changes new → AreApart changes
     → live_of old ≡ Some (side, generation) → page < old.size.pages
     → (state_at (other side) new page ≡ filled_state (page_of_slot old.size ((state_of new).fill - 1)) page)
-    × (state_at side new page ≡ Erasing)
+    × (state_at side new page ≡ (if is_left changes side old page then Erasing else Erased))
 
 -- an opening marks up to the last used page; and each page of the other set is erased as a whole or may be erased
 abbrev pub StatesAfterOpening : Type 0
@@ -71,7 +71,7 @@ StatesAfterFormat =
 -- a transfer writes a word for each address that has a value
 abbrev pub MovedWordsAreLive : Type 0
 MovedWordsAreLive =
-    (change : Change) (map : Map) → IsAddress (address_of change) → length (moved_words change map) ≡ live_in (map_after change map)
+    (changes : List Change) (map : Map) → AreApart changes → length (moved_words changes map) ≡ live_in (changed_by changes map)
 
 -- devices of one size whose sets are drawn alike have one image
 abbrev pub PicturesTellImages : Type 0

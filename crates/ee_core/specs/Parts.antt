@@ -1,13 +1,13 @@
 -- What the parts of a call leave: a call is one after another of them.
-use Rattle.std.specs.Prelude.{◌≡◌, ◌≢◌, ◌<◌, ◌⊎◌, ℕ, ◌+◌, ◌-◌, ◌==◌, ◌&&◌, nat_le, nat_lt, if◌then◌else◌, true, Some, None, List, [], ◌∷◌, ◌++◌, length, slice_index_or}
+use Rattle.std.specs.Prelude.{◌≡◌, ◌≢◌, ◌<◌, ◌⊎◌, ℕ, ◌+◌, ◌-◌, ◌==◌, ◌&&◌, nat_le, nat_lt, if◌then◌else◌, Bool, true, Some, None, List, ◌++◌, length, slice_index_or}
 use Rattle.ee_codec.specs.Words.{element, forgetting}
 use Rattle.ee_flash.specs.Device.{Device, page_at, word_at}
 use Rattle.ee_flash.specs.Size.{Size}
 use Rattle.ee_flash.specs.declared.word.Word.{Word}
-use Rattle.ee_flash.specs.declared.word.Word.TheVariants.{Erased, Held}
+use Rattle.ee_flash.specs.declared.word.Word.TheVariants.{Erased}
 use Rattle.ee_pages.specs.Laws.{KeepsLiveSet}
 use Rattle.ee_pages.specs.Legal.{IsLive, slots_before}
-use Rattle.ee_pages.specs.Meaning.{Change, Map, Put, Forget, map_after, live_in, meaning}
+use Rattle.ee_pages.specs.Meaning.{Change, Map, Put, Forget, changed_by, live_in, meaning}
 use Rattle.ee_pages.specs.Page.{is_marked, place_of_mark}
 use Rattle.ee_pages.specs.Sets.{fill_of, first_page, other, page_of_slot, pending_of, place_of_slot, set_of, slots_of}
 use Rattle.ee_pages.specs.declared.side.Side.{Side}
@@ -61,22 +61,22 @@ pub record IsReady (device : Device) (side : Side) (slot : ℕ) : Type 0 where
   pub valid : (page : ℕ) → page < page_of_slot device.size slot → is_marked device (first_page device.size side + page) Valid ≡ true
   pub active : is_marked device (first_page device.size side + page_of_slot device.size slot) Active ≡ true
 
--- a map in which this address has what the other one says of it
-abbrev pub replaced_map : Map → ℕ → Map → Map
-replaced_map start named map address = if named == address then start address else map address
+-- a map in which these addresses have what the other one says of them
+abbrev pub replaced_map : Map → (ℕ → Bool) → Map → Map
+replaced_map start named map address = if named address then start address else map address
 
 -- a map up to an address
 abbrev pub map_to : Map → ℕ → Map
 map_to map last address = if nat_le address last then map address else None
 
--- The map moved to the other set with a change: each address with a value takes a slot there, the set's generation is one
--- more, and no page of the set that was live is blank.
-pub record HasMoved (old new : Device) (side : Side) (generation : ℕ) (change : Change) : Type 0 where
+-- The map moved to the other set with changes: each address with a value takes a slot there, the set's generation is one
+-- more, and as many pages of the set that was live are not blank as before.
+pub record HasMoved (old new : Device) (side : Side) (generation : ℕ) (changes : List Change) : Type 0 where
   pub live : IsLive new (other side) (generation + 1)
   pub same_size : new.size ≡ old.size
-  pub map_is : (address : ℕ) → map_in (other side) new address ≡ map_after change (map_in side old) address
-  pub fill_is : fill_of (slots_of (set_of (other side) new)) ≡ live_in (map_after change (map_in side old))
-  pub pending_is : pending_of (set_of side new) ≡ old.size.pages
+  pub map_is : (address : ℕ) → map_in (other side) new address ≡ changed_by changes (map_in side old) address
+  pub fill_is : fill_of (slots_of (set_of (other side) new)) ≡ live_in (changed_by changes (map_in side old))
+  pub pending_is : pending_of (set_of side new) ≡ pending_of (set_of side old)
 
 -- one word of the device is this one, and each other is as before
 pub record PutsWord (page at : ℕ) (word : Word) (old new : Device) : Type 0 where
@@ -108,11 +108,6 @@ Holds device side generation words =
 pub record AddsWords (old new : Device) (side : Side) (generation count : ℕ) (more : List Word) : Type 0 where
   pub live_pages : IsDrawn side new (picture_of side old)
   pub new_pages : (words : List Word) → length words ≡ count → Holds old (other side) generation words → Holds new (other side) generation (words ++ more)
-
--- the words that a change puts into the new set before those that are copied
-abbrev pub put_words : Change → List Word
-put_words (Put address value) = Held (element address value) ∷ []
-put_words (Forget address) = []
 
 -- the set holds these words, and the mark that commits it
 abbrev pub IsCommittedWith : Device → Side → ℕ → List Word → Type 0

@@ -1,13 +1,14 @@
 -- What a call leaves, word for word. A set is drawn as a picture: the word at each place of each of its pages.
-use Rattle.std.specs.Prelude.{◌≡◌, ◌<◌, ℕ, ◌+◌, ◌-◌, ◌==◌, ◌&&◌, ◌||◌, Bool, nat_lt, nat_le, if◌then◌else◌, Option, Some, None, List, [], ◌∷◌, ◌++◌, length, slice_index_or, zero, suc}
-use Rattle.ee_flash.specs.Device.{Device, word_at}
+use Rattle.std.specs.Prelude.{◌≡◌, ◌<◌, ℕ, ◌+◌, ◌-◌, ◌==◌, ◌&&◌, ◌||◌, Bool, not, nat_lt, nat_le, if◌then◌else◌, Option, Some, None, List, [], ◌∷◌, ◌++◌, length, slice_index_or, zero, suc}
+use Rattle.ee_flash.specs.Device.{Device, page_at, word_at}
 use Rattle.ee_flash.specs.Size.{Size}
 use Rattle.ee_flash.specs.declared.word.Word.{Word}
 use Rattle.ee_flash.specs.declared.word.Word.TheVariants.{Erased, Held, Torn}
 use Rattle.ee_codec.specs.Words.{element, forgetting}
 use Rattle.ee_pages.specs.Legal.{slots_before}
 use Rattle.ee_pages.specs.Meaning.{Change, Map, Put, Forget, map_after}
-use Rattle.ee_pages.specs.Page.{number_of_mark}
+use Rattle.ee_pages.specs.Page.{is_blank, number_of_mark}
+use Rattle.ee_pages.specs.Pending.{address_of}
 use Rattle.ee_pages.specs.Sets.{first_page, live_of, page_of_slot, place_of_slot}
 use Rattle.ee_pages.specs.declared.side.Side.{Side}
 use Rattle.ee_pages.specs.declared.state.Mark.{Mark}
@@ -50,6 +51,10 @@ marked_to last picture page at =
     if (at == 2) && nat_lt page last then marked_word Valid (picture page at)
     else (if (at == 1) && (page == last) then marked_word Active (picture page at) else picture page at)
 
+-- whether a page of a set is not blank
+abbrev pub is_used : Side → Device → ℕ → Bool
+is_used side device page = not (is_blank (page_at device (first_page device.size side + page)))
+
 -- the mark of each of these pages that it may be erased
 abbrev pub retired_pages : (ℕ → Bool) → Picture → Picture
 retired_pages waits picture page at = if (at == 3) && waits page then marked_word Erasing (picture page at) else picture page at
@@ -83,10 +88,20 @@ elements_to map (suc address) = elements_to map address ++ element_at (suc addre
 abbrev pub elements_of : Map → List Word
 elements_of map = elements_to map 65534
 
--- what a transfer puts into the new set: the element that is put first, and then those of the other addresses
-abbrev pub moved_words : Change → Map → List Word
-moved_words (Put address value) map = Held (element address value) ∷ elements_of (map_after (Forget address) map)
-moved_words (Forget address) map = elements_of (map_after (Forget address) map)
+-- the elements of the values that changes put, in their order; a forgetting has none
+abbrev pub put_words : List Change → List Word
+put_words [] = []
+put_words (Put address value ∷ changes) = Held (element address value) ∷ put_words changes
+put_words (Forget address ∷ changes) = put_words changes
+
+-- the map without the addresses of these changes
+abbrev pub map_without : List Change → Map → Map
+map_without [] map = map
+map_without (change ∷ changes) map = map_without changes (map_after (Forget (address_of change)) map)
+
+-- what a transfer puts into the new set: the elements that are put first, and then those of the other addresses
+abbrev pub moved_words : List Change → Map → List Word
+moved_words changes map = put_words changes ++ elements_of (map_without changes map)
 
 -- a mark on some pages, and none on the others
 abbrev pub mark_where : Bool → Mark → Word

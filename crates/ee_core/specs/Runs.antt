@@ -12,19 +12,24 @@ use Rattle.ee_pages.specs.Meaning.{Change, Put, Forget, Map, changed_by}
 use Rattle.ee_pages.specs.Page.{is_blank}
 use Rattle.ee_pages.specs.Sets.{live_of, other}
 use Rattle.ee_pages.specs.declared.side.Side.{Side}
-use Rattle.ee_core.specs.Calls.{Cleans, Forgets, IsPending, Reads, Writes}
+use Rattle.ee_core.specs.Calls.{Cleans, Forgets, IsPending, Reads, Writes, WritesAll}
+use Rattle.ee_core.specs.Puts.{puts_of}
 use Rattle.ee_core.specs.State.{CountsWear, state_of}
+use Rattle.ee_core.specs.declared.change.Put as listed
 use Rattle.ee_core.specs.declared.variables.ForgetFault.{ForgetFault}
 use Rattle.ee_core.specs.declared.variables.ForgetFault.TheVariants as forget
 use Rattle.ee_core.specs.declared.variables.Off.{Off}
+use Rattle.ee_core.specs.declared.variables.WriteAllFault.{WriteAllFault}
+use Rattle.ee_core.specs.declared.variables.WriteAllFault.TheVariants as all
 use Rattle.ee_core.specs.declared.variables.WriteFault.{WriteFault}
 use Rattle.ee_core.specs.declared.variables.WriteFault.TheVariants as write
 use Rattle.ee_core.specs.declared.variables.Written.{Written}
 use Rattle.ee_core.specs.declared.variables.Written.TheVariants.{Moved}
 
--- a call with its answer: a write, a forgetting, a clean step, a read
+-- a call with its answer: a write, a write of a list, a forgetting, a clean step, a read
 pub data Call : Type 0 where
   Wrote : (address value : ℕ) (answer : Result Written WriteFault) → Call
+  WroteAll : (puts : List listed.Put) (answer : Result Written WriteAllFault) → Call
   Forgot : (address : ℕ) (answer : Result Written ForgetFault) → Call
   Cleaned : (answer : Result Bool WriteFault) → Call
   DidRead : (address : ℕ) (answer : Result (Option ℕ) Off) → Call
@@ -32,6 +37,7 @@ pub data Call : Type 0 where
 -- the call, answered so, leaves this device
 abbrev pub Follows : Call → Device → Device → Type 0
 Follows (Wrote address value answer) old new = Writes old address value answer new
+Follows (WroteAll puts answer) old new = WritesAll old puts answer new
 Follows (Forgot address answer) old new = Forgets old address answer new
 Follows (Cleaned answer) old new = Cleans old answer new
 Follows (DidRead address answer) old new = Reads old address answer × (new ≡ old)
@@ -44,6 +50,7 @@ IsRun (call ∷ calls) old new = (between : Device) × Follows call old between 
 -- whether the call moved the map to the other set
 abbrev pub is_transfer : Call → Bool
 is_transfer (Wrote address value (Ok Moved)) = true
+is_transfer (WroteAll puts (Ok Moved)) = true
 is_transfer (Forgot address (Ok Moved)) = true
 is_transfer call = false
 
@@ -54,6 +61,7 @@ transfers calls = count_by is_transfer calls
 -- whether power was cut in the call
 abbrev pub is_cut : Call → Bool
 is_cut (Wrote address value (Err write.Cut)) = true
+is_cut (WroteAll puts (Err all.Cut)) = true
 is_cut (Forgot address (Err forget.Cut)) = true
 is_cut (Cleaned (Err write.Cut)) = true
 is_cut call = false
@@ -63,9 +71,10 @@ pub record IsWholeRun (calls : List Call) (old new : Device) : Type 0 where
   pub run : IsRun calls old new
   pub without_cuts : All (λ call. is_cut call ≡ false) calls
 
--- the changes that the call made: the one that was asked for, if the answer is that it was stored
+-- the changes that the call made: those that were asked for, if the answer is that they were stored
 abbrev pub changes_of_call : Call → List Change
 changes_of_call (Wrote address value (Ok written)) = Put address value ∷ []
+changes_of_call (WroteAll puts (Ok written)) = puts_of puts
 changes_of_call (Forgot address (Ok written)) = Forget address ∷ []
 changes_of_call call = []
 
@@ -83,17 +92,28 @@ AreAnsweredFrom map (call ∷ calls) = IsAnsweredBy map call × AreAnsweredFrom 
 abbrev pub RunsGoOn : Type 0
 RunsGoOn = (calls : List Call) (old new : Device) → IsWholeRun calls old new → GoesOn old new
 
+-- whether the call asks for one change at the most
+abbrev pub is_single : Call → Bool
+is_single (WroteAll (first ∷ second ∷ more) answer) = false
+is_single call = true
+
 -- All wear, and the pages that wait to be erased, are together more by the pages of a set for each transfer, and by none for
--- any other call. It is said where no page was erased as often as can be counted.
+-- any other call. It is said of single changes, and where no page was erased as often as can be counted.
 abbrev pub EachTransferErasesASet : Type 0
 EachTransferErasesASet =
-    (calls : List Call) (old new : Device) → IsWholeRun calls old new → CountsWear new
+    (calls : List Call) (old new : Device) → IsWholeRun calls old new → All (λ call. is_single call ≡ true) calls → CountsWear new
     → total_wear_of new + (state_of new).pending ≡ total_wear_of old + (state_of old).pending + transfers calls * old.size.pages
+
+-- With lists of several, each of which moves the map whether the set that it leaves is full or not, they are no more.
+abbrev pub NoTransferErasesMore : Type 0
+NoTransferErasesMore =
+    (calls : List Call) (old new : Device) → IsWholeRun calls old new → CountsWear new
+    → total_wear_of new + (state_of new).pending ≤ total_wear_of old + (state_of old).pending + transfers calls * old.size.pages
 
 -- so where none waited, and none waits at the end, as many pages were erased
 abbrev pub CleanRunsEraseSets : Type 0
 CleanRunsEraseSets =
-    (calls : List Call) (old new : Device) → IsWholeRun calls old new → CountsWear new → (state_of old).pending ≡ 0
+    (calls : List Call) (old new : Device) → IsWholeRun calls old new → All (λ call. is_single call ≡ true) calls → CountsWear new → (state_of old).pending ≡ 0
     → (state_of new).pending ≡ 0 → total_wear_of new ≡ total_wear_of old + transfers calls * old.size.pages
 
 -- the page is one of the live set

@@ -5,7 +5,7 @@ use Rattle.ee_flash.specs.Device.{Device, all_ones}
 use Rattle.ee_flash.specs.Size.{slot_count}
 use Rattle.ee_flash.specs.Step.{one_more}
 use Rattle.ee_flash.specs.declared.word.Word.{Word}
-use Rattle.ee_pages.specs.Meaning.{Change, Map, map_after, live_in, meaning}
+use Rattle.ee_pages.specs.Meaning.{Change, Map, changed_by, map_after, live_in, meaning}
 use Rattle.ee_pages.specs.Page.{is_blank}
 use Rattle.ee_pages.specs.Sets.{fill_of, first_page, live_of, other, pending_of, set_of, slots_of, torn_of}
 use Rattle.ee_pages.specs.declared.side.Side.{Side}
@@ -47,6 +47,14 @@ torn_slots_in device (Some live) = torn_of (slots_of (set_of live.0 device))
 abbrev pub torn_slots_of : Device → ℕ
 torn_slots_of device = torn_slots_in device (live_of device)
 
+abbrev pub used_pages_in : Device → Option (Side × ℕ) → ℕ
+used_pages_in device None = 0
+used_pages_in device (Some live) = pending_of (set_of live.0 device)
+
+-- how many pages of the live set are not blank
+abbrev pub used_pages_of : Device → ℕ
+used_pages_of device = used_pages_in device (live_of device)
+
 -- the slots of a set
 abbrev pub capacity : Device → ℕ
 capacity device = slot_count device.size
@@ -63,12 +71,12 @@ appended_state change state = record state { map = map_after change state.map; f
 abbrev pub torn_state : State → State
 torn_state state = record state { fill = state.fill + 1 }
 
--- the map, changed, moved to the other set: each address with a value takes a slot, and all pages of the set that it left
--- wait to be erased
-abbrev pub moved_state : ℕ → Change → State → State
-moved_state pages change state = record {
-  map = map_after change state.map;
-  fill = live_in (map_after change state.map);
+-- the map, changed, moved to the other set: each address with a value takes a slot, and so many pages of the set that it
+-- left wait to be erased
+abbrev pub moved_state : ℕ → List Change → State → State
+moved_state pages changes state = record {
+  map = changed_by changes state.map;
+  fill = live_in (changed_by changes state.map);
   generation = state.generation + 1;
   pending = pages;
 }

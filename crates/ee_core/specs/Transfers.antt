@@ -77,22 +77,22 @@ pub record PutsInSlot (old new : Device) (side : Side) (generation count : ℕ) 
 
 -- ---- the whole map
 
--- The map moved with the change to the other set, and takes so many slots there. Each page of that set that was not blank
+-- The map moved with the changes to the other set, and takes so many slots there. Each page of that set that was not blank
 -- was erased first.
-pub record MapMoved (old new : Device) (layout : Layout) (change : Change) (count : ℕ) : Type 0 where
-  pub moved : HasMoved old new layout.side layout.generation change
-  pub as_many : count ≡ length (moved_words change (map_in layout.side old))
+pub record MapMoved (old new : Device) (layout : Layout) (changes : List Change) (count : ℕ) : Type 0 where
+  pub moved : HasMoved old new layout.side layout.generation changes
+  pub as_many : count ≡ length (moved_words changes (map_in layout.side old))
   pub wear : Wears (not_blank_in (other layout.side) old) old new
 
 -- Or power was cut on the way: a front of those pages was erased, and behind the erases the words are as is said; the live
 -- set is as before, or the map has moved.
-pub record MapMovedPartly (old new : Device) (layout : Layout) (change : Change) (Leaves : Device → Device → Side → ℕ → List Word → Type 0) : Type 0 where
+pub record MapMovedPartly (old new : Device) (layout : Layout) (changes : List Change) (Leaves : Device → Device → Side → ℕ → List Word → Type 0) : Type 0 where
   pub begun : WearsFront (not_blank_in (other layout.side) old) old new
   pub words : ErasesPartly (first_page old.size (other layout.side)) (first_page old.size (other layout.side) + old.size.pages) old new
-      ⊎ Leaves old new layout.side layout.generation (moved_words change (map_in layout.side old))
-  pub cut : KeepsLiveSet old new layout.side layout.generation ⊎ HasMoved old new layout.side layout.generation change
+      ⊎ Leaves old new layout.side layout.generation (moved_words changes (map_in layout.side old))
+  pub cut : KeepsLiveSet old new layout.side layout.generation ⊎ HasMoved old new layout.side layout.generation changes
 
 -- a call ends so; what it gives says how many slots are taken
-abbrev pub MovesMap : {T E : Type 0} → Result T E → (T → ℕ) → Device → Device → Layout → Change → (Device → Device → Side → ℕ → List Word → Type 0) → Type 0
-MovesMap (Ok value) taken old new layout change Leaves = MapMoved old new layout change (taken value)
-MovesMap (Err error) taken old new layout change Leaves = MapMovedPartly old new layout change Leaves
+abbrev pub MovesMap : {T E : Type 0} → Result T E → (T → ℕ) → Device → Device → Layout → List Change → (Device → Device → Side → ℕ → List Word → Type 0) → Type 0
+MovesMap (Ok value) taken old new layout changes Leaves = MapMoved old new layout changes (taken value)
+MovesMap (Err error) taken old new layout changes Leaves = MapMovedPartly old new layout changes Leaves

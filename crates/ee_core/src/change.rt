@@ -1,12 +1,22 @@
-//! A change of the map, and the word that spells it.
-ghost use Rattle.std.specs.Prelude.{◌≡◌, ◌<◌};
-ghost use Rattle.ee_codec.specs.Words.{IsAddress};
+//! A change of the map, and the word that spells it; a value that is put with others.
+ghost use Rattle.std.specs.Prelude.{◌≡◌, ◌<◌, [], ◌∷◌};
 ghost use Rattle.ee_flash.specs.Device.{all_ones};
 ghost use Rattle.ee_pages.specs.Meaning.{SpellsChange};
-ghost use Rattle.ee_pages.specs.Pending.{address_of};
 ghost use Rattle.ee_core.specs.Parts.{meant, number_written};
+ghost use Rattle.ee_core.specs.Puts.{carried};
 
 use ee_codec::{Address, element_word, forget_word};
+
+/// A value that an address gets.
+///
+/// Source: ours.
+#[derive(Clone, Copy, Debug, PartialEq, Eq)]
+pub struct Put {
+    /// The address.
+    pub address: Address,
+    /// Its value from here on.
+    pub value: u32,
+}
 
 /// A change of the map.
 #[derive(Clone, Copy, Debug, PartialEq, Eq)]
@@ -18,14 +28,13 @@ pub enum Change {
 }
 
 impl Change {
-    /// Its address.
-    pub(crate) fn address(&self) -> Address
-        ensures address { result ≡ address_of (meant self.now) }
-        ensures proper { IsAddress result }
+    /// What a transfer carries for it: its address with the value, and whether it forgets.
+    pub(crate) fn entry(self) -> (Put, bool)
+        ensures { carried (result.0 ∷ []) result.1 ≡ meant self ∷ [] }
     {
-        let change = *self;
-        match change {
-            Change::Put { address, .. } | Change::Forget { address, .. } => address,
+        match self {
+            Change::Put { address, value } => (Put { address, value }, false),
+            Change::Forget { address, value } => (Put { address, value }, true),
         }
     }
 

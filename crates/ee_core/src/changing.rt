@@ -1,5 +1,6 @@
-//! The making of a change that nothing refuses: appended where a slot is free, else with a transfer.
-ghost use Rattle.std.specs.Prelude.{◌≡◌, ◌<◌, ◌+◌, OnErr, OnOk, length};
+//! The making of changes that nothing refuses: one is appended where a slot is free, and else they are
+//! made with a transfer.
+ghost use Rattle.std.specs.Prelude.{◌≡◌, ◌<◌, ◌+◌, [], ◌∷◌, OnErr, OnOk, length};
 ghost use Rattle.ee_codec.specs.Words.{IsAddress};
 ghost use Rattle.ee_flash.specs.Device.{IsOn};
 ghost use Rattle.ee_flash.specs.Size.{slot_count};
@@ -8,13 +9,14 @@ ghost use Rattle.ee_pages.specs.Meaning.{SpellsChange, map_after};
 ghost use Rattle.ee_pages.specs.Pending.{address_of};
 ghost use Rattle.ee_pages.specs.Pushing.{TakesSlot};
 ghost use Rattle.ee_pages.specs.Sets.{other as other_of, set_of, slots_of};
-ghost use Rattle.ee_core.specs.Changes.{Appends, IsCutChange, Moves, Proceeds};
+ghost use Rattle.ee_core.specs.Changes.{Appends, IsCutChange, IsCutMaking, Moves, NeedsTransfer, Proceeds};
 ghost use Rattle.ee_core.specs.Finished.{IsMarked, IsStore};
 ghost use Rattle.ee_core.specs.Parts.{ForgetsHeld, HasMoved, map_in, meant, number_written};
 ghost use Rattle.ee_core.specs.Picture.{IsDrawn, filled_set, moved_words, picture_of, with_change};
-ghost use Rattle.ee_core.specs.State.{state_of};
+ghost use Rattle.ee_core.specs.Puts.{AreApart, carried};
+ghost use Rattle.ee_core.specs.State.{capacity, state_of};
 
-use crate::change::Change;
+use crate::change::{Change, Put};
 use crate::copying::Cursor;
 use crate::live_cursor::LiveCursor;
 use crate::moving::transfer;
@@ -33,12 +35,12 @@ pub(crate) fn make_change<F: Flash>(
     requires layout { IsLayout (F.device flash.old) layout.old }
     requires marked { IsMarked (F.device flash.old) layout.old.side }
     requires address { IsAddress (address_of (meant change)) }
-    requires proceeds { Proceeds (F.device flash.old) (meant change) }
+    requires proceeds { Proceeds (F.device flash.old) (meant change ∷ []) }
     requires forgets { ForgetsHeld (state_of (F.device flash.old)).map change }
     ensures appended { result ≡ Ok Written.Appended
         → Appends (F.device flash.old) (meant change) (F.device flash.new) }
     ensures moved { result ≡ Ok Written.Moved
-        → Moves (F.device flash.old) (meant change) (F.device flash.new) }
+        → Moves (F.device flash.old) (meant change ∷ []) (F.device flash.new) }
     ensures cut { OnErr result
         (IsCutChange (F.device flash.old) (meant change) (F.device flash.new)) }
     ensures store { IsStore (F.device flash.new) }
@@ -63,7 +65,7 @@ pub fn append_change<F: Flash>(
 ) -> Result<(), Cut>
     requires layout { IsLayout (F.device flash.old) layout.old }
     requires marked { IsMarked (F.device flash.old) layout.old.side }
-    requires proceeds { Proceeds (F.device flash.old) (meant change) }
+    requires proceeds { Proceeds (F.device flash.old) (meant change ∷ []) }
     requires forgets { ForgetsHeld (state_of (F.device flash.old)).map change }
     requires free { layout.old.fill < slot_count (F.device flash.old).size }
     ensures appended { OnOk result
@@ -98,28 +100,68 @@ pub fn move_change<F: Flash, C: LiveCursor>(
 ) -> Result<(), Cut>
     requires layout { IsLayout (F.device flash.old) layout.old }
     requires address { IsAddress (address_of (meant change)) }
-    requires proceeds { Proceeds (F.device flash.old) (meant change) }
+    requires proceeds { Proceeds (F.device flash.old) (meant change ∷ []) }
     requires all_used { layout.old.fill ≡ slot_count (F.device flash.old).size }
     requires first { C.behind cursor.old ≡ 0 }
     requires over { C.goes_over cursor.old (slots_of (set_of layout.old.side (F.device flash.old))) }
     ensures moved { OnOk result
-        (Moves (F.device flash.old) (meant change) (F.device flash.new)) }
+        (Moves (F.device flash.old) (meant change ∷ []) (F.device flash.new)) }
     ensures has_moved { OnOk result
         (HasMoved (F.device flash.old) (F.device flash.new) layout.old.side layout.old.generation
-        (meant change)) }
+        (meant change ∷ [])) }
     ensures found { OnOk result (IsLayout (F.device flash.new) layout.new) }
     ensures other_set { OnOk result (layout.new.side ≡ other_of layout.old.side) }
     ensures as_many { OnOk result (layout.new.fill ≡ length
-        (moved_words (meant change) (map_in layout.old.side (F.device flash.old)))) }
+        (moved_words (meant change ∷ []) (map_in layout.old.side (F.device flash.old)))) }
     ensures new_pages { OnOk result
         (IsDrawn (other_of layout.old.side) (F.device flash.new)
         (filled_set (F.device flash.old).size (layout.old.generation + 1)
-        (moved_words (meant change) (map_in layout.old.side (F.device flash.old))))) }
+        (moved_words (meant change ∷ []) (map_in layout.old.side (F.device flash.old))))) }
     ensures cut { OnErr result
         (IsCutChange (F.device flash.old) (meant change) (F.device flash.new)) }
     ensures store { IsStore (F.device flash.new) }
     ensures layout { IsOn (F.device flash.new) → IsLayout (F.device flash.new) layout.new }
 {
-    transfer(flash, layout, change, cursor)?;
+    let (put, forgets) = change.entry();
+    move_changes(flash, layout, &[put], forgets, cursor)?;
+    Ok(())
+}
+
+/// Makes changes to which no refusal applies with a transfer that they need: values that are put, or
+/// the forgettings of their addresses. The cursor, which is before the first, goes over the live addresses.
+/// The layout follows.
+pub(crate) fn move_changes<F: Flash, C: LiveCursor>(
+    flash: &mut F,
+    layout: &mut Layout,
+    puts: &[Put],
+    forgets: bool,
+    cursor: &mut C,
+) -> Result<(), Cut>
+    requires layout { IsLayout (F.device flash.old) layout.old }
+    requires apart { AreApart (carried puts.now forgets) }
+    requires proceeds { Proceeds (F.device flash.old) (carried puts.now forgets) }
+    requires needed { NeedsTransfer (capacity (F.device flash.old)) (state_of (F.device flash.old))
+        (carried puts.now forgets) }
+    requires first { C.behind cursor.old ≡ 0 }
+    requires over { C.goes_over cursor.old (slots_of (set_of layout.old.side (F.device flash.old))) }
+    ensures moved { OnOk result
+        (Moves (F.device flash.old) (carried puts.now forgets) (F.device flash.new)) }
+    ensures has_moved { OnOk result
+        (HasMoved (F.device flash.old) (F.device flash.new) layout.old.side layout.old.generation
+        (carried puts.now forgets)) }
+    ensures found { OnOk result (IsLayout (F.device flash.new) layout.new) }
+    ensures other_set { OnOk result (layout.new.side ≡ other_of layout.old.side) }
+    ensures as_many { OnOk result (layout.new.fill ≡ length
+        (moved_words (carried puts.now forgets) (map_in layout.old.side (F.device flash.old)))) }
+    ensures new_pages { OnOk result
+        (IsDrawn (other_of layout.old.side) (F.device flash.new)
+        (filled_set (F.device flash.old).size (layout.old.generation + 1)
+        (moved_words (carried puts.now forgets) (map_in layout.old.side (F.device flash.old))))) }
+    ensures cut { OnErr result
+        (IsCutMaking (F.device flash.old) (carried puts.now forgets) (F.device flash.new)) }
+    ensures store { IsStore (F.device flash.new) }
+    ensures layout { IsOn (F.device flash.new) → IsLayout (F.device flash.new) layout.new }
+{
+    transfer(flash, layout, puts, forgets, cursor)?;
     Ok(())
 }

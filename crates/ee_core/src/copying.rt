@@ -1,21 +1,23 @@
 //! The copying of a transfer: the map after its change, written into the other set word by word.
-ghost use Rattle.std.specs.Prelude.{◌≡◌, ◌≢◌, ◌<◌, ◌≤◌, ℕ, ◌+◌, IfOk, IfSome, [], ◌∷◌, None, Ok, OnErr, OnOk, OnSome, length, slice_set};
+ghost use Rattle.std.specs.Prelude.{◌≡◌, ◌<◌, ◌≤◌, ℕ, ◌+◌, IfOk, IfSome, [], ◌∷◌, None, Ok, OnErr, OnOk, OnSome, false, length, slice_set, true};
 ghost use Rattle.ee_codec.specs.Words.{IsAddress, element};
 ghost use Rattle.ee_flash.specs.Power.{Ends};
 ghost use Rattle.ee_flash.specs.Size.{slot_count};
 ghost use Rattle.ee_flash.specs.declared.word.Word.TheVariants.{Held};
 ghost use Rattle.ee_pages.specs.Laws.{KeepsLiveSet};
 ghost use Rattle.ee_pages.specs.Layout.{IsLayout};
-ghost use Rattle.ee_pages.specs.Meaning.{Forget, IsNextLive, Put, SpellsChange, map_after, live_in};
+ghost use Rattle.ee_pages.specs.Meaning.{IsNextLive, Put as MapPut, SpellsChange, changed_by, map_after, live_in};
 ghost use Rattle.ee_pages.specs.Sets.{first_page as first_of, other as other_of, page_of_slot, place_of_slot, set_of, slots_of};
 ghost use Rattle.ee_core.specs.Course.{GoesOver, course_of, last_given};
 ghost use Rattle.ee_core.specs.Cuts.{PutsPartly, SetsPartly};
-ghost use Rattle.ee_core.specs.Parts.{Stands, map_in, meant, number_written, put_words, replaced_map};
-ghost use Rattle.ee_core.specs.Picture.{elements_of, moved_words};
+ghost use Rattle.ee_core.specs.Parts.{Stands, map_in, meant, number_written, replaced_map};
+ghost use Rattle.ee_core.specs.Picture.{elements_of, map_without, moved_words, put_words};
+ghost use Rattle.ee_core.specs.Puts.{AreApart, carried, names, puts_of};
 ghost use Rattle.ee_core.specs.Transfers.{Fills, IsOpenAt, IsNewlyOpened, OpensForSlot, PutsInSlot};
 
-use crate::change::Change;
+use crate::change::{Change, Put};
 use crate::live_cursor::LiveCursor;
+use crate::puts::{has_put, values_put};
 use ee_codec::Address;
 use ee_flash::{Cut, Flash, HEADER_WORDS};
 use ee_pages::{Layout, LiveBatch, Mark, first_page, mark, next_batch};
@@ -113,105 +115,110 @@ struct Place {
     at: usize,
 }
 
-/// Fills the other set, which was opened, with the map after a change: a value that is written
-/// comes first, and then each other live address, rising. Gives how many slots that takes.
+/// Fills the other set, which was opened, with the map after changes: the values that are put come
+/// first, in their order, and then each other live address, rising. Where they are forgotten, their
+/// addresses are left out alone. Gives how many slots that takes.
 pub(crate) fn fill_set<F: Flash, C: LiveCursor>(
     flash: &mut F,
     layout: &Layout,
-    change: Change,
+    puts: &[Put],
+    forgets: bool,
     cursor: &mut C,
 ) -> Result<usize, Cut>
     requires opened { IsNewlyOpened (F.device flash.old) layout.now }
     requires first { C.behind cursor.old ≡ 0 }
     requires over { C.goes_over cursor.old (slots_of (set_of layout.now.side (F.device flash.old))) }
-    requires fits { live_in (map_after (meant change) (map_in layout.now.side (F.device flash.old)))
-        ≤ slot_count (F.device flash.old).size }
+    requires apart { AreApart (carried puts.now forgets) }
+    requires fits { live_in (changed_by (carried puts.now forgets)
+        (map_in layout.now.side (F.device flash.old))) ≤ slot_count (F.device flash.old).size }
     ensures fills { let map = map_in layout.now.side (F.device flash.old) in
         Fills result (λ count. count) (F.device flash.old) (F.device flash.new) layout.now 0
-        (moved_words (meant change) map) (map_after (meant change) map) }
-    ensures each_once { IfOk result (λ count. count
-        ≡ live_in (map_after (meant change) (map_in layout.now.side (F.device flash.old)))) }
+        (moved_words (carried puts.now forgets) map) (changed_by (carried puts.now forgets) map) }
+    ensures each_once { IfOk result (λ count. count ≡ live_in
+        (changed_by (carried puts.now forgets) (map_in layout.now.side (F.device flash.old)))) }
     ensures power { Ends result (F.device flash.old) (F.device flash.new) }
 {
-    let address = change.address();
-    let first = put_first(flash, layout, change)?;
-    let count = copy_others(flash, layout, address, first, cursor)?;
+    let first = put_all(flash, layout, values_put(puts, forgets))?;
+    let count = copy_others(flash, layout, puts, first, cursor)?;
     Ok(count)
 }
 
-/// Writes a value that is put into the first slot of the other set; a forgetting takes no slot.
-/// Gives the place of the next slot.
-fn put_first<F: Flash>(flash: &mut F, layout: &Layout, change: Change) -> Result<Place, Cut>
+/// Writes values into the first slots of the other set, in their order. Gives the place of the next
+/// slot.
+fn put_all<F: Flash>(flash: &mut F, layout: &Layout, puts: &[Put]) -> Result<Place, Cut>
     requires opened { IsNewlyOpened (F.device flash.old) layout.now }
+    requires fits { length puts.now ≤ slot_count (F.device flash.old).size }
     ensures fills { Fills result (λ place. place.slot) (F.device flash.old) (F.device flash.new)
-        layout.now 0 (put_words (meant change)) (map_after (meant change) (λ address. None)) }
+        layout.now 0 (put_words (puts_of puts.now)) (changed_by (puts_of puts.now) (λ address. None)) }
     ensures stands { IfOk result
         (Stands (F.device flash.new).size (other_of layout.now.side)) }
     ensures power { Ends result (F.device flash.old) (F.device flash.new) }
 {
     let mut place = first_place(flash, layout);
-    if let Change::Forget { .. } = change {
-        return Ok(place);
+    'puts: for put in puts {
+        let (address, value) = (put.address, put.value);
+        stage(flash, layout, &mut place, Change::Put { address, value })?;
     }
-    stage(flash, layout, &mut place, change)?;
     Ok(place)
 }
 
-/// Copies each live address but this one to the other set, from this place on. Gives how many of its
-/// slots are written then.
+/// Copies each live address but those of the changes to the other set, from this place on. Gives how
+/// many of its slots are written then.
 fn copy_others<F: Flash, C: LiveCursor>(
     flash: &mut F,
     layout: &Layout,
-    except: Address,
+    puts: &[Put],
     place: Place,
     cursor: &mut C,
 ) -> Result<usize, Cut>
     requires at { IsOpenAt (F.device flash.old) layout.now place }
     requires first { C.behind cursor.old ≡ 0 }
     requires over { C.goes_over cursor.old (slots_of (set_of layout.now.side (F.device flash.old))) }
-    requires only { (address : ℕ) → address ≢ except
+    requires only { (address : ℕ) → names (puts_of puts.now) address ≡ false
         → map_in (other_of layout.now.side) (F.device flash.old) address ≡ None }
-    requires fits { place.slot + length
-        (elements_of (map_after (Forget except) (map_in layout.now.side (F.device flash.old))))
+    requires fits { place.slot + length (elements_of
+        (map_without (puts_of puts.now) (map_in layout.now.side (F.device flash.old))))
         ≤ slot_count (F.device flash.old).size }
     ensures fills { let map = map_in layout.now.side (F.device flash.old) in
         Fills result (λ all. all) (F.device flash.old) (F.device flash.new) layout.now place.slot
-        (elements_of (map_after (Forget except) map))
-        (replaced_map (map_in (other_of layout.now.side) (F.device flash.old)) except map) }
+        (elements_of (map_without (puts_of puts.now) map))
+        (replaced_map (map_in (other_of layout.now.side) (F.device flash.old))
+        (names (puts_of puts.now)) map) }
     ensures power { Ends result (F.device flash.old) (F.device flash.new) }
 {
     let mut place = place;
     'live: while let Some((address, value)) = cursor.next(flash, layout) {
-        copy_one(flash, layout, except, &mut place, address, value)?;
+        let carries = has_put(puts, address);
+        copy_one(flash, layout, carries, &mut place, address, value)?;
     }
     Ok(place.slot)
 }
 
-/// Copies a live address to this place of the other set, unless it is the one that is not copied.
-/// The place becomes that of the next free slot.
+/// Copies a live address to this place of the other set, unless it is passed over. The place becomes
+/// that of the next free slot.
 fn copy_one<F: Flash>(
     flash: &mut F,
     layout: &Layout,
-    except: Address,
+    passed: bool,
     place: &mut Place,
     address: Address,
     value: u32,
 ) -> Result<(), Cut>
     requires at { IsOpenAt (F.device flash.old) layout.now place.old }
-    requires free { address ≢ except → place.old.slot < slot_count (F.device flash.old).size }
+    requires free { passed ≡ false → place.old.slot < slot_count (F.device flash.old).size }
     ensures keeps { KeepsLiveSet (F.device flash.old)
         (F.device flash.new) layout.now.side layout.now.generation }
     ensures at { OnOk result (IsOpenAt (F.device flash.new) layout.now place.new) }
-    ensures passed { address ≡ except → (result ≡ Ok tt) × (place.new ≡ place.old)
+    ensures passed { passed ≡ true → (result ≡ Ok tt) × (place.new ≡ place.old)
         × (F.device flash.new ≡ F.device flash.old) }
-    ensures fills { address ≢ except
+    ensures fills { passed ≡ false
         → Fills result (λ done. place.new.slot) (F.device flash.old) (F.device flash.new)
         layout.now place.old.slot (Held (element address value) ∷ [])
-        (map_after (Put address value) (map_in (other_of layout.now.side) (F.device flash.old))) }
+        (map_after (MapPut address value) (map_in (other_of layout.now.side) (F.device flash.old))) }
     ensures wear { (F.device flash.new).wear ≡ (F.device flash.old).wear }
     ensures power { Ends result (F.device flash.old) (F.device flash.new) }
 {
-    if address == except {
+    if passed {
         return Ok(());
     }
     stage(flash, layout, place, Change::Put { address, value })?;

@@ -1,21 +1,27 @@
 //! Laws of calls of any `Variables` in which power is not cut, over any run of them and of the images
 //! that they leave, and of starts; each the contract of a function that does nothing.
 ghost use Rattle.ee_core.specs.PageStates.{MovedWordsAreLive, PicturesTellImages, StatesAfterAppend, StatesAfterClean, StatesAfterFormat, StatesAfterOpening, StatesAfterTransfer};
+ghost use Rattle.ee_core.specs.Puts.{ListsAreThere};
 ghost use Rattle.ee_core.specs.Starts.{StartsEnd};
-ghost use Rattle.ee_core.specs.Runs.{CleanRunsEraseSets, EachPageWearsEverySecondTransfer, EachTransferErasesASet, NoPageWearsMore, NoPageWearsMuchMore, RunsGoOn, TheStoreIsAMap};
+ghost use Rattle.ee_core.specs.Runs.{CleanRunsEraseSets, EachPageWearsEverySecondTransfer, EachTransferErasesASet, NoPageWearsMore, NoTransferErasesMore, NoPageWearsMuchMore, RunsGoOn, TheStoreIsAMap};
 
 /// Size, power and cuts are as before.
 pub fn runs_go_on()
     ensures { RunsGoOn }
 {}
 
-/// Every transfer costs the erases of one set, now or in a later clean step, and no other call
-/// costs any.
+/// Every transfer for one change costs the erases of one set, now or in a later clean step, and no
+/// other call costs any.
 pub fn each_transfer_erases_a_set()
     ensures { EachTransferErasesASet }
 {}
 
-/// A run that begins and ends with no page that waits to be erased has erased one set for every
+/// With lists of several values too no transfer costs more than the erases of one set.
+pub fn no_transfer_erases_more()
+    ensures { NoTransferErasesMore }
+{}
+
+/// A run of single changes that begins and ends with no page that waits to be erased has erased one set for every
 /// transfer.
 pub fn clean_runs_erase_sets()
     ensures { CleanRunsEraseSets }
@@ -41,6 +47,11 @@ pub fn no_page_wears_much_more()
 /// The map is the changes that were answered, in their order, and every read is answered by it.
 pub fn the_store_is_a_map()
     ensures { TheStoreIsAMap }
+{}
+
+/// A list that has each address once is there, all of it, in the map after it.
+pub fn lists_are_there()
+    ensures { ListsAreThere }
 {}
 
 /// After an append each page before that of its slot is valid, and that one is active, unless a mark

@@ -7,18 +7,19 @@ ghost use Rattle.ee_flash.specs.Size.{slot_count};
 ghost use Rattle.ee_pages.specs.Filling.{IsCommitted, IsFilling};
 ghost use Rattle.ee_pages.specs.Laws.{KeepsLiveSet};
 ghost use Rattle.ee_pages.specs.Layout.{IsLayout};
-ghost use Rattle.ee_pages.specs.Meaning.{map_after, live_in};
+ghost use Rattle.ee_pages.specs.Meaning.{changed_by, live_in};
 ghost use Rattle.ee_pages.specs.Page.{is_blank};
 ghost use Rattle.ee_pages.specs.Sets.{first_page as first_of, other as other_of, set_of, slots_of};
 ghost use Rattle.ee_flash.specs.declared.word.Word.{Word};
 ghost use Rattle.ee_core.specs.Cuts.{ErasesPartly, FillsPartly, IsDrawnPartly, MovesMapPartly, MovesPartly};
 ghost use Rattle.ee_core.specs.Finished.{IsMarked};
-ghost use Rattle.ee_core.specs.Parts.{Holds, IsCommittedWith, IsSameSet, SetsMark, map_in, meant};
-ghost use Rattle.ee_core.specs.Picture.{IsDrawn, blank, filled_set, moved_words, picture_of, retired_pages};
+ghost use Rattle.ee_core.specs.Parts.{Holds, IsCommittedWith, IsSameSet, SetsMark, map_in};
+ghost use Rattle.ee_core.specs.Picture.{IsDrawn, blank, filled_set, is_used, moved_words, picture_of, retired_pages};
+ghost use Rattle.ee_core.specs.Puts.{AreApart, carried};
 ghost use Rattle.ee_core.specs.State.{Wears, WearsFront, not_blank_in};
 ghost use Rattle.ee_core.specs.Transfers.{IsNewlyOpened, MovesMap};
 
-use crate::change::Change;
+use crate::change::Put;
 use crate::cleaning::erase_other;
 use crate::copying::fill_set;
 use crate::live_cursor::LiveCursor;
@@ -26,37 +27,39 @@ use crate::marking::finish;
 use ee_flash::{Cut, Flash, HEADER_WORDS};
 use ee_pages::{Layout, Mark, first_page, is_blank as page_is_blank, mark};
 
-/// Moves the map, with a change, from a live set of which every slot is used to the other set, and
-/// makes that one live. The cursor, which is before the first, goes over the live addresses. The
-/// layout follows.
+/// Moves the map, with values that are put or without their addresses, where these are forgotten, to
+/// the other set, and makes that one live. The cursor, which is before the first, goes over the live addresses.
+/// The layout follows.
 pub(crate) fn transfer<F: Flash, C: LiveCursor>(
     flash: &mut F,
     layout: &mut Layout,
-    change: Change,
+    puts: &[Put],
+    forgets: bool,
     cursor: &mut C,
 ) -> Result<(), Cut>
     requires layout { IsLayout (F.device flash.old) layout.old }
     requires first { C.behind cursor.old ≡ 0 }
     requires over { C.goes_over cursor.old (slots_of (set_of layout.old.side (F.device flash.old))) }
-    requires all_used { layout.old.fill ≡ slot_count (F.device flash.old).size }
     requires generation { IsGeneration (layout.old.generation + 1) }
-    requires fits { live_in (map_after (meant change) (map_in layout.old.side (F.device flash.old)))
-        ≤ slot_count (F.device flash.old).size }
+    requires apart { AreApart (carried puts.now forgets) }
+    requires fits { live_in (changed_by (carried puts.now forgets)
+        (map_in layout.old.side (F.device flash.old))) ≤ slot_count (F.device flash.old).size }
     ensures moves { MovesMap result (λ done. layout.new.fill) (F.device flash.old)
-        (F.device flash.new) layout.old (meant change) MovesPartly }
+        (F.device flash.new) layout.old (carried puts.now forgets) MovesPartly }
     ensures layout { OnOk result (IsLayout (F.device flash.new) layout.new) }
     ensures other_set { OnOk result (layout.new.side ≡ other_of layout.old.side) }
     ensures marked { OnOk result (IsMarked (F.device flash.new) (other_of layout.old.side)) }
     ensures new_pages { OnOk result
         (IsDrawn (other_of layout.old.side) (F.device flash.new)
         (filled_set (F.device flash.old).size (layout.old.generation + 1)
-        (moved_words (meant change) (map_in layout.old.side (F.device flash.old))))) }
+        (moved_words (carried puts.now forgets) (map_in layout.old.side (F.device flash.old))))) }
     ensures old_pages { OnOk result
         (IsDrawn layout.old.side (F.device flash.new)
-        (retired_pages (λ page. true) (picture_of layout.old.side (F.device flash.old)))) }
+        (retired_pages (is_used layout.old.side (F.device flash.old))
+        (picture_of layout.old.side (F.device flash.old)))) }
     ensures power { Ends result (F.device flash.old) (F.device flash.new) }
 {
-    let count = move_map(flash, layout, change, cursor)?;
+    let count = move_map(flash, layout, puts, forgets, cursor)?;
     let slots = flash.shape().words() - HEADER_WORDS;
     *layout = Layout {
         side: layout.side.other(),
@@ -68,29 +71,30 @@ pub(crate) fn transfer<F: Flash, C: LiveCursor>(
     Ok(())
 }
 
-/// Moves the map, with a change, to the other set, and makes that one live. Gives how many slots it
-/// takes there.
+/// Moves the map, with what it is to carry, to the other set, and makes that one live. Gives how many
+/// slots it takes there.
 fn move_map<F: Flash, C: LiveCursor>(
     flash: &mut F,
     layout: &Layout,
-    change: Change,
+    puts: &[Put],
+    forgets: bool,
     cursor: &mut C,
 ) -> Result<usize, Cut>
     requires layout { IsLayout (F.device flash.old) layout.now }
     requires first { C.behind cursor.old ≡ 0 }
     requires over { C.goes_over cursor.old (slots_of (set_of layout.now.side (F.device flash.old))) }
-    requires all_used { layout.now.fill ≡ slot_count (F.device flash.old).size }
     requires generation { IsGeneration (layout.now.generation + 1) }
-    requires fits { live_in (map_after (meant change) (map_in layout.now.side (F.device flash.old)))
-        ≤ slot_count (F.device flash.old).size }
+    requires apart { AreApart (carried puts.now forgets) }
+    requires fits { live_in (changed_by (carried puts.now forgets)
+        (map_in layout.now.side (F.device flash.old))) ≤ slot_count (F.device flash.old).size }
     ensures moves { MovesMap result (λ count. count) (F.device flash.old) (F.device flash.new)
-        layout.now (meant change) MovesMapPartly }
-    ensures each_once { IfOk result (λ count. count
-        ≡ live_in (map_after (meant change) (map_in layout.now.side (F.device flash.old)))) }
+        layout.now (carried puts.now forgets) MovesMapPartly }
+    ensures each_once { IfOk result (λ count. count ≡ live_in
+        (changed_by (carried puts.now forgets) (map_in layout.now.side (F.device flash.old)))) }
     ensures new_pages { OnOk result
         (IsCommittedWith (F.device flash.new) (other_of layout.now.side)
         (layout.now.generation + 1)
-        (moved_words (meant change) (map_in layout.now.side (F.device flash.old)))) }
+        (moved_words (carried puts.now forgets) (map_in layout.now.side (F.device flash.old)))) }
     ensures live_pages { OnOk result
         (IsDrawn layout.now.side (F.device flash.new)
         (picture_of layout.now.side (F.device flash.old))) }
@@ -98,7 +102,7 @@ fn move_map<F: Flash, C: LiveCursor>(
 {
     clear(flash, layout)?;
     open_set(flash, layout)?;
-    let count = fill_set(flash, layout, change, cursor)?;
+    let count = fill_set(flash, layout, puts, forgets, cursor)?;
     commit(flash, layout)?;
     Ok(count)
 }

@@ -1,17 +1,21 @@
 //! The store without an index: it knows where the live set is and how far it is used, and reads the rest.
 ghost use Rattle.std.specs.Bool.{MatchBool};
-ghost use Rattle.std.specs.Prelude.{◌≡◌, ◌≢◌, ◌<◌};
+ghost use Rattle.std.specs.Prelude.{◌≡◌, ◌≢◌, ◌<◌, ◌≤◌, [], ◌∷◌, length};
 ghost use Rattle.ee_flash.specs.Device.{IsOn};
 ghost use Rattle.ee_pages.specs.Layout.{IsLayout};
-ghost use Rattle.ee_core.specs.Calls.{Writes};
-ghost use Rattle.ee_core.specs.Changes.{IsFull, IsSpent};
+ghost use Rattle.ee_core.specs.Calls.{Writes, WritesAll};
+ghost use Rattle.ee_core.specs.Changes.{IsFull, IsSpent, greatest_generation};
 ghost use Rattle.ee_core.specs.Finished.{IsStore};
+ghost use Rattle.ee_pages.specs.Meaning.{changed_by, live_in};
+ghost use Rattle.ee_core.specs.Puts.{AreApart, puts_of};
 ghost use Rattle.ee_core.specs.State.{capacity, state_of, torn_slots_of};
 
-use crate::change::Change;
-use crate::changing::make_change;
+use crate::change::{Change, Put};
+use crate::changing::{make_change, move_changes};
 use crate::cleaning::{clean, count_pending};
-use crate::variables::{ForgetFault, Off, Variables, WriteFault, Written};
+use crate::copying::Cursor;
+use crate::puts::{first_twice, live_with};
+use crate::variables::{ForgetFault, Off, Variables, WriteAllFault, WriteFault, Written};
 use ee_codec::Address;
 use ee_flash::{Cut, Flash};
 use ee_pages::{Layout, LiveBatch, latest, live_count, next_batch, next_live, torn_slots};
@@ -81,6 +85,82 @@ impl<F: Flash + Drop> Store<F> {
         torn_slots(&self.flash, &self.layout)
     }
 
+    /// Writes these values at once: after this call, and after a cut in it too, the map has all of them
+    /// or is as it was. A list of one is written as by `write`; for more the live set moves to the other
+    /// set, whether a slot is free or not.
+    ///
+    /// Source: ours.
+    ///
+    /// # Errors
+    ///
+    /// The first `WriteAllFault` that applies.
+    pub fn write_all(&mut self, changes: &[Put]) -> Result<Written, WriteAllFault>
+        ensures writes { WritesAll self.old changes.now result self.new }
+        // It keeps no index, and never runs out of memory.
+        ensures no_memory { result ≢ Err WriteAllFault.Memory }
+    {
+        if !self.flash.is_on() {
+            return Err(WriteAllFault::Off);
+        }
+        if changes.is_empty() {
+            return Ok(Written::Appended);
+        }
+        if changes.len() == 1 {
+            return self.write_one(changes[0]);
+        }
+        self.write_several(changes)
+    }
+
+    /// Writes the one value of a list.
+    fn write_one(&mut self, put: Put) -> Result<Written, WriteAllFault>
+        ensures writes { WritesAll self.old (put ∷ []) result self.new }
+        ensures no_memory { result ≢ Err WriteAllFault.Memory }
+    {
+        match self.write(put.address, put.value) {
+            Ok(written) => Ok(written),
+            Err(WriteFault::Off) => Err(WriteAllFault::Off),
+            Err(WriteFault::Full) => Err(WriteAllFault::Full),
+            Err(WriteFault::Spent) => Err(WriteAllFault::Spent),
+            Err(WriteFault::Cut) => Err(WriteAllFault::Cut),
+            Err(WriteFault::Memory) => Err(WriteAllFault::Memory),
+        }
+    }
+
+    /// Writes two values or more, with a transfer.
+    fn write_several(&mut self, puts: &[Put]) -> Result<Written, WriteAllFault>
+        requires on { IsOn self.old }
+        requires several { 1 < length puts.now }
+        ensures writes { WritesAll self.old puts.now result self.new }
+        ensures no_memory { result ≢ Err WriteAllFault.Memory }
+    {
+        if let Some(place) = first_twice(puts) {
+            return Err(WriteAllFault::Twice(place));
+        }
+        if self.is_full_for_all(puts) {
+            return Err(WriteAllFault::Full);
+        }
+        if self.is_last() {
+            return Err(WriteAllFault::Spent);
+        }
+        let mut cursor = Cursor::new(&self.flash, &self.layout);
+        match move_changes(&mut self.flash, &mut self.layout, puts, false, &mut cursor) {
+            Ok(()) => Ok(Written::Moved),
+            Err(Cut) => Err(WriteAllFault::Cut),
+        }
+    }
+
+    /// Whether more addresses would have a value than there are slots, with these values, each of which
+    /// is of an address of its own.
+    fn is_full_for_all(&self, puts: &[Put]) -> bool
+        requires on { IsOn self.now }
+        requires apart { AreApart (puts_of puts.now) }
+        ensures { let live = live_in (changed_by (puts_of puts.now) (state_of self.now).map) in
+            MatchBool result (capacity self.now < live) (live ≤ capacity self.now) }
+    {
+        let slots = self.flash.shape().slots();
+        puts.len() > slots || live_with(&self.flash, &self.layout, puts) > slots
+    }
+
     /// Whether a write or forgetting must be refused since no generation is left for the transfer
     /// that it needs.
     fn is_spent(&self) -> bool
@@ -90,6 +170,15 @@ impl<F: Flash + Drop> Store<F> {
     {
         self.layout.fill == self.flash.shape().slots()
             && self.layout.generation == GREATEST_GENERATION
+    }
+
+    /// Whether no generation is left for a transfer.
+    fn is_last(&self) -> bool
+        requires { IsOn self.now }
+        ensures { MatchBool result ((state_of self.now).generation ≡ greatest_generation)
+            (¬ ((state_of self.now).generation ≡ greatest_generation)) }
+    {
+        self.layout.generation == GREATEST_GENERATION
     }
 
     /// Whether the address has no value and there is no slot for one more. Live addresses are counted

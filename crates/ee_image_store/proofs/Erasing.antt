@@ -17,7 +17,7 @@ as_before old new same = by_wear old new (ap state_of same) (no_wear old new (ap
 pub by_append : (old : Device) (change : Change) (new : Device) → Appends old change new → ErasesRise 0 old new
 by_append old change new appends = search (rules, no_wear)
 
-pub by_move : (old : Device) (change : Change) (new : Device) → Moves old change new → ErasesRise old.size.pages old new
+pub by_move : (old : Device) (change : Change) (new : Device) → Moves old (change ∷ []) new → ErasesRise old.size.pages old new
 by_move old change new moves =
     let pending : (state_of new).pending ≡ old.size.pages = ap (λ (s : State). s.pending) moves.state_is in
     record {

@@ -1,5 +1,5 @@
 -- The report machine: what a script's commands are answered, and what they leave of a store's state.
-use Rattle.std.specs.Prelude.{◌≡◌, ◌≢◌, ◌⊎◌, ◌<◌, ◌≤◌, ◌-◌, Bool, true, false, List, Some, None}
+use Rattle.std.specs.Prelude.{◌≡◌, ◌≢◌, ◌⊎◌, ◌<◌, ◌≤◌, ◌-◌, Bool, true, false, List, [], ◌∷◌, Some, None}
 use Rattle.std.specs.List.{list_any}
 use Rattle.ee_flash.specs.Size.{Size, slot_count}
 use Rattle.ee_pages.specs.Meaning.{Change, Put}
@@ -20,16 +20,16 @@ abbrev pub MachineStep : Size → State → Command → Answer → State → Typ
 MachineStep size old (Write address value) Full new = IsFull (slot_count size) old address × (new ≡ old)
 MachineStep size old (Write address value) Spent new = ¬ IsFull (slot_count size) old address × IsSpent (slot_count size) old × (new ≡ old)
 MachineStep size old (Write address value) Appended new =
-    IsAccepted (slot_count size) old (Put address value) × (old.fill < slot_count size) × (new ≡ appended_state (Put address value) old)
+    IsAccepted (slot_count size) old (Put address value ∷ []) × (old.fill < slot_count size) × (new ≡ appended_state (Put address value) old)
 MachineStep size old (Write address value) Moved new =
-    IsAccepted (slot_count size) old (Put address value) × (old.fill ≡ slot_count size) × (new ≡ moved_state size.pages (Put address value) old)
+    IsAccepted (slot_count size) old (Put address value ∷ []) × (old.fill ≡ slot_count size) × (new ≡ moved_state size.pages (Put address value ∷ []) old)
 -- So it is with a forgetting, of an address that has a value.
 MachineStep size old (Forget address) Absent new = (old.map address ≡ None) × (new ≡ old)
 MachineStep size old (Forget address) Spent new = (old.map address ≢ None) × IsSpent (slot_count size) old × (new ≡ old)
 MachineStep size old (Forget address) Appended new =
-    IsAccepted (slot_count size) old (meaning.Forget address) × (old.fill < slot_count size) × (new ≡ appended_state (meaning.Forget address) old)
+    IsAccepted (slot_count size) old (meaning.Forget address ∷ []) × (old.fill < slot_count size) × (new ≡ appended_state (meaning.Forget address) old)
 MachineStep size old (Forget address) Moved new =
-    IsAccepted (slot_count size) old (meaning.Forget address) × (old.fill ≡ slot_count size) × (new ≡ moved_state size.pages (meaning.Forget address) old)
+    IsAccepted (slot_count size) old (meaning.Forget address ∷ []) × (old.fill ≡ slot_count size) × (new ≡ moved_state size.pages (meaning.Forget address ∷ []) old)
 -- A read gives what the map has.
 MachineStep size old (Read address) (Value value) new = (old.map address ≡ Some value) × (new ≡ old)
 MachineStep size old (Read address) NoValue new = (old.map address ≡ None) × (new ≡ old)
@@ -57,10 +57,10 @@ desk_with state = record { state = state; serving = true; armed = false }
 -- A change that is not refused is cut: it is made or not, a slot may be torn, and of a move no more may be done than some
 -- erases.
 pub record CutsChange (size : Size) (old : State) (change : Change) (new : State) : Type 0 where
-  pub accepted : IsAccepted (slot_count size) old change
+  pub accepted : IsAccepted (slot_count size) old (change ∷ [])
   pub within : old.fill ≤ slot_count size
   pub free : old.fill < slot_count size → IsCutAppend old change new
-  pub all_used : old.fill ≡ slot_count size → IsCutMove size.pages old change new
+  pub all_used : old.fill ≡ slot_count size → IsCutMove size.pages size.pages old (change ∷ []) new
 
 -- power is cut in a call of an open store; a read makes no step, so none is cut
 abbrev pub CutStep : Size → State → Command → State → Type 0

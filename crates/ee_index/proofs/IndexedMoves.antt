@@ -21,8 +21,7 @@ use Rattle.ee_pages.specs.Pending.{address_of}
 use Rattle.ee_pages.specs.Sets.{place_of_slot, set_of, slots_of}
 use Rattle.ee_pages.specs.declared.side.Side.{Side}
 use Rattle.ee_pages.proofs.Public.{slots_before_slot}
-use Rattle.ee_core.specs.Parts.{put_words}
-use Rattle.ee_core.specs.Picture.{IsDrawn, elements_of, elements_to, filled_set, moved_words}
+use Rattle.ee_core.specs.Picture.{IsDrawn, elements_of, elements_to, filled_set, moved_words, put_words}
 use Rattle.ee_core.proofs.Public.{forget-at, forget-other, next_element, no_words, none_between, elements_front}
 use Rattle.ee_index.specs.Index.{HasPut, IsIndex, behind_first, is_first, numbered_slots, put_of, said_at, says_value, shown_index, slot_for, without_forgotten}
 use Rattle.ee_index.proofs.IndexReaders.{absent_to, none_unless, put_elsewhere, put_there}
@@ -224,13 +223,13 @@ module _ (change : Change) (hidden : Option ℕ) (before : List Word) (slots : L
       kept (Put named value) apart some = grind (arith, common_steps, apart, some)
       kept (Forget named) apart some = grind (arith, common_steps, apart, some)
 
-  moved_to : (words_there : (place : ℕ) → place < length (moved_words change (meaning before)) → get_or slots place Erased ≡ get_or (moved_words change (meaning before)) place Erased)
-      → IsMovedTo (put_of change) others slots (put_words change)
+  moved_to : (words_there : (place : ℕ) → place < length (moved_words (change ∷ []) (meaning before)) → get_or slots place Erased ≡ get_or (moved_words (change ∷ []) (meaning before)) place Erased)
+      → IsMovedTo (put_of change) others slots (put_words (change ∷ []))
   moved_to words_there = by_change change proper now words_there
     where
       by_change : (change : Change) → IsAddress (address_of change) → ((address : ℕ) → meaning slots address ≡ map_after change (meaning before) address)
-          → ((place : ℕ) → place < length (moved_words change (meaning before)) → get_or slots place Erased ≡ get_or (moved_words change (meaning before)) place Erased)
-          → IsMovedTo (put_of change) (map_after (Forget (address_of change)) (meaning before)) slots (put_words change)
+          → ((place : ℕ) → place < length (moved_words (change ∷ []) (meaning before)) → get_or slots place Erased ≡ get_or (moved_words (change ∷ []) (meaning before)) place Erased)
+          → IsMovedTo (put_of change) (map_after (Forget (address_of change)) (meaning before)) slots (put_words (change ∷ []))
       by_change (Put named value) proper now there = record {
         as_many = refl;
         copied = λ place h. there (1 + place) (omega (arith, h)) ∙ get_or-append-add (Held (element named value) ∷ []) (elements_of (map_after (Forget named) (meaning before))) place Erased;
@@ -255,12 +254,12 @@ module _ (change : Change) (hidden : Option ℕ) (before : List Word) (slots : L
         proper = proper_now;
       }
 
-  pub moved_index : IsStrictlySortedBy nat_cmp (keys_of entries) → ((place : ℕ) → place < length (moved_words change (meaning before)) → get_or slots place Erased ≡ get_or (moved_words change (meaning before)) place Erased)
+  pub moved_index : IsStrictlySortedBy nat_cmp (keys_of entries) → ((place : ℕ) → place < length (moved_words (change ∷ []) (meaning before)) → get_or slots place Erased ≡ get_or (moved_words (change ∷ []) (meaning before)) place Erased)
       → IsIndex slots (slot_for (numbered_slots (put_of change) (behind_first (put_of change)) entries))
   moved_index sorted words_there address =
       let moved = moved_to words_there in
-      let counted : behind_first (put_of change) ≡ length (put_words change) + length (elements_to others 0) = omega (arith, moved.as_many, ap length (no_words (meaning before) (address_of change))) in
-      let all = numbered_behind (put_of change) others slots (put_words change) moved 0 (behind_first (put_of change)) entries counted record {
+      let counted : behind_first (put_of change) ≡ length (put_words (change ∷ [])) + length (elements_to others 0) = omega (arith, moved.as_many, ap length (no_words (meaning before) (change ∷ []))) in
+      let all = numbered_behind (put_of change) others slots (put_words (change ∷ [])) moved 0 (behind_first (put_of change)) entries counted record {
         sorted = sorted;
         behind = λ address some. (proper_now address (sym (same_live address) ∙ some)).0;
         same = λ address high. same_live address;

@@ -1,5 +1,5 @@
 //! Changes with an index: room in it is made before the first step, and it follows without memory.
-ghost use Rattle.std.specs.Prelude.{◌≡◌, ◌<◌, ◌⊎◌, ℕ, IfOk, OnErr, OnOk, None, Some, is_some, true};
+ghost use Rattle.std.specs.Prelude.{◌≡◌, ◌<◌, ◌⊎◌, ℕ, [], ◌∷◌, IfOk, OnErr, OnOk, None, Some, is_some, true};
 ghost use Rattle.ee_codec.specs.Words.{IsAddress};
 ghost use Rattle.ee_flash.specs.Device.{IsOn};
 ghost use Rattle.ee_flash.specs.Size.{slot_count};
@@ -67,7 +67,7 @@ pub(crate) fn append_indexed<F: Flash, A: Allocator>(
 ) -> Result<(), Cut>
     requires layout { IsLayout (F.device flash.old) layout.old }
     requires marked { IsMarked (F.device flash.old) layout.old.side }
-    requires proceeds { Proceeds (F.device flash.old) (meant change) }
+    requires proceeds { Proceeds (F.device flash.old) (meant change ∷ []) }
     requires forgets { ForgetsHeld (state_of (F.device flash.old)).map change }
     requires free { layout.old.fill < slot_count (F.device flash.old).size }
     requires ready { let slots = slots_of (set_of layout.old.side (F.device flash.old)) in
@@ -98,14 +98,14 @@ pub(crate) fn move_indexed<F: Flash, A: Allocator>(
 ) -> Result<(), Cut>
     requires layout { IsLayout (F.device flash.old) layout.old }
     requires address { IsAddress (address_of (meant change)) }
-    requires proceeds { Proceeds (F.device flash.old) (meant change) }
+    requires proceeds { Proceeds (F.device flash.old) (meant change ∷ []) }
     requires all_used { layout.old.fill ≡ slot_count (F.device flash.old).size }
     requires index { let slots = slots_of (set_of layout.old.side (F.device flash.old)) in
         IsIndex slots (shown_index hidden (slot_for index.old.entries)) }
     requires there { HasPut (meant change) (slot_for index.old.entries) }
     requires hidden { (hidden ≡ None) ⊎ (hidden ≡ Some (address_of (meant change))) }
     ensures moved { OnOk result
-        (Moves (F.device flash.old) (meant change) (F.device flash.new)) }
+        (Moves (F.device flash.old) (meant change ∷ []) (F.device flash.new)) }
     ensures cut { OnErr result
         (IsCutChange (F.device flash.old) (meant change) (F.device flash.new)) }
     ensures store { IsStore (F.device flash.new) }

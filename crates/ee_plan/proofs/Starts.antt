@@ -72,7 +72,7 @@ start_appends slots old start change meant live is = search rules
 start_moves : (slots pages : ℕ) (old : State) (start : Situation) (change : Change) (meant : meaning.Change)
     → AreLive (meaning.map_after meant old.map) (live_after_one start.live change)
     → IsStartOf slots old start
-    → IsStartOf slots (moved_state pages meant old) (after_move start (Carry change))
+    → IsStartOf slots (moved_state pages (meant ∷ []) old) (after_move start (Carry change))
 start_moves slots pages old start change meant live is = search (rules, live_count_is)
 
 -- a forgetting leaves no more live addresses than before
@@ -90,7 +90,7 @@ module _ (size : Size) where
       → IsStartOf (slot_count size) mid (after_move start (Append change))
   appends old mid start change meant is live from = search (rules, start_appends)
 
-  pub moves_on : (old mid : State) (start : Situation) (change : Change) (meant : meaning.Change) → mid ≡ moved_state size.pages meant old
+  pub moves_on : (old mid : State) (start : Situation) (change : Change) (meant : meaning.Change) → mid ≡ moved_state size.pages (meant ∷ []) old
       → AreLive (meaning.map_after meant old.map) (live_after_one start.live change) → IsStartOf (slot_count size) old start
       → IsStartOf (slot_count size) mid (after_move start (Carry change))
   moves_on old mid start change meant is live from =

@@ -57,7 +57,7 @@ of_append change old new (inl same) = inl (same_map old new same)
 of_append change old new (inr (inl torn)) = inl (ap (λ (state : State). state.map) torn)
 of_append change old new (inr (inr made)) = inr (ap (λ (state : State). state.map) made)
 
-of_move : (change : Change) (pages : ℕ) (old new : State) → IsCutMove pages old change new → KeepsChange change old.map Cut new.map
+of_move : (change : Change) (pages : ℕ) (old new : State) → IsCutMove pages pages old (change ∷ []) new → KeepsChange change old.map Cut new.map
 of_move change pages old new (inl same) = inl (ap (λ (state : State). state.map) same.2)
 of_move change pages old new (inr made) = inr (ap (λ (state : State). state.map) made)
 

@@ -91,7 +91,7 @@ module _ (size : Size) where
 
   -- a move and what follows
   carry_on : (commands : List Command) (answers : List Answer) (old mid new : State) (start : Situation) (command : Command) (change : Change) (meant : meaning.Change)
-      → AsksFor command change → old.fill ≡ slot_count size → mid ≡ moved_state size.pages meant old → length (live_after_one start.live change) ≤ start.slots
+      → AsksFor command change → old.fill ≡ slot_count size → mid ≡ moved_state size.pages (meant ∷ []) old → length (live_after_one start.live change) ≤ start.slots
       → AreLive (meaning.map_after meant old.map) (live_after_one start.live change) → IsStartOf (slot_count size) old start
       → (IsStartOf (slot_count size) mid (after_move start (Carry change)) → IsProper (after_move start (Carry change))
       → IsLateRun (slot_count size) (after_move start (Carry change)) commands answers new)

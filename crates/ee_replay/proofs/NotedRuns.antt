@@ -84,7 +84,7 @@ module _ (size : Size) (start : Situation) (trace : List Change) (n : ℕ) (belo
         counted = ap (λ m. m + 1) so_far.counted;
       }
 
-  note_move : length (live_after_one so_far.now.live change) ≤ so_far.now.slots → old.fill ≡ slot_count size → new ≡ moved_state size.pages meant old
+  note_move : length (live_after_one so_far.now.live change) ≤ so_far.now.slots → old.fill ≡ slot_count size → new ≡ moved_state size.pages (meant ∷ []) old
       → AreNoted (slot_count size) start trace (n + 1) new (notes_after Moved new.fill notes)
   note_move fits used is =
       let now = so_far.now in
@@ -146,15 +146,15 @@ module _ (size : Size) (start : Situation) (trace : List Change) where
 
   -- a change that was moved with the map
   moved_noted : (before : List Change) (old mid : Held) (change : Change) (meant : meaning.Change) (rest : List Change) → trace ≡ before ++ change ∷ rest
-      → old.device.size ≡ size → Moves old.device meant mid.device → mid.notes ≡ notes_after Moved (state_of mid.device).fill old.notes
+      → old.device.size ≡ size → Moves old.device (meant ∷ []) mid.device → mid.notes ≡ notes_after Moved (state_of mid.device).fill old.notes
       → (so_far : AreNoted (slot_count size) start trace (length before) (state_of old.device) old.notes)
       → AreLive (meaning.map_after meant (state_of old.device).map) (live_after_one so_far.now.live change)
       → length (live_after_one so_far.now.live change) ≤ so_far.now.slots
       → AreNoted (slot_count size) start trace (length (before ++ change ∷ [])) (state_of mid.device) mid.notes
   moved_noted before old mid change meant rest parts sized call notes so_far live fits =
       let at = there before change rest parts in
-      let used = subst (λ (s : Size). (state_of old.device).fill ≡ slot_count s) sized call.all_used in
-      let state = subst (λ (s : Size). state_of mid.device ≡ moved_state s.pages meant (state_of old.device)) sized call.state_is in
+      let used = subst (λ (s : Size). (state_of old.device).fill ≡ slot_count s) sized call.needed in
+      let state = subst (λ (s : Size). state_of mid.device ≡ moved_state s.pages (meant ∷ []) (state_of old.device)) sized call.state_is in
       let next = note_move size start trace (length before) at.0 (state_of old.device) (state_of mid.device) change meant at.1 old.notes so_far live fits used state in
       let here = subst (λ (kept : Notes). AreNoted (slot_count size) start trace (length before + 1) (state_of mid.device) kept) (sym notes) next in
       subst (λ m. AreNoted (slot_count size) start trace m (state_of mid.device) mid.notes) (sym (one_longer before change)) here
@@ -174,7 +174,7 @@ module _ (size : Size) (start : Situation) (trace : List Change) where
   notes_of_run (Write address value ∷ commands) (Moved ∷ answers) old new before are parts sized run so_far =
       let rest = trace_of (accepted_commands commands answers) in
       let live = live_after_put (state_of old.device).map so_far.now.live address value are.0.0 so_far.is.are_live in
-      let place = subst (λ (s : Size). IsAccepted (slot_count s) (state_of old.device) (Put address value)) sized run.1.serves.proceeds.accepted in
+      let place = subst (λ (s : Size). IsAccepted (slot_count s) (state_of old.device) (Put address value ∷ [])) sized run.1.serves.proceeds.accepted in
       let fits = write_fits (slot_count size) (state_of old.device) so_far.now address value are.0.0 so_far.is
       (proper_now (slot_count size) start trace (length before) (state_of old.device) old.notes so_far) place.has_place in
       notes_of_run commands answers run.0 new (before ++ changes.Write address ∷ []) are.1 (passed before (changes.Write address) rest parts) (run.1.serves.goes_on.same_size ∙ sized) run.2
@@ -334,7 +334,7 @@ cut_append_counted old new change notes sized (inr (inl torn)) counted = one_slo
 cut_append_counted old new change notes sized (inr (inr made)) counted = one_slot_more old new notes sized (ap (λ (s : State). s.generation) made) (ap (λ (s : State). s.fill) made) counted
 
 cut_move_counted : (old new : Device) (change : meaning.Change) (notes : Notes) → new.size ≡ old.size → (state_of old).fill ≡ slot_count old.size
-    → IsAccepted (slot_count old.size) (state_of old) change → IsCutMove old.size.pages (state_of old) change (state_of new) → IsCounted old notes → IsCounted new notes
+    → IsAccepted (slot_count old.size) (state_of old) (change ∷ []) → IsCutMove old.size.pages old.size.pages (state_of old) (change ∷ []) (state_of new) → IsCounted old notes → IsCounted new notes
 cut_move_counted old new change notes sized used accepted (inl kept) counted = search rules
 cut_move_counted old new change notes sized used accepted (inr made) counted = search (rules, count_turn)
 

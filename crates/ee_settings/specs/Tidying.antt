@@ -68,7 +68,7 @@ kept_map settings map address = if has_address settings address then map address
 -- what forgetting an address leaves: appended, or moved where no slot is free
 abbrev pub after_forgetting : Size → ℕ → State → State
 after_forgetting size address state =
-    if state.fill == slot_count size then moved_state size.pages (Forget address) state else appended_state (Forget address) state
+    if state.fill == slot_count size then moved_state size.pages (Forget address ∷ []) state else appended_state (Forget address) state
 
 -- and what forgetting these leaves, one after another
 abbrev pub after_forgettings : Size → List ℕ → State → State

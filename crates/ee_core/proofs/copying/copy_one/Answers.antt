@@ -21,6 +21,3 @@ returns-clause-wear g c = search rules fits 100 parts 0
 
 pub returns-clause-power : goal.returns-clause-power
 returns-clause-power g c = search rules fits 100 parts 0
-
-pub returns-then-eq-clause-fills : goal.returns-then-eq-clause-fills
-returns-then-eq-clause-fills g c = search rules fits 100 parts 0

@@ -1,4 +1,5 @@
-use Rattle.std.proofs.Common.{◌<◌, None, ap, subst, arith}
+use Rattle.std.proofs.Common.{◌≡◌, ◌<◌, inl, inr, false, None, ap, subst, sym, ◌∙◌, arith}
+use Rattle.std.proofs.lemmas.Bool.{cases_Bool}
 use Rattle.std.proofs.lemmas.Result.{err_from_is_err_and}
 use Rattle.ee_flash.specs.Size.{slot_count}
 use Rattle.ee_flash.proofs.Public.{calls_compose}
@@ -6,13 +7,15 @@ use Rattle.ee_pages.specs.Meaning.{IsNextLive, meaning}
 use Rattle.ee_core.proofs.Fillings.{all_filled, next_filled, next_partly, none_filled, room}
 use Rattle.ee_core.proofs.copying.copy_others.Goals as goal
 use Rattle.ee_core.proofs.AfterCalls.{goes_on_same}
+use Rattle.ee_core.proofs.Listed.{names-puts}
+use Rattle.ee_core.specs.Puts.{puts_of}
 
 pub live-init : goal.live-init
 live-init g c =
     let device = g.F.Flash.device c.args.flash.now in
     rw c.requires.first (record {
       at = c.requires.at;
-      filled = none_filled device c.args.layout.now c.args.place c.args.except c.requires.at c.requires.only;
+      filled = none_filled device c.args.layout.now c.args.place (puts_of c.args.puts.now) c.requires.at c.requires.only;
       below = omega arith;
       over = c.requires.over;
       goes = goes_on_same device;
@@ -23,7 +26,8 @@ copy_one-requires-clause-free g c apart =
     let old = g.F.Flash.device c.args.flash.now in
     let filled = c.live.invariant.filled in
     let next = rw filled.keeps.same_slots at c.in-Some.ensures.next in
-    let free : c.live.place.slot < slot_count old.size = room old c.args.layout.now c.args.place c.args.except (g.C.LiveCursor.behind c.live.cursor) _ _ (g.F.Flash.device c.live.flash) (g.F.Flash.device c.live.flash) c.live.place.slot next filled apart c.in-Some.ensures.proper.1 (slot_count old.size) c.requires.fits in
+    let carries_is = c.has_put-carries.ensures.found ∙ sym (names-puts c.args.puts.now _) in
+    let free : c.live.place.slot < slot_count old.size = room old c.args.layout.now c.args.place (puts_of c.args.puts.now) (g.C.LiveCursor.behind c.live.cursor) _ _ (g.F.Flash.device c.live.flash) (g.F.Flash.device c.live.flash) c.live.place.slot next filled (sym carries_is ∙ apart) c.in-Some.ensures.proper.1 (slot_count old.size) c.requires.fits in
     omega (arith, ap slot_count filled.keeps.same_size)
 
 pub live-preserved : goal.live-preserved
@@ -31,11 +35,12 @@ live-preserved g c =
     let old = g.F.Flash.device c.args.flash.now in
     let filled = c.live.invariant.filled in
     let next = rw filled.keeps.same_slots at c.in-Some.ensures.next in
+    let carries_is = c.has_put-carries.ensures.found ∙ sym (names-puts c.args.puts.now _) in
     let one = c.in_ok-copy_one.ensures in
     rw c.in-Some.ensures.moved (record {
       at = one.at;
-      filled = next_filled old c.args.layout.now c.args.place c.args.except (g.C.LiveCursor.behind c.live.cursor) _ _ (g.F.Flash.device c.live.flash) (g.F.Flash.device c.copy_one.new.flash) c.live.place.slot next filled c.copy_one.new.place.slot
-          (λ same. (let e = (one.passed same).1 in cc, (one.passed same).2)) one.fills;
+      filled = next_filled old c.args.layout.now c.args.place (puts_of c.args.puts.now) (g.C.LiveCursor.behind c.live.cursor) _ _ (g.F.Flash.device c.live.flash) (g.F.Flash.device c.copy_one.new.flash) c.live.place.slot next filled c.copy_one.new.place.slot
+          (λ same. (let e = (one.passed (carries_is ∙ same)).1 in cc, (one.passed (carries_is ∙ same)).2)) (λ apart. one.fills (carries_is ∙ apart));
       below = c.in-Some.ensures.proper.1;
       over = rw filled.keeps.same_slots at c.in-Some.ensures.over;
       goes = (calls_compose _ _ _ c.live.invariant.goes).0 one.power.ok;
@@ -45,13 +50,17 @@ pub returns-clause-fills : goal.returns-clause-fills
 returns-clause-fills g c =
     let filled = c.live.invariant.filled in
     let none = subst (λ slots. IsNextLive (meaning slots) (g.C.LiveCursor.behind c.live.cursor) None) filled.keeps.same_slots c.in_default.ensures.next in
-    all_filled (g.F.Flash.device c.args.flash.now) c.args.layout.now c.args.place c.args.except (g.C.LiveCursor.behind c.live.cursor) (g.F.Flash.device c.live.flash) c.live.place.slot filled c.live.invariant.below none
+    all_filled (g.F.Flash.device c.args.flash.now) c.args.layout.now c.args.place (puts_of c.args.puts.now) (g.C.LiveCursor.behind c.live.cursor) (g.F.Flash.device c.live.flash) c.live.place.slot filled c.live.invariant.below none
 
 pub returns-in_err-copy_one-clause-fills : goal.returns-in_err-copy_one-clause-fills
 returns-in_err-copy_one-clause-fills g c =
     let failed = err_from_is_err_and c.from_residual.result c.from_residual.ensures.1 in
     let filled = c.live.invariant.filled in
     let next = rw filled.keeps.same_slots at c.in-Some.ensures.next in
+    let carries_is = c.has_put-carries.ensures.found ∙ sym (names-puts c.args.puts.now _) in
     let one = c.in_err-copy_one.ensures in
-    rw failed.1 (next_partly (g.F.Flash.device c.args.flash.now) c.args.layout.now c.args.place c.args.except (g.C.LiveCursor.behind c.live.cursor) _ _ (g.F.Flash.device c.live.flash) (g.F.Flash.device c.copy_one.new.flash) c.live.place.slot next filled (λ same. absurd (cc (one.passed same).0)) c.in-Some.ensures.proper.1
-    (one.fills (λ same. absurd (cc (one.passed same).0))))
+    let apart : c.has_put-carries.result ≡ false = elim (cases_Bool c.has_put-carries.result) [
+      | inl same ↦ absurd (cc (one.passed same).0)
+      | inr other ↦ other
+    ] in
+    rw failed.1 (next_partly (g.F.Flash.device c.args.flash.now) c.args.layout.now c.args.place (puts_of c.args.puts.now) (g.C.LiveCursor.behind c.live.cursor) _ _ (g.F.Flash.device c.live.flash) (g.F.Flash.device c.copy_one.new.flash) c.live.place.slot next filled (sym carries_is ∙ apart) c.in-Some.ensures.proper.1 (one.fills apart))

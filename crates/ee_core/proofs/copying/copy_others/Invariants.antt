@@ -1,6 +1,7 @@
 use Rattle.std.proofs.Common.{◌<◌, ◌-◌}
 use Rattle.ee_flash.specs.Power.{GoesOn}
 use Rattle.ee_pages.specs.Sets.{set_of, slots_of}
+use Rattle.ee_core.specs.Puts.{puts_of}
 use Rattle.ee_core.specs.Transfers.{IsOpenAt}
 use Rattle.ee_core.proofs.Fillings.{FilledTo}
 use Rattle.ee_core.proofs.copying.copy_others.Given as goal
@@ -11,7 +12,7 @@ invariant-live g l =
     let now = g.F.Flash.device l.flash in
     record {
       at : IsOpenAt now l.layout l.place;
-      filled : FilledTo old l.layout l.fn.place l.except (g.C.LiveCursor.behind l.cursor) now l.place.slot;
+      filled : FilledTo old l.layout l.fn.place (puts_of l.puts) (g.C.LiveCursor.behind l.cursor) now l.place.slot;
       below : g.C.LiveCursor.behind l.cursor < 65535;
       over : g.C.LiveCursor.goes_over l.cursor (slots_of (set_of l.layout.side old));
       goes : GoesOn old now;

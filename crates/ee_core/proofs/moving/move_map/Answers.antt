@@ -1,12 +1,13 @@
-use Rattle.std.proofs.Common.{◌≡◌, ◌+◌, [], ap, arith, inl, inr, length, refl, subst, sym, ◌∙◌}
+use Rattle.std.proofs.Common.{◌≡◌, ◌+◌, [], ap, arith, inl, inr, length, refl, subst, ◌∙◌}
 use Rattle.std.proofs.Math.Path.{fun_ext}
 use Rattle.std.proofs.lemmas.Result.{err_from_is_err_and}
 use Rattle.ee_pages.specs.Meaning.{Map}
-use Rattle.ee_pages.specs.Sets.{other as other_of}
+use Rattle.ee_pages.specs.Sets.{other as other_of, pending_of, set_of}
 use Rattle.ee_core.specs.Picture.{blank, filled_set, moved_words}
 use Rattle.ee_core.proofs.Drawings.{drawn_both, same_drawn}
-use Rattle.ee_core.proofs.MovedSets.{commits}
-use Rattle.ee_core.specs.Parts.{Holds, IsCommittedWith, map_in, meant}
+use Rattle.ee_core.proofs.MovedSets.{commits, same_set_drawn}
+use Rattle.ee_core.specs.Parts.{Holds, IsCommittedWith, map_in}
+use Rattle.ee_core.specs.Puts.{carried}
 use Rattle.ee_core.proofs.MovingFacts.{has_moved, keeps_both}
 use Rattle.ee_flash.specs.Size.{Size}
 use Rattle.ee_core.proofs.CutMoves.{filled_partly}
@@ -24,13 +25,18 @@ returns-clause-moves g c =
     let new = g.F.Flash.device c.commit.new.flash in
     let side = c.args.layout.now.side in
     let generation = c.args.layout.now.generation in
-    let change = meant c.args.change in
+    let changes = carried c.args.puts.now c.args.forgets in
     let fills = c.in_ok-count.ensures.fills in
     let keeps = keeps_both old cleared opened side generation c.in_ok-clear.ensures.keeps c.in_ok-open_set.ensures.keeps in
     let same : map_in side opened ≡ map_in side old = fun_ext keeps.same_map in
+    let drawn = drawn_both side old opened filling keeps.same_size fills.keeps.same_size
+    (drawn_both side old cleared opened c.in_ok-clear.ensures.keeps.same_size c.in_ok-open_set.ensures.keeps.same_size (same_drawn side old cleared c.in_ok-clear.ensures.keeps.same_size c.in_ok-clear.ensures.live_pages) c.open_set.ensures.live_pages)
+    fills.adds.live_pages in
+    let as_used : pending_of (set_of side filling) ≡ pending_of (set_of side old) =
+    ap pending_of (same_set_drawn side old filling c.requires.layout.live.formed fills.keeps.live.formed (fills.keeps.same_size ∙ keeps.same_size) drawn) in
     record {
-      moved = has_moved old opened filling new side generation c.in_ok-count.count change keeps fills.keeps (sym c.requires.layout.fill ∙ c.requires.all_used) fills.filling fills.map_is c.in_ok-count.ensures.each_once c.in_ok-commit.ensures.same_set c.in_ok-commit.ensures.committed;
-      as_many = omega (arith, fills.as_many, ap (λ (map : Map). length (moved_words change map)) same);
+      moved = has_moved old opened filling new side generation c.in_ok-count.count changes keeps fills.keeps as_used fills.filling fills.map_is c.in_ok-count.ensures.each_once c.in_ok-commit.ensures.same_set c.in_ok-commit.ensures.committed;
+      as_many = omega (arith, fills.as_many, ap (λ (map : Map). length (moved_words changes map)) same);
       wear = wears_still (not_blank_in (other_of side) old) old cleared new c.in_ok-clear.ensures.wear (c.commit.ensures.wear ∙ fills.wear ∙ c.open_set.ensures.wear);
     }
 
@@ -45,8 +51,8 @@ returns-clause-new_pages g c =
     let keeps = keeps_both old (g.F.Flash.device c.clear.new.flash) opened side c.args.layout.now.generation c.in_ok-clear.ensures.keeps c.in_ok-open_set.ensures.keeps in
     let same : map_in side opened ≡ map_in side old = fun_ext keeps.same_map in
     let holds = c.in_ok-count.ensures.fills.adds.new_pages [] refl c.in_ok-open_set.ensures.holds in
-    let held = commits (other_of side) filled new generation (moved_words (meant c.args.change) (map_in side opened)) c.in_ok-count.ensures.fills.keeps.live.formed c.in_ok-commit.ensures.committed.same_size c.in_ok-commit.ensures.sets holds in
-    subst (λ (map : Map). IsCommittedWith new (other_of side) generation (moved_words (meant c.args.change) map)) same held
+    let held = commits (other_of side) filled new generation (moved_words (carried c.args.puts.now c.args.forgets) (map_in side opened)) c.in_ok-count.ensures.fills.keeps.live.formed c.in_ok-commit.ensures.committed.same_size c.in_ok-commit.ensures.sets holds in
+    subst (λ (map : Map). IsCommittedWith new (other_of side) generation (moved_words (carried c.args.puts.now c.args.forgets) map)) same held
 
 pub returns-clause-live_pages : goal.returns-clause-live_pages
 returns-clause-live_pages g c =
@@ -80,7 +86,7 @@ returns-in_err-open_set-clause-moves g c =
     let side = c.args.layout.now.side in
     let generation = c.args.layout.now.generation + 1 in
     let pages = not_blank_in (other_of side) old in
-    let words = moved_words (meant c.args.change) (map_in side old) in
+    let words = moved_words (carried c.args.puts.now c.args.forgets) (map_in side old) in
     let clears = c.in_ok-clear.ensures in
     let cut = c.in_err-open_set.ensures in
     let keeps = keeps_both old cleared new side c.args.layout.now.generation clears.keeps cut.keeps in
@@ -104,14 +110,14 @@ returns-in_err-count-clause-moves g c =
     let side = c.args.layout.now.side in
     let generation = c.args.layout.now.generation + 1 in
     let pages = not_blank_in (other_of side) old in
-    let words = moved_words (meant c.args.change) (map_in side old) in
+    let words = moved_words (carried c.args.puts.now c.args.forgets) (map_in side old) in
     let clears = c.in_ok-clear.ensures in
     let opens = c.in_ok-open_set.ensures in
     let cut = c.in_err-count.ensures.fills in
     let before = keeps_both old cleared opened side c.args.layout.now.generation clears.keeps opens.keeps in
     let keeps = keeps_both old opened new side c.args.layout.now.generation before cut.keeps in
     let same : map_in side opened ≡ map_in side old = fun_ext before.same_map in
-    let adds = subst (λ (map : Map). AddsPartly opened new side generation 0 (moved_words (meant c.args.change) map)) same cut.begun in
+    let adds = subst (λ (map : Map). AddsPartly opened new side generation 0 (moved_words (carried c.args.puts.now c.args.forgets) map)) same cut.begun in
     let failed = err_from_is_err_and c.from_residual-in_err-count.result c.from_residual-in_err-count.ensures.1 in
     rw failed.1 (record {
       begun = front_all pages old new (wears_still pages old cleared new clears.wear (cut.wear ∙ opens.wear));
@@ -135,8 +141,8 @@ returns-in_err-commit-clause-moves g c =
     let side = c.args.layout.now.side in
     let generation = c.args.layout.now.generation in
     let pages = not_blank_in (other_of side) old in
-    let change = meant c.args.change in
-    let words = moved_words change (map_in side old) in
+    let changes = carried c.args.puts.now c.args.forgets in
+    let words = moved_words changes (map_in side old) in
     let clears = c.in_ok-clear.ensures in
     let opens = c.in_ok-open_set.ensures in
     let fills = c.in_ok-count.ensures.fills in
@@ -144,20 +150,22 @@ returns-in_err-commit-clause-moves g c =
     let before = keeps_both old cleared opened side generation clears.keeps opens.keeps in
     let filled = keeps_both old opened filling side generation before fills.keeps in
     let same : map_in side opened ≡ map_in side old = fun_ext before.same_map in
-    let holds = subst (λ (map : Map). Holds filling (other_of side) (generation + 1) (moved_words change map)) same (fills.adds.new_pages [] refl opens.holds) in
+    let drawn = drawn_both side old opened filling before.same_size fills.keeps.same_size
+    (drawn_both side old cleared opened clears.keeps.same_size opens.keeps.same_size (same_drawn side old cleared clears.keeps.same_size clears.live_pages) opens.live_pages)
+    fills.adds.live_pages in
+    let as_used : pending_of (set_of side filling) ≡ pending_of (set_of side old) =
+    ap pending_of (same_set_drawn side old filling c.requires.layout.live.formed fills.keeps.live.formed filled.same_size drawn) in
+    let holds = subst (λ (map : Map). Holds filling (other_of side) (generation + 1) (moved_words changes map)) same (fills.adds.new_pages [] refl opens.holds) in
     let failed = err_from_is_err_and c.from_residual-in_err-commit.result c.from_residual-in_err-commit.ensures.1 in
     rw failed.1 (record {
       begun = front_all pages old new (wears_still pages old cleared new clears.wear (cut.wear ∙ fills.wear ∙ opens.wear));
       words = inr (record {
         new_pages = subst (λ (size : Size). IsDrawnPartly (other_of side) new blank (filled_set size (generation + 1) words)) filled.same_size (cut.begun words holds);
-        live_pages = drawn_both side old filling new filled.same_size cut.same_size
-            (drawn_both side old opened filling before.same_size fills.keeps.same_size
-            (drawn_both side old cleared opened clears.keeps.same_size opens.keeps.same_size (same_drawn side old cleared clears.keeps.same_size clears.live_pages) opens.live_pages)
-            fills.adds.live_pages)
+        live_pages = drawn_both side old filling new filled.same_size cut.same_size drawn
             (same_drawn side filling new cut.same_size cut.same_set);
       });
       cut = elim cut.cut [
         | inl keeps ↦ inl (keeps_both old filling new side generation filled keeps)
-        | inr committed ↦ inr (has_moved old opened filling new side generation c.in_ok-count.count change before fills.keeps (sym c.requires.layout.fill ∙ c.requires.all_used) fills.filling fills.map_is c.in_ok-count.ensures.each_once cut.same_set committed)
+        | inr committed ↦ inr (has_moved old opened filling new side generation c.in_ok-count.count changes before fills.keeps as_used fills.filling fills.map_is c.in_ok-count.ensures.each_once cut.same_set committed)
       ];
     })

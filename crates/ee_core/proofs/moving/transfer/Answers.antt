@@ -1,13 +1,13 @@
-use Rattle.std.proofs.Common.{◌≡◌, ◌+◌, ◌-◌, ap, inl, inr, true, length, sym, subst, ◌∙◌}
+use Rattle.std.proofs.Common.{◌≡◌, ◌+◌, ◌-◌, ap, inl, inr, length, sym, subst, ◌∙◌}
 use Rattle.std.proofs.lemmas.Result.{err_from_is_err_and}
 use Rattle.ee_flash.specs.Size.{Size}
 use Rattle.ee_pages.specs.declared.side.Side.{Side}
 use Rattle.ee_pages.specs.Sets.{fill_of, other as other_of, set_of, slots_of, page_of_slot}
 use Rattle.ee_pages.proofs.Public.{other_twice}
-use Rattle.ee_core.proofs.MarkedSets.{waits}
 use Rattle.ee_core.proofs.MovedSets.{all_retired, filled_up}
-use Rattle.ee_core.specs.Picture.{IsDrawn, blank, filled_set, moved_words, picture_of, retired_pages}
-use Rattle.ee_core.specs.Parts.{map_in, meant}
+use Rattle.ee_core.specs.Picture.{IsDrawn, blank, filled_set, is_used, moved_words, picture_of, retired_pages}
+use Rattle.ee_core.specs.Parts.{map_in}
+use Rattle.ee_core.specs.Puts.{carried}
 use Rattle.ee_core.proofs.MovingFacts.{moved_stays}
 use Rattle.ee_core.proofs.Wears.{front_all, wears_still}
 use Rattle.ee_core.specs.State.{not_blank_in}
@@ -25,7 +25,7 @@ returns-clause-moves g c =
     let moves = c.in_ok-count.ensures.moves in
     let stays = rw c.other.ensures at c.in_ok-finish.ensures.stays in
     record {
-      moved = moved_stays old mid new c.args.layout.now.side c.args.layout.now.generation (meant c.args.change) moves.moved stays;
+      moved = moved_stays old mid new c.args.layout.now.side c.args.layout.now.generation (carried c.args.puts.now c.args.forgets) moves.moved stays;
       as_many = moves.as_many;
       wear = wears_still (not_blank_in (other_of c.args.layout.now.side) old) old mid new moves.wear stays.same_wear;
     }
@@ -36,7 +36,7 @@ returns-clause-new_pages g c =
     let mid = g.F.Flash.device c.move_map.new.flash in
     let new = g.F.Flash.device c.finish.new.flash in
     let side = c.args.layout.now.side in
-    let words = moved_words (meant c.args.change) (map_in side old) in
+    let words = moved_words (carried c.args.puts.now c.args.forgets) (map_in side old) in
     let moved = c.in_ok-count.ensures.moves.moved in
     let stays = rw c.other.ensures at c.in_ok-finish.ensures.stays in
     let shows = rw c.other.ensures at c.in_ok-finish.ensures.shows in
@@ -53,9 +53,9 @@ returns-clause-old_pages g c =
     let moved = c.in_ok-count.ensures.moves.moved in
     let stays = rw c.other.ensures at c.in_ok-finish.ensures.stays in
     let shows = rw c.other.ensures at c.in_ok-finish.ensures.shows in
-    let drawn : IsDrawn side new (retired_pages (waits side mid) (picture_of side mid)) =
-    subst (λ (set : Side). IsDrawn set new (retired_pages (waits set mid) (picture_of set mid))) (other_twice side) shows.old_pages in
-    all_retired side old mid new c.args.layout.now.generation c.requires.layout.live (sym c.requires.layout.fill ∙ c.requires.all_used) moved.live.formed moved.same_size stays.keeps.same_size
+    let drawn : IsDrawn side new (retired_pages (is_used side mid) (picture_of side mid)) =
+    subst (λ (set : Side). IsDrawn set new (retired_pages (is_used set mid) (picture_of set mid))) (other_twice side) shows.old_pages in
+    all_retired side old mid new c.requires.layout.live.formed moved.live.formed moved.same_size stays.keeps.same_size
     c.in_ok-count.ensures.live_pages drawn
 
 pub returns-in_err-count-clause-moves : goal.returns-in_err-count-clause-moves
@@ -69,7 +69,7 @@ returns-in_err-count-clause-moves g c =
       begun = partly.begun;
       words = elim partly.words [
         | inl erasing ↦ inl erasing
-        | inr moving ↦ inr (record { new_pages = moving.new_pages; old_pages = drawn_before side new (picture_of side old) (retired_pages (λ page. true) (picture_of side old)) moving.live_pages })
+        | inr moving ↦ inr (record { new_pages = moving.new_pages; old_pages = drawn_before side new (picture_of side old) (retired_pages (is_used side old) (picture_of side old)) moving.live_pages })
       ];
       cut = partly.cut;
     })
@@ -81,22 +81,22 @@ returns-in_err-finish-clause-moves g c =
     let new = g.F.Flash.device c.finish.new.flash in
     let side = c.args.layout.now.side in
     let pages = not_blank_in (other_of side) old in
-    let words = moved_words (meant c.args.change) (map_in side old) in
+    let words = moved_words (carried c.args.puts.now c.args.forgets) (map_in side old) in
     let moves = c.in_ok-count.ensures.moves in
     let stays = rw c.other.ensures at c.in_err-finish.ensures.stays in
     let shows = rw c.other.ensures at c.in_err-finish.ensures.begun in
     let fill : fill_of (slots_of (set_of (other_of side) mid)) ≡ length words = moves.moved.fill_is ∙ sym c.in_ok-count.ensures.each_once ∙ moves.as_many in
     let last : last_used mid (other_of side) ≡ page_of_slot mid.size (length words - 1) = ap (λ n. page_of_slot mid.size (n - 1)) fill in
-    let drawn : IsDrawnPartly side new (picture_of side mid) (retired_pages (waits side mid) (picture_of side mid)) =
-    subst (λ (set : Side). IsDrawnPartly set new (picture_of set mid) (retired_pages (waits set mid) (picture_of set mid))) (other_twice side) shows.old_pages in
+    let drawn : IsDrawnPartly side new (picture_of side mid) (retired_pages (is_used side mid) (picture_of side mid)) =
+    subst (λ (set : Side). IsDrawnPartly set new (picture_of set mid) (retired_pages (is_used set mid) (picture_of set mid))) (other_twice side) shows.old_pages in
     let failed = err_from_is_err_and c.from_residual-in_err-finish.result c.from_residual-in_err-finish.ensures.1 in
     rw failed.1 (record {
       begun = front_all pages old new (wears_still pages old mid new moves.wear stays.same_wear);
       words = inr (record {
         new_pages = subst (λ (size : Size). IsDrawnPartly (other_of side) new blank (filled_set size (c.args.layout.now.generation + 1) words)) moves.moved.same_size
             (marked_partly (other_of side) mid new (c.args.layout.now.generation + 1) (last_used mid (other_of side)) words stays.keeps.same_size c.in_ok-count.ensures.new_pages last shows.live_pages);
-        old_pages = retires_partly side old mid new c.args.layout.now.generation c.requires.layout.live (sym c.requires.layout.fill ∙ c.requires.all_used) moves.moved.live.formed moves.moved.same_size stays.keeps.same_size
+        old_pages = retires_partly side old mid new c.requires.layout.live.formed moves.moved.live.formed moves.moved.same_size stays.keeps.same_size
             c.in_ok-count.ensures.live_pages drawn;
       });
-      cut = inr (moved_stays old mid new side c.args.layout.now.generation (meant c.args.change) moves.moved stays);
+      cut = inr (moved_stays old mid new side c.args.layout.now.generation (carried c.args.puts.now c.args.forgets) moves.moved stays);
     })

@@ -1,4 +1,4 @@
-use Rattle.std.proofs.Common.{◌≡◌, ℕ, ◌+◌, ◌<◌, List, length, get_or, sym, subst, ap, ◌∙◌, arith}
+use Rattle.std.proofs.Common.{◌≡◌, ℕ, ◌+◌, ◌<◌, List, [], ◌∷◌, length, get_or, sym, subst, ap, ◌∙◌, arith}
 use Rattle.ee_flash.specs.declared.word.Word.TheVariants.{Erased}
 use Rattle.ee_pages.specs.Meaning.{meaning}
 use Rattle.ee_pages.specs.Pending.{address_of}
@@ -25,7 +25,7 @@ returns-clause-index g c =
     let done = c.in_ok-move_change.ensures in
     let before = slots_of (set_of layout.side old) in
     let after = slots_of (set_of (other layout.side) new) in
-    let words = moved_words (meant c.args.change) (meaning before) in
+    let words = moved_words (meant c.args.change ∷ []) (meaning before) in
     let entries = c.leave-first.new.index.entries in
     let there : (place : ℕ) → place < length words → get_or after place Erased ≡ get_or words place Erased =
     λ place h. filled_slot (other layout.side) new old.size (layout.generation + 1) place words done.has_moved.live.formed done.has_moved.same_size

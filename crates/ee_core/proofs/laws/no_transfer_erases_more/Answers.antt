@@ -1,0 +1,6 @@
+use Rattle.std.proofs.Common.{rules}
+use Rattle.ee_core.proofs.Running.{no_transfer_erases_more_lem}
+use Rattle.ee_core.proofs.laws.no_transfer_erases_more.Goals as goal
+
+pub returns : goal.returns
+returns c = search (rules, no_transfer_erases_more_lem)

@@ -1,0 +1,8 @@
+use Rattle.std.proofs.Common.{◌≡◌, take}
+use Rattle.ee_pages.specs.Meaning.{changed_by, live_in}
+use Rattle.ee_core.specs.Parts.{map_in}
+use Rattle.ee_core.specs.Puts.{puts_of}
+use Rattle.ee_core.proofs.puts.live_with.Given as goal
+
+abbrev pub invariant-entries : goal.invariant-entries
+invariant-entries g l = l.count ≡ live_in (changed_by (puts_of (take l.put-index l.puts)) (map_in l.layout.side (g.F.Flash.device l.flash)))
