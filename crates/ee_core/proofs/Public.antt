@@ -1,13 +1,15 @@
 -- The lemmas that other crates may use. The files that they stand in are this crate's own.
 pub use Rattle.ee_core.proofs.AfterCalls.{goes_on_both, goes_on_same, not_both}
 pub use Rattle.ee_core.proofs.Appending.{slot_erased}
-pub use Rattle.ee_core.proofs.CopiedMaps.{apart, changed_by-append, forget-at, forget-other, live_in-nothing, made, map_to-above, map_to-below, meaning-zero, put-at, put-other, same_counts}
+pub use Rattle.ee_core.proofs.CopiedMaps.{apart, changed_by-append, changed_by-other, forget-at, forget-other, live_in-nothing, made, map_to-above, map_to-below, meaning-zero, neither, put-at, put-other, same_counts, without-at, without-other}
 pub use Rattle.ee_core.proofs.CopiedWords.{next_element, no_words, none_between, one_further}
 pub use Rattle.ee_core.proofs.CutMaps.{cut_map, fill_within}
 pub use Rattle.ee_core.proofs.CutMoves.{elements_front}
 pub use Rattle.ee_core.proofs.Drawings.{with_word-elsewhere, with_word-there}
 pub use Rattle.ee_core.proofs.Effects.{by_effect}
-pub use Rattle.ee_core.proofs.Making.{clean_store, few_within, generation_proper, map_was, store_marked}
+pub use Rattle.ee_core.proofs.Fillings.{length-put_words, map_with_more}
+pub use Rattle.ee_core.proofs.Listed.{each_apart, names-puts}
+pub use Rattle.ee_core.proofs.Making.{always_on_err, clean_store, few_within, fill_was, generation_proper, map_was, store_marked}
 pub use Rattle.ee_core.proofs.MovingFacts.{few_slots}
 pub use Rattle.ee_core.proofs.NotBlank.{length-not_blank}
 pub use Rattle.ee_core.proofs.OpeningFacts.{opening_cut, opens}
@@ -16,5 +18,6 @@ pub use Rattle.ee_core.proofs.PendingPages.{length-pending_pages, times_in_set, 
 pub use Rattle.ee_core.proofs.Powered.{legal_on, legal_powered, live_powered, state_in_on, state_in_powered}
 pub use Rattle.ee_core.proofs.Running.{goes, runs_go_on_lem}
 pub use Rattle.ee_core.proofs.SetPages.{page_of_set}
+pub use Rattle.ee_core.proofs.Several.{live_few, needs_transfer, no_generation, no_place, one_counted, puts_within, several_proceed, some_place}
 pub use Rattle.ee_core.proofs.States.{state_is}
 pub use Rattle.ee_core.proofs.Wears.{no_wear, times, times_few, wear_adds, wears_both, wears_none, wears_rise}

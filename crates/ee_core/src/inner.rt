@@ -6,10 +6,11 @@ ghost use Rattle.ee_pages.specs.Layout.{IsLayout};
 ghost use Rattle.ee_core.specs.Finished.{IsStore};
 
 pub use crate::change::Change;
-pub use crate::changing::{append_change, move_change};
+pub use crate::changing::{append_change, move_changes};
 pub use crate::cleaning::clean;
 pub use crate::live_cursor::LiveCursor;
 pub use crate::marking::finish;
+pub use crate::puts::{first_twice, values_put};
 pub use crate::store::GREATEST_GENERATION;
 use crate::store::Store;
 use ee_flash::Flash;

@@ -27,14 +27,14 @@ pub(crate) fn has_put(puts: &[Put], address: Address) -> bool
 }
 
 /// Of what a transfer carries the values that are put: none, where their addresses are forgotten.
-pub(crate) fn values_put(puts: &[Put], forgets: bool) -> &[Put]
+pub fn values_put(puts: &[Put], forgets: bool) -> &[Put]
     ensures { result.now ≡ (if forgets then [] else puts.now) }
 {
     if forgets { &[] } else { puts }
 }
 
 /// The first entry, counted from 0, whose address an earlier one has.
-pub(crate) fn first_twice(puts: &[Put]) -> Option<usize>
+pub fn first_twice(puts: &[Put]) -> Option<usize>
     ensures twice { IfSome result (IsFirstTwice puts.now) }
     ensures once { IfNone result (IsEachOnce puts.now) }
     ensures proper { IfNone result (All (λ put. IsAddress put.address) puts.now) }

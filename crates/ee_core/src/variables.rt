@@ -5,10 +5,11 @@ ghost use Rattle.ee_codec.specs.Words.{IsAddress};
 ghost use Rattle.ee_flash.specs.Device.{Device, IsOn};
 ghost use Rattle.ee_flash.specs.Size.{slot_count};
 ghost use Rattle.ee_pages.specs.Meaning.{AreLiveThrough, IsNextLive, above_of, live_in};
-ghost use Rattle.ee_core.specs.Calls.{Cleans, Forgets, Reads, Writes};
+ghost use Rattle.ee_core.specs.Calls.{Cleans, Forgets, Reads, Writes, WritesAll};
 ghost use Rattle.ee_core.specs.Finished.{IsStore};
 ghost use Rattle.ee_core.specs.State.{state_of};
 
+use crate::change::Put;
 use ee_codec::Address;
 use ee_pages::LiveBatch;
 
@@ -120,6 +121,16 @@ pub trait Variables {
     /// The first `WriteFault` that applies.
     fn write(&mut self, address: Address, value: u32) -> Result<Written, WriteFault>
         ensures { Writes (device self.old) address value result (device self.new) };
+
+    /// Writes these values at once: after this call, and after a cut in it too, the map has all of them
+    /// or is as it was. A list of one is written as by `write`; for more the live set moves to the other
+    /// set, whether a slot is free or not.
+    ///
+    /// # Errors
+    ///
+    /// The first `WriteAllFault` that applies.
+    fn write_all(&mut self, changes: &[Put]) -> Result<Written, WriteAllFault>
+        ensures { WritesAll (device self.old) changes.now result (device self.new) };
 
     /// Takes the value of an address away.
     ///

@@ -1,7 +1,9 @@
 -- How the entries of an index are gone over in order.
-use Rattle.std.proofs.Common.{◌≡◌, ◌≢◌, ◌⊎◌, inl, inr, ℕ, ◌<◌, Bool, ◌&&◌, cond, IfSome, true, false, Option, Some, None, is_some, List, [], ◌∷◌, get_or, refl, sym, subst, ap, ◌∙◌, arith, rules}
-use Rattle.std.proofs.lemmas.Bool.{cases_eq, eqb-true, ne_eqb}
+use Rattle.std.proofs.Common.{◌≡◌, ◌≢◌, inl, inr, ℕ, ◌<◌, Bool, ◌&&◌, cond, true, false, Option, Some, None, nat_lt, is_some, List, [], ◌∷◌, ◌++◌, get_or, refl, sym, subst, ap, ◌∙◌, append-nil, arith, suc, zero}
+use Rattle.std.proofs.lemmas.Bool.{cases_eq}
 use Rattle.std.proofs.lemmas.Grind.{common_steps}
+use Rattle.std.proofs.lemmas.List.{append_assoc}
+use Rattle.std.proofs.lemmas.List.Elements.{All-append, All-head, All-tail}
 use Rattle.std.proofs.lemmas.List.Kept.{IsStrictlySortedBy-filter}
 use Rattle.std.proofs.lemmas.Map.Entries.{lookup-filter-keys}
 use Rattle.std.proofs.lemmas.Map.Keys.{sorted_head, sorted_tail}
@@ -20,8 +22,8 @@ use Rattle.ee_codec.specs.Words.{IsAddress}
 use Rattle.ee_flash.specs.declared.word.Word.{Word}
 use Rattle.ee_flash.specs.declared.word.Word.TheVariants.{Erased}
 use Rattle.ee_pages.specs.Meaning.{IsNextLive, Map, above_of, meaning, says}
-use Rattle.ee_index.specs.Index.{IsIndex, IsLeft, IsNextShown, bound_above, is_first, said_at, shown_index, slot_for}
-use Rattle.ee_index.proofs.IndexedStores.{as_put, says_proper}
+use Rattle.ee_index.specs.Index.{AreHidden, IsIndex, IsLeft, IsNextShown, PassesHidden, bound_above, said_at, says_value, shown_index, shown_slot, slot_for}
+use Rattle.ee_index.proofs.IndexedStores.{as_put, says_proper, some_is}
 use Rattle.ee_index.proofs.Indexing.{Stands, nothing_if, stands, stands_if}
 
 -- ---- entries in order
@@ -46,27 +48,24 @@ pub none_unless : (held : Option ℕ) → (is_some held ≡ true → ⊥) → he
 none_unless None none = refl
 none_unless (Some slot) none = absurd (none refl)
 
--- ---- what is seen while an address is hidden
+-- ---- what is seen while addresses are hidden
 
-shown_none : (hidden : Option ℕ) (index : Map) (address : ℕ) → index address ≡ None → shown_index hidden index address ≡ None
-shown_none None index address e = e
-shown_none (Some named) index address e = search (rules, cases_eq, common_steps)
+shown_none : (shown : ℕ → Bool) (index : Map) (address : ℕ) → index address ≡ None → shown_index shown index address ≡ None
+shown_none shown index address e = ap (shown_slot shown) e
 
-shown_here : (hidden : Option ℕ) (index : Map) (address : ℕ) → is_first hidden address ≡ false → shown_index hidden index address ≡ index address
-shown_here None index address e = refl
-shown_here (Some named) index address e = rw e refl
+pub shown_here : (shown : ℕ → Bool) (index : Map) (address number : ℕ) → index address ≡ Some number → shown number ≡ true → shown_index shown index address ≡ Some number
+shown_here shown index address number e is = ap (shown_slot shown) e ∙ ap (λ (b : Bool). cond b (Some number) None) is
 
-shown_hidden : (hidden : Option ℕ) (index : Map) (address : ℕ) → is_first hidden address ≡ true → shown_index hidden index address ≡ None
-shown_hidden None index address e = absurd (cc e)
-shown_hidden (Some named) index address e = rw e refl
+pub shown_hidden : (shown : ℕ → Bool) (index : Map) (address number : ℕ) → index address ≡ Some number → shown number ≡ false → shown_index shown index address ≡ None
+shown_hidden shown index address number e is = ap (shown_slot shown) e ∙ ap (λ (b : Bool). cond b (Some number) None) is
 
-shown_same : (hidden : Option ℕ) (index other : Map) (address : ℕ) → index address ≡ other address → shown_index hidden index address ≡ shown_index hidden other address
-shown_same None index other address e = e
-shown_same (Some named) index other address e = search (rules, cases_eq, common_steps)
+shown_all : (slot : Option ℕ) → shown_slot (λ number. true) slot ≡ slot
+shown_all None = refl
+shown_all (Some number) = refl
 
 -- ---- one entry further
 
-module _ (slots : List Word) (hidden after : Option ℕ) (first : ℕ × ℕ) (rest : List (ℕ × ℕ)) (left : IsLeft slots hidden after (first ∷ rest)) where
+module _ (slots : List Word) (shown : ℕ → Bool) (after : Option ℕ) (first : ℕ × ℕ) (rest : List (ℕ × ℕ)) (left : IsLeft slots shown after (first ∷ rest)) where
   pub above_first : above_of after < first.0
   above_first = left.behind first.0 (ap is_some (put_there first rest first.0 refl))
 
@@ -76,89 +75,119 @@ module _ (slots : List Word) (hidden after : Option ℕ) (first : ℕ × ℕ) (r
   rest_ordered : IsStrictlySortedBy nat_cmp (keys_of rest)
   rest_ordered = sorted_tail nat_cmp first.0 (keys_of rest) left.ordered
 
+  no_more : slot_for rest first.0 ≡ None
+  no_more = none_unless (slot_for rest first.0) (λ held. omega (arith, rest_behind first.0 held))
+
   -- it is hidden
-  pub left_behind_hidden : is_first hidden first.0 ≡ true → IsLeft slots hidden after rest
-  left_behind_hidden is = search (rules, above_first, cases_eq, put_elsewhere, rest_behind, rest_ordered, shown_hidden, shown_same)
+  pub left_behind_hidden : shown first.1 ≡ false → IsLeft slots shown after rest
+  left_behind_hidden hides = record {
+    ordered = rest_ordered;
+    behind = λ address held. omega (arith, above_first, rest_behind address held);
+    indexes = λ address high. ap (λ slot. said_at slots slot address) (same address) ∙ left.indexes address high;
+  }
+    where
+      same : (address : ℕ) → shown_index shown (slot_for rest) address ≡ shown_index shown (slot_for (first ∷ rest)) address
+      same address = elim (cases_eq first.0 address) [
+        | inl is ↦
+            shown_none shown (slot_for rest) address (ap (slot_for rest) (sym is) ∙ no_more)
+            ∙ sym (shown_hidden shown (slot_for (first ∷ rest)) address first.1 (put_there first rest address is) hides)
+        | inr apart ↦ ap (shown_slot shown) (sym (put_elsewhere first rest address apart))
+      ]
 
   -- or it is the next
-  pub left_behind_next : IsLeft slots hidden (Some first.0) rest
-  left_behind_next = search (rules, above_first, put_elsewhere, rest_behind, rest_ordered, shown_same)
+  pub left_behind_next : IsLeft slots shown (Some first.0) rest
+  left_behind_next = record {
+    ordered = rest_ordered;
+    behind = rest_behind;
+    indexes = λ address high.
+        ap (λ slot. said_at slots slot address) (ap (shown_slot shown) (sym (put_elsewhere first rest address (λ e. omega (arith, high, e)))))
+        ∙ left.indexes address (omega (arith, above_first, high));
+  }
 
-  pub next_stands : is_first hidden first.0 ≡ false → Stands slots first.0 first.1
-  next_stands is = search (rules, above_first, put_there, shown_here, stands_if)
+  pub next_stands : shown first.1 ≡ true → Stands slots first.0 first.1
+  next_stands is =
+      let here = shown_here shown (slot_for (first ∷ rest)) first.0 first.1 (put_there first rest first.0 refl) is in
+      stands_if slots first.0 first.1 (meaning slots first.0) refl (ap (λ slot. said_at slots slot first.0) (sym here) ∙ left.indexes first.0 above_first)
 
   pub none_before : (address : ℕ) → above_of after < address → address < first.0 → meaning slots address ≡ None
-  none_before address high low = search (rules, none_unless, nothing_if, put_elsewhere, rest_behind, shown_none)
+  none_before address high low =
+      let none : slot_for (first ∷ rest) address ≡ None = put_elsewhere first rest address (λ e. omega (arith, low, e)) ∙ none_unless (slot_for rest address) (λ held. omega (arith, low, rest_behind address held)) in
+      nothing_if slots address (meaning slots address) (ap (λ slot. said_at slots slot address) (sym (shown_none shown (slot_for (first ∷ rest)) address none)) ∙ left.indexes address high)
 
--- ---- the next entry that is not hidden
+-- ---- the next entry that is shown
 
-pub is_first_if : (hidden : Option ℕ) (address : ℕ) → hidden ≡ Some address → is_first hidden address ≡ true
-is_first_if hidden address e = rw e (grind (arith, common_steps))
+one_hidden : (shown : ℕ → Bool) (entry : ℕ × ℕ) → shown entry.1 ≡ false → AreHidden shown (entry ∷ [])
+one_hidden shown entry hides zero none h = hides
+one_hidden shown entry hides (suc k) none h = absurd (omega (arith, h))
 
--- the first is hidden
-pub behind_hidden : (hidden : Option ℕ) (entries left rest : List (ℕ × ℕ)) (first : ℕ × ℕ) (next : Option (ℕ × ℕ)) → is_first hidden first.0 ≡ true → entries ≡ first ∷ rest → (next ≡ None → rest ≡ []) → IfSome next (λ found. rest ≡ found ∷ left)
-    → IsNextShown hidden entries next left
-behind_hidden hidden entries left rest first None hides is none some = search (rules, cases_eq, put_elsewhere, shown_hidden, shown_none)
-behind_hidden hidden entries left rest first (Some found) hides is none some = inr (first, hides, is ∙ ap (λ (rest : List (ℕ × ℕ)). first ∷ rest) some)
+-- a reader passes hidden entries, one after another
+module _ (shown : ℕ → Bool) (entries : List (ℕ × ℕ)) where
+  pub passes_none : PassesHidden shown entries entries
+  passes_none = ([], (λ k none h. absurd (omega (arith, h))), refl)
 
-hides_no_more : (hidden : Option ℕ) (passed found : ℕ × ℕ) (left : List (ℕ × ℕ)) → IsStrictlySortedBy nat_cmp (keys_of (passed ∷ found ∷ left)) → is_first hidden passed.0 ≡ true → is_first hidden found.0 ≡ false
-hides_no_more None passed found left sorted hides = refl
-hides_no_more (Some named) passed found left sorted hides =
-    let above = absent_to passed (found ∷ left) sorted found.0 (ap is_some (put_there found left found.0 refl)) in
-    let same = eqb-true named passed.0 hides in
-    ne_eqb named found.0 (λ e. omega (arith, above, same, e))
+  pub passes_one : (here left : List (ℕ × ℕ)) (entry : ℕ × ℕ) → PassesHidden shown entries here → here ≡ entry ∷ left → shown entry.1 ≡ false → PassesHidden shown entries left
+  passes_one here left entry (passed, hide, are) is hides = (
+    passed ++ (entry ∷ []),
+    All-append (λ (entry : ℕ × ℕ). shown entry.1 ≡ false) passed (entry ∷ []) hide (one_hidden shown entry hides),
+    are ∙ ap (λ (left : List (ℕ × ℕ)). passed ++ left) is ∙ sym (append_assoc passed (entry ∷ []) left),
+  )
 
--- where a cursor stands before it gives the next entry: behind one that is hidden, if there is one
-before_next : (slots : List Word) (hidden after : Option ℕ) (entries left : List (ℕ × ℕ)) (found : ℕ × ℕ) → IsLeft slots hidden after entries → IsNextShown hidden entries (Some found) left
-    → IsLeft slots hidden after (found ∷ left) × (is_first hidden found.0 ≡ false)
-before_next slots hidden after entries left found so_far (inl (shown, is)) = (subst (λ (entries : List (ℕ × ℕ)). IsLeft slots hidden after entries) is so_far, shown)
-before_next slots hidden after entries left found so_far (inr (passed, hides, is)) =
-    let all = subst (λ (entries : List (ℕ × ℕ)). IsLeft slots hidden after entries) is so_far in
-    (left_behind_hidden slots hidden after passed (found ∷ left) all hides, hides_no_more hidden passed found left all.ordered hides)
+  -- up to one that is shown, or to the end
+  pub shown_there : (here left : List (ℕ × ℕ)) (found : ℕ × ℕ) → PassesHidden shown entries here → here ≡ found ∷ left → shown found.1 ≡ true → IsNextShown shown entries (Some found) left
+  shown_there here left found (passed, hide, are) is shows = (shows, (passed, hide, are ∙ ap (λ (left : List (ℕ × ℕ)). passed ++ left) is))
 
-module _ (slots : List Word) (hidden after : Option ℕ) (entries left : List (ℕ × ℕ)) (so_far : IsLeft slots hidden after entries) where
-  pub shown_stands : (found : ℕ × ℕ) → IsNextShown hidden entries (Some found) left → Stands slots found.0 found.1
-  shown_stands found next = let before = before_next slots hidden after entries left found so_far next in next_stands slots hidden after found left before.0 before.1
+  pub nothing_shown : (here left : List (ℕ × ℕ)) → PassesHidden shown entries here → here ≡ [] → IsNextShown shown entries None left
+  nothing_shown here left (passed, hide, are) is =
+      subst (λ (entries : List (ℕ × ℕ)). AreHidden shown entries) (sym (are ∙ ap (λ (left : List (ℕ × ℕ)). passed ++ left) is ∙ append-nil passed)) hide
 
-  pub shown_next : (found : ℕ × ℕ) (value : ℕ) → IsNextShown hidden entries (Some found) left → ((named said : ℕ) → says (get_or slots found.1 Erased) named ≡ Some (Some said) → value ≡ said)
+-- so many slots are used
+pub next_used : (entries left : List (ℕ × ℕ)) (found : ℕ × ℕ) (fill used : ℕ) → fill ≡ used → IsNextShown (λ number. nat_lt number fill) entries (Some found) left → IsNextShown (λ number. nat_lt number used) entries (Some found) left
+next_used entries left found fill used e next = subst (λ (fill : ℕ). IsNextShown (λ number. nat_lt number fill) entries (Some found) left) e next
+
+-- behind entries that are hidden
+left_behind_passed : (slots : List Word) (shown : ℕ → Bool) (after : Option ℕ) (passed rest : List (ℕ × ℕ)) → AreHidden shown passed → IsLeft slots shown after (passed ++ rest) → IsLeft slots shown after rest
+left_behind_passed slots shown after [] rest hide left = left
+left_behind_passed slots shown after (first ∷ passed) rest hide left =
+    left_behind_passed slots shown after passed rest (All-tail (λ (entry : ℕ × ℕ). shown entry.1 ≡ false) first passed hide)
+    (left_behind_hidden slots shown after first (passed ++ rest) left (All-head (λ (entry : ℕ × ℕ). shown entry.1 ≡ false) first passed hide))
+
+module _ (slots : List Word) (shown : ℕ → Bool) (after : Option ℕ) (entries left : List (ℕ × ℕ)) (so_far : IsLeft slots shown after entries) where
+  -- where a reader stands before it gives the next entry
+  before_next : (found : ℕ × ℕ) → IsNextShown shown entries (Some found) left → IsLeft slots shown after (found ∷ left)
+  before_next found (is, (passed, hide, are)) = left_behind_passed slots shown after passed (found ∷ left) hide (subst (λ (entries : List (ℕ × ℕ)). IsLeft slots shown after entries) are so_far)
+
+  pub shown_stands : (found : ℕ × ℕ) → IsNextShown shown entries (Some found) left → Stands slots found.0 found.1
+  shown_stands found next = next_stands slots shown after found left (before_next found next) next.0
+
+  pub shown_next : (found : ℕ × ℕ) (value : ℕ) → IsNextShown shown entries (Some found) left → ((named said : ℕ) → says (get_or slots found.1 Erased) named ≡ Some (Some said) → value ≡ said)
       → IsNextLive (meaning slots) (above_of after) (Some (found.0, value))
   shown_next found value next is =
-      let before = (before_next slots hidden after entries left found so_far next).0 in
+      let before = before_next found next in
       let here = shown_stands found next in (
-        above_first slots hidden after found left before,
+        above_first slots shown after found left before,
         here.held ∙ ap (λ (n : ℕ). Some n) (sym (is found.0 here.value here.says_so)),
-        none_before slots hidden after found left before,
+        none_before slots shown after found left before,
       )
 
-  pub shown_left : (found : ℕ × ℕ) → IsNextShown hidden entries (Some found) left → IsLeft slots hidden (Some found.0) left
-  shown_left found next = left_behind_next slots hidden after found left (before_next slots hidden after entries left found so_far next).0
+  pub shown_left : (found : ℕ × ℕ) → IsNextShown shown entries (Some found) left → IsLeft slots shown (Some found.0) left
+  shown_left found next = left_behind_next slots shown after found left (before_next found next)
+
+  pub none_shown : IsNextShown shown entries None left → IsNextLive (meaning slots) (above_of after) None
+  none_shown hide address high =
+      let rest = left_behind_passed slots shown after entries [] hide (subst (λ (entries : List (ℕ × ℕ)). IsLeft slots shown after entries) (sym (append-nil entries)) so_far) in
+      nothing_if slots address (meaning slots address) (rest.indexes address high)
 
 -- ---- before the first
 
 pub stands_proper : (slots : List Word) (address number : ℕ) → Stands slots address number → IsAddress address
 stands_proper slots address number here = says_proper (get_or slots number Erased) address (Some here.value) here.says_so
 
-pub hides_proper : (hidden : Option ℕ) (named : ℕ) → IsAddress named → (hidden ≡ None) ⊎ (hidden ≡ Some named) → (address : ℕ) → is_first hidden address ≡ true → 0 < address
-hides_proper hidden named proper (inl none) address hides = let never = rw none at hides in absurd (cc never)
-hides_proper hidden named proper (inr one) address hides = let same = eqb-true named address (rw one at hides) in omega (arith, same, proper.0)
-
-pub left_first : (slots : List Word) (hidden : Option ℕ) (entries : List (ℕ × ℕ)) → IsStrictlySortedBy nat_cmp (keys_of entries) → ((address : ℕ) → is_first hidden address ≡ true → 0 < address) → IsIndex slots (shown_index hidden (slot_for entries)) → IsLeft slots hidden None entries
-left_first slots hidden entries ordered proper indexes = record {
+pub left_first : (slots : List Word) (shown : ℕ → Bool) (entries : List (ℕ × ℕ)) → IsStrictlySortedBy nat_cmp (keys_of entries) → ((address : ℕ) → is_some (slot_for entries address) ≡ true → IsAddress address) → IsIndex slots (shown_index shown (slot_for entries)) → IsLeft slots shown None entries
+left_first slots shown entries ordered proper indexes = record {
   ordered = ordered;
-  behind = λ address held. from_one address held (is_first hidden address) refl;
+  behind = λ address held. (proper address held).0;
   indexes = λ address high. indexes address;
 }
-  where
-    some_held : (held : Option ℕ) → is_some held ≡ true → (number : ℕ) × (held ≡ Some number)
-    some_held None e = absurd (cc e)
-    some_held (Some number) e = (number, refl)
-
-    from_one : (address : ℕ) → is_some (slot_for entries address) ≡ true → (hides : Bool) → is_first hidden address ≡ hides → 0 < address
-    from_one address held true is = proper address is
-    from_one address held false is =
-        let slot = some_held (slot_for entries address) held in
-        let here = stands slots (shown_index hidden (slot_for entries)) indexes address slot.0 (shown_here hidden (slot_for entries) address is ∙ slot.1) in
-        (stands_proper slots address slot.0 here).0
 
 -- ---- before the first behind an address
 
@@ -198,22 +227,24 @@ module _ (slots : List Word) (entries : List (ℕ × ℕ)) (ordered : IsStrictly
       lookup-filter-keys (is_at (nat_cmp address)) (comes_to after) (comes_to after address) (λ key same. ap (comes_to after) (sym (same_if address key (nat_cmp address key) refl same))) entries
 
   part_above : (after : Option ℕ) (address : ℕ) → is_some (slot_for (part after) address) ≡ true → above_of after < address
-  part_above None address held = (left_first slots None entries ordered (λ named never. absurd (cc never)) indexes).behind address (sym (ap is_some (slot_in_part None address)) ∙ held)
+  part_above None address held =
+      let slot = some_is (slot_for entries address) (sym (ap is_some (slot_in_part None address)) ∙ held) in
+      (stands_proper slots address slot.0 (stands slots (slot_for entries) indexes address slot.0 slot.1)).0
   part_above (Some from) address held = if_comes (comes_to (Some from) address) refl (sym (ap is_some (slot_in_part (Some from) address)) ∙ held)
     where
       if_comes : (comes : Bool) → comes_to (Some from) address ≡ comes → is_some (cond comes (slot_for entries address) None) ≡ true → from < address
       if_comes true is held = above_if from address (nat_cmp from address) refl is
       if_comes false is held = absurd (cc held)
 
-  part_left : (after : Option ℕ) → IsLeft slots None after (part after)
+  part_left : (after : Option ℕ) → IsLeft slots (λ number. true) after (part after)
   part_left after = record {
     ordered = subst (λ (keys : List ℕ). IsStrictlySortedBy nat_cmp keys) (sym (keys_kept (comes_to after) entries)) (IsStrictlySortedBy-filter nat_cmp (comes_to after) (keys_of entries) ordered);
     behind = part_above after;
     indexes = λ address high.
-        ap (λ slot. said_at slots slot address) (slot_in_part after address ∙ ap (λ (comes : Bool). cond comes (slot_for entries address) None) (comes_above after address high))
+        ap (λ slot. said_at slots slot address) (shown_all (slot_for (part after) address) ∙ slot_in_part after address ∙ ap (λ (comes : Bool). cond comes (slot_for entries address) None) (comes_above after address high))
         ∙ indexes address;
   }
 
-  pub left_behind : (after : Option ℕ) (start : Bound ℕ) (found : List (ℕ × ℕ)) → start ≡ bound_above after → found ≡ entries_between nat_cmp start Unbounded entries → IsLeft slots None after found
+  pub left_behind : (after : Option ℕ) (start : Bound ℕ) (found : List (ℕ × ℕ)) → start ≡ bound_above after → found ≡ entries_between nat_cmp start Unbounded entries → IsLeft slots (λ number. true) after found
   left_behind after start found begins is =
-      subst (λ (found : List (ℕ × ℕ)). IsLeft slots None after found) (sym (is ∙ ap (λ (start : Bound ℕ). entries_between nat_cmp start Unbounded entries) begins)) (part_left after)
+      subst (λ (found : List (ℕ × ℕ)). IsLeft slots (λ number. true) after found) (sym (is ∙ ap (λ (start : Bound ℕ). entries_between nat_cmp start Unbounded entries) begins)) (part_left after)

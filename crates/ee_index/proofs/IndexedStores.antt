@@ -79,7 +79,7 @@ module _ (device : Device) (layout : Layout) (entries : List (ℕ × ℕ)) (kept
   map_is : (address : ℕ) → (state_of device).map address ≡ meaning (slots_of (set_of layout.side device)) address
   map_is address = map_was device device layout.side layout.generation kept.found.live address
 
-  same_live : (address : ℕ) → is_some (slot_for entries address) ≡ is_some ((state_of device).map address)
+  pub same_live : (address : ℕ) → is_some (slot_for entries address) ≡ is_some ((state_of device).map address)
   same_live address = search (rules, alike_held, map_is)
 
   keys_proper : (address : ℕ) → is_some (slot_for entries address) ≡ true → IsAddress address

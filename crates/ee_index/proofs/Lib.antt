@@ -3,5 +3,6 @@ mod Indexing
 mod IndexedStores
 mod IndexReaders
 mod IndexedAppends
+mod IndexedRooms
 mod IndexedMoves
 mod IndexedBatches

@@ -1,6 +1,7 @@
 -- The index of a store that keeps one: the slots in which the live addresses stand.
-use Rattle.std.specs.Prelude.{◌≡◌, ◌<◌, ◌⊎◌, ℕ, ◌+◌, ◌==◌, if◌then◌else◌, is_some, Bool, true, false, Option, Some, None, List, [], ◌∷◌, slice_index_or}
+use Rattle.std.specs.Prelude.{◌≡◌, ◌<◌, ℕ, ◌+◌, ◌==◌, nat_lt, if◌then◌else◌, is_some, Bool, true, false, Option, Some, None, List, [], ◌∷◌, ◌++◌, length, slice_index_or}
 use Rattle.std.specs.BTreeMap.{is_at}
+use Rattle.std.specs.List.{All}
 use Rattle.std.specs.List.Sorted.{IsStrictlySortedBy}
 use Rattle.std.specs.Map.{keys_of, lookup}
 use Rattle.std.specs.Option.{option_map}
@@ -14,10 +15,12 @@ use Rattle.ee_codec.specs.declared.slot.Slot.{Slot}
 use Rattle.ee_codec.specs.declared.slot.Slot.TheVariants.{Free, Spoiled, Element, Forgotten, Foreign}
 use Rattle.ee_pages.specs.Layout.{IsLayout, IsScanFault}
 use Rattle.ee_pages.specs.Legal.{IsLegal}
-use Rattle.ee_pages.specs.Meaning.{Change, Map, Put, Forget, above_of, map_after, meaning, says}
-use Rattle.ee_pages.specs.Sets.{set_of, slots_of}
+use Rattle.ee_pages.specs.Meaning.{Change, Map, Put, Forget, above_of, changed_by, live_in, map_after, meaning, says}
+use Rattle.ee_pages.specs.Sets.{fill_of, set_of, slots_of}
 use Rattle.ee_pages.specs.declared.find.Layout.{Layout}
 use Rattle.ee_core.specs.Openings.{IsCutOpening}
+use Rattle.ee_core.specs.Puts.{AreApart, forgets_of, is_put, puts_of}
+use Rattle.ee_core.specs.declared.change.Put as listed
 use Rattle.ee_index.specs.declared.indexed.IndexedFault.{IndexedFault}
 use Rattle.ee_index.specs.declared.indexed.IndexedFault.TheVariants as indexed
 
@@ -63,55 +66,83 @@ abbrev pub IsReadyFor : List Word → Change → ℕ → Map → Type 0
 IsReadyFor slots change number index =
     (before : Map) × IsIndex slots before × ((address : ℕ) → index address ≡ index_for_change change number before address)
 
--- an address that is put is in the index
-abbrev pub HasPut : Change → Map → Type 0
-HasPut (Put address value) index = is_some (index address) ≡ true
-HasPut (Forget address) index = Unit {0}
+-- ---- how room is made in it
+
+-- whether a slot of this number is used
+abbrev pub is_filled : List Word → ℕ → Bool
+is_filled slots number = nat_lt number (fill_of slots)
+
+-- a slot, if it is one of those that are shown
+abbrev pub shown_slot : (ℕ → Bool) → Option ℕ → Option ℕ
+shown_slot shown None = None
+shown_slot shown (Some number) = if shown number then Some number else None
+
+-- what is seen of an index: the addresses whose slots are shown; the others are hidden
+abbrev pub shown_index : (ℕ → Bool) → Map → Map
+shown_index shown index address = shown_slot shown (index address)
+
+-- one shows what another does, where so many slots are used
+abbrev pub IsShownSame : ℕ → List (ℕ × ℕ) → List (ℕ × ℕ) → Type 0
+IsShownSame fill old new =
+    (address : ℕ) → shown_index (λ number. nat_lt number fill) (slot_for new) address ≡ shown_index (λ number. nat_lt number fill) (slot_for old) address
+
+-- the index has the addresses to which this map gives a value, and no other
+abbrev pub HasAddresses : Map → Map → Type 0
+HasAddresses index map = (address : ℕ) → is_some (index address) ≡ is_some (map address)
+
+-- these values add so many addresses to each map that gives the addresses of the index a value
+abbrev pub AddsAddresses : List listed.Put → Map → ℕ → Type 0
+AddsAddresses puts index count =
+    (map : Map) → HasAddresses index map → AreApart (puts_of puts) → live_in (changed_by (puts_of puts) map) ≡ live_in map + count
+
+-- An index of these slots in which there is room for values that are about to be put: an address that has no value yet has
+-- a number in it that is no used slot's, and is hidden.
+pub record IsRoomFor (slots : List Word) (puts : List listed.Put) (index : Map) : Type 0 where
+  pub indexes : IsIndex slots (shown_index (is_filled slots) index)
+  pub addresses : HasAddresses index (changed_by (puts_of puts) (meaning slots))
 
 -- ---- how a transfer numbers it
 
--- the address that a change puts: a transfer puts it first
-abbrev pub put_of : Change → Option ℕ
-put_of (Put address value) = Some address
-put_of (Forget address) = None
+-- the place of an address among values that are put, counted from 0
+abbrev pub place_of : List listed.Put → ℕ → ℕ
+place_of [] address = 0
+place_of (put ∷ puts) address = if put.address == address then 0 else place_of puts address + 1
 
--- whether it is this one
-abbrev pub is_first : Option ℕ → ℕ → Bool
-is_first None address = false
-is_first (Some first) address = first == address
+-- the values that are put have their places in the list for slots, and the others have the slots from this one on
+abbrev pub numbered_slots : List listed.Put → ℕ → List (ℕ × ℕ) → List (ℕ × ℕ)
+numbered_slots puts number [] = []
+numbered_slots puts number (entry ∷ more) =
+    if is_put puts entry.0 then (entry.0, place_of puts entry.0) ∷ numbered_slots puts number more
+    else (entry.0, number) ∷ numbered_slots puts (number + 1) more
 
--- how many slots it takes
-abbrev pub behind_first : Option ℕ → ℕ
-behind_first None = 0
-behind_first (Some first) = 1
-
--- the address that is put first has the first slot, and the others have the slots from this one on
-abbrev pub numbered_slots : Option ℕ → ℕ → List (ℕ × ℕ) → List (ℕ × ℕ)
-numbered_slots first number [] = []
-numbered_slots first number (entry ∷ more) =
-    if is_first first entry.0 then (entry.0, 0) ∷ numbered_slots first number more
-    else (entry.0, number) ∷ numbered_slots first (number + 1) more
+-- the entries behind a transfer: those that are forgotten left, and the others are numbered
+pub record IsNumberedAfter (puts : List listed.Put) (forgets : Bool) (old new : List (ℕ × ℕ)) : Type 0 where
+  pub left : List (ℕ × ℕ)
+  pub ordered : IsStrictlySortedBy nat_cmp (keys_of left)
+  pub left_is : (address : ℕ) → slot_for left address ≡ changed_by (forgets_of (if forgets then puts else [])) (slot_for old) address
+  pub numbered : let values = if forgets then [] else puts in new ≡ numbered_slots values (length values) left
 
 -- ---- how it is gone over
 
--- what is seen of an index while an address of it is hidden, if one is
-abbrev pub shown_index : Option ℕ → Map → Map
-shown_index None index = index
-shown_index (Some hidden) index = map_after (Forget hidden) index
-
 -- what is left of the entries, behind this address, to go over
-pub record IsLeft (slots : List Word) (hidden after : Option ℕ) (entries : List (ℕ × ℕ)) : Type 0 where
+pub record IsLeft (slots : List Word) (shown : ℕ → Bool) (after : Option ℕ) (entries : List (ℕ × ℕ)) : Type 0 where
   pub ordered : IsStrictlySortedBy nat_cmp (keys_of entries)
   pub behind : (address : ℕ) → is_some (slot_for entries address) ≡ true → above_of after < address
   pub indexes : (address : ℕ) → above_of after < address
-      → said_at slots (shown_index hidden (slot_for entries) address) address ≡ says_value (meaning slots address)
+      → said_at slots (shown_index shown (slot_for entries) address) address ≡ says_value (meaning slots address)
 
--- the next entry that is not hidden, and what is left behind it
-abbrev pub IsNextShown : Option ℕ → List (ℕ × ℕ) → Option (ℕ × ℕ) → List (ℕ × ℕ) → Type 0
-IsNextShown hidden entries None left = (address : ℕ) → shown_index hidden (slot_for entries) address ≡ None
-IsNextShown hidden entries (Some found) left =
-    ((is_first hidden found.0 ≡ false) × (entries ≡ found ∷ left))
-    ⊎ ((passed : ℕ × ℕ) × (is_first hidden passed.0 ≡ true) × (entries ≡ passed ∷ found ∷ left))
+-- the slots of these entries are hidden
+abbrev pub AreHidden : (ℕ → Bool) → List (ℕ × ℕ) → Type 0
+AreHidden shown entries = All (λ entry. shown entry.1 ≡ false) entries
+
+-- a reader has passed hidden entries alone, up to what is left
+abbrev pub PassesHidden : (ℕ → Bool) → List (ℕ × ℕ) → List (ℕ × ℕ) → Type 0
+PassesHidden shown entries left = (passed : List (ℕ × ℕ)) × AreHidden shown passed × (entries ≡ passed ++ left)
+
+-- the next entry that is shown, and what is left behind it
+abbrev pub IsNextShown : (ℕ → Bool) → List (ℕ × ℕ) → Option (ℕ × ℕ) → List (ℕ × ℕ) → Type 0
+IsNextShown shown entries None left = AreHidden shown entries
+IsNextShown shown entries (Some found) left = (shown found.1 ≡ true) × PassesHidden shown entries (found ∷ left)
 
 -- where a reader of an index begins: behind this address, or at the first of all
 abbrev pub bound_above : Option ℕ → Bound ℕ

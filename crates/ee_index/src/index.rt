@@ -1,18 +1,20 @@
 //! The index: the slot in which each live address stands, and what is read by it.
-ghost use Rattle.std.specs.Prelude.{◌≡◌, ◌<◌, ◌+◌, ℕ, IfOk, IfSome, OnOk, [], ◌∷◌, None, Some, false, slice_index_or, true};
+ghost use Rattle.std.specs.Prelude.{◌≡◌, ◌<◌, ◌≤◌, ◌+◌, ℕ, IfOk, IfSome, MatchOption, OnOk, None, Some, false, length, nat_lt, slice_index_or, true};
 ghost use Rattle.std.specs.List.{All};
 ghost use Rattle.ee_codec.specs.Words.{IsAddress};
 ghost use Rattle.ee_flash.specs.Size.{slot_count};
 ghost use Rattle.ee_pages.specs.Layout.{IsLayout};
 ghost use Rattle.ee_pages.specs.Meaning.{AreLiveThrough, IsNextLive, above_of, says};
 ghost use Rattle.ee_pages.specs.Sets.{set_of, slots_of};
-ghost use Rattle.ee_index.specs.Index.{IsIndex, IsNextShown, behind_first, bound_above, index_with_slot, is_first, numbered_slots, slot_for};
+ghost use Rattle.ee_index.specs.Index.{AddsAddresses, IsIndex, IsNextShown, bound_above, index_with_slot, numbered_slots, place_of, slot_for};
 ghost use Rattle.std.specs.List.Sorted.{IsStrictlySortedBy};
 ghost use Rattle.std.specs.Map.{keys_of};
 ghost use Rattle.std.specs.Ordering.{nat_cmp};
 ghost use Rattle.ee_core.specs.Parts.{map_in};
+ghost use Rattle.ee_core.specs.Puts.{is_put};
 
 use ee_codec::{Address, Slot, read_slot};
+use ee_core::Put;
 use ee_core::inner::LiveCursor;
 use ee_flash::{Flash, Word};
 use ee_pages::{Batch, Layout, LiveBatch, slot_word};
@@ -67,35 +69,61 @@ fn enter<A: Allocator + Copy>(
 }
 
 /// Gives the addresses of an index, which has those that are live behind a transfer, the slots in
-/// which the transfer put them: `first`, if there is one, stands in the first slot, and behind it
-/// stand the others, by rising address. It takes no memory and doesn't look at the flash.
-pub(crate) fn renumber<A: Allocator>(index: &mut Index<A>, first: Option<Address>)
+/// which the transfer put them: the values that it put stand first, in their order, and behind them the
+/// others, by rising address. It takes no memory and doesn't look at the flash.
+pub(crate) fn renumber<A: Allocator>(index: &mut Index<A>, puts: &[Put])
     ensures numbered { index.new.entries
-        ≡ numbered_slots first (behind_first first) index.old.entries }
+        ≡ numbered_slots puts.now (length puts.now) index.old.entries }
     ensures ordered { IsStrictlySortedBy nat_cmp (keys_of index.old.entries) }
 {
-    let behind = match first {
-        None => 0,
-        Some(_) => 1,
-    };
-    let mut numbers = behind..behind + index.len();
+    let mut numbers = puts.len()..puts.len() + index.len();
     index.retain(|address, slot| {
-        *slot = next_number(&mut numbers, first, *address);
+        *slot = next_number(&mut numbers, puts, *address);
         true
     });
 }
 
-/// The slot of the next address: `first` has the first slot, and each other takes the next number.
-fn next_number(numbers: &mut Range<usize>, first: Option<Address>, address: Address) -> usize
-    ensures first { is_first first address ≡ true → (result ≡ 0) × (numbers.new ≡ numbers.old) }
-    ensures other { is_first first address ≡ false → numbers.old.start < numbers.old.end
+/// The slot of the next address: one that is put has its place in the list, and each other takes the
+/// next number.
+fn next_number(numbers: &mut Range<usize>, puts: &[Put], address: Address) -> usize
+    ensures listed { is_put puts.now address ≡ true
+        → (result ≡ place_of puts.now address) × (numbers.new ≡ numbers.old) }
+    ensures other { is_put puts.now address ≡ false → numbers.old.start < numbers.old.end
         → (result ≡ numbers.old.start) × (numbers.new.start ≡ numbers.old.start + 1)
         × (numbers.new.end ≡ numbers.old.end) }
 {
-    if first == Some(address) {
-        return 0;
+    if let Some(place) = place_in(puts, address) {
+        return place;
     }
     numbers.next().unwrap_or(0)
+}
+
+/// The place of an address in a list, counted from 0.
+fn place_in(puts: &[Put], address: Address) -> Option<usize>
+    ensures { MatchOption result (is_put puts.now address ≡ false)
+        (λ place. (is_put puts.now address ≡ true) × (place ≡ place_of puts.now address)) }
+{
+    'entries: for place in 0..puts.len() {
+        if puts[place].address == address {
+            return Some(place);
+        }
+    }
+    None
+}
+
+/// How many of these values, each of which is of an address of its own, are of addresses that an index
+/// doesn't have.
+pub(crate) fn count_new<A: Allocator>(index: &Index<A>, puts: &[Put]) -> usize
+    ensures adds { AddsAddresses puts.now (slot_for index.now.entries) result }
+    ensures few { result ≤ length puts.now }
+{
+    let mut count = 0;
+    'entries: for put in puts {
+        if !index.contains_key(&put.address) {
+            count += 1;
+        }
+    }
+    count
 }
 
 /// The value that the slot of this number says, 0 if it says none.
@@ -198,22 +226,19 @@ pub(crate) fn batch_indexed<F: Flash, A: Allocator>(
 pub(crate) struct IndexCursor<'a> {
     /// The entries that are left.
     entries: Iter<'a, Address, usize>,
-    hidden: Option<Address>,
     /// The address given last.
     after: Option<Address>,
 }
 
 impl<'a> IndexCursor<'a> {
     /// Before the first.
-    pub(crate) fn new<A: Allocator>(index: &'a Index<A>, hidden: Option<Address>) -> IndexCursor<'a>
+    pub(crate) fn new<A: Allocator>(index: &'a Index<A>) -> IndexCursor<'a>
         ensures entries { result.entries ≡ index.now.entries }
         ensures ordered { IsStrictlySortedBy nat_cmp (keys_of index.now.entries) }
-        ensures hidden { result.hidden ≡ hidden }
         ensures first { result.after ≡ None }
     {
         IndexCursor {
             entries: index.iter(),
-            hidden,
             after: None,
         }
     }
@@ -221,14 +246,14 @@ impl<'a> IndexCursor<'a> {
 
 impl<'a> LiveCursor for IndexCursor<'a> {
     ghost use Rattle.ee_pages.specs.Meaning.{above_of};
-    ghost use Rattle.ee_index.specs.Index.{IsLeft};
+    ghost use Rattle.ee_index.specs.Index.{IsLeft, is_filled};
 
     ghost behind = { λ cursor. above_of cursor.after };
 
-    ghost goes_over = { λ cursor slots. IsLeft slots cursor.hidden cursor.after cursor.entries };
+    ghost goes_over = { λ cursor slots. IsLeft slots (is_filled slots) cursor.after cursor.entries };
 
     fn next<F: Flash>(&mut self, flash: &F, layout: &Layout) -> Option<(Address, u32)> {
-        let Some((address, number)) = next_shown(&mut self.entries, self.hidden) else {
+        let Some((address, number)) = next_shown(&mut self.entries, layout.fill) else {
             return None;
         };
         self.after = Some(address);
@@ -236,29 +261,14 @@ impl<'a> LiveCursor for IndexCursor<'a> {
     }
 }
 
-/// The next entry that is not hidden.
-fn next_shown(
-    entries: &mut Iter<'_, Address, usize>,
-    hidden: Option<Address>,
-) -> Option<(Address, usize)>
-    ensures { IsNextShown hidden entries.old result entries.new }
+/// The next entry whose slot is one of those used, of which there are so many.
+fn next_shown(entries: &mut Iter<'_, Address, usize>, fill: usize) -> Option<(Address, usize)>
+    ensures { IsNextShown (λ number. nat_lt number fill) entries.old result entries.new }
 {
-    let Some((address, number)) = entries.next() else {
-        return None;
-    };
-    if hidden == Some(*address) {
-        return next_left(entries);
+    'entries: while let Some((address, number)) = entries.next() {
+        if *number < fill {
+            return Some((*address, *number));
+        }
     }
-    Some((*address, *number))
-}
-
-/// The next entry.
-fn next_left(entries: &mut Iter<'_, Address, usize>) -> Option<(Address, usize)>
-    ensures none { result ≡ None → entries.old ≡ [] }
-    ensures some { IfSome result (λ found. entries.old ≡ found ∷ entries.new) }
-{
-    match entries.next() {
-        None => None,
-        Some((address, number)) => Some((*address, *number)),
-    }
+    None
 }

@@ -1,21 +1,21 @@
 //! Changes with an index: room in it is made before the first step, and it follows without memory.
-ghost use Rattle.std.specs.Prelude.{◌≡◌, ◌<◌, ◌⊎◌, ℕ, [], ◌∷◌, IfOk, OnErr, OnOk, None, Some, is_some, true};
-ghost use Rattle.ee_codec.specs.Words.{IsAddress};
+ghost use Rattle.std.specs.Prelude.{◌≡◌, ◌<◌, ℕ, [], ◌∷◌, OnErr, OnOk, None, if◌then◌else◌, nat_lt};
 ghost use Rattle.ee_flash.specs.Device.{IsOn};
 ghost use Rattle.ee_flash.specs.Size.{slot_count};
 ghost use Rattle.ee_pages.specs.Layout.{IsLayout};
-ghost use Rattle.ee_pages.specs.Pending.{address_of};
 ghost use Rattle.ee_pages.specs.Sets.{set_of, slots_of};
-ghost use Rattle.ee_core.specs.Changes.{Appends, IsCutChange, Moves, Proceeds};
+ghost use Rattle.ee_core.specs.Changes.{Appends, IsCutChange, IsCutMaking, Moves, NeedsTransfer, Proceeds};
 ghost use Rattle.ee_core.specs.Finished.{IsMarked, IsStore};
-ghost use Rattle.ee_index.specs.Index.{HasPut, IsIndex, IsReadyFor, put_of, shown_index, slot_for, without_forgotten};
-ghost use Rattle.ee_pages.specs.Meaning.{Put as MapPut, map_after};
+ghost use Rattle.ee_index.specs.Index.{HasAddresses, IsIndex, IsNumberedAfter, IsReadyFor, IsRoomFor, IsShownSame, shown_index, slot_for, without_forgotten};
+ghost use Rattle.ee_pages.specs.Meaning.{Forget as MapForget, Put as MapPut, changed_by, map_after};
 ghost use Rattle.ee_core.specs.Parts.{ForgetsHeld, meant};
-ghost use Rattle.ee_core.specs.State.{state_of};
+ghost use Rattle.ee_core.specs.Puts.{AreApart, HasNew, carried, forgets_of, puts_of};
+ghost use Rattle.ee_core.specs.State.{capacity, state_of};
 
 use crate::index::{Index, IndexCursor, renumber};
 use ee_codec::Address;
-use ee_core::inner::{Change, append_change, move_change};
+use ee_core::Put;
+use ee_core::inner::{Change, append_change, move_changes, values_put};
 use ee_flash::{Cut, Flash};
 use ee_pages::Layout;
 use std::alloc::{AllocError, Allocator};
@@ -36,25 +36,65 @@ pub(crate) fn enter_slot<A: Allocator + Copy>(
     Ok(())
 }
 
-/// Makes room in an index for the slot of an address, and gives the address if it is new there. An
-/// `Err`, which only a new address meets, leaves the index as it was.
+/// Makes room in an index for the slots of these values: each new address gets a number that is none
+/// of a used slot, of which there are so many. An `Err`, which only a new address meets, leaves the
+/// index as it is seen.
 pub(crate) fn make_room<A: Allocator + Copy>(
     index: &mut Index<A>,
+    puts: &[Put],
+    fill: usize,
+) -> Result<(), AllocError>
+    ensures shown { OnOk result (IsShownSame fill index.old.entries index.new.entries) }
+    ensures there { OnOk result (HasAddresses (slot_for index.new.entries)
+        (changed_by (puts_of puts.now) (slot_for index.old.entries))) }
+    ensures new { OnErr result (HasNew puts.now (slot_for index.old.entries)) }
+    ensures err { OnErr result ((address : ℕ) → slot_for index.new.entries address
+        ≡ shown_index (λ number. nat_lt number fill) (slot_for index.old.entries) address) }
+{
+    match enter_hidden(index, puts, fill) {
+        Ok(()) => Ok(()),
+        Err(refused) => {
+            index.retain(|_, number| *number < fill);
+            Err(refused)
+        }
+    }
+}
+
+/// Enters each new address of these values with this number. An `Err`, which only a new address meets,
+/// leaves some of them entered.
+fn enter_hidden<A: Allocator + Copy>(
+    index: &mut Index<A>,
+    puts: &[Put],
+    fill: usize,
+) -> Result<(), AllocError>
+    ensures shown { IsShownSame fill index.old.entries index.new.entries }
+    ensures there { OnOk result (HasAddresses (slot_for index.new.entries)
+        (changed_by (puts_of puts.now) (slot_for index.old.entries))) }
+    ensures new { OnErr result (HasNew puts.now (slot_for index.old.entries)) }
+{
+    'entries: for put in puts {
+        enter_new(index, put.address, fill)?;
+    }
+    Ok(())
+}
+
+/// Enters an address with this number, if it is new. An `Err`, which only a new address meets, leaves
+/// the index as it was.
+fn enter_new<A: Allocator + Copy>(
+    index: &mut Index<A>,
     address: Address,
-) -> Result<Option<Address>, AllocError>
-    ensures room { IfOk result (λ hidden. (named : ℕ)
-        → shown_index hidden (slot_for index.new.entries) named ≡ slot_for index.old.entries named) }
-    ensures there { OnOk result (is_some (slot_for index.new.entries address) ≡ true) }
-    ensures hidden { IfOk result (λ hidden. (hidden ≡ None) ⊎ (hidden ≡ Some address)) }
+    number: usize,
+) -> Result<(), AllocError>
+    ensures shown { IsShownSame number index.old.entries index.new.entries }
+    ensures there { OnOk result (HasAddresses (slot_for index.new.entries)
+        (map_after (MapPut address number) (slot_for index.old.entries))) }
     ensures absent { OnErr result (slot_for index.old.entries address ≡ None) }
-    ensures err { OnErr result (index.new.entries ≡ index.old.entries) }
 {
     if index.contains_key(&address) {
-        return Ok(None);
+        return Ok(());
     }
-    // The transfer gives it its slot.
-    index.insert(address, 0)?;
-    Ok(Some(address))
+    enter_slot(index, address, number)?;
+    Ok(())
 }
 
 /// Makes a change to which no refusal applies in the first free slot. In the index an address that is
@@ -82,55 +122,77 @@ pub(crate) fn append_indexed<F: Flash, A: Allocator>(
         IsOn (F.device flash.new) → IsIndex slots (slot_for index.new.entries) }
 {
     append_change(flash, layout, change)?;
-    leave(index, &change);
+    leave_forgotten(index, &change);
     Ok(())
 }
 
-/// Makes a change to which no refusal applies with a transfer that goes over the live addresses by
-/// the index, where no slot is free. An address that is put is in the index, and hidden if it has no
-/// value yet. The layout and the index follow, and that takes no memory.
+/// Makes changes to which no refusal applies with a transfer that goes over the live addresses by the
+/// index: values that are put, or the forgettings of their addresses. An address that is put is in the
+/// index, and hidden if it has no value yet. The layout and the index follow, and that takes no memory.
 pub(crate) fn move_indexed<F: Flash, A: Allocator>(
     flash: &mut F,
     layout: &mut Layout,
     index: &mut Index<A>,
-    change: Change,
-    hidden: Option<Address>,
+    puts: &[Put],
+    forgets: bool,
 ) -> Result<(), Cut>
     requires layout { IsLayout (F.device flash.old) layout.old }
-    requires address { IsAddress (address_of (meant change)) }
-    requires proceeds { Proceeds (F.device flash.old) (meant change ∷ []) }
-    requires all_used { layout.old.fill ≡ slot_count (F.device flash.old).size }
-    requires index { let slots = slots_of (set_of layout.old.side (F.device flash.old)) in
-        IsIndex slots (shown_index hidden (slot_for index.old.entries)) }
-    requires there { HasPut (meant change) (slot_for index.old.entries) }
-    requires hidden { (hidden ≡ None) ⊎ (hidden ≡ Some (address_of (meant change))) }
+    requires apart { AreApart (carried puts.now forgets) }
+    requires proceeds { Proceeds (F.device flash.old) (carried puts.now forgets) }
+    requires needed { NeedsTransfer (capacity (F.device flash.old)) (state_of (F.device flash.old))
+        (carried puts.now forgets) }
+    requires room { let slots = slots_of (set_of layout.old.side (F.device flash.old)) in
+        IsRoomFor slots (if forgets then [] else puts.now) (slot_for index.old.entries) }
     ensures moved { OnOk result
-        (Moves (F.device flash.old) (meant change ∷ []) (F.device flash.new)) }
+        (Moves (F.device flash.old) (carried puts.now forgets) (F.device flash.new)) }
     ensures cut { OnErr result
-        (IsCutChange (F.device flash.old) (meant change) (F.device flash.new)) }
+        (IsCutMaking (F.device flash.old) (carried puts.now forgets) (F.device flash.new)) }
     ensures store { IsStore (F.device flash.new) }
     ensures layout { IsOn (F.device flash.new) → IsLayout (F.device flash.new) layout.new }
     ensures index { let slots = slots_of (set_of layout.new.side (F.device flash.new)) in
         IsOn (F.device flash.new) → IsIndex slots (slot_for index.new.entries) }
 {
-    let mut cursor = IndexCursor::new(index, hidden);
-    move_change(flash, layout, change, &mut cursor)?;
-    let first = leave(index, &change);
-    renumber(index, first);
+    let mut cursor = IndexCursor::new(index);
+    move_changes(flash, layout, puts, forgets, &mut cursor)?;
+    follow(index, puts, forgets);
     Ok(())
 }
 
-/// Takes an address that is forgotten from an index, and gives the one that is put.
-fn leave<A: Allocator>(index: &mut Index<A>, change: &Change) -> Option<Address>
-    ensures first { result ≡ put_of (meant change.now) }
-    ensures left { (address : ℕ) → slot_for index.new.entries address
+/// Lets an index follow a transfer: the addresses that are forgotten leave it, and the others get the
+/// slots in which the transfer put them.
+fn follow<A: Allocator>(index: &mut Index<A>, puts: &[Put], forgets: bool)
+    ensures { IsNumberedAfter puts.now forgets index.old.entries index.new.entries }
+{
+    let put = values_put(puts, forgets);
+    let forgotten = values_put(puts, !forgets);
+    leave_all(index, forgotten);
+    renumber(index, put);
+}
+
+/// Takes the addresses of these values from an index.
+fn leave_all<A: Allocator>(index: &mut Index<A>, puts: &[Put])
+    ensures { (address : ℕ) → slot_for index.new.entries address
+        ≡ changed_by (forgets_of puts.now) (slot_for index.old.entries) address }
+{
+    'entries: for put in puts {
+        leave(index, put.address);
+    }
+}
+
+/// Takes an address from an index.
+fn leave<A: Allocator>(index: &mut Index<A>, address: Address)
+    ensures { (named : ℕ) → slot_for index.new.entries named
+        ≡ map_after (MapForget address) (slot_for index.old.entries) named }
+{
+    index.remove(&address);
+}
+
+/// Takes an address that is forgotten from an index.
+fn leave_forgotten<A: Allocator>(index: &mut Index<A>, change: &Change)
+    ensures { (address : ℕ) → slot_for index.new.entries address
         ≡ without_forgotten (meant change.now) (slot_for index.old.entries) address }
 {
-    match *change {
-        Change::Put { address, .. } => Some(address),
-        Change::Forget { address, .. } => {
-            index.remove(&address);
-            None
-        }
+    if let Change::Forget { address, .. } = *change {
+        leave(index, address);
     }
 }

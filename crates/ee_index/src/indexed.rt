@@ -1,19 +1,22 @@
 //! The store with an index: a read is one look in the index and one word of the flash.
 ghost use Rattle.std.specs.Bool.{MatchBool};
-ghost use Rattle.std.specs.Prelude.{◌≡◌, ◌<◌, ◌-◌, IfErr, IfOk, MatchOption, length};
+ghost use Rattle.std.specs.Prelude.{◌≡◌, ◌<◌, ◌≤◌, ◌-◌, [], ◌∷◌, IfErr, IfOk, MatchOption, length};
 ghost use Rattle.ee_flash.specs.Device.{IsOn};
-ghost use Rattle.ee_core.specs.Changes.{IsFull, IsSpent};
+ghost use Rattle.ee_core.specs.Calls.{WritesAll};
+ghost use Rattle.ee_core.specs.Changes.{IsFull, IsSpent, greatest_generation};
 ghost use Rattle.ee_core.specs.Finished.{IsStore};
 ghost use Rattle.ee_core.specs.Openings.{Opens};
+ghost use Rattle.ee_core.specs.Puts.{AreApart, puts_of};
 ghost use Rattle.ee_core.specs.State.{capacity, state_of};
+ghost use Rattle.ee_pages.specs.Meaning.{changed_by, live_in};
 ghost use Rattle.ee_index.specs.Index.{IndexedOpenFails, slot_for};
 ghost use Rattle.ee_index.specs.Kept.{IsKeptBeside};
 
-use crate::index::{Index, batch_indexed, next_indexed, read_index, value_in};
+use crate::index::{Index, batch_indexed, count_new, next_indexed, read_index, value_in};
 use crate::index_changing::{append_indexed, enter_slot, make_room, move_indexed};
 use ee_codec::Address;
-use ee_core::inner::{Change, GREATEST_GENERATION, clean, finish};
-use ee_core::{ForgetFault, Off, Variables, WriteFault, Written, count_pending};
+use ee_core::inner::{Change, GREATEST_GENERATION, clean, finish, first_twice};
+use ee_core::{ForgetFault, Off, Put, Variables, WriteAllFault, WriteFault, Written, count_pending};
 use ee_flash::{Cut, Flash};
 use ee_pages::{Layout, LiveBatch, ScanFault, scan};
 use std::alloc::{Allocator, Global};
@@ -160,6 +163,53 @@ impl<F: Flash + Drop, A: Allocator> IndexedStore<F, A> {
         self.flash
     }
 
+    /// Writes the one value of a list.
+    fn write_one(&mut self, put: Put) -> Result<Written, WriteAllFault>
+    where
+        A: Copy,
+        ensures { WritesAll self.old (put ∷ []) result self.new }
+    {
+        match self.write(put.address, put.value) {
+            Ok(written) => Ok(written),
+            Err(WriteFault::Off) => Err(WriteAllFault::Off),
+            Err(WriteFault::Full) => Err(WriteAllFault::Full),
+            Err(WriteFault::Spent) => Err(WriteAllFault::Spent),
+            Err(WriteFault::Memory) => Err(WriteAllFault::Memory),
+            Err(WriteFault::Cut) => Err(WriteAllFault::Cut),
+        }
+    }
+
+    /// Writes two values or more, with a transfer.
+    fn write_several(&mut self, puts: &[Put]) -> Result<Written, WriteAllFault>
+    where
+        A: Copy,
+        requires on { IsOn self.old }
+        requires several { 1 < length puts.now }
+        ensures { WritesAll self.old puts.now result self.new }
+    {
+        if let Some(place) = first_twice(puts) {
+            return Err(WriteAllFault::Twice(place));
+        }
+        if self.is_full_for_all(puts) {
+            return Err(WriteAllFault::Full);
+        }
+        if self.is_last() {
+            return Err(WriteAllFault::Spent);
+        }
+        let Self {
+            flash,
+            layout,
+            index,
+        } = self;
+        let Ok(()) = make_room(index, puts, layout.fill) else {
+            return Err(WriteAllFault::Memory);
+        };
+        match move_indexed(flash, layout, index, puts, false) {
+            Ok(()) => Ok(Written::Moved),
+            Err(Cut) => Err(WriteAllFault::Cut),
+        }
+    }
+
     /// Whether a write or forgetting must be refused since no generation is left for the transfer
     /// that it needs.
     fn is_spent(&self) -> bool
@@ -169,6 +219,27 @@ impl<F: Flash + Drop, A: Allocator> IndexedStore<F, A> {
     {
         self.layout.fill == self.flash.shape().slots()
             && self.layout.generation == GREATEST_GENERATION
+    }
+
+    /// Whether no generation is left for a transfer.
+    fn is_last(&self) -> bool
+        requires { IsOn self.now }
+        ensures { MatchBool result ((state_of self.now).generation ≡ greatest_generation)
+            (¬ ((state_of self.now).generation ≡ greatest_generation)) }
+    {
+        self.layout.generation == GREATEST_GENERATION
+    }
+
+    /// Whether more addresses would have a value than there are slots, with these values, each of which
+    /// is of an address of its own.
+    fn is_full_for_all(&self, puts: &[Put]) -> bool
+        requires on { IsOn self.now }
+        requires apart { AreApart (puts_of puts.now) }
+        ensures { let live = live_in (changed_by (puts_of puts.now) (state_of self.now).map) in
+            MatchBool result (capacity self.now < live) (live ≤ capacity self.now) }
+    {
+        let slots = self.flash.shape().slots();
+        self.index.len() + count_new(&self.index, puts) > slots
     }
 
     /// Whether the address has no value and there is no slot for one more.
@@ -227,25 +298,38 @@ impl<F: Flash + Drop, A: Allocator + Copy> Variables for IndexedStore<F, A> {
             layout,
             index,
         } = self;
-        let change = Change::Put { address, value };
         // The index grows before the first step, so want of memory leaves all as it was. An address
         // that has a value stands in it, and needs none.
         if layout.fill < flash.shape().slots() {
             let Ok(()) = enter_slot(index, address, layout.fill) else {
                 return Err(WriteFault::Memory);
             };
-            return match append_indexed(flash, layout, index, change) {
+            return match append_indexed(flash, layout, index, Change::Put { address, value }) {
                 Ok(()) => Ok(Written::Appended),
                 Err(Cut) => Err(WriteFault::Cut),
             };
         }
-        let Ok(hidden) = make_room(index, address) else {
+        let puts = [Put { address, value }];
+        let Ok(()) = make_room(index, &puts, layout.fill) else {
             return Err(WriteFault::Memory);
         };
-        match move_indexed(flash, layout, index, change, hidden) {
+        match move_indexed(flash, layout, index, &puts, false) {
             Ok(()) => Ok(Written::Moved),
             Err(Cut) => Err(WriteFault::Cut),
         }
+    }
+
+    fn write_all(&mut self, changes: &[Put]) -> Result<Written, WriteAllFault> {
+        if !self.flash.is_on() {
+            return Err(WriteAllFault::Off);
+        }
+        if changes.is_empty() {
+            return Ok(Written::Appended);
+        }
+        if changes.len() == 1 {
+            return self.write_one(changes[0]);
+        }
+        self.write_several(changes)
     }
 
     fn forget(&mut self, address: Address) -> Result<Written, ForgetFault> {
@@ -263,14 +347,14 @@ impl<F: Flash + Drop, A: Allocator + Copy> Variables for IndexedStore<F, A> {
             layout,
             index,
         } = self;
-        let change = Change::Forget { address, value };
         if layout.fill < flash.shape().slots() {
-            return match append_indexed(flash, layout, index, change) {
+            return match append_indexed(flash, layout, index, Change::Forget { address, value }) {
                 Ok(()) => Ok(Written::Appended),
                 Err(Cut) => Err(ForgetFault::Cut),
             };
         }
-        match move_indexed(flash, layout, index, change, None) {
+        let forgotten = [Put { address, value }];
+        match move_indexed(flash, layout, index, &forgotten, true) {
             Ok(()) => Ok(Written::Moved),
             Err(Cut) => Err(ForgetFault::Cut),
         }

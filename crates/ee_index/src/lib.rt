@@ -9,9 +9,9 @@
 //! # What is proved
 //!
 //! `IndexedStore` keeps the contract of `Variables`, word for word, with an index in memory: the
-//! slot in which each live address stands. Where memory is refused, its `write` and its opening
-//! leave the device as it was, and a write to an address that has a value needs none (`Writes`,
-//! `failed`).
+//! slot in which each live address stands. Where memory is refused, its `write`, its `write_all` and
+//! its opening leave the device as it was, and a write to addresses that have a value needs none
+//! (`Writes`, `WritesAll`, `failed`).
 #![tactic(auto)]
 
 mod index;

@@ -12,7 +12,10 @@ use super::costs::Costs;
 use super::looking::{count_live, looks_for};
 use super::opening::{Arming, Opened};
 use ee_codec::Address;
-use ee_core::{ForgetFault, LiveBatch, Off, Store, Variables, WriteFault, Written, inner as plain};
+use ee_core::{
+    ForgetFault, LiveBatch, Off, Put, Store, Variables, WriteAllFault, WriteFault, Written,
+    inner as plain,
+};
 use ee_flash::Fuse;
 use ee_index::{IndexedFault, IndexedStore, inner as indexed};
 use ee_script::Answer;
@@ -64,6 +67,13 @@ impl<F: Arming, A: Allocator + Copy> Variables for EitherStore<F, A> {
         match self {
             EitherStore::Plain { store, .. } => store.write(address, value),
             EitherStore::Indexed { store, .. } => store.write(address, value),
+        }
+    }
+
+    fn write_all(&mut self, changes: &[Put]) -> Result<Written, WriteAllFault> {
+        match self {
+            EitherStore::Plain { store, .. } => store.write_all(changes),
+            EitherStore::Indexed { store, .. } => store.write_all(changes),
         }
     }
 

@@ -1,4 +1,4 @@
-use Rattle.std.proofs.Common.{◌-◌, None, length}
+use Rattle.std.proofs.Common.{◌-◌, length, true}
 use Rattle.std.specs.List.{All}
 use Rattle.ee_codec.specs.Words.{IsAddress}
 use Rattle.ee_pages.specs.declared.batch_items.TheConstants.{BATCH}
@@ -11,7 +11,7 @@ use Rattle.ee_index.proofs.index.batch_indexed.Given as goal
 abbrev pub invariant-batch : goal.invariant-batch
 invariant-batch g l = record {
   reaches : ReachesTo (map_in l.layout.side (g.F.Flash.device l.flash)) l.fn.after l.behind l.found.items;
-  left : IsLeft (slots_of (set_of l.layout.side (g.F.Flash.device l.flash))) None l.behind l.entries;
+  left : IsLeft (slots_of (set_of l.layout.side (g.F.Flash.device l.flash))) (λ number. true) l.behind l.entries;
   proper : All (λ found. IsAddress found.0) l.found.items;
 }
 

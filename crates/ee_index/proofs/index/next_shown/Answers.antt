@@ -1,9 +1,9 @@
-use Rattle.std.proofs.Common.{rules, ◌≡◌, true}
-use Rattle.ee_index.specs.Index.{is_first}
-use Rattle.ee_index.proofs.IndexReaders.{behind_hidden, is_first_if}
+use Rattle.std.proofs.Common.{nat_lt}
+use Rattle.std.proofs.lemmas.Bool.{le-ltb}
+use Rattle.ee_index.proofs.IndexReaders.{passes_one}
 use Rattle.ee_index.proofs.index.next_shown.Goals as goal
 
-pub returns-then-eq : goal.returns-then-eq
-returns-then-eq c =
-    let hides : is_first c.args.hidden c.in-Some.address.now ≡ true = search (rules, is_first_if) in
-    behind_hidden c.args.hidden c.args.entries.now c.next_left.new.entries c.next.new.self _ c.next_left.result hides c.in-Some.ensures.steps c.next_left.ensures.none c.next_left.ensures.some
+pub entries-preserved : goal.entries-preserved
+entries-preserved c =
+    passes_one (λ number. nat_lt number c.args.fill) c.args.entries.now c.entries.entries c.next.new.self (c.in-Some.address.now, c.in-Some.number.now) c.entries.invariant c.in-Some.ensures.steps
+    (le-ltb c.in-Some.number.now c.args.fill c.if-number-fill.false)

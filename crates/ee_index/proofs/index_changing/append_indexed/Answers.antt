@@ -14,11 +14,11 @@ returns-clause-index g c =
     let done = c.in_ok-append_change.ensures in
     let live = c.requires.layout.live in
     let before = c.requires.ready.0 in
-    let after = slot_for c.leave.new.index.entries in
+    let after = slot_for c.leave_forgotten.new.index.entries in
     let filled = slot_filled layout.side old new layout.generation layout.fill (number_written c.args.change) live done.takes.live.formed done.takes.same_size c.requires.layout.fill c.requires.free done.drawn in
     let indexes = appended_index (slots_of (set_of layout.side old)) (slots_of (set_of layout.side new)) layout.fill before
     (slot_was_free layout.side old new layout.generation layout.fill (number_written c.args.change) live done.takes.live.formed done.takes.same_size c.requires.layout.fill c.requires.free done.drawn)
     (other_slots layout.side old new layout.generation layout.fill (number_written c.args.change) live done.takes.live.formed done.takes.same_size c.requires.layout.fill c.requires.free done.drawn)
     c.requires.ready.1 (meant c.args.change) (says_spelled c.args.change _ filled done.spells) done.takes.map_is in
-    let left = follows_change _ (meant c.args.change) layout.fill before (slot_for c.args.index.now.entries) after c.requires.ready.2 c.leave.ensures.left indexes in
+    let left = follows_change _ (meant c.args.change) layout.fill before (slot_for c.args.index.now.entries) after c.requires.ready.2 c.leave_forgotten.ensures indexes in
     λ on. subst (λ (side : Side). IsIndex (slots_of (set_of side new)) after) (sym done.same_set) left

@@ -1,37 +1,37 @@
-use Rattle.std.proofs.Common.{◌≡◌, ℕ, ◌+◌, ◌<◌, List, [], ◌∷◌, length, get_or, sym, subst, ap, ◌∙◌, arith}
+use Rattle.std.proofs.Common.{◌≡◌, ℕ, ◌+◌, ◌<◌, List, [], ◌∷◌, cond, length, get_or, sym, subst, ap, ◌∙◌, arith}
 use Rattle.ee_flash.specs.declared.word.Word.TheVariants.{Erased}
 use Rattle.ee_pages.specs.Meaning.{meaning}
-use Rattle.ee_pages.specs.Pending.{address_of}
 use Rattle.ee_pages.specs.Sets.{other, set_of, slots_of}
 use Rattle.ee_pages.specs.declared.side.Side.{Side}
-use Rattle.ee_core.specs.Parts.{meant}
 use Rattle.ee_core.specs.Picture.{moved_words}
-use Rattle.ee_index.specs.Index.{IsIndex, behind_first, numbered_slots, slot_for}
-use Rattle.ee_index.proofs.IndexReaders.{hides_proper, left_first}
-use Rattle.ee_index.proofs.IndexedMoves.{filled_slot, moved_index}
+use Rattle.ee_core.specs.Puts.{carried}
+use Rattle.ee_index.specs.Index.{IsIndex, is_filled, slot_for}
+use Rattle.ee_index.proofs.IndexReaders.{left_first}
+use Rattle.ee_index.proofs.IndexedMoves.{filled_slot, held_proper, moved_index}
 use Rattle.ee_index.proofs.Indexing.{slot_within}
 use Rattle.ee_index.proofs.index_changing.move_indexed.Goals as goal
 
-pub move_change-requires-clause-over : goal.move_change-requires-clause-over
-move_change-requires-clause-over g c =
+pub move_changes-requires-clause-over : goal.move_changes-requires-clause-over
+move_changes-requires-clause-over g c =
     let slots = slots_of (set_of c.args.layout.now.side (g.F.Flash.device c.args.flash.now)) in
-    rw (c.new-cursor.ensures.entries, c.new-cursor.ensures.hidden, c.new-cursor.ensures.first) (left_first slots c.args.hidden c.args.index.now.entries c.new-cursor.ensures.ordered (hides_proper c.args.hidden (address_of (meant c.args.change)) c.requires.address c.requires.hidden) c.requires.index)
+    rw (c.new-cursor.ensures.entries, c.new-cursor.ensures.first) (left_first slots (is_filled slots) c.args.index.now.entries c.new-cursor.ensures.ordered
+    (held_proper slots c.args.puts.now c.args.forgets c.args.index.now.entries c.requires.apart c.requires.room) c.requires.room.indexes)
 
 pub returns-clause-index : goal.returns-clause-index
 returns-clause-index g c =
     let old = g.F.Flash.device c.args.flash.now in
-    let new = g.F.Flash.device c.move_change.new.flash in
+    let new = g.F.Flash.device c.move_changes.new.flash in
     let layout = c.args.layout.now in
-    let done = c.in_ok-move_change.ensures in
+    let puts = c.args.puts.now in
+    let forgets = c.args.forgets in
+    let done = c.in_ok-move_changes.ensures in
     let before = slots_of (set_of layout.side old) in
     let after = slots_of (set_of (other layout.side) new) in
-    let words = moved_words (meant c.args.change ∷ []) (meaning before) in
-    let entries = c.leave-first.new.index.entries in
+    let words = moved_words (carried puts forgets) (meaning before) in
     let there : (place : ℕ) → place < length words → get_or after place Erased ≡ get_or words place Erased =
     λ place h. filled_slot (other layout.side) new old.size (layout.generation + 1) place words done.has_moved.live.formed done.has_moved.same_size
-    (slot_within new c.move_change.new.layout done.found place (omega (arith, h, done.as_many))) done.new_pages in
-    let indexes = moved_index (meant c.args.change) c.args.hidden before after c.args.index.now.entries entries c.requires.address c.requires.hidden c.requires.there c.requires.index c.leave-first.ensures.left
-    done.has_moved.map_is c.renumber.ensures.ordered there in
-    let is = c.renumber.ensures.numbered ∙ ap (λ first. numbered_slots first (behind_first first) entries) c.leave-first.ensures.first in
-    λ on. subst (λ (side : Side). IsIndex (slots_of (set_of side new)) (slot_for c.renumber.new.index.entries)) (sym done.other_set)
-    (subst (λ (entries : List (ℕ × ℕ)). IsIndex after (slot_for entries)) (sym is) indexes)
+    (slot_within new c.move_changes.new.layout done.found place (omega (arith, h, done.as_many))) done.new_pages in
+    let numbered = c.follow.ensures in
+    let indexes = moved_index before puts forgets c.args.index.now.entries c.requires.apart c.requires.room after numbered.left numbered.left_is done.has_moved.map_is numbered.ordered there in
+    λ on. subst (λ (side : Side). IsIndex (slots_of (set_of side new)) (slot_for c.follow.new.index.entries)) (sym done.other_set)
+    (subst (λ (entries : List (ℕ × ℕ)). IsIndex after (slot_for entries)) (sym numbered.numbered) indexes)

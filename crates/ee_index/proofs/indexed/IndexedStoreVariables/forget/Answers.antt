@@ -1,8 +1,9 @@
-use Rattle.std.proofs.Common.{rules, ◌≡◌, refl, sym, ap, ◌∙◌, arith}
+use Rattle.std.proofs.Common.{rules, ◌≡◌, true, refl, sym, ap, ◌∙◌, arith}
 use Rattle.ee_flash.specs.Size.{slot_count}
 use Rattle.ee_core.specs.State.{capacity}
 use Rattle.ee_core.proofs.Public.{few_within, store_marked}
 use Rattle.ee_index.specs.Index.{slot_for}
+use Rattle.ee_index.proofs.IndexedRooms.{needs_one, room_as_it_is}
 use Rattle.ee_index.proofs.indexed.IndexedStoreVariables.forget.Goals as goal
 
 pub append_indexed-requires-clause-marked : goal.append_indexed-requires-clause-marked
@@ -13,13 +14,19 @@ append_indexed-requires-clause-marked g c =
     let marked = store_marked device layout.side layout.generation c.self.invariant.0 on (c.self.invariant.1 on).found.live in
     search (rules, marked)
 
-pub move_indexed-requires-clause-all_used : goal.move_indexed-requires-clause-all_used
-move_indexed-requires-clause-all_used g c =
+pub move_indexed-requires-clause-needed : goal.move_indexed-requires-clause-needed
+move_indexed-requires-clause-needed g c =
     let device = g.F.Flash.device c.self.inside.flash in
     let layout = c.self.inside.layout in
-    let on = sym (c.if-not-is_on.ensures) in
+    let kept = c.self.invariant.1 (sym (c.if-not-is_on.ensures)) in
     let slots : c.slots.result ≡ capacity device = c.slots.ensures.value ∙ ap slot_count c.shape.ensures in
-    omega (arith, slots, c.if-layout-slots.false, (c.self.invariant.1 on).found.fill, few_within device layout.side (g.met.F.Flash.formed c.self.inside.flash))
+    let all : layout.fill ≡ capacity device = omega (arith, slots, c.if-layout-slots.false, kept.found.fill, few_within device layout.side (g.met.F.Flash.formed c.self.inside.flash)) in
+    needs_one device layout c.self.inside.index.entries kept (record { address = c.args.address; value = c.in_default.value }) true all
+
+pub move_indexed-requires-clause-room : goal.move_indexed-requires-clause-room
+move_indexed-requires-clause-room g c =
+    let kept = c.self.invariant.1 (sym (c.if-not-is_on.ensures)) in
+    room_as_it_is (g.F.Flash.device c.self.inside.flash) c.self.inside.layout c.self.inside.index.entries kept
 
 pub append_indexed-requires-clause-ready : goal.append_indexed-requires-clause-ready
 append_indexed-requires-clause-ready g c =

@@ -1,0 +1,18 @@
+use Rattle.std.proofs.Common.{◌≡◌, ◌∙◌, ℕ, Bool, List, [], cond, not, true, false, length, ap, refl}
+use Rattle.ee_pages.specs.Meaning.{changed_by}
+use Rattle.ee_core.specs.Puts.{forgets_of}
+use Rattle.ee_core.specs.declared.change.Put as listed
+use Rattle.ee_index.specs.Index.{numbered_slots, slot_for}
+use Rattle.ee_index.proofs.index_changing.follow.Goals as goal
+
+turned : (puts : List listed.Put) (forgets : Bool) → cond (not forgets) [] puts ≡ cond forgets puts []
+turned puts true = refl
+turned puts false = refl
+
+pub returns : goal.returns
+returns g c = record {
+  left = c.leave_all.new.index.entries;
+  ordered = c.renumber.ensures.ordered;
+  left_is = λ address. c.leave_all.ensures address ∙ ap (λ (puts : List listed.Put). changed_by (forgets_of puts) (slot_for c.args.index.now.entries) address) (c.values_put-forgotten.ensures ∙ turned c.args.puts.now c.args.forgets);
+  numbered = c.renumber.ensures.numbered ∙ ap (λ (puts : List listed.Put). numbered_slots puts (length puts) c.leave_all.new.index.entries) c.values_put-put.ensures;
+}
