@@ -1,5 +1,5 @@
 -- What a transfer makes of an index: each address stands where its place in the order says.
-use Rattle.std.proofs.Common.{◌≡◌, ◌≢◌, inl, inr, ℕ, ◌+◌, ◌<◌, Bool, cond, true, false, Option, Some, None, is_some, List, [], ◌∷◌, ◌++◌, length, get_or, refl, sym, subst, ap, ◌∙◌, arith, length-append, rules, suc}
+use Rattle.std.proofs.Common.{◌≡◌, ◌≢◌, inl, inr, ℕ, ◌+◌, ◌<◌, Bool, cond, true, false, Some, None, is_some, List, [], ◌∷◌, ◌++◌, length, get_or, refl, sym, subst, ap, ◌∙◌, arith, length-append, rules, suc}
 use Rattle.std.specs.Prelude.{◌==◌, ◌||◌}
 use Rattle.std.proofs.Math.Seq.{get_or-append_seam}
 use Rattle.std.proofs.lemmas.Bool.{cases_Bool, cases_eq, cases_lt, eqb-true, lt-ltb}
@@ -25,7 +25,7 @@ use Rattle.ee_pages.proofs.Public.{slots_before_slot}
 use Rattle.ee_core.specs.Picture.{IsDrawn, elements_of, elements_to, filled_set, map_without, moved_words, put_words}
 use Rattle.ee_core.specs.Puts.{AreApart, carried, forgets_of, is_put, names, puts_of}
 use Rattle.ee_core.specs.declared.change.Put as listed
-use Rattle.ee_core.proofs.Public.{changed_by-other, elements_front, forget-at, forget-other, length-put_words, names-puts, next_element, no_words, none_between, put-at, put-other, without-at, without-other}
+use Rattle.ee_core.proofs.Public.{changed_by-other, elements_front, forget-other, length-put_words, names-puts, next_element, no_words, none_between, put-at, put-other, without-at, without-other}
 use Rattle.ee_index.specs.Index.{HasAddresses, IsIndex, IsRoomFor, is_filled, numbered_slots, place_of, said_at, says_value, shown_index, slot_for}
 use Rattle.ee_index.proofs.IndexReaders.{absent_to, none_unless, put_elsewhere, put_there}
 use Rattle.ee_index.proofs.IndexedAppends.{drawn_slot}

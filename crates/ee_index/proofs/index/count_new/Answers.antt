@@ -1,16 +1,8 @@
-use Rattle.std.proofs.Common.{◌≡◌, ◌+◌, ℕ, Bool, cond, not, true, false, ap, refl, sym, ◌∙◌, arith}
+use Rattle.std.proofs.Common.{◌≡◌, ◌+◌, Bool, cond, true, false, ap, sym, ◌∙◌, arith}
 use Rattle.ee_index.specs.Index.{slot_for}
 use Rattle.ee_index.proofs.IndexedRooms.{counted_more}
 use Rattle.ee_index.proofs.index.count_new.Goals.{then-not-contains_key, else-not-contains_key}
 use Rattle.ee_index.proofs.index.count_new.Goals as goal
-
-is_not : (held : Bool) → not held ≡ true → held ≡ false
-is_not true e = absurd (cc e)
-is_not false e = refl
-
-is_so : (held : Bool) → not held ≡ false → held ≡ true
-is_so true e = refl
-is_so false e = absurd (cc e)
 
 pub entries-preserved : goal.entries-preserved
 entries-preserved g c =
@@ -19,13 +11,13 @@ entries-preserved g c =
     let more = counted_more c.args.puts.now c.entries.put-index c.put-item.result c.entries-test.true c.put-item.is (slot_for c.args.index.now.entries) c.entries.count c.entries.invariant.adds held c.contains_key.ensures next in
     elim c.if-not-contains_key.branch [
       | then-not-contains_key w ↦
-          let none : held ≡ false = is_not held w.if-not-contains_key.true in
+          let none : held ≡ false = w.if-not-contains_key.true in
           record {
             adds = more (w.count-is ∙ ap (λ (b : Bool). c.entries.count + cond b 0 1) (sym none));
             few = omega (arith, w.count-is, c.entries.invariant.few);
           }
       | else-not-contains_key w ↦
-          let some : held ≡ true = is_so held w.if-not-contains_key.false in
+          let some : held ≡ true = w.if-not-contains_key.false in
           let same : next ≡ c.entries.count + 0 = omega (arith, w.count-is) in
           record {
             adds = more (same ∙ ap (λ (b : Bool). c.entries.count + cond b 0 1) (sym some));

@@ -1,4 +1,4 @@
-use Rattle.std.proofs.Common.{rules, ◌≡◌, arith}
+use Rattle.std.proofs.Common.{rules, arith}
 use Rattle.ee_index.proofs.Numbering.{placed}
 use Rattle.ee_index.proofs.index.place_in.Goals as goal
 

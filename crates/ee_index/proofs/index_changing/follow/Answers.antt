@@ -1,4 +1,4 @@
-use Rattle.std.proofs.Common.{◌≡◌, ◌∙◌, ℕ, Bool, List, [], cond, not, true, false, length, ap, refl}
+use Rattle.std.proofs.Common.{◌≡◌, ◌∙◌, Bool, List, [], cond, not, true, false, length, ap, refl}
 use Rattle.ee_pages.specs.Meaning.{changed_by}
 use Rattle.ee_core.specs.Puts.{forgets_of}
 use Rattle.ee_core.specs.declared.change.Put as listed

@@ -1,6 +1,5 @@
-use Rattle.std.proofs.Common.{rules, ◌≡◌, ◌∙◌, ℕ, List, nat_lt, ap}
+use Rattle.std.proofs.Common.{rules, ◌∙◌, ℕ, List, nat_lt, ap}
 use Rattle.std.proofs.lemmas.Map.Made.{filter_same_pairs}
-use Rattle.std.specs.List.{filter}
 use Rattle.ee_index.specs.Index.{slot_for}
 use Rattle.ee_index.proofs.IndexedRooms.{kept_shown}
 use Rattle.ee_index.proofs.index_changing.make_room.Goals as goal

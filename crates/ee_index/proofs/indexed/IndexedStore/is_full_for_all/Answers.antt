@@ -1,10 +1,9 @@
-use Rattle.std.proofs.Common.{◌≡◌, ◌+◌, ◌<◌, ◌≤◌, nat_lt, ap, ◌∙◌, subst, length, arith}
+use Rattle.std.proofs.Common.{◌≡◌, ◌+◌, ◌<◌, ◌≤◌, nat_lt, ap, ◌∙◌, subst, length}
 use Rattle.std.specs.Bool.{MatchBool}
 use Rattle.ee_flash.specs.Size.{slot_count}
 use Rattle.ee_pages.specs.Meaning.{changed_by, live_in}
 use Rattle.ee_core.specs.Puts.{puts_of}
 use Rattle.ee_core.specs.State.{capacity, state_of}
-use Rattle.ee_core.proofs.Public.{live_few}
 use Rattle.ee_index.proofs.IndexedRooms.{full_for_all}
 use Rattle.ee_index.proofs.IndexedStores.{entries_live}
 use Rattle.ee_index.proofs.indexed.IndexedStore.is_full_for_all.Goals as goal

@@ -1,7 +1,7 @@
 use Rattle.std.proofs.Common.{ap, ◌∙◌, refl, subst, sym}
 use Rattle.ee_flash.specs.Device.{Device}
 use Rattle.ee_core.specs.Changes.{Proceeds}
-use Rattle.ee_core.specs.Puts.{puts_of}
+use Rattle.ee_core.specs.Puts.{HasNew, puts_of}
 use Rattle.ee_core.specs.State.{capacity, state_of}
 use Rattle.ee_core.proofs.Public.{each_apart, needs_transfer, no_generation, no_place, several_proceed, some_place}
 use Rattle.ee_index.proofs.IndexedRooms.{new_in_map, no_room, room_made}
@@ -40,3 +40,19 @@ pub move_indexed-requires-clause-room : goal.move_indexed-requires-clause-room
 move_indexed-requires-clause-room g c =
     let kept = c.self.invariant.1 (ap (λ (device : Device). device.on) c.self.view_is ∙ c.requires.on) in
     room_made (g.F.Flash.device c.self.inside.flash) c.self.inside.layout c.self.inside.index.entries kept c.args.puts.now c.make_room.new.index.entries c.in-Ok.ensures.shown c.in-Ok.ensures.there
+
+pub invariant_of-self : goal.invariant_of-self
+invariant_of-self g c =
+    let kept = c.self.invariant.1 (ap (λ (device : Device). device.on) c.self.view_is ∙ c.requires.on) in
+    (c.self.invariant.0, λ on. no_room (g.F.Flash.device c.self.inside.flash) c.self.inside.layout c.self.inside.index.entries kept c.make_room.new.index.entries c.in_default-make_room.ensures.err)
+
+pub returns-in_default-make_room : goal.returns-in_default-make_room
+returns-in_default-make_room g c =
+    let puts = c.args.puts.now in
+    let kept = c.self.invariant.1 (ap (λ (device : Device). device.on) c.self.view_is ∙ c.requires.on) in
+    let new = new_in_map (g.F.Flash.device c.self.inside.flash) c.self.inside.layout c.self.inside.index.entries kept puts c.in_default-make_room.ensures.new in (
+      c.in_default.ensures.once,
+      several_proceed c.args.self.now puts c.requires.on c.requires.several c.if-is_full_for_all.ensures c.if-is_last.ensures,
+      subst (λ (device : Device). HasNew puts (state_of device).map) c.self.view_is new,
+      c.self.view_is,
+    )

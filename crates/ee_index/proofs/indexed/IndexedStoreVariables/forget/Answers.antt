@@ -21,7 +21,7 @@ move_indexed-requires-clause-needed g c =
     let kept = c.self.invariant.1 (sym (c.if-not-is_on.ensures)) in
     let slots : c.slots.result ≡ capacity device = c.slots.ensures.value ∙ ap slot_count c.shape.ensures in
     let all : layout.fill ≡ capacity device = omega (arith, slots, c.if-layout-slots.false, kept.found.fill, few_within device layout.side (g.met.F.Flash.formed c.self.inside.flash)) in
-    needs_one device layout c.self.inside.index.entries kept (record { address = c.args.address; value = c.in_default.value }) true all
+    needs_one device layout c.self.inside.index.entries kept (record { address = c.args.address; value = c.in-Some.value }) true all
 
 pub move_indexed-requires-clause-room : goal.move_indexed-requires-clause-room
 move_indexed-requires-clause-room g c =

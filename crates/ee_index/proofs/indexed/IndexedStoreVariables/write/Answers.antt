@@ -4,7 +4,7 @@ use Rattle.ee_pages.specs.Meaning.{Put, map_after}
 use Rattle.ee_core.specs.State.{capacity}
 use Rattle.ee_core.proofs.Public.{few_within, store_marked}
 use Rattle.ee_index.specs.Index.{slot_for}
-use Rattle.ee_index.proofs.IndexedRooms.{needs_one, room_made}
+use Rattle.ee_index.proofs.IndexedRooms.{needs_one, no_room, room_made}
 use Rattle.ee_index.proofs.indexed.IndexedStoreVariables.write.Goals as goal
 
 pub append_indexed-requires-clause-marked : goal.append_indexed-requires-clause-marked
@@ -27,10 +27,15 @@ move_indexed-requires-clause-needed g c =
 pub move_indexed-requires-clause-room : goal.move_indexed-requires-clause-room
 move_indexed-requires-clause-room g c =
     let kept = c.self.invariant.1 (sym (c.if-not-is_on.ensures)) in
-    room_made (g.F.Flash.device c.self.inside.flash) c.self.inside.layout c.self.inside.index.entries kept (record { address = c.args.address; value = c.args.value } ∷ []) c.make_room.new.index.entries c.in-Ok.ensures.shown c.in-Ok.ensures.there
+    room_made (g.F.Flash.device c.self.inside.flash) c.self.inside.layout c.self.inside.index.entries kept (record { address = c.args.address; value = c.args.value } ∷ []) c.make_room.new.index.entries c.in-Ok-make_room.ensures.shown c.in-Ok-make_room.ensures.there
 
 pub append_indexed-requires-clause-ready : goal.append_indexed-requires-clause-ready
 append_indexed-requires-clause-ready g c =
     let kept = c.self.invariant.1 (sym (c.if-not-is_on.ensures)) in
     let entered : (address : ℕ) → slot_for c.enter_slot.new.index.entries address ≡ map_after (Put c.args.address c.self.inside.layout.fill) (slot_for c.self.inside.index.entries) address = search rules in
     (slot_for c.self.inside.index.entries, kept.indexes, entered)
+
+pub invariant_of-self-in_default-make_room : goal.invariant_of-self-in_default-make_room
+invariant_of-self-in_default-make_room g c =
+    let kept = c.self.invariant.1 (sym (c.if-not-is_on.ensures)) in
+    (c.self.invariant.0, λ on. no_room (g.F.Flash.device c.self.inside.flash) c.self.inside.layout c.self.inside.index.entries kept c.make_room.new.index.entries c.in_default-make_room.ensures.err)
