@@ -1,9 +1,10 @@
 -- What each turn of a drive does to the cuts, to the map and to the image, and so what all of them do.
-use Rattle.std.proofs.Common.{◌≡◌, ◌⊎◌, inl, inr, ℕ, ◌+◌, ◌≤◌, ◌++◌, Bool, true, false, cond, min, Option, Some, None, Ok, Err, List, [], ◌∷◌, refl, sym, ap, ◌∙◌, subst, arith, rules}
+use Rattle.std.proofs.Common.{◌≡◌, ◌⊎◌, inl, inr, ℕ, ◌+◌, ◌≤◌, Bool, true, false, cond, min, Option, Some, None, Ok, Err, List, [], ◌∷◌, refl, sym, ap, ◌∙◌, subst, arith, rules}
 use Rattle.std.proofs.Math.Path.{fun_ext}
+use Rattle.std.specs.Borrow.{Bor}
 use Rattle.std.specs.List.{count_by}
 use Rattle.std.proofs.lemmas.Bool.{cases_eq}
-use Rattle.std.proofs.lemmas.List.Elements.{All-cons, filter_map-append}
+use Rattle.std.proofs.lemmas.List.Elements.{All-cons}
 use Rattle.std.proofs.lemmas.List.Sums.{sum_by-cons}
 use Rattle.ee_flash.specs.Device.{Device, IsOn, all_ones}
 use Rattle.ee_flash.specs.Step.{one_more}
@@ -12,23 +13,26 @@ use Rattle.ee_pages.specs.Legal.{IsLegal}
 use Rattle.ee_pages.specs.Meaning as meaning
 use Rattle.ee_pages.specs.Meaning.{Change, Map, map_after, changed_by}
 use Rattle.ee_pages.specs.Sets.{live_of}
-use Rattle.ee_core.proofs.Public.{forget-at, forget-other, put-at, put-other, cut_map, legal_on, state_in_on, changed_by-append, goes}
+use Rattle.ee_core.proofs.Public.{forget-at, forget-other, put-at, put-other, cut_map, cut_making, legal_on, lists_are_there_lem, state_in_on, changed_by-append, goes}
 use Rattle.ee_core.specs.Calls.{IsCutClean}
-use Rattle.ee_core.specs.Changes.{IsCutChange}
+use Rattle.ee_core.specs.Changes.{IsCutChange, IsCutMaking}
 use Rattle.ee_core.specs.Points.{Point, closed_point, with_power_on}
 use Rattle.ee_core.specs.Finished.{IsStore}
 use Rattle.ee_core.specs.Openings.{IsCutOpening, Opens}
-use Rattle.ee_core.specs.Runs.{Call, Wrote, Forgot, DidRead, Cleaned as DidClean, Follows, changes_of_call, is_cut}
+use Rattle.ee_core.specs.Puts.{HasAll, IsEachOnce, puts_of}
+use Rattle.ee_core.specs.Runs.{Call, Wrote, WroteAll, Forgot, DidRead, Cleaned as DidClean, Follows, changes_of_call, is_cut}
 use Rattle.ee_core.specs.State.{State, state_of}
+use Rattle.ee_core.specs.declared.change.Put as listed
 use Rattle.ee_core.specs.declared.opening.OpenFault.TheVariants as opening
 use Rattle.ee_core.specs.declared.variables.ForgetFault.TheVariants as forget
+use Rattle.ee_core.specs.declared.variables.WriteAllFault.TheVariants as all
 use Rattle.ee_core.specs.declared.variables.WriteFault.TheVariants as write
 use Rattle.ee_bench.specs.Events.{AreTurns, Happens, Idles, IsCalled, IsLookedFor, IsTurn, Reopens, Turn, WasDone, call_of_event, tells_of_a_cut, serves_after}
-use Rattle.ee_bench.specs.Outcome.{AreValuesFrom, IsValueIn, WasKept, change_kept, is_scan_fault, kept_changes}
+use Rattle.ee_bench.specs.Outcome.{AreValuesFrom, IsValueIn, WasKept, is_scan_fault, kept_by, kept_changes}
 use Rattle.ee_bench.specs.declared.event.Answer.{Answer}
-use Rattle.ee_bench.specs.declared.event.Answer.TheVariants.{Cleaned, Done, NotForgotten, NotOpened, Off, Opened, Refused, Value}
+use Rattle.ee_bench.specs.declared.event.Answer.TheVariants.{Cleaned, Done, NotForgotten, NotOpened, NotWritten, Off, Opened, Refused, Value}
 use Rattle.ee_bench.specs.declared.event.Event.{Event}
-use Rattle.ee_bench.specs.declared.event.Event.TheVariants.{Clean, Forget, Get, Put, Reopen}
+use Rattle.ee_bench.specs.declared.event.Event.TheVariants.{Clean, Forget, Get, Put, PutAll, Reopen}
 
 -- ---- a change that met a cut
 
@@ -55,11 +59,22 @@ forget_lost : (old new : Map) (named : ℕ) → (new ≡ old) ⊎ (new ≡ map_a
 forget_lost old new named (inl same) lost = same
 forget_lost old new named (inr done) lost = absurd (lost (ap (λ (map : Map). map named) done ∙ forget-at old named named refl))
 
--- ---- one turn
+-- values that the map has already change nothing
+puts_again : (puts : List listed.Put) (map : Map) → HasAll puts map → changed_by (puts_of puts) map ≡ map
+puts_again [] map there = refl
+puts_again (put ∷ puts) map there =
+    let same : map_after (meaning.Put put.address put.value) map ≡ map = fun_ext (λ (address : ℕ). sym (put_again map put.address put.value address there.0)) in
+    ap (changed_by (puts_of puts)) same ∙ puts_again puts map there.1
 
--- the changes that a turn kept
-abbrev kept_by : Event → Answer → Option Bool → List Change
-kept_by event answer found = kept_changes (record { event = event; answer = answer; found = found } ∷ [])
+puts_found : (old new : Map) (puts : List listed.Put) → (new ≡ old) ⊎ (new ≡ changed_by (puts_of puts) old) → HasAll puts new → new ≡ changed_by (puts_of puts) old
+puts_found old new puts (inr done) there = done
+puts_found old new puts (inl same) there = same ∙ sym (puts_again puts old (subst (HasAll puts) same there))
+
+puts_lost : (old new : Map) (puts : List listed.Put) → IsEachOnce puts → (new ≡ old) ⊎ (new ≡ changed_by (puts_of puts) old) → (HasAll puts new → ⊥) → new ≡ old
+puts_lost old new puts once (inl same) lost = same
+puts_lost old new puts once (inr done) lost = absurd (lost (subst (HasAll puts) (sym done) (lists_are_there_lem puts old once)))
+
+-- ---- one turn
 
 -- what a turn does, from an image that is legal where it matters
 pub record Does (serving : Bool) (event : Event) (answer : Answer) (found : Option Bool) (old new : Device) : Type 0 where
@@ -94,6 +109,13 @@ forget_kept address true old new legal cut gone found = forget_found (state_of o
 forget_kept address false old new legal cut gone found =
     forget_lost (state_of old).map (state_of new).map address (cut_map old new (meaning.Forget address) cut) (λ e. let wrong = found e in absurd (cc wrong))
 
+puts_kept : (puts : Bor (List listed.Put)) (held : Bool) (old new : Device) → IsEachOnce puts.now → IsCutMaking old (puts_of puts.now) new
+    → (held ≡ true → HasAll puts.now (state_of new).map) → (HasAll puts.now (state_of new).map → held ≡ true)
+    → (state_of new).map ≡ changed_by (kept_by (PutAll puts) (NotWritten all.Cut) (Some held)) (state_of old).map
+puts_kept puts true old new once cut there found = puts_found (state_of old).map (state_of new).map puts.now (cut_making old new (puts_of puts.now) cut).1 (there refl)
+puts_kept puts false old new once cut there found =
+    puts_lost (state_of old).map (state_of new).map puts.now once (cut_making old new (puts_of puts.now) cut).1 (λ e. let wrong = found e in absurd (cc wrong))
+
 put_done : (address value : ℕ) (held : Bool) (old new : Device) → IsOn old × IsCutChange old (meaning.Put address value) new × IsStore new
     → (held ≡ true → (state_of new).map address ≡ Some value) → ((state_of new).map address ≡ Some value → held ≡ true)
     → Does true (Put address value) (Refused write.Cut) (Some held) old new
@@ -103,6 +125,14 @@ forget_done : (address : ℕ) (held : Bool) (old new : Device) → IsOn old × I
     → (held ≡ true → (state_of new).map address ≡ None) → ((state_of new).map address ≡ None → held ≡ true)
     → Does true (Forget address) (NotForgotten forget.Cut) (Some held) old new
 forget_done address held old new called gone found = search (rules, forget_kept)
+
+puts_done : (puts : Bor (List listed.Put)) (held : Bool) (old new : Device) → IsOn old × (IsEachOnce puts.now × IsCutMaking old (puts_of puts.now) new) × IsStore new
+    → (held ≡ true → HasAll puts.now (state_of new).map) → (HasAll puts.now (state_of new).map → held ≡ true)
+    → Does true (PutAll puts) (NotWritten all.Cut) (Some held) old new
+puts_done puts held old new called there found =
+    let cut = (cut_making old new (puts_of puts.now) called.1.1).0 in
+    let kept = puts_kept puts held old new called.1.0 called.1.1 there found in
+    search (rules, cut, kept)
 
 clean_cut : (found : Option Bool) (old new : Device) → IsOn old × IsCutClean old new × IsStore new → found ≡ None → Does true Clean (Refused write.Cut) found old new
 clean_cut found old new called looked = search rules
@@ -118,6 +148,18 @@ put_turn address value (Refused write.Memory) found old new called looked = absu
 put_turn address value (Refused write.Cut) None old new called looked = absurd looked
 put_turn address value (Refused write.Cut) (Some held) old new called looked = put_done address value held old new called looked.0 looked.1
 put_turn address value answer found old new called looked = absurd called
+
+put_all_turn : (puts : Bor (List listed.Put)) (answer : Answer) (found : Option Bool) (old new : Device) → IsCalled (call_of_event (PutAll puts) answer) old new
+    → IsLookedFor (PutAll puts) answer found new → Does true (PutAll puts) answer found old new
+put_all_turn puts (Done written) found old new called looked = whole (WroteAll puts.now (Ok written)) (PutAll puts) (Done written) found old new refl called looked refl refl refl tt
+put_all_turn puts (NotWritten all.Off) found old new called looked = whole (WroteAll puts.now (Err all.Off)) (PutAll puts) (NotWritten all.Off) found old new refl called looked refl refl refl tt
+put_all_turn puts (NotWritten (all.Twice place)) found old new called looked = whole (WroteAll puts.now (Err (all.Twice place))) (PutAll puts) (NotWritten (all.Twice place)) found old new refl called looked refl refl refl tt
+put_all_turn puts (NotWritten all.Full) found old new called looked = whole (WroteAll puts.now (Err all.Full)) (PutAll puts) (NotWritten all.Full) found old new refl called looked refl refl refl tt
+put_all_turn puts (NotWritten all.Spent) found old new called looked = whole (WroteAll puts.now (Err all.Spent)) (PutAll puts) (NotWritten all.Spent) found old new refl called looked refl refl refl tt
+put_all_turn puts (NotWritten all.Memory) found old new called looked = absurd called
+put_all_turn puts (NotWritten all.Cut) None old new called looked = absurd looked
+put_all_turn puts (NotWritten all.Cut) (Some held) old new called looked = puts_done puts held old new called looked.0 looked.1
+put_all_turn puts answer found old new called looked = absurd called
 
 forget_turn : (address : ℕ) (answer : Answer) (found : Option Bool) (old new : Device) → IsCalled (call_of_event (Forget address) answer) old new
     → IsLookedFor (Forget address) answer found new → Does true (Forget address) answer found old new
@@ -176,22 +218,21 @@ does : (serving : Bool) (event : Event) (answer : Answer) (found : Option Bool) 
     → Does serving event answer found old new
 does serving Reopen answer found old new happens looked = reopen_turn serving answer found old new happens looked
 does true (Put address value) answer found old new happens looked = put_turn address value answer found old new happens looked
+does true (PutAll puts) answer found old new happens looked = put_all_turn puts answer found old new happens looked
 does true (Forget address) answer found old new happens looked = forget_turn address answer found old new happens looked
 does true (Get address) answer found old new happens looked = get_turn address answer found old new happens looked
 does true Clean answer found old new happens looked = clean_turn answer found old new happens looked
 does false (Put address value) Off found old new same looked = off_turn (Put address value) Off found old new same looked tt refl
+does false (PutAll puts) Off found old new same looked = off_turn (PutAll puts) Off found old new same looked tt refl
 does false (Forget address) Off found old new same looked = off_turn (Forget address) Off found old new same looked tt refl
 does false (Get address) Off found old new same looked = off_turn (Get address) Off found old new same looked tt refl
 does false Clean Off found old new same looked = off_turn Clean Off found old new same looked tt refl
 does false event answer found old new idles looked = absurd idles
 
-does_turn : (turn : Turn) (old new : Point) → IsTurn turn old new → Does old.serving turn.event turn.answer turn.found old.device new.device
+pub does_turn : (turn : Turn) (old new : Point) → IsTurn turn old new → Does old.serving turn.event turn.answer turn.found old.device new.device
 does_turn turn old new taken = does old.serving turn.event turn.answer turn.found old.device new.device taken.happens taken.looked
 
 -- ---- turns one after another
-
-pub kept_changes-cons : (turn : Turn) (turns : List Turn) → kept_changes (turn ∷ turns) ≡ kept_changes (turn ∷ []) ++ kept_changes turns
-kept_changes-cons turn turns = filter_map-append (λ (one : Turn). change_kept one.event one.answer one.found) (turn ∷ []) turns
 
 pub no_answered_change_is_lost_lem : (turns : List Turn) (old new : Point) → AreTurns turns old new → IsLegal old.device → WasKept turns old.device new.device
 no_answered_change_is_lost_lem [] old new same legal = search rules
@@ -203,8 +244,8 @@ no_answered_change_is_lost_lem (turn ∷ turns) old new run legal =
       no_scan_fault = All-cons (λ (turn : Turn). is_scan_fault turn.answer ≡ false) turn turns (one.no_scan_fault legal) rest.no_scan_fault;
       values = (one.value, subst (λ (map : Map). AreValuesFrom map turns) map_is rest.values);
       legal = rest.legal;
-      map_is = rest.map_is ∙ ap (changed_by (kept_changes turns)) map_is ∙ sym (changed_by-append (kept_changes (turn ∷ [])) (kept_changes turns) (state_of old.device).map)
-          ∙ ap (λ (changes : List Change). changed_by changes (state_of old.device).map) (sym (kept_changes-cons turn turns));
+      map_is = rest.map_is ∙ ap (changed_by (kept_changes turns)) map_is
+          ∙ sym (changed_by-append (kept_by turn.event turn.answer turn.found) (kept_changes turns) (state_of old.device).map);
     }
 
 -- an open store stays so to the end, or a cut or an opening that fails ends it

@@ -1,4 +1,5 @@
 mod TurnByTurn
+mod ListedValues
 mod KeptChanges
 mod WholeDrives
 mod StayingChanges

@@ -1,27 +1,88 @@
 -- A change that was kept is there as long as no further change of its address is asked for.
-use Rattle.std.proofs.Common.{◌≡◌, ◌++◌, ℕ, Bool, true, false, Option, Some, List, [], ◌∷◌, refl, ap, ◌∙◌}
-use Rattle.std.specs.List.{All}
-use Rattle.std.proofs.lemmas.List.Elements.{All-head, All-tail, filter_map-append}
+use Rattle.std.proofs.Common.{◌≡◌, ◌<◌, ◌++◌, ℕ, Bool, true, false, Option, Some, Ok, List, [], ◌∷◌, length, refl, sym, subst, ap, ◌∙◌, arith, suc, zero}
+use Rattle.std.specs.List.{All, Contains}
+use Rattle.std.specs.Prelude.{slice_index_or}
+use Rattle.std.proofs.lemmas.List.Elements.{All-head, All-tail}
+use Rattle.ee_flash.specs.Device.{Device}
 use Rattle.ee_pages.specs.Legal.{IsLegal}
+use Rattle.ee_pages.specs.Meaning as meaning
 use Rattle.ee_pages.specs.Meaning.{Change, Map, map_after, changed_by}
 use Rattle.ee_pages.specs.Pending.{address_of}
-use Rattle.ee_core.proofs.Public.{forget-other, put-other, changed_by-append, made, apart}
+use Rattle.ee_core.proofs.Public.{forget-other, put-at, put-other, changed_by-append, changed_by-other, lists_are_there_lem, made, names-puts, apart}
+use Rattle.ee_core.specs.Calls.{WritesAll}
 use Rattle.ee_core.specs.Points.{Point}
 use Rattle.ee_core.specs.Changes.{HasChange}
-use Rattle.ee_core.specs.State.{state_of}
-use Rattle.ee_bench.proofs.KeptChanges.{kept_changes-cons, no_answered_change_is_lost_lem}
-use Rattle.ee_bench.specs.Events.{AreTurns, Turn}
-use Rattle.ee_bench.specs.Outcome.{event_asks_change_of, change_kept, kept_changes}
+use Rattle.ee_core.specs.Puts.{HasAll, is_put, puts_of}
+use Rattle.ee_core.specs.State.{State, state_of}
+use Rattle.ee_core.specs.declared.change.Put as listed
+use Rattle.ee_core.specs.declared.variables.WriteAllFault.TheVariants as all
+use Rattle.ee_core.specs.declared.variables.Written.{Written}
+use Rattle.ee_core.specs.declared.variables.Written.TheVariants.{Appended, Moved}
+use Rattle.ee_bench.proofs.KeptChanges.{does_turn, no_answered_change_is_lost_lem}
+use Rattle.ee_bench.specs.Events.{AreTurns, Happens, IsLookedFor, IsTurn, Turn}
+use Rattle.ee_bench.specs.Outcome.{event_asks_change_of, kept_by, kept_changes}
 use Rattle.ee_bench.specs.declared.event.Answer.{Answer}
-use Rattle.ee_bench.specs.declared.event.Answer.TheVariants.{Done, NotForgotten, Refused}
+use Rattle.ee_bench.specs.declared.event.Answer.TheVariants.{Done, NotForgotten, NotWritten, Refused}
 use Rattle.ee_bench.specs.declared.event.Event.{Event}
-use Rattle.ee_bench.specs.declared.event.Event.TheVariants.{Forget, Put}
+use Rattle.ee_bench.specs.declared.event.Event.TheVariants.{Forget, Put, PutAll}
+
+-- ---- a change that was kept is there
+
+-- the values of a list, once it is written
+written_all : (puts : List listed.Put) (written : Written) (old new : Device) → WritesAll old puts (Ok written) new → HasAll puts (state_of new).map
+written_all [] Appended old new done = tt
+written_all (put ∷ []) Appended old new done =
+    (ap (λ (state : State). state.map put.address) done.state_is ∙ put-at (state_of old).map put.address put.value put.address refl, tt)
+written_all (first ∷ second ∷ more) Appended old new done = absurd done
+written_all puts Moved old new done =
+    subst (HasAll puts) (sym (ap (λ (state : State). state.map) done.1.state_is)) (lists_are_there_lem puts (state_of old).map done.0)
+
+-- each of them is a change that is there
+listed_at : (puts : List listed.Put) (map : Map) (change : Change) (place : ℕ) → HasAll puts map → place < length (puts_of puts) → slice_index_or (puts_of puts) place change ≡ change → HasChange change map
+listed_at [] map change place there within is = absurd (omega (arith, within))
+listed_at (put ∷ puts) map change zero there within is = subst (λ (one : Change). HasChange one map) is there.0
+listed_at (put ∷ puts) map change (suc place) there within is = listed_at puts map change place there.1 (omega (arith, within)) is
+
+one_of_all : (puts : List listed.Put) (map : Map) (change : Change) → HasAll puts map → Contains (puts_of puts) change → HasChange change map
+one_of_all puts map change there kept = listed_at puts map change kept.0 there kept.1 kept.2
+
+-- one change that was made
+only_at : (one change : Change) (place : ℕ) → place < 1 → slice_index_or (one ∷ []) place change ≡ change → one ≡ change
+only_at one change zero within is = is
+only_at one change (suc place) within is = absurd (omega (arith, within))
+
+the_only : (one change : Change) (map after : Map) → after ≡ changed_by (one ∷ []) map → Contains (one ∷ []) change → HasChange change after
+the_only one change map after same kept =
+    subst (λ (this : Change). HasChange this after) (only_at one change kept.0 kept.1 kept.2) (made one map after (ap (λ (said : Map). said (address_of one)) same))
+
+none_kept : (change : Change) (map : Map) → Contains [] change → HasChange change map
+none_kept change map kept = absurd (omega (arith, kept.1))
+
+there : (serving : Bool) (event : Event) (answer : Answer) (found : Option Bool) (change : Change) (old new : Device) → Happens serving event answer old new → IsLookedFor event answer found new
+    → (state_of new).map ≡ changed_by (kept_by event answer found) (state_of old).map → Contains (kept_by event answer found) change → HasChange change (state_of new).map
+there serving (Put address value) (Done written) found change old new happens looked same kept = the_only (meaning.Put address value) change (state_of old).map (state_of new).map same kept
+there serving (Put address value) (Refused fault) (Some true) change old new happens looked same kept = the_only (meaning.Put address value) change (state_of old).map (state_of new).map same kept
+there serving (Forget address) (Done written) found change old new happens looked same kept = the_only (meaning.Forget address) change (state_of old).map (state_of new).map same kept
+there serving (Forget address) (NotForgotten fault) (Some true) change old new happens looked same kept = the_only (meaning.Forget address) change (state_of old).map (state_of new).map same kept
+there true (PutAll puts) (Done written) found change old new happens looked same kept =
+    one_of_all puts.now (state_of new).map change (written_all puts.now written old new happens.1) kept
+there false (PutAll puts) (Done written) found change old new happens looked same kept = absurd happens
+there serving (PutAll puts) (NotWritten all.Cut) (Some true) change old new happens looked same kept = one_of_all puts.now (state_of new).map change (looked.0 refl) kept
+there serving (PutAll puts) (NotWritten fault) (Some true) change old new happens looked same kept = absurd cc
+there serving event answer found change old new happens looked same kept = none_kept change (state_of new).map kept
+
+-- ---- it stays
 
 -- what an event keeps leaves an address of which it asks no change as it was
+others_put : (address : ℕ) (puts : List listed.Put) (map : Map) → is_put puts address ≡ false → changed_by (puts_of puts) map address ≡ map address
+others_put address puts map other = changed_by-other (puts_of puts) map address (names-puts puts address ∙ other)
+
 elsewhere : (address : ℕ) (event : Event) (answer : Answer) (found : Option Bool) (map : Map) → event_asks_change_of address event ≡ false
-    → changed_by (kept_changes (record { event = event; answer = answer; found = found } ∷ [])) map address ≡ map address
+    → changed_by (kept_by event answer found) map address ≡ map address
 elsewhere address (Put named value) (Done written) found map other = put-other map named value address (apart named address other)
 elsewhere address (Put named value) (Refused fault) (Some true) map other = put-other map named value address (apart named address other)
+elsewhere address (PutAll puts) (Done written) found map other = others_put address puts.now map other
+elsewhere address (PutAll puts) (NotWritten fault) (Some true) map other = others_put address puts.now map other
 elsewhere address (Forget named) (Done written) found map other = forget-other map named address (apart named address other)
 elsewhere address (Forget named) (NotForgotten fault) (Some true) map other = forget-other map named address (apart named address other)
 elsewhere address event answer found map other = refl
@@ -29,23 +90,31 @@ elsewhere address event answer found map other = refl
 stays : (address : ℕ) (turns : List Turn) (map : Map) → All (λ (one : Turn). event_asks_change_of address one.event ≡ false) turns → changed_by (kept_changes turns) map address ≡ map address
 stays address [] map others = refl
 stays address (turn ∷ turns) map others =
-    ap (λ (changes : List Change). changed_by changes map address) (kept_changes-cons turn turns)
-    ∙ ap (λ (after : Map). after address) (changed_by-append (kept_changes (turn ∷ [])) (kept_changes turns) map)
-    ∙ stays address turns (changed_by (kept_changes (turn ∷ [])) map) (All-tail (λ (one : Turn). event_asks_change_of address one.event ≡ false) turn turns others)
+    ap (λ (after : Map). after address) (changed_by-append (kept_by turn.event turn.answer turn.found) (kept_changes turns) map)
+    ∙ stays address turns (changed_by (kept_by turn.event turn.answer turn.found) map) (All-tail (λ (one : Turn). event_asks_change_of address one.event ≡ false) turn turns others)
     ∙ elsewhere address turn.event turn.answer turn.found map (All-head (λ (one : Turn). event_asks_change_of address one.event ≡ false) turn turns others)
 
-kept_one : (turn : Turn) (change : Change) → change_kept turn.event turn.answer turn.found ≡ Some change → kept_changes (turn ∷ []) ≡ change ∷ []
-kept_one turn change is = rw is refl
+-- a change that is there is there still, where its address has the same value
+still : (change : Change) (map after : Map) → HasChange change map → after (address_of change) ≡ map (address_of change) → HasChange change after
+still (meaning.Put address value) map after has same = same ∙ has
+still (meaning.Forget address) map after has same = same ∙ has
+
+-- turns are those before one of them, that one, and those behind it
+parted : (turns later : List Turn) (turn : Turn) (old new : Point) → AreTurns (turns ++ turn ∷ later) old new
+    → (before after : Point) × AreTurns turns old before × IsTurn turn before after × AreTurns later after new
+parted [] later turn old new run = (old, run.0, refl, run.1, run.2)
+parted (first ∷ turns) later turn old new run =
+    let rest = parted turns later turn run.0 new run.2 in
+    (rest.0, rest.1, (run.0, run.1, rest.2), rest.3, rest.4)
 
 pub a_kept_change_stays_lem : (turns later : List Turn) (turn : Turn) (change : Change) (old new : Point) → AreTurns (turns ++ turn ∷ later) old new
-    → IsLegal old.device → change_kept turn.event turn.answer turn.found ≡ Some change
+    → IsLegal old.device → Contains (kept_by turn.event turn.answer turn.found) change
     → All (λ (one : Turn). event_asks_change_of (address_of change) one.event ≡ false) later → HasChange change (state_of new.device).map
-a_kept_change_stays_lem turns later turn change old new run legal is others =
-    let start = (state_of old.device).map in
-    let before = changed_by (kept_changes turns) start in
-    let split : kept_changes (turns ++ turn ∷ later) ≡ kept_changes turns ++ (change ∷ kept_changes later) =
-    filter_map-append (λ (one : Turn). change_kept one.event one.answer one.found) turns (turn ∷ later)
-    ∙ ap (λ (more : List Change). kept_changes turns ++ more) (kept_changes-cons turn later ∙ ap (λ (one : List Change). one ++ kept_changes later) (kept_one turn change is)) in
-    let all = (no_answered_change_is_lost_lem (turns ++ turn ∷ later) old new run legal).map_is
-    ∙ ap (λ (changes : List Change). changed_by changes start) split ∙ changed_by-append (kept_changes turns) (change ∷ kept_changes later) start in
-    made change before (state_of new.device).map (ap (λ (map : Map). map (address_of change)) all ∙ stays (address_of change) later (map_after change before) others)
+a_kept_change_stays_lem turns later turn change old new run legal kept others =
+    let part = parted turns later turn old new run in
+    let before = no_answered_change_is_lost_lem turns old part.0 part.2 legal in
+    let did = does_turn turn part.0 part.1 part.3 in
+    let behind = no_answered_change_is_lost_lem later part.1 new part.4 (did.legal before.legal) in
+    let has = there part.0.serving turn.event turn.answer turn.found change part.0.device part.1.device part.3.happens part.3.looked (did.map_is before.legal) kept in
+    let same = ap (λ (map : Map). map (address_of change)) behind.map_is ∙ stays (address_of change) later (state_of part.1.device).map others in
+    still change (state_of part.1.device).map (state_of new.device).map has same

@@ -5,15 +5,17 @@ use Rattle.ee_flash.specs.Device.{Device, IsOn, all_ones}
 use Rattle.ee_core.specs.Finished.{IsStore}
 use Rattle.ee_core.specs.Openings.{OpenFails, Opens}
 use Rattle.ee_core.specs.Points.{Point, closed_point, with_power_on}
-use Rattle.ee_core.specs.Runs.{Call, Wrote, Forgot, DidRead, Cleaned as DidClean, Follows}
+use Rattle.ee_core.specs.Puts.{HasAll}
+use Rattle.ee_core.specs.Runs.{Call, Wrote, WroteAll, Forgot, DidRead, Cleaned as DidClean, Follows}
 use Rattle.ee_core.specs.State.{state_of}
 use Rattle.ee_core.specs.declared.opening.OpenFault.TheVariants as opening
 use Rattle.ee_core.specs.declared.variables.ForgetFault.TheVariants as forget
+use Rattle.ee_core.specs.declared.variables.WriteAllFault.TheVariants as all
 use Rattle.ee_core.specs.declared.variables.WriteFault.TheVariants as write
 use Rattle.ee_bench.specs.declared.event.Answer.{Answer}
-use Rattle.ee_bench.specs.declared.event.Answer.TheVariants.{Cleaned, Done, NotForgotten, NotOpened, Off, Opened, Refused, Value}
+use Rattle.ee_bench.specs.declared.event.Answer.TheVariants.{Cleaned, Done, NotForgotten, NotOpened, NotWritten, Off, Opened, Refused, Value}
 use Rattle.ee_bench.specs.declared.event.Event.{Event}
-use Rattle.ee_bench.specs.declared.event.Event.TheVariants.{Clean, Forget, Get, Put, Reopen}
+use Rattle.ee_bench.specs.declared.event.Event.TheVariants.{Clean, Forget, Get, Put, PutAll, Reopen}
 
 -- An event with its answer, and whether the image right after it has the change, if power was cut in one.
 pub record Turn : Type 0 where
@@ -26,6 +28,9 @@ abbrev pub call_of_event : Event → Answer → Option Call
 call_of_event (Put address value) (Done written) = Some (Wrote address value (Ok written))
 call_of_event (Put address value) (Refused write.Memory) = None
 call_of_event (Put address value) (Refused fault) = Some (Wrote address value (Err fault))
+call_of_event (PutAll puts) (Done written) = Some (WroteAll puts.now (Ok written))
+call_of_event (PutAll puts) (NotWritten all.Memory) = None
+call_of_event (PutAll puts) (NotWritten fault) = Some (WroteAll puts.now (Err fault))
 call_of_event (Forget address) (Done written) = Some (Forgot address (Ok written))
 call_of_event (Forget address) (NotForgotten fault) = Some (Forgot address (Err fault))
 call_of_event (Get address) (Value value) = Some (DidRead address (Ok value))
@@ -59,6 +64,7 @@ Happens false event answer old new = Idles answer old new
 -- power was cut in it
 abbrev pub tells_of_a_cut : Answer → Bool
 tells_of_a_cut (Refused write.Cut) = true
+tells_of_a_cut (NotWritten all.Cut) = true
 tells_of_a_cut (NotForgotten forget.Cut) = true
 tells_of_a_cut (NotOpened opening.Cut) = true
 tells_of_a_cut answer = false
@@ -69,11 +75,13 @@ serves_after serving Opened = true
 serves_after serving (NotOpened fault) = false
 serves_after serving answer = serving && not (tells_of_a_cut answer)
 
--- What is looked for: after a cut in a put whether the address has that value, after one in a forgetting whether it has
--- none, and after nothing else.
+-- What is looked for: after a cut in a put whether the address has that value, after one in a list whether it has all its
+-- values, after one in a forgetting whether the address has none, and after nothing else.
 abbrev pub IsLookedFor : Event → Answer → Option Bool → Device → Type 0
 IsLookedFor (Put address value) (Refused write.Cut) (Some held) new = IsTrue held ↔ ((state_of new).map address ≡ Some value)
 IsLookedFor (Put address value) (Refused write.Cut) None new = ⊥
+IsLookedFor (PutAll puts) (NotWritten all.Cut) (Some held) new = IsTrue held ↔ HasAll puts.now (state_of new).map
+IsLookedFor (PutAll puts) (NotWritten all.Cut) None new = ⊥
 IsLookedFor (Forget address) (NotForgotten forget.Cut) (Some held) new = IsTrue held ↔ ((state_of new).map address ≡ None)
 IsLookedFor (Forget address) (NotForgotten forget.Cut) None new = ⊥
 IsLookedFor event answer found new = found ≡ None

@@ -1,7 +1,7 @@
 -- What is kept of the changes that events ask for: those that were answered as done, and of those in which power was cut
 -- the ones that were found.
-use Rattle.std.specs.Prelude.{◌≡◌, ◌==◌, ◌++◌, ℕ, Bool, true, false, Option, Some, None, List, [], ◌∷◌}
-use Rattle.std.specs.List.{All, filter_map}
+use Rattle.std.specs.Prelude.{◌≡◌, ◌==◌, ◌++◌, ℕ, Bool, true, false, Option, Some, List, [], ◌∷◌}
+use Rattle.std.specs.List.{All, Contains, flat_map}
 use Rattle.ee_flash.specs.Device.{Device}
 use Rattle.ee_pages.specs.Legal.{IsLegal}
 use Rattle.ee_pages.specs.Meaning as meaning
@@ -9,25 +9,28 @@ use Rattle.ee_pages.specs.Meaning.{Change, Map, changed_by}
 use Rattle.ee_pages.specs.Pending.{address_of}
 use Rattle.ee_core.specs.Points.{Point}
 use Rattle.ee_core.specs.Changes.{HasChange}
+use Rattle.ee_core.specs.Puts.{is_put, puts_of}
 use Rattle.ee_core.specs.State.{state_of}
 use Rattle.ee_core.specs.declared.opening.OpenFault.TheVariants.{Scan}
 use Rattle.ee_bench.specs.Events.{AreTold, AreTurns, Turn, WasDone}
 use Rattle.ee_bench.specs.declared.event.Answer.{Answer}
-use Rattle.ee_bench.specs.declared.event.Answer.TheVariants.{Done, NotForgotten, NotOpened, Refused, Value}
+use Rattle.ee_bench.specs.declared.event.Answer.TheVariants.{Done, NotForgotten, NotOpened, NotWritten, Refused, Value}
 use Rattle.ee_bench.specs.declared.event.Event.{Event}
-use Rattle.ee_bench.specs.declared.event.Event.TheVariants.{Forget, Get, Put}
+use Rattle.ee_bench.specs.declared.event.Event.TheVariants.{Forget, Get, Put, PutAll}
 
--- the change that was kept: the event's, if it was done, or found after a cut
-abbrev pub change_kept : Event → Answer → Option Bool → Option Change
-change_kept (Put address value) (Done written) found = Some (meaning.Put address value)
-change_kept (Put address value) (Refused fault) (Some true) = Some (meaning.Put address value)
-change_kept (Forget address) (Done written) found = Some (meaning.Forget address)
-change_kept (Forget address) (NotForgotten fault) (Some true) = Some (meaning.Forget address)
-change_kept event answer found = None
+-- the changes that an event kept: its own, if it was done, or found after a cut; those of a list all, or none
+abbrev pub kept_by : Event → Answer → Option Bool → List Change
+kept_by (Put address value) (Done written) found = meaning.Put address value ∷ []
+kept_by (Put address value) (Refused fault) (Some true) = meaning.Put address value ∷ []
+kept_by (PutAll puts) (Done written) found = puts_of puts.now
+kept_by (PutAll puts) (NotWritten fault) (Some true) = puts_of puts.now
+kept_by (Forget address) (Done written) found = meaning.Forget address ∷ []
+kept_by (Forget address) (NotForgotten fault) (Some true) = meaning.Forget address ∷ []
+kept_by event answer found = []
 
 -- the changes that were kept, in their order
 abbrev pub kept_changes : List Turn → List Change
-kept_changes turns = filter_map (λ turn. change_kept turn.event turn.answer turn.found) turns
+kept_changes turns = flat_map (λ turn. kept_by turn.event turn.answer turn.found) turns
 
 -- a value that was read is the one in this map
 abbrev pub IsValueIn : Map → Event → Answer → Type 0
@@ -38,7 +41,7 @@ IsValueIn map event answer = Unit {0}
 abbrev pub AreValuesFrom : Map → List Turn → Type 0
 AreValuesFrom map [] = Unit {0}
 AreValuesFrom map (turn ∷ turns) =
-    IsValueIn map turn.event turn.answer × AreValuesFrom (changed_by (kept_changes (turn ∷ [])) map) turns
+    IsValueIn map turn.event turn.answer × AreValuesFrom (changed_by (kept_by turn.event turn.answer turn.found) map) turns
 
 -- the image was found not legal
 abbrev pub is_scan_fault : Answer → Bool
@@ -68,6 +71,7 @@ NoAnsweredChangeIsLost =
 -- the event asks for a change of the address
 abbrev pub event_asks_change_of : ℕ → Event → Bool
 event_asks_change_of address (Put named value) = named == address
+event_asks_change_of address (PutAll puts) = is_put puts.now address
 event_asks_change_of address (Forget named) = named == address
 event_asks_change_of address event = false
 
@@ -76,5 +80,5 @@ event_asks_change_of address event = false
 abbrev pub AKeptChangeStays : Type 0
 AKeptChangeStays =
     (turns later : List Turn) (turn : Turn) (change : Change) (old new : Point) → AreTurns (turns ++ turn ∷ later) old new
-    → IsLegal old.device → change_kept turn.event turn.answer turn.found ≡ Some change
+    → IsLegal old.device → Contains (kept_by turn.event turn.answer turn.found) change
     → All (λ one. event_asks_change_of (address_of change) one.event ≡ false) later → HasChange change (state_of new.device).map

@@ -1,8 +1,9 @@
 //! A store at the bench: each event is one call, and after a cut in a change the image is looked at.
-ghost use Rattle.std.specs.Prelude.{◌≡◌, IfErr, IfOk};
+ghost use Rattle.std.specs.Prelude.{◌≡◌, ◌↔◌, IfErr, IfOk, IsTrue};
 ghost use Rattle.ee_pages.specs.Legal.{IsLegal};
 ghost use Rattle.ee_core.specs.Points.{Point, open_point};
 ghost use Rattle.ee_core.specs.Finished.{IsStore};
+ghost use Rattle.ee_core.specs.Puts.{HasAll};
 ghost use Rattle.ee_core.specs.State.{state_of};
 ghost use Rattle.ee_bench.specs.Bench.{point_of_bench, turn_of};
 ghost use Rattle.ee_bench.specs.Events.{IsTurn};
@@ -10,7 +11,7 @@ ghost use Rattle.ee_bench.specs.Outcome.{Drives};
 
 use crate::event::{Answer, Driven, Event};
 use ee_codec::Address;
-use ee_core::{ForgetFault, Off, Store, Variables, WriteFault, open};
+use ee_core::{ForgetFault, Off, Put, Store, Variables, WriteAllFault, WriteFault, open};
 use ee_flash::Flash;
 use ee_pages::{latest, scan};
 use std::alloc::{AllocError, Allocator};
@@ -75,17 +76,18 @@ impl<F: Flash + Drop> Bench<F> {
     }
 
     /// Answers the event.
-    fn meet(self, event: Event) -> (Bench<F>, Note)
-        ensures { IsTurn (turn_of event result.1)
+    fn meet(self, event: &Event<'_>) -> (Bench<F>, Note)
+        ensures { IsTurn (turn_of event.now result.1)
             (point_of_bench F.device self) (point_of_bench F.device result.0) }
     {
         match self {
-            Bench::Bare(flash) => match event {
+            Bench::Bare(flash) => match *event {
                 Event::Reopen => reopen(flash),
                 _ => (Bench::Bare(flash), Note::of(Answer::Off)),
             },
-            Bench::Open(store) => match event {
+            Bench::Open(store) => match *event {
                 Event::Put { address, value } => put(store, address, value),
+                Event::PutAll(puts) => put_all(store, puts),
                 Event::Forget { address } => forget(store, address),
                 Event::Get { address } => get(store, address),
                 Event::Clean => clean(store),
@@ -110,6 +112,24 @@ fn put<F: Flash + Drop>(store: Store<F>, address: Address, value: u32) -> (Bench
             (Bench::Bare(flash), note)
         }
         Err(fault) => (Bench::of(store), Note::of(Answer::Refused(fault))),
+    }
+}
+
+fn put_all<F: Flash + Drop>(store: Store<F>, puts: &[Put]) -> (Bench<F>, Note)
+    ensures { IsTurn (turn_of (Event.PutAll puts.entry) result.1)
+        (open_point store) (point_of_bench F.device result.0) }
+{
+    let mut store = store;
+    match store.write_all(puts) {
+        Ok(written) => (Bench::of(store), Note::of(Answer::Done(written))),
+        Err(WriteAllFault::Off) => (Bench::of(store), Note::of(Answer::Off)),
+        Err(WriteAllFault::Cut) => {
+            let flash = store.into_flash();
+            let found = has_all(&flash, puts);
+            let note = Note::looked(Answer::NotWritten(WriteAllFault::Cut), found);
+            (Bench::Bare(flash), note)
+        }
+        Err(fault) => (Bench::of(store), Note::of(Answer::NotWritten(fault))),
     }
 }
 
@@ -179,6 +199,19 @@ fn value_in<F: Flash>(flash: &F, address: Address) -> Option<u32>
     }
 }
 
+/// Whether the image gives each address of the list its value, whether power is on or off.
+fn has_all<F: Flash>(flash: &F, puts: &[Put]) -> bool
+    requires { IsLegal (F.device flash.now) }
+    ensures { IsTrue result ↔ HasAll puts.now (state_of (F.device flash.now)).map }
+{
+    'entries: for put in puts {
+        if value_in(flash, put.address) != Some(put.value) {
+            return false;
+        }
+    }
+    true
+}
+
 /// Drives a store by events, one after another, through power cuts and openings. No store is open at
 /// the start, whether the device is on or off. Without an open store, or on a device that is off, all
 /// but `Reopen` are answered `Off`. Memory for the answers is taken before the first event.
@@ -194,7 +227,7 @@ fn value_in<F: Flash>(flash: &F, address: Address) -> Option<u32>
 pub fn drive<F: Flash + Drop, A: Allocator + Copy>(
     alloc: A,
     flash: F,
-    events: &[Event],
+    events: &[Event<'_>],
 ) -> Result<Driven<F, A>, (F, AllocError)>
     ensures driven { IfOk result (λ driven. Drives (F.device flash) events.now
         driven.log.items driven.kept.items (F.device driven.flash)) }
@@ -210,7 +243,7 @@ pub fn drive<F: Flash + Drop, A: Allocator + Copy>(
     };
     let mut bench = Bench::Bare(flash);
     'events: for event in events {
-        let (next, note) = bench.meet(*event);
+        let (next, note) = bench.meet(event);
         bench = next;
         log.push_reserved(note.answer);
         if let Some(found) = note.found {

@@ -1,6 +1,6 @@
 //! What a store at the bench is asked, what it answers, and what a list of events leaves.
 use ee_codec::Address;
-use ee_core::{ForgetFault, OpenFault, WriteFault, Written};
+use ee_core::{ForgetFault, OpenFault, Put, WriteAllFault, WriteFault, Written};
 use ee_flash::Flash;
 use std::alloc::{Allocator, Global};
 
@@ -8,9 +8,11 @@ use std::alloc::{Allocator, Global};
 ///
 /// Source: ours.
 #[derive(Clone, Copy, Debug, PartialEq, Eq)]
-pub enum Event {
+pub enum Event<'a> {
     /// The address is to have the value.
     Put { address: Address, value: u32 },
+    /// Each of these addresses is to have its value, all of them at once.
+    PutAll(&'a [Put]),
     /// The address is to have no value.
     Forget { address: Address },
     /// The value of the address is asked.
@@ -26,7 +28,7 @@ pub enum Event {
 /// Source: ours.
 #[derive(Clone, Copy, Debug, PartialEq, Eq)]
 pub enum Answer {
-    /// The put or the forgetting was stored, in this manner.
+    /// The put, the list or the forgetting was stored, in this manner.
     Done(Written),
     /// The value that the address has, if it has one.
     Value(Option<u32>),
@@ -36,6 +38,8 @@ pub enum Answer {
     Opened,
     /// Why a put is not done, or why a clean step is not; never `Off`.
     Refused(WriteFault),
+    /// Why no value of a list is put; never `Off`.
+    NotWritten(WriteAllFault),
     /// Why a forgetting is not done; never `Off`.
     NotForgotten(ForgetFault),
     /// Why no store is open.
@@ -53,7 +57,8 @@ pub struct Driven<F: Flash + Drop, A: Allocator = Global> {
     pub flash: F,
     /// The answers, one for each event.
     pub log: Vec<Answer, A>,
-    /// Whether the image right after the event had its change, for each put and each forgetting in
-    /// which power was cut, in their order: the address has that value, or has none.
+    /// Whether the image right after the event had its change, for each put, each list and each
+    /// forgetting in which power was cut, in their order: the address has that value, each address of
+    /// the list has its value, or the address has none.
     pub kept: Vec<bool, A>,
 }

@@ -12,9 +12,10 @@
 //!
 //! `drive` puts any list of events to a store, openings and power cuts among them, for a test
 //! bench, a simulator or a fuzzer: each is answered by the clause of its call, and from any legal
-//! image no change that was answered is lost, whatever is cut and however often (`driven`;
-//! `laws::no_answered_change_is_lost`, `a_kept_change_stays`); where memory for the answers is
-//! refused, the device is as it was (`refused`).
+//! image no change that was answered is lost, whatever is cut and however often, and of a list of
+//! values that met a cut all are there, or none (`driven`; `laws::no_answered_change_is_lost`,
+//! `a_kept_change_stays`); where memory for the answers is refused, the device is as it was
+//! (`refused`).
 #![tactic(auto)]
 
 mod driving;

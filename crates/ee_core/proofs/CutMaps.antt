@@ -1,15 +1,16 @@
 -- What a cut in a change leaves of the map.
-use Rattle.std.proofs.Common.{◌⊎◌, inl, inr, ◌≤◌, length, filter, ◌≡◌, ℕ, Option, Some, None, [], ◌∷◌, ap, arith}
+use Rattle.std.proofs.Common.{◌⊎◌, inl, inr, ◌≤◌, length, filter, ◌≡◌, ℕ, Option, Some, None, List, [], ◌∷◌, ap, arith}
 use Rattle.std.proofs.lemmas.Bool.{cases_lt}
 use Rattle.std.proofs.lemmas.List.Sums.{count_by-le-length, length-filter}
 use Rattle.ee_flash.specs.Device.{Device, IsFormed}
+use Rattle.ee_flash.specs.Power.{IsCut}
 use Rattle.ee_flash.specs.Size.{slot_count}
 use Rattle.ee_pages.proofs.Public.{length-slots}
-use Rattle.ee_pages.specs.Meaning.{Change, map_after}
+use Rattle.ee_pages.specs.Meaning.{Change, changed_by, map_after}
 use Rattle.ee_pages.specs.Page.{is_written}
 use Rattle.ee_pages.specs.Sets.{live_of, set_of, slots_of}
 use Rattle.ee_pages.specs.declared.side.Side.{Side}
-use Rattle.ee_core.specs.Changes.{IsCutAppend, IsCutChange, IsCutMove}
+use Rattle.ee_core.specs.Changes.{IsCutAppend, IsCutChange, IsCutMaking, IsCutMove}
 use Rattle.ee_core.specs.State.{State, capacity, state_in, state_of}
 
 fill_in : (device : Device) (live : Option (Side × ℕ)) → IsFormed device → (state_in device live).fill ≤ capacity device
@@ -43,3 +44,14 @@ cut_state old new pages change (inr (inr e)) = inr (ap (λ (s : State). s.map) e
 pub cut_map : (old new : Device) (change : Change) → IsCutChange old change new
     → ((state_of new).map ≡ (state_of old).map) ⊎ ((state_of new).map ≡ map_after change (state_of old).map)
 cut_map old new change cut = cut_state (state_of old) (state_of new) old.size.pages change (cut_cases old new change cut)
+
+moved_or_not : (old new : State) (pages left : ℕ) (changes : List Change) → IsCutMove pages left old changes new → (new.map ≡ old.map) ⊎ (new.map ≡ changed_by changes old.map)
+moved_or_not old new pages left changes (inl e) = inl (ap (λ (s : State). s.map) e.2)
+moved_or_not old new pages left changes (inr e) = inr (ap (λ (s : State). s.map) e)
+
+-- power was cut in making changes, and the map is as it was or has all of them
+pub cut_making : (old new : Device) (changes : List Change) → IsCutMaking old changes new
+    → IsCut old new × (((state_of new).map ≡ (state_of old).map) ⊎ ((state_of new).map ≡ changed_by changes (state_of old).map))
+cut_making old new [] cut = absurd cut
+cut_making old new (change ∷ []) cut = (cut.cut, cut_map old new change cut)
+cut_making old new (first ∷ second ∷ changes) cut = (cut.cut, moved_or_not (state_of old) (state_of new) old.size.pages _ (first ∷ second ∷ changes) cut.state_is)

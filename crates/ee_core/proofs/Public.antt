@@ -3,12 +3,12 @@ pub use Rattle.ee_core.proofs.AfterCalls.{goes_on_both, goes_on_same, not_both}
 pub use Rattle.ee_core.proofs.Appending.{slot_erased}
 pub use Rattle.ee_core.proofs.CopiedMaps.{apart, changed_by-append, changed_by-other, forget-at, forget-other, live_in-nothing, made, map_to-above, map_to-below, meaning-zero, neither, put-at, put-other, same_counts, without-at, without-other}
 pub use Rattle.ee_core.proofs.CopiedWords.{next_element, no_words, none_between, one_further}
-pub use Rattle.ee_core.proofs.CutMaps.{cut_map, fill_within}
+pub use Rattle.ee_core.proofs.CutMaps.{cut_making, cut_map, fill_within}
 pub use Rattle.ee_core.proofs.CutMoves.{elements_front}
 pub use Rattle.ee_core.proofs.Drawings.{with_word-elsewhere, with_word-there}
 pub use Rattle.ee_core.proofs.Effects.{by_effect}
 pub use Rattle.ee_core.proofs.Fillings.{length-put_words, map_with_more}
-pub use Rattle.ee_core.proofs.Listed.{each_apart, names-puts}
+pub use Rattle.ee_core.proofs.Listed.{each_apart, lists_are_there_lem, names-puts}
 pub use Rattle.ee_core.proofs.Making.{always_on_err, clean_store, few_within, fill_was, generation_proper, map_was, store_marked}
 pub use Rattle.ee_core.proofs.MovingFacts.{few_slots}
 pub use Rattle.ee_core.proofs.NotBlank.{length-not_blank}

@@ -11,8 +11,8 @@ pub mod laws;
 
 pub use ee_bench::{Answer, Driven, Event, drive};
 pub use ee_core::{
-    ForgetFault, LiveBatch, Off, OpenFault, Store, Variables, WriteFault, Written, count_pending,
-    format, open, start,
+    ForgetFault, LiveBatch, Off, OpenFault, Put, Store, Variables, WriteAllFault, WriteFault,
+    Written, count_pending, format, open, start,
 };
 pub use ee_index::{IndexedFault, IndexedStore};
 pub use ee_pairs::{LowPair, Nor, Pairs};
