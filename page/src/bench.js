@@ -37,7 +37,7 @@
  *  what was done, what is told of it as an answer, the script lines that it answered with their answers, and what it left */
 
 /** @type {Record<string, string>} */
-const CALLS = { w: "write", f: "forget", c: "clean", p: "open", open: "open", format: "format" };
+const CALLS = { w: "write", both: "write_both", f: "forget", c: "clean", p: "open", open: "open", format: "format" };
 const ANSWERS = ["ok", "moved", "idle", "full", "spent", "absent"];
 /** @type {Record<string, string>} */
 const WHOLE_ANSWERS = { c: "clean", p: "open", open: "open", format: "formatted" };
@@ -49,6 +49,18 @@ const OWN_ANSWERS = { format: "the part is formatted, with no values", open: "th
 /** @param {string} kind @returns {Command} a command that no script has */
 function ownCommand(kind) {
   return { line: kind, kind, address: 0, value: 0, steps: 0n, tear: "n" };
+}
+
+/** @param {Variable} one @param {Variable} other @returns {Command} that writes both at once */
+function bothCommand(one, other) {
+  const line = `w ${one.address} ${one.value} with w ${other.address} ${other.value}`;
+  return { ...ownCommand("both"), line, ...one, other };
+}
+
+/** @param {Command} command @returns {number[]} the operands of its call */
+function operandsOf({ kind, address, value, other }) {
+  if (other !== undefined) return [address, value, other.address, other.value];
+  return kind === "w" ? [address, value] : kind === "f" ? [address] : [];
 }
 
 /** @param {string} kind @param {number} status */
@@ -133,6 +145,7 @@ class Bench {
     else if (kind === "open" || (kind === "p" && !this.desk.open)) this.list(command, { power: true });
     else if (kind === "p") this.answer(line, "open");
     else if (!this.desk.open) this.answer(line, "off");
+    else if (kind === "both") this.list(command, { trace: null });
     else if (kind === "r") this.answer(line, String(this.library.read(this.cells, command.address)?.value ?? "none"));
     else this.list(command, {});
   }
@@ -145,16 +158,16 @@ class Bench {
   /** Asks the proved code for a call's steps.
    *  @param {Command} command @param {Partial<Desk>} changes how the desk stands once the call has begun */
   list(command, changes) {
-    const { kind, address, value } = command;
-    const operands = kind === "w" ? [address, value] : kind === "f" ? [address] : [];
-    const done = this.library.change(CALLS[kind], this.cells, operands);
+    const { kind } = command;
+    const done = this.library.change(CALLS[kind], this.cells, operandsOf(command));
+    if (done.status === STATUS.TWICE) throw new Error("Both values are of one address: nothing is written.");
     const fault = faultOf(done);
     const what = kind === "p" ? "power on" : command.line;
     if (fault !== null) return this.push(`${what}: ${fault}`, [], null, { ...changes, open: false, fault });
     this.checkPlayed(done);
     const { length } = done.steps;
     const call = { command, steps: done.steps, taken: 0, tear: null, answer: answerOf(kind, done.status) };
-    if (length === 0) this.end(call, null, changes);
+    if (length === 0) this.end(call, null, kind === "both" ? {} : changes);
     else this.push(`${command.line}: ${length} ${length === 1 ? "step" : "steps"} listed`, [], null, { ...changes, call });
   }
 
@@ -203,7 +216,7 @@ class Bench {
   end(call, delta, changes) {
     const { line, kind } = call.command;
     const { trace } = { ...this.desk, ...changes };
-    const lines = trace === null || kind === "open" || kind === "format" ? [] : [[line, call.answer]];
+    const lines = trace === null || kind === "open" || kind === "format" || kind === "both" ? [] : [[line, call.answer]];
     const last = delta === null ? "" : stepText(call.steps[call.steps.length - 1]) + "; ";
     const after = trace === null ? this.firstTrace() : this.traceAfter(trace, call);
     const what = `${last}${line}: ${call.answer}`;

@@ -20,7 +20,7 @@
 
 const ERASE = -1;
 const ALL_ONES = 2n ** 64n - 1n;
-const STATUS = { OK: 0, UNFORMATTED: 6, FOREIGN: 9 }; // those of ee_page's Answers.antt that are asked for by name
+const STATUS = { OK: 0, UNFORMATTED: 6, FOREIGN: 9, TWICE: 13 }; // those of ee_page's Answers.antt that are asked for by name
 const MEMORY_PAGE = 65536;
 
 /** @param {number} pages @param {number} pageWords @returns {Cells} a part as it comes, each word erased */
@@ -84,7 +84,7 @@ class Library {
     return [loan.result, ...shape, loan.words, count, loan.flags, count, loan.wears, cells.wears.length].map(BigInt);
   }
 
-  /** A call that takes steps: format, open, write, forget, clean. The cells stay as they are.
+  /** A call that takes steps: format, open, write, write_both, forget, clean. The cells stay as they are.
    *  @param {string} name @param {Cells} cells @param {number[]} operands @param {number} [places] of the list
    *  @returns {Done} */
   change(name, cells, operands = [], places = undefined) {

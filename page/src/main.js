@@ -5,6 +5,7 @@ const OTHER_COUNT = "\u25b2 The page counts other live slots than the proved cod
 const NO_LONG_MEMORIES =
   "\u25b2 This browser has no 64-bit memories for WebAssembly, which the proved store needs: " +
   "take Chromium 133, Firefox 134 or later.";
+const NO_NUMBERS = "An address is a whole number from 1 to 65534, a value one from 0 to 4294967295.";
 
 class Page {
   /** @param {Library} library */
@@ -88,8 +89,17 @@ class Page {
   /** @param {string} line one that is put together from the fields */
   byHand(line) {
     const command = readCommand(line);
-    if (command === null) throw new Error("An address is a whole number from 1 to 65534, a value one from 0 to 4294967295.");
+    if (command === null) throw new Error(NO_NUMBERS);
     this.command(command);
+    this.goOn();
+  }
+
+  /** Writes the values of both addresses at once.
+   *  @param {string[]} one an address and its value, as they are typed @param {string[]} other */
+  bothByHand(one, other) {
+    const [first, second] = [one, other].map((fields) => readCommand(`w ${fields.join(" ")}`));
+    if (first === null || second === null) throw new Error(NO_NUMBERS);
+    this.command(bothCommand(variableOf(first), variableOf(second)));
     this.goOn();
   }
 
@@ -161,14 +171,21 @@ function numberIn(id) {
   return value === "" ? "" : String(Number(value));
 }
 
+/** @param {Command} command @returns {Variable} what it writes */
+function variableOf({ address, value }) {
+  return { address, value };
+}
+
 /** @param {Page} page */
 function listenToButtons(page) {
   const fields = () => [numberIn("address"), numberIn("value")];
+  const others = () => [numberIn("other-address"), numberIn("other-value")];
   /** @type {Record<string, () => void>} */
   const deeds = {
     new: () => page.newPart(),
     format: () => (page.command(ownCommand("format")), page.goOn()),
     write: () => page.byHand(`w ${fields().join(" ")}`),
+    both: () => page.bothByHand(fields(), others()),
     read: () => page.byHand(`r ${fields()[0]}`),
     forget: () => page.byHand(`f ${fields()[0]}`),
     clean: () => page.byHand("c"),
@@ -203,6 +220,7 @@ function listenToFields(page) {
     if (value !== undefined && event.target.tagName === "BUTTON") page.act(() => page.bench.go(Number(value)));
   });
   for (const id of ["address", "value"]) at(id).addEventListener("keydown", pressOnEnter("write", () => true));
+  for (const id of ["other-address", "other-value"]) at(id).addEventListener("keydown", pressOnEnter("both", () => true));
   for (const id of ["pages", "page-words"]) at(id).addEventListener("keydown", pressOnEnter("new", () => true));
   at("script").addEventListener("keydown", pressOnEnter("run", (event) => event.ctrlKey));
   at("script").addEventListener("input", () => ((page.nextLine = 0), page.drawScript()));

@@ -43,7 +43,7 @@ const COUNTS = {
   live: "addresses that have a value",
   pending: "pages of the other set that wait to be erased",
   generation: "that of the live set: one more with each move",
-  transfers: "moves since the store was first open here",
+  transfers: "moves since the report began",
 };
 const NOT_OPEN = "\u25a0 Power is on; no store was opened yet: go forth in the history, or format.";
 

@@ -5,9 +5,10 @@
 /**
  * @typedef {object} Command
  * @property {string} line
- * @property {string} kind w, f, r, c, x or p; also `format` and `open`, which no script has
+ * @property {string} kind w, f, r, c, x or p; also `format`, `open` and `both`, which no script has
  * @property {number} address
  * @property {number} value
+ * @property {Variable} [other] what `both` writes with it
  * @property {bigint} steps
  * @property {Tear} tear
  */

@@ -2,7 +2,7 @@
 use Rattle.std.specs.Prelude.{ℕ, Bool, true, false}
 use Rattle.ee_pages.specs.declared.find.ScanFault.TheVariants.{Unformatted, NoLiveSet, TwoLive, Foreign}
 use Rattle.ee_page.specs.declared.answer.Answer.{Answer}
-use Rattle.ee_page.specs.declared.answer.Answer.TheVariants.{Done, Moved, Nothing, Full, Spent, Absent, NoStore, ListTooShort, WrongShape, ImproperAddress}
+use Rattle.ee_page.specs.declared.answer.Answer.TheVariants.{Done, Moved, Nothing, Full, Spent, Absent, NoStore, ListTooShort, WrongShape, ImproperAddress, Twice}
 use Rattle.ee_page.specs.declared.answer.CallResult.{CallResult}
 
 -- the number of an answer
@@ -20,6 +20,7 @@ status_of (NoStore (Foreign page at)) = 9
 status_of ListTooShort = 10
 status_of WrongShape = 11
 status_of ImproperAddress = 12
+status_of Twice = 13
 
 -- the page and the place of a foreign word, 0 where the answer names none
 abbrev pub foreign_at : Answer → ℕ × ℕ

@@ -1,6 +1,6 @@
 -- What a request is answered, and what it leaves of the device that the mirror means, by cases on the request and on the
 -- answer. Where the list is too short that is a device whose power is cut in the step that finds no place in it.
-use Rattle.std.specs.Prelude.{◌≡◌, ◌<◌, ◌≤◌, ◌⊎◌, ℕ, Ok, Err, true, false, List, length, take}
+use Rattle.std.specs.Prelude.{◌≡◌, ◌<◌, ◌≤◌, ◌⊎◌, ℕ, Ok, Err, true, false, List, [], ◌∷◌, length, take}
 use Rattle.std.specs.List.{All}
 use Rattle.ee_flash.specs.Device.{Device}
 use Rattle.ee_flash.specs.Endurance.{CanTakeAll}
@@ -8,18 +8,20 @@ use Rattle.ee_flash.specs.Laws.{all_completed}
 use Rattle.ee_flash.specs.Size.{page_count}
 use Rattle.ee_flash.specs.Step.{one_more, with_page_worn}
 use Rattle.ee_pages.specs.Layout.{IsScanFault}
-use Rattle.ee_core.specs.Calls.{Cleans, Forgets, Writes}
+use Rattle.ee_core.specs.Calls.{Cleans, Forgets, Writes, WritesAll}
 use Rattle.ee_core.specs.Openings.{IsCutFormat, IsCutOpening, IsFormatted, Opens}
 use Rattle.ee_core.specs.declared.variables.Written.TheVariants as written
+use Rattle.ee_core.specs.declared.change.Put.{Put}
+use Rattle.ee_core.specs.declared.variables.WriteAllFault.TheVariants as all
 use Rattle.ee_core.specs.declared.variables.WriteFault.TheVariants as write
 use Rattle.ee_core.specs.declared.variables.ForgetFault.TheVariants as forget
 use Rattle.ee_page.specs.Draft.{IsFresh}
 use Rattle.ee_page.specs.Listing.{IsZeroIfErase, steps_of}
 use Rattle.ee_page.specs.declared.answer.Answer.{Answer}
-use Rattle.ee_page.specs.declared.answer.Answer.TheVariants.{Done, Moved, Nothing, Full, Spent, Absent, NoStore, ListTooShort}
+use Rattle.ee_page.specs.declared.answer.Answer.TheVariants.{Done, Moved, Nothing, Full, Spent, Absent, NoStore, ListTooShort, Twice}
 use Rattle.ee_page.specs.declared.listing.ListedStep.{ListedStep}
 use Rattle.ee_page.specs.declared.request.Request.{Request}
-use Rattle.ee_page.specs.declared.request.Request.TheVariants.{Format, Open, Write, Forget, Clean}
+use Rattle.ee_page.specs.declared.request.Request.TheVariants.{Format, Open, Write, WriteBoth, Forget, Clean}
 
 -- a format makes a store with nothing in it
 abbrev pub Formats : Device → Answer → Device → Type 0
@@ -33,6 +35,11 @@ IsNotOpened old (NoStore fault) new = IsScanFault old fault × (new ≡ old)
 IsNotOpened old ListTooShort new = IsCutOpening old new
 IsNotOpened old answer new = ⊥
 
+-- two values, as a list
+abbrev pub both_of : ℕ → ℕ → ℕ → ℕ → List Put
+both_of first first_value second second_value =
+    record { address = first; value = first_value } ∷ record { address = second; value = second_value } ∷ []
+
 -- what a store that was opened is asked, if anything
 abbrev pub AnswersOpen : Request ℕ → Device → Answer → Device → Type 0
 AnswersOpen Open old Done new = new ≡ old
@@ -41,6 +48,11 @@ AnswersOpen (Write address value) old Moved new = Writes old address value (Ok w
 AnswersOpen (Write address value) old Full new = Writes old address value (Err write.Full) new
 AnswersOpen (Write address value) old Spent new = Writes old address value (Err write.Spent) new
 AnswersOpen (Write address value) old ListTooShort new = Writes old address value (Err write.Cut) new
+AnswersOpen (WriteBoth first one second other) old Moved new = WritesAll old (both_of first one second other) (Ok written.Moved) new
+AnswersOpen (WriteBoth first one second other) old Twice new = WritesAll old (both_of first one second other) (Err (all.Twice 1)) new
+AnswersOpen (WriteBoth first one second other) old Full new = WritesAll old (both_of first one second other) (Err all.Full) new
+AnswersOpen (WriteBoth first one second other) old Spent new = WritesAll old (both_of first one second other) (Err all.Spent) new
+AnswersOpen (WriteBoth first one second other) old ListTooShort new = WritesAll old (both_of first one second other) (Err all.Cut) new
 AnswersOpen (Forget address) old Done new = Forgets old address (Ok written.Appended) new
 AnswersOpen (Forget address) old Moved new = Forgets old address (Ok written.Moved) new
 AnswersOpen (Forget address) old Absent new = Forgets old address (Err forget.Absent) new

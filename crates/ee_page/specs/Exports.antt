@@ -14,7 +14,7 @@ use Rattle.ee_page.specs.declared.answer.Answer.TheVariants.{NoStore, ListTooSho
 use Rattle.ee_page.specs.declared.answer.CallResult.{CallResult}
 use Rattle.ee_page.specs.declared.listing.ListedStep.{ListedStep}
 use Rattle.ee_page.specs.declared.request.Request.{Request}
-use Rattle.ee_page.specs.declared.request.Request.TheVariants.{Write, Forget}
+use Rattle.ee_page.specs.declared.request.Request.TheVariants.{Write, WriteBoth, Forget}
 
 -- Nothing is written, and nothing is listed.
 pub record WritesNothing (old new : Mirror) (count : ℕ) : Type 0 where
@@ -30,9 +30,10 @@ pub record IsPlayed (size : Size) (old new : Mirror) (listed : List ListedStep) 
   pub zeros : All IsZeroIfErase (take count listed)
   pub played : device_in size new ≡ all_completed (steps_of count listed) (device_in size old)
 
--- its address, where it has one, is proper
+-- its addresses, where it has any, are proper
 abbrev pub IsProperRequest : Request ℕ → Type 0
 IsProperRequest (Write address value) = IsAddress address
+IsProperRequest (WriteBoth first one second other) = IsAddress first × IsAddress second
 IsProperRequest (Forget address) = IsAddress address
 IsProperRequest request = Unit {0}
 

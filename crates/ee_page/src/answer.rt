@@ -28,6 +28,8 @@ pub enum Answer {
     WrongShape,
     /// The address is 0 or 65535.
     ImproperAddress,
+    /// Both values are of one address.
+    Twice,
 }
 
 /// What a call tells its caller.
@@ -67,6 +69,7 @@ impl Answer {
             Answer::ListTooShort => 10,
             Answer::WrongShape => 11,
             Answer::ImproperAddress => 12,
+            Answer::Twice => 13,
         }
     }
 

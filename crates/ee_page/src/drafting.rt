@@ -9,7 +9,9 @@ use crate::draft::{DraftFlash, Drafted, Lent};
 use crate::listing::ListedStep;
 use crate::request::Request;
 use ee_codec::Address;
-use ee_core::{ForgetFault, OpenFault, Store, Variables, WriteFault, Written, format, open};
+use ee_core::{
+    ForgetFault, OpenFault, Put, Store, Variables, WriteAllFault, WriteFault, Written, format, open,
+};
 use ee_flash::{Flash, Shape};
 
 /// Drafts what is requested.
@@ -76,6 +78,22 @@ fn ask_open<F: Flash + Drop>(store: &mut Store<F>, request: Request<Address>) ->
             Err(WriteFault::Spent) => Answer::Spent,
             Err(WriteFault::Off | WriteFault::Memory | WriteFault::Cut) => Answer::ListTooShort,
         },
+        Request::WriteBoth {
+            first,
+            first_value,
+            second,
+            second_value,
+        } => write_both(
+            store,
+            Put {
+                address: first,
+                value: first_value,
+            },
+            Put {
+                address: second,
+                value: second_value,
+            },
+        ),
         Request::Forget { address } => match store.forget(address) {
             Ok(Written::Appended) => Answer::Done,
             Ok(Written::Moved) => Answer::Moved,
@@ -88,5 +106,25 @@ fn ask_open<F: Flash + Drop>(store: &mut Store<F>, request: Request<Address>) ->
             Ok(false) => Answer::Nothing,
             Err(_) => Answer::ListTooShort,
         },
+    }
+}
+
+/// Asks a store that was opened for two values at once, which a move makes live.
+fn write_both<F: Flash + Drop>(store: &mut Store<F>, first: Put, second: Put) -> Answer
+    requires on { IsOn store.old }
+    ensures answers { AnswersOpen
+        (Request.WriteBoth first.address first.value second.address second.value)
+        store.old result store.new }
+    ensures cuts { store.new.cuts ≡ cuts_after result store.old.cuts }
+{
+    match store.write_all(&[first, second]) {
+        Ok(Written::Appended) => Answer::Done,
+        Ok(Written::Moved) => Answer::Moved,
+        Err(WriteAllFault::Twice(_)) => Answer::Twice,
+        Err(WriteAllFault::Full) => Answer::Full,
+        Err(WriteAllFault::Spent) => Answer::Spent,
+        Err(WriteAllFault::Off) => Answer::ListTooShort,
+        Err(WriteAllFault::Memory) => Answer::ListTooShort,
+        Err(WriteAllFault::Cut) => Answer::ListTooShort,
     }
 }

@@ -82,6 +82,40 @@ pub extern "C" fn ee_write(
     make_call(pages, page_words, words, flags, wears, listed, request)
 }
 
+/// Writes values of two addresses, each 1 to 65534, at once: whatever step power is cut in, an opening finds both or
+/// neither. The live set moves for it, whether a slot is free or not. It opens the store first.
+///
+/// `Moved`; `Twice`, if both are of one address, `Full` or `Spent`, and neither is written; `NoStore`, `WrongShape`,
+/// `ImproperAddress` or `ListTooShort`, and nothing is written or listed.
+///
+/// Source: ours.
+#[unsafe(no_mangle)]
+pub extern "C" fn ee_write_both(
+    pages: usize,
+    page_words: usize,
+    words: &mut [u64],
+    flags: &mut [u8],
+    wears: &mut [u64],
+    listed: &mut [ListedStep],
+    first: u16,
+    first_value: u32,
+    second: u16,
+    second_value: u32,
+) -> CallResult
+    ensures { MakesCall (size_of pages page_words)
+        (Request.WriteBoth first first_value second second_value) result
+        (mirror_of words.old flags.old wears.old) (mirror_of words.new flags.new wears.new)
+        listed.new }
+{
+    let request = Request::WriteBoth {
+        first,
+        first_value,
+        second,
+        second_value,
+    };
+    make_call(pages, page_words, words, flags, wears, listed, request)
+}
+
 /// Takes the value of an address, 1 to 65534, away. It opens the store first.
 ///
 /// `Done` or `Moved`; `Absent` or `Spent`, and nothing is forgotten; `NoStore`, `WrongShape`,

@@ -22,7 +22,7 @@
 //!
 //! # What is proved
 //!
-//! `ee_format`, `ee_open`, `ee_write`, `ee_forget` and `ee_clean` say
+//! `ee_format`, `ee_open`, `ee_write`, `ee_write_both`, `ee_forget` and `ee_clean` say
 //! their answer and what the mirror means afterwards, by the relations of `ee_core`, for every
 //! mirror and list: each listed step can be taken when it comes, an erase has the value 0, and
 //! played in order they lead from what the mirror meant to what it means; a list that is refused as

@@ -14,14 +14,26 @@ pub enum Request<A> {
     /// To be opened.
     Open,
     /// To write a value of an address.
-    Write { address: A, value: u32 },
+    Write {
+        address: A,
+        value: u32,
+    },
+    /// To write values of two addresses at once.
+    WriteBoth {
+        first: A,
+        first_value: u32,
+        second: A,
+        second_value: u32,
+    },
     /// To take the value of an address away.
-    Forget { address: A },
+    Forget {
+        address: A,
+    },
     /// To erase the lowest page that waits to be erased.
     Clean,
 }
 
-/// The same request with a proper address, where it has one; `None` if its number is 0 or 65535.
+/// The same request with proper addresses, where it has any; `None` if the number of one is 0 or 65535.
 pub(crate) fn proper(request: Request<u16>) -> Option<Request<Address>>
     ensures { SomeIff result (IsProperRequest request) request }
 {
@@ -31,6 +43,21 @@ pub(crate) fn proper(request: Request<u16>) -> Option<Request<Address>>
         Request::Write { address, value } => {
             let address = Address::new(address)?;
             Some(Request::Write { address, value })
+        }
+        Request::WriteBoth {
+            first,
+            first_value,
+            second,
+            second_value,
+        } => {
+            let first = Address::new(first)?;
+            let second = Address::new(second)?;
+            Some(Request::WriteBoth {
+                first,
+                first_value,
+                second,
+                second_value,
+            })
         }
         Request::Forget { address } => {
             let address = Address::new(address)?;
