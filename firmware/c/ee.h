@@ -24,6 +24,8 @@
  *     ee_format                         W + 2            2                2 * P
  *     ee_write   where a slot is free   2                3                0
  *                else                   2 * N + 2 * W    S + 3 * P + 1    P
+ *     ee_write_all   of n values        2 * N + 2 * W    S + 3 * P + 1    P
+ *                                       + n * S
  *     ee_forget  where a slot is free   S + 2            3                0
  *                else                   N + 2 * W        S + 3 * P + 1    P
  *     ee_clean                          W / 2            0                1
@@ -79,23 +81,32 @@ enum {
     EE_OK = 0,             /* done */
     EE_NOTHING = 1,        /* there is nothing: no value, no next variable, no page to be erased */
     /* Refusals of a change. Nothing was written. */
-    EE_FULL = 2,           /* the address has no value, and as many addresses have one as there are slots */
-    EE_SPENT = 3,          /* every slot is used, and the generation is the greatest, 4294967294 */
+    EE_FULL = 2,           /* more addresses would have a value than there are slots */
+    EE_SPENT = 3,          /* a move is needed, and the generation is the greatest, 4294967294 */
     EE_ABSENT = 4,         /* the address has no value to be forgotten */
     /* The flash holds no store. Nothing was written. */
     EE_UNFORMATTED = 5,    /* every word is erased */
     EE_NO_LIVE_SET = 6,    /* no set is live */
     EE_TWO_LIVE = 7,       /* both sets are */
     EE_FOREIGN = 8,        /* a word of the live set is not the store's; with `pairs`, a word of either set */
-    /* A function of the flash failed, and the store is off: the change was made or was not, and all else is as before. */
+    /* A function of the flash failed, and the store is off: the change was made or was not, a list of values as a whole, and all
+     * else is as before. */
     EE_DRIVER = 9,
     /* The store is off, or was never opened. Open it. */
     EE_OFF = 10,
     /* Refusals of the call itself. Nothing was written. */
     EE_WRONG_SHAPE = 11,   /* `pages`, `page_words` or `pairs` is out of range */
     EE_WRONG_NUMBER = 12,  /* the address is 0 or 65535 */
-    EE_NULL = 13           /* a pointer is NULL */
+    EE_NULL = 13,          /* a pointer is NULL */
+    /* Another refusal of a change. Nothing was written. */
+    EE_TWICE = 14          /* an address stands twice in the list */
 };
+
+/* A value that an address gets. */
+typedef struct ee_value {
+    uint16_t address;
+    uint32_t value;
+} ee_value;
 
 /* How a store stands. */
 typedef struct ee_numbers {
@@ -122,6 +133,12 @@ uint32_t ee_format(ee_store *store, const ee_flash *flash);
 
 /* Gives an address a value. Where no slot is free all variables move to the other set. EE_OK; EE_FULL, EE_SPENT, EE_DRIVER. */
 uint32_t ee_write(ee_store *store, uint16_t address, uint32_t value);
+
+/* Gives addresses their values at once, each address once: wherever this call is cut, all of them are there afterwards or none.
+ * The list has `count` entries, stays the caller's and may be a constant. For two and more all variables move to the other set,
+ * whether a slot is free or not; a list of one is as ee_write, and an empty one changes nothing. The first that applies:
+ * EE_TWICE, EE_FULL, EE_SPENT, EE_DRIVER; or EE_OK. */
+uint32_t ee_write_all(ee_store *store, const ee_value *values, uint32_t count);
 
 /* Takes the value of an address away. EE_OK; EE_ABSENT, EE_SPENT, EE_DRIVER. */
 uint32_t ee_forget(ee_store *store, uint16_t address);

@@ -7,10 +7,11 @@ ghost use Rattle.ee_core.specs.Puts.{carried};
 
 use ee_codec::{Address, element_word, forget_word};
 
-/// A value that an address gets.
+/// A value that an address gets. It is laid out as in C, so that a list of C's can be one of these.
 ///
 /// Source: ours.
 #[derive(Clone, Copy, Debug, PartialEq, Eq)]
+#[repr(C)]
 pub struct Put {
     /// The address.
     pub address: Address,

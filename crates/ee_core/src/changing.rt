@@ -50,8 +50,8 @@ pub(crate) fn make_change<F: Flash>(
         append_change(flash, layout, change)?;
         Ok(Written::Appended)
     } else {
-        let mut cursor = Cursor::new(flash, layout);
-        move_change(flash, layout, change, &mut cursor)?;
+        let (put, forgets) = change.entry();
+        move_unindexed(flash, layout, &[put], forgets)?;
         Ok(Written::Moved)
     }
 }
@@ -87,6 +87,31 @@ pub fn append_change<F: Flash>(
     ensures layout { IsOn (F.device flash.new) → IsLayout (F.device flash.new) layout.new }
 {
     append(flash, layout, change)?;
+    Ok(())
+}
+
+/// Makes changes to which no refusal applies with a transfer that they need, as `move_changes` does, in
+/// a store without an index: it looks for the live addresses in the slots. The layout follows.
+pub(crate) fn move_unindexed<F: Flash>(
+    flash: &mut F,
+    layout: &mut Layout,
+    puts: &[Put],
+    forgets: bool,
+) -> Result<(), Cut>
+    requires layout { IsLayout (F.device flash.old) layout.old }
+    requires apart { AreApart (carried puts.now forgets) }
+    requires proceeds { Proceeds (F.device flash.old) (carried puts.now forgets) }
+    requires needed { NeedsTransfer (capacity (F.device flash.old)) (state_of (F.device flash.old))
+        (carried puts.now forgets) }
+    ensures moved { OnOk result
+        (Moves (F.device flash.old) (carried puts.now forgets) (F.device flash.new)) }
+    ensures cut { OnErr result
+        (IsCutMaking (F.device flash.old) (carried puts.now forgets) (F.device flash.new)) }
+    ensures store { IsStore (F.device flash.new) }
+    ensures layout { IsOn (F.device flash.new) → IsLayout (F.device flash.new) layout.new }
+{
+    let mut cursor = Cursor::new(flash, layout);
+    move_changes(flash, layout, puts, forgets, &mut cursor)?;
     Ok(())
 }
 

@@ -11,9 +11,8 @@ ghost use Rattle.ee_core.specs.Puts.{AreApart, puts_of};
 ghost use Rattle.ee_core.specs.State.{capacity, state_of, torn_slots_of};
 
 use crate::change::{Change, Put};
-use crate::changing::{make_change, move_changes};
+use crate::changing::{make_change, move_unindexed};
 use crate::cleaning::{clean, count_pending};
-use crate::copying::Cursor;
 use crate::puts::{first_twice, live_with};
 use crate::variables::{ForgetFault, Off, Variables, WriteAllFault, WriteFault, Written};
 use ee_codec::Address;
@@ -116,8 +115,7 @@ impl<F: Flash + Drop> Store<F> {
         if self.is_last() {
             return Err(WriteAllFault::Spent);
         }
-        let mut cursor = Cursor::new(&self.flash, &self.layout);
-        match move_changes(&mut self.flash, &mut self.layout, puts, false, &mut cursor) {
+        match move_unindexed(&mut self.flash, &mut self.layout, puts, false) {
             Ok(()) => Ok(Written::Moved),
             Err(Cut) => Err(WriteAllFault::Cut),
         }
@@ -193,6 +191,7 @@ impl<F: Flash + Drop> Variables for Store<F> {
         Ok(latest(&self.flash, &self.layout, address))
     }
 
+    #[inline(always)]
     fn write(&mut self, address: Address, value: u32) -> Result<Written, WriteFault>
         ensures writes { Writes self.old address value result self.new }
         // It keeps no index, and never runs out of memory.

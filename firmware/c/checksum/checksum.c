@@ -1,4 +1,5 @@
-/* Two and a half thousand calls on flash in an array: writes for the most part, and some of each other call. One step in
+/* Two and a half thousand calls on flash in an array: writes for the most part, and some of each other call, of ee_write_all
+ * but with LISTS 0. One step in
  * fifty or so is cut, torn in some way, and the store opened again. Then each word of the flash is damaged in turn, and a
  * variable is read. With PAIRS the flash has numbers, two for each word, and a cut leaves some of their bits. */
 #include "checksum.h"
@@ -8,8 +9,11 @@
 #ifndef PAIRS
 #define PAIRS 0
 #endif
+#ifndef LISTS
+#define LISTS 1
+#endif
 
-enum { SHAPES = 5, CALLS = 500, MOST_PAGES = 8, MOST_WORDS = 128, MOST_ADDRESSES = 100 };
+enum { SHAPES = 5, CALLS = 500, MOST_PAGES = 8, MOST_WORDS = 128, MOST_ADDRESSES = 100, MOST_LISTED = 6 };
 
 static const struct {
     uint32_t pages, page_words;
@@ -88,7 +92,16 @@ static uint32_t erase(void *context, uint32_t page) {
     return (uint32_t)is_cut;
 }
 
-enum call { CLEAN, FORGET, FORMAT, OPEN, START, WRITE };
+enum call { CLEAN, FORGET, FORMAT, OPEN, START, WRITE, WRITE_ALL };
+
+#if LISTS
+static ee_value list[MOST_LISTED];
+
+/* A list of so many values, of addresses from this one on. */
+static void make_list(uint16_t address, uint32_t count) {
+    for (uint32_t i = 0; i < count; i++) list[i] = (ee_value){(uint16_t)(address + i), below(UINT32_MAX)};
+}
+#endif
 
 static __attribute__((noinline)) uint32_t make(enum call call, uint16_t address, uint32_t value) {
     checksum_frame = __builtin_frame_address(0);
@@ -98,6 +111,9 @@ static __attribute__((noinline)) uint32_t make(enum call call, uint16_t address,
     case FORMAT: return ee_format(&store, &flash);
     case OPEN: return ee_open(&store, &flash);
     case START: return ee_start(&store, &flash);
+#if LISTS
+    case WRITE_ALL: make_list(address, value); return ee_write_all(&store, list, value);
+#endif
     default: return ee_write(&store, address, value);
     }
 }
@@ -144,6 +160,9 @@ static int any_call(uint32_t addresses) {
     case 2: add_read(address); return 1;
     case 3: return change(CLEAN, 0, 0);
     case 4: return change(FORGET, address, 0);
+#if LISTS
+    case 5: return change(WRITE_ALL, address, value % (MOST_LISTED + 1));
+#endif
     default: return change(WRITE, address, value);
     }
 }

@@ -1,17 +1,19 @@
-//! The store for C: `ee.h` says what each function does, and what C owes. This file and `flash.rs` are the only ones with
-//! `unsafe`: this one reads the pointers that C gives, and the other calls the functions of C's driver.
+//! The store for C: `ee.h` says what each function does, and what C owes. The files of this folder are the only ones with
+//! `unsafe`: this one and `values.rs` read the pointers that C gives, and `flash.rs` calls the functions of C's driver.
 #![no_std]
 #![deny(unsafe_op_in_unsafe_fn)]
 #![allow(clippy::missing_safety_doc)] // `ee.h` says it.
 
 mod flash;
+mod values;
 
 use core::mem::{align_of, size_of};
 use ee_store::{
     Address, CleanFault, Failed, ForgetFault, Off, OpenFault, Pairs, ScanFault, Shape, Store,
-    WriteFault,
+    WriteAllFault, WriteFault,
 };
 use flash::{Calls, Flash, Given};
+use values::{listed, Value};
 
 const EE_OK: u32 = 0;
 const EE_NOTHING: u32 = 1;
@@ -27,6 +29,7 @@ const EE_OFF: u32 = 10;
 const EE_WRONG_SHAPE: u32 = 11;
 const EE_WRONG_NUMBER: u32 = 12;
 const EE_NULL: u32 = 13;
+const EE_TWICE: u32 = 14;
 
 /// `ee_numbers` of `ee.h`.
 #[repr(C)]
@@ -157,6 +160,25 @@ pub unsafe extern "C" fn ee_write(store: *mut Memory, address: u16, value: u32) 
         Err(WriteFault::Full) => EE_FULL,
         Err(WriteFault::Spent) => EE_SPENT,
         Err(WriteFault::Driver(())) => EE_DRIVER,
+    }
+}
+
+#[no_mangle]
+pub unsafe extern "C" fn ee_write_all(store: *mut Memory, values: *const Value, count: u32) -> u32 {
+    let Some(store) = (unsafe { kept(store) }) else {
+        return EE_NULL;
+    };
+    let values = match unsafe { listed(values, count) } {
+        Ok(values) => values,
+        Err(status) => return status,
+    };
+    match store.write_all(values) {
+        Ok(_) => EE_OK,
+        Err(WriteAllFault::Off) => EE_OFF,
+        Err(WriteAllFault::Twice(_)) => EE_TWICE,
+        Err(WriteAllFault::Full) => EE_FULL,
+        Err(WriteAllFault::Spent) => EE_SPENT,
+        Err(WriteAllFault::Driver(())) => EE_DRIVER,
     }
 }
 

@@ -6,7 +6,7 @@
 #include "part.h"
 
 enum { SHAPES = 5, CALLS = 3000 };
-enum kind { START, OPEN, FORMAT, WRITE, FORGET, CLEAN, READ, NEXT, COUNTS };
+enum kind { START, OPEN, FORMAT, WRITE, WRITE_ALL, FORGET, CLEAN, READ, NEXT, COUNTS };
 
 static const uint32_t shapes[SHAPES][2] = {{1, 5}, {1, 40}, {2, 7}, {3, 20}, {8, 5}};
 static part device;
@@ -14,12 +14,20 @@ static ee_flash flash;
 static ee_store store;
 static uint64_t dice = 88172645463325252u;
 static unsigned long most_read;
+static ee_value list[MOST_PAGES / 2 * (MOST_WORDS - 4) + 2];
+static uint32_t listed;
 
 static uint32_t below(uint32_t end) {
     dice ^= dice << 13;
     dice ^= dice >> 7;
     dice ^= dice << 17;
     return (uint32_t)(dice >> 20) % end;
+}
+
+/* A list of addresses from this one on, rising: short for the most part, else up to one more than there are slots. */
+static void make_list(uint16_t address, uint32_t slots) {
+    listed = below(2) ? below(4) : below(slots + 2);
+    for (uint32_t i = 0; i < listed; i++) list[i] = (ee_value){(uint16_t)(address + i), i};
 }
 
 static uint32_t made(enum kind kind, uint16_t address) {
@@ -30,6 +38,7 @@ static uint32_t made(enum kind kind, uint16_t address) {
     case OPEN: return ee_open(&store, &flash);
     case FORMAT: return ee_format(&store, &flash);
     case WRITE: return ee_write(&store, address, value);
+    case WRITE_ALL: return ee_write_all(&store, list, listed);
     case FORGET: return ee_forget(&store, address);
     case CLEAN: return ee_clean(&store);
     case READ: return ee_read(&store, address, &value);
@@ -41,9 +50,11 @@ static uint32_t made(enum kind kind, uint16_t address) {
 /* Makes a call, and sees that it stays below the table. */
 static uint32_t counted(enum kind kind, uint16_t address, int is_room) {
     uint32_t p = device.pages, s = p * (device.page_words - 4), w = 2 * p * device.page_words, n = s * (s / 16 + 1);
+    if (kind == WRITE_ALL) make_list(address, s);
     const uint32_t most[][3] = {
         [START] = {3 * w, 2 * p, 2 * p}, [OPEN] = {3 * w, 2 * p, 0},
         [FORMAT] = {w + 2, 2, 2 * p},    [WRITE] = {is_room ? 2 : 2 * n + 2 * w, is_room ? 3 : s + 3 * p + 1, is_room ? 0 : p},
+        [WRITE_ALL] = {2 * n + 2 * w + listed * s, s + 3 * p + 1, p},
         [FORGET] = {is_room ? s + 2 : n + 2 * w, is_room ? 3 : s + 3 * p + 1, is_room ? 0 : p},
         [CLEAN] = {w / 2, 0, 1},         [READ] = {s, 0, 0},
         [NEXT] = {n, 0, 0},              [COUNTS] = {n + w, 0, 0}};
@@ -74,7 +85,7 @@ static void run(uint32_t pages, uint32_t page_words, uint32_t addresses, uint32_
     flash = flash_of(&device);
     CHECK(counted(OPEN, 0, 0) == EE_UNFORMATTED && counted(START, 0, 0) == EE_OK);
     for (int i = 0; i < CALLS; i++) {
-        enum kind kind = below(50) == 0 ? FORMAT : below(4) == 0 ? (enum kind)below(COUNTS + 1) : below(3) ? WRITE : FORGET;
+        enum kind kind = below(50) == 0 ? FORMAT : below(4) == 0 ? (enum kind)below(COUNTS + 1) : below(3) ? WRITE : below(3) ? FORGET : WRITE_ALL;
         device.steps = 0;
         device.cut_in = below(4) == 0 ? 1 + below(12) : 0;
         device.tear = (enum tear)below(TEARS);

@@ -1,5 +1,5 @@
-/* Random calls against an array, each with power cut in every step and in every way, on flashes of words and of pairs of
- * numbers. On each it asks the library more than half a million calls, on pairs more than a million. */
+/* Random calls against an array, lists of values among them, each with power cut in every step and in every way, on flashes of
+ * words and of pairs of numbers. On each it asks the library more than a million calls. */
 #include "part.h"
 
 enum { ADDRESSES = 8, STORES = 120, CALLS = 60 };
@@ -38,21 +38,63 @@ static map held(const ee_store *store) {
 static int same(const map *a, const map *b) { return memcmp(a, b, sizeof *a) == 0; }
 
 typedef struct call {
-    int kind; /* 0 writes, 1 forgets, 2 cleans */
+    enum { WRITE, FORGET, CLEAN, WRITE_ALL, KINDS } kind;
     uint16_t address;
     uint32_t value;
+    uint32_t count;
+    ee_value values[ADDRESSES];
 } call;
 
-static uint32_t made(ee_store *store, call c) {
-    if (c.kind == 0) return ee_write(store, c.address, c.value);
-    if (c.kind == 1) return ee_forget(store, c.address);
-    return ee_clean(store);
+static call drawn(void) {
+    call c = {.kind = below(KINDS), .address = (uint16_t)(1 + below(ADDRESSES)), .value = below(UINT32_MAX)};
+    if (c.kind == WRITE_ALL) c.count = below(2) ? below(4) : below(ADDRESSES + 1);
+    uint16_t step = (uint16_t)(2 * below(ADDRESSES / 2) + 1);
+    for (uint32_t i = 0; i < c.count; i++) {
+        uint16_t address = (uint16_t)((c.address + i * step) % ADDRESSES + 1);
+        c.values[i] = (ee_value){address, below(UINT32_MAX)};
+    }
+    if (c.count > 1 && below(8) == 0) c.values[c.count - 1].address = c.values[below(c.count - 1)].address;
+    return c;
 }
 
-static map after(map m, call c, uint32_t slots) {
-    int i = c.address - 1;
-    if (c.kind == 0 && (m.there[i] || live_in(&m) < slots)) m.there[i] = 1, m.values[i] = c.value;
-    if (c.kind == 1) m.there[i] = 0, m.values[i] = 0;
+static uint32_t made(ee_store *store, call c) {
+    switch (c.kind) {
+    case WRITE: return ee_write(store, c.address, c.value);
+    case FORGET: return ee_forget(store, c.address);
+    case CLEAN: return ee_clean(store);
+    default: return ee_write_all(store, c.values, c.count);
+    }
+}
+
+static void put(map *m, uint16_t address, uint32_t value) { m->there[address - 1] = 1, m->values[address - 1] = value; }
+
+/* The map with the values of a list, and whether each of its addresses is another. */
+static int with_list(map *m, const call *c) {
+    map seen;
+    memset(&seen, 0, sizeof seen);
+    for (uint32_t i = 0; i < c->count; i++) {
+        put(&seen, c->values[i].address, 1);
+        put(m, c->values[i].address, c->values[i].value);
+    }
+    return live_in(&seen) == c->count;
+}
+
+static uint32_t expected(const call *c, const map *old, uint32_t slots, uint32_t pending) {
+    map new = *old;
+    int there = old->there[c->address - 1];
+    switch (c->kind) {
+    case WRITE: return there || live_in(old) < slots ? EE_OK : EE_FULL;
+    case FORGET: return there ? EE_OK : EE_ABSENT;
+    case CLEAN: return pending > 0 ? EE_OK : EE_NOTHING;
+    default: return !with_list(&new, c) ? EE_TWICE : live_in(&new) > slots ? EE_FULL : EE_OK;
+    }
+}
+
+/* The map after a call that nothing refuses. */
+static map after(map m, const call *c) {
+    if (c->kind == WRITE) put(&m, c->address, c->value);
+    if (c->kind == FORGET) m.there[c->address - 1] = 0, m.values[c->address - 1] = 0;
+    if (c->kind == WRITE_ALL) with_list(&m, c);
     return m;
 }
 
@@ -78,20 +120,14 @@ static void cut_everywhere(const part *before, const map *old, call c, const map
     }
 }
 
-static uint32_t expected(call c, const map *old, uint32_t slots, uint32_t pending) {
-    int there = c.kind < 2 && old->there[c.address - 1];
-    if (c.kind == 0) return there || live_in(old) < slots ? EE_OK : EE_FULL;
-    if (c.kind == 1) return there ? EE_OK : EE_ABSENT;
-    return pending > 0 ? EE_OK : EE_NOTHING;
-}
-
 static void play(part *p, ee_store *store, map *m) {
-    call c = {(int)below(3), (uint16_t)(1 + below(ADDRESSES)), below(UINT32_MAX)};
+    call c = drawn();
     ee_numbers numbers;
     CHECK(ee_counts(store, &numbers) == EE_OK && numbers.live == live_in(m));
-    map next = after(*m, c, numbers.slots);
+    uint32_t status = expected(&c, m, numbers.slots, numbers.pending);
+    map next = status == EE_OK ? after(*m, &c) : *m;
     cut_everywhere(p, m, c, &next);
-    CHECK(made(store, c) == expected(c, m, numbers.slots, numbers.pending));
+    CHECK(made(store, c) == status);
     *m = held(store);
     CHECK(same(m, &next));
     uint16_t address = 0;
@@ -115,7 +151,7 @@ static void run(uint32_t pairs) {
         map m = held(&store);
         for (int j = 0; j < CALLS; j++) play(&p, &store, &m);
     }
-    CHECK(cuts > 40000);
+    CHECK(cuts > 80000);
 }
 
 int main(void) {

@@ -6,6 +6,7 @@ static ee_store store;
 static uint32_t value;
 static uint16_t address;
 static ee_numbers numbers;
+static const ee_value list[] = {{1, 20}, {65534, 21}, {1, 22}, {0, 23}, {65535, 24}, {4, 25}, {5, 26}};
 
 static void nulls(void) {
     ee_flash flash = flash_of(&p), lacking;
@@ -22,12 +23,15 @@ static void nulls(void) {
     CHECK(ee_write(&store, 1, 1) == EE_OFF);
     CHECK(ee_read(&store, 1, &value) == EE_OFF);
     CHECK(ee_write(NULL, 1, 1) == EE_NULL);
+    CHECK(ee_write_all(&store, list, 2) == EE_OFF && ee_write_all(&store, list, 0) == EE_OFF);
+    CHECK(ee_write_all(NULL, list, 2) == EE_NULL);
     CHECK(ee_forget(NULL, 1) == EE_NULL);
     CHECK(ee_clean(NULL) == EE_NULL);
     CHECK(ee_read(NULL, 1, &value) == EE_NULL);
     CHECK(ee_next(NULL, &address, &value) == EE_NULL);
     CHECK(ee_counts(NULL, &numbers) == EE_NULL);
     CHECK(ee_format(&store, &flash) == EE_OK);
+    CHECK(ee_write_all(&store, NULL, 2) == EE_NULL && ee_write_all(&store, NULL, 0) == EE_NULL);
     CHECK(ee_read(&store, 1, NULL) == EE_NULL);
     CHECK(ee_next(&store, NULL, &value) == EE_NULL);
     CHECK(ee_next(&store, &address, NULL) == EE_NULL);
@@ -75,6 +79,22 @@ static void statuses(void) {
     CHECK(ee_forget(&store, 1) == EE_OK && ee_read(&store, 1, &value) == EE_NOTHING);
 }
 
+/* The refusals of a list, each of which leaves the flash as it was; and a list that is written. */
+static void lists(void) {
+    blank(&p, 1, 6);
+    ee_flash flash = flash_of(&p);
+    CHECK(ee_format(&store, &flash) == EE_OK && ee_write(&store, 5, 10) == EE_OK);
+    part before = p;
+    CHECK(ee_write_all(&store, list, 0) == EE_OK);
+    CHECK(ee_write_all(&store, list, 3) == EE_TWICE && ee_write_all(&store, list, 2) == EE_FULL);
+    CHECK(ee_write_all(&store, list, 4) == EE_WRONG_NUMBER && ee_write_all(&store, list + 4, 1) == EE_WRONG_NUMBER);
+    CHECK(holds_same(&before, &p));
+    CHECK(ee_write_all(&store, list + 5, 2) == EE_OK && p.words[1][4] == 0x0000001900000004);
+    CHECK(ee_counts(&store, &numbers) == EE_OK && numbers.live == 2 && numbers.fill == 2 && numbers.pending == 1);
+    CHECK(ee_start(&store, &flash) == EE_OK && ee_read(&store, 4, &value) == EE_OK && value == 25);
+    CHECK(ee_read(&store, 5, &value) == EE_OK && value == 26);
+}
+
 static void no_store(void) {
     ee_flash flash = flash_of(&p);
     blank(&p, 1, 6);
@@ -95,6 +115,7 @@ static void no_store(void) {
     p.words[0][4] = p.words[0][5] = 0x0000000a00000001;
     CHECK(ee_open(&store, &flash) == EE_OK);
     CHECK(ee_write(&store, 1, 1) == EE_SPENT && ee_forget(&store, 1) == EE_SPENT);
+    CHECK(ee_write_all(&store, list, 2) == EE_SPENT && ee_write_all(&store, list, 1) == EE_SPENT);
 }
 
 /* A first start is cut in each of its steps in each way, again and again, and ends with an empty store. */
@@ -124,6 +145,7 @@ static void failing(void) {
     p.steps = 0, p.cut_in = 1, p.tear = TEAR_TORN;
     CHECK(ee_write(&store, 1, 10) == EE_DRIVER);
     CHECK(ee_write(&store, 1, 10) == EE_OFF && ee_clean(&store) == EE_OFF && ee_forget(&store, 1) == EE_OFF);
+    CHECK(ee_write_all(&store, list, 2) == EE_OFF);
     CHECK(ee_counts(&store, &numbers) == EE_OFF && ee_next(&store, &address, &value) != EE_OK);
     CHECK(ee_open(&store, &flash) == EE_OK && ee_read(&store, 1, &value) == EE_NOTHING);
     CHECK(ee_counts(&store, &numbers) == EE_OK && numbers.fill == 1 && numbers.torn == 1);
@@ -186,6 +208,7 @@ int main(void) {
     nulls();
     shapes();
     statuses();
+    lists();
     no_store();
     first_starts();
     failing();

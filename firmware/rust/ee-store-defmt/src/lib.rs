@@ -4,8 +4,8 @@
 
 use defmt::{Format, Formatter};
 use ee_store::{
-    Address, CleanFault, Driver, Failed, ForgetFault, Off, OpenFault, ScanFault, WriteFault,
-    Written,
+    Address, CleanFault, Driver, Failed, ForgetFault, Off, OpenFault, ScanFault, WriteAllFault,
+    WriteFault, Written,
 };
 
 /// An answer of the store, as it stands in a log.
@@ -89,6 +89,22 @@ impl<E: Format> Format for Show<'_, WriteFault<E>> {
             }
             WriteFault::Spent => spent(f),
             WriteFault::Driver(error) => driver(f, error),
+        }
+    }
+}
+
+impl<E: Format> Format for Show<'_, WriteAllFault<E>> {
+    fn format(&self, f: Formatter<'_>) {
+        match self.0 {
+            WriteAllFault::Off => off(f),
+            WriteAllFault::Twice(place) => {
+                defmt::write!(f, "value {=usize} has an address of an earlier one", place)
+            }
+            WriteAllFault::Full => {
+                defmt::write!(f, "more addresses would have a value than there are slots")
+            }
+            WriteAllFault::Spent => defmt::write!(f, "no generation is left for a move"),
+            WriteAllFault::Driver(error) => driver(f, error),
         }
     }
 }

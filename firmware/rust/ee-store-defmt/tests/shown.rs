@@ -2,8 +2,8 @@
 
 use defmt::{shown, Format, Formatter};
 use ee_store::{
-    Address, CleanFault, Driver, Failed, ForgetFault, Off, OpenFault, ScanFault, Word, WriteFault,
-    Written,
+    Address, CleanFault, Driver, Failed, ForgetFault, Off, OpenFault, ScanFault, Word, WriteAllFault,
+    WriteFault, Written,
 };
 use ee_store_defmt::Show;
 use std::fmt::{self, Display};
@@ -75,6 +75,15 @@ fn faults_of_changes_are_shown() {
         same::<WriteFault<Locked>>(fault);
     }
     same(WriteFault::Driver(Locked));
+    for fault in [
+        WriteAllFault::Off,
+        WriteAllFault::Twice(3),
+        WriteAllFault::Full,
+        WriteAllFault::Spent,
+    ] {
+        same::<WriteAllFault<Locked>>(fault);
+    }
+    same(WriteAllFault::Driver(Locked));
     for fault in [ForgetFault::Off, ForgetFault::Absent, ForgetFault::Spent] {
         same::<ForgetFault<Locked>>(fault);
     }

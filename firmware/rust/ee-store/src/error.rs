@@ -37,6 +37,21 @@ pub enum WriteFault<E> {
     Driver(E),
 }
 
+/// Why no value of a list was written, the first cause that applies. All but `Driver` leave the flash as it was.
+#[derive(Clone, Copy, Debug, PartialEq, Eq)]
+pub enum WriteAllFault<E> {
+    /// The store is off.
+    Off,
+    /// An address is listed twice: the first entry, counted from 0, whose address an earlier one has.
+    Twice(usize),
+    /// More addresses would have a value than there are slots.
+    Full,
+    /// The generation is the greatest, 4294967294; of a list of one, and every slot is used.
+    Spent,
+    /// The driver failed in this call. Every value of the list is there or none, and no other address changed.
+    Driver(E),
+}
+
 /// Why nothing was forgotten, the first cause that applies. All but `Driver` leave the flash as it was.
 #[derive(Clone, Copy, Debug, PartialEq, Eq)]
 pub enum ForgetFault<E> {
@@ -129,6 +144,22 @@ impl<E: fmt::Display> fmt::Display for WriteFault<E> {
     }
 }
 
+impl<E: fmt::Display> fmt::Display for WriteAllFault<E> {
+    fn fmt(&self, f: &mut fmt::Formatter<'_>) -> fmt::Result {
+        match self {
+            WriteAllFault::Off => f.write_str(OFF),
+            WriteAllFault::Twice(place) => {
+                write!(f, "value {place} has an address of an earlier one")
+            }
+            WriteAllFault::Full => {
+                f.write_str("more addresses would have a value than there are slots")
+            }
+            WriteAllFault::Spent => f.write_str("no generation is left for a move"),
+            WriteAllFault::Driver(error) => write!(f, "{DRIVER}{error}"),
+        }
+    }
+}
+
 impl<E: fmt::Display> fmt::Display for ForgetFault<E> {
     fn fmt(&self, f: &mut fmt::Formatter<'_>) -> fmt::Result {
         match self {
@@ -153,7 +184,8 @@ impl<E: fmt::Display> fmt::Display for CleanFault<E> {
 #[allow(clippy::incompatible_msrv)] // The feature says that it takes Rust 1.81.
 mod errors {
     use super::{
-        CleanFault, Driver, Failed, ForgetFault, LowPair, Off, OpenFault, ScanFault, WriteFault,
+        CleanFault, Driver, Failed, ForgetFault, LowPair, Off, OpenFault, ScanFault, WriteAllFault,
+        WriteFault,
     };
     use core::error::Error;
     use core::fmt::{Debug, Display};
@@ -163,6 +195,7 @@ mod errors {
     impl Error for LowPair {}
     impl<E: Debug + Display> Error for OpenFault<E> {}
     impl<E: Debug + Display> Error for WriteFault<E> {}
+    impl<E: Debug + Display> Error for WriteAllFault<E> {}
     impl<E: Debug + Display> Error for ForgetFault<E> {}
     impl<E: Debug + Display> Error for CleanFault<E> {}
     impl<D: Driver> Error for Failed<D> where D::Error: Debug + Display {}

@@ -32,12 +32,12 @@ mod pairs;
 mod store;
 
 pub use crate::ee_codec::Address;
-pub use crate::ee_core::Written;
+pub use crate::ee_core::{Put, Written};
 pub use crate::ee_flash::{Shape, Word};
 pub use crate::ee_pages::ScanFault;
 pub use crate::ee_pairs::LowPair;
 pub use driver::Driver;
-pub use error::{CleanFault, Failed, ForgetFault, Off, OpenFault, WriteFault};
+pub use error::{CleanFault, Failed, ForgetFault, Off, OpenFault, WriteAllFault, WriteFault};
 pub use numbers::NumberDriver;
 pub use pairs::Pairs;
 pub use store::{format, open, start, Store};

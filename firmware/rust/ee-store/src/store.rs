@@ -1,8 +1,8 @@
 use crate::driver::{Driver, Part};
 use crate::ee_codec::Address;
-use crate::ee_core::{self as proved, Variables, Written};
+use crate::ee_core::{self as proved, Put, Variables, Written};
 use crate::ee_flash::Shape;
-use crate::error::{CleanFault, Failed, ForgetFault, Off, OpenFault, WriteFault};
+use crate::error::{CleanFault, Failed, ForgetFault, Off, OpenFault, WriteAllFault, WriteFault};
 use core::mem::replace;
 
 /// Variables of 32 bits, each with an address of 1 to 65534, kept in the flash behind a driver.
@@ -158,6 +158,32 @@ impl<D: Driver> Store<D> {
             Err(proved::WriteFault::Spent) => Err(WriteFault::Spent),
             Err(proved::WriteFault::Cut) => {
                 Err(self.cut().map_or(WriteFault::Off, WriteFault::Driver))
+            }
+        }
+    }
+
+    /// Writes these values at once: if power fails in this call too, all of them are there afterwards or none. A list of
+    /// one is written as [`write`](Store::write) does. For more, all variables move to the other set, whether a slot is
+    /// free or not; an address may stand in the list once.
+    ///
+    /// # Errors
+    ///
+    /// The first [`WriteAllFault`] that applies.
+    pub fn write_all(&mut self, values: &[Put]) -> Result<Written, WriteAllFault<D::Error>> {
+        let State::On(store) = &mut self.state else {
+            return Err(WriteAllFault::Off);
+        };
+        match store.write_all(values) {
+            Ok(written) => Ok(written),
+            Err(proved::WriteAllFault::Off) => Err(WriteAllFault::Off),
+            Err(proved::WriteAllFault::Twice(place)) => Err(WriteAllFault::Twice(place)),
+            // This store keeps no index, and never says `Memory`.
+            Err(proved::WriteAllFault::Full | proved::WriteAllFault::Memory) => {
+                Err(WriteAllFault::Full)
+            }
+            Err(proved::WriteAllFault::Spent) => Err(WriteAllFault::Spent),
+            Err(proved::WriteAllFault::Cut) => {
+                Err(self.cut().map_or(WriteAllFault::Off, WriteAllFault::Driver))
             }
         }
     }

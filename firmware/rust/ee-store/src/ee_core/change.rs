@@ -1,7 +1,19 @@
 // Made by firmware/rust/erase from crates/ee_core/src/change.rt. Change that file.
-//! A change of the map, and the word that spells it.
+//! A change of the map, and the word that spells it; a value that is put with others.
 
 use crate::ee_codec::{Address, element_word, forget_word};
+
+/// A value that an address gets. It is laid out as in C, so that a list of C's can be one of these.
+///
+/// Source: ours.
+#[derive(Clone, Copy, Debug, PartialEq, Eq)]
+#[repr(C)]
+pub struct Put {
+    /// The address.
+    pub address: Address,
+    /// Its value from here on.
+    pub value: u32,
+}
 
 /// A change of the map.
 #[derive(Clone, Copy, Debug, PartialEq, Eq)]
@@ -13,11 +25,11 @@ pub enum Change {
 }
 
 impl Change {
-    /// Its address.
-    pub(crate) fn address(&self) -> Address {
-        let change = *self;
-        match change {
-            Change::Put { address, .. } | Change::Forget { address, .. } => address,
+    /// What a transfer carries for it: its address with the value, and whether it forgets.
+    pub(crate) fn entry(self) -> (Put, bool) {
+        match self {
+            Change::Put { address, value } => (Put { address, value }, false),
+            Change::Forget { address, value } => (Put { address, value }, true),
         }
     }
 

@@ -1,7 +1,8 @@
 // Made by firmware/rust/erase from crates/ee_core/src/changing.rt. Change that file.
-//! The making of a change that nothing refuses: appended where a slot is free, else with a transfer.
+//! The making of changes that nothing refuses: one is appended where a slot is free, and else they are
+//! made with a transfer.
 
-use crate::ee_core::change::Change;
+use crate::ee_core::change::{Change, Put};
 use crate::ee_core::copying::Cursor;
 use crate::ee_core::live_cursor::LiveCursor;
 use crate::ee_core::moving::transfer;
@@ -21,8 +22,8 @@ pub(crate) fn make_change<F: Flash>(
         append_change(flash, layout, change)?;
         Ok(Written::Appended)
     } else {
-        let mut cursor = Cursor::new(flash, layout);
-        move_change(flash, layout, change, &mut cursor)?;
+        let (put, forgets) = change.entry();
+        move_unindexed(flash, layout, &[put], forgets)?;
         Ok(Written::Moved)
     }
 }
@@ -38,6 +39,19 @@ pub fn append_change<F: Flash>(
     Ok(())
 }
 
+/// Makes changes to which no refusal applies with a transfer that they need, as `move_changes` does, in
+/// a store without an index: it looks for the live addresses in the slots. The layout follows.
+pub(crate) fn move_unindexed<F: Flash>(
+    flash: &mut F,
+    layout: &mut Layout,
+    puts: &[Put],
+    forgets: bool,
+) -> Result<(), Cut> {
+    let mut cursor = Cursor::new(flash, layout);
+    move_changes(flash, layout, puts, forgets, &mut cursor)?;
+    Ok(())
+}
+
 /// Makes a change to which no refusal applies with a transfer, where no slot is free. The cursor,
 /// which is before the first, goes over the live addresses. The layout follows.
 pub fn move_change<F: Flash, C: LiveCursor>(
@@ -46,6 +60,21 @@ pub fn move_change<F: Flash, C: LiveCursor>(
     change: Change,
     cursor: &mut C,
 ) -> Result<(), Cut> {
-    transfer(flash, layout, change, cursor)?;
+    let (put, forgets) = change.entry();
+    move_changes(flash, layout, &[put], forgets, cursor)?;
+    Ok(())
+}
+
+/// Makes changes to which no refusal applies with a transfer that they need: values that are put, or
+/// the forgettings of their addresses. The cursor, which is before the first, goes over the live addresses.
+/// The layout follows.
+pub(crate) fn move_changes<F: Flash, C: LiveCursor>(
+    flash: &mut F,
+    layout: &mut Layout,
+    puts: &[Put],
+    forgets: bool,
+    cursor: &mut C,
+) -> Result<(), Cut> {
+    transfer(flash, layout, puts, forgets, cursor)?;
     Ok(())
 }

@@ -1,8 +1,9 @@
 // Made by firmware/rust/erase from crates/ee_core/src/copying.rt. Change that file.
 //! The copying of a transfer: the map after its change, written into the other set word by word.
 
-use crate::ee_core::change::Change;
+use crate::ee_core::change::{Change, Put};
 use crate::ee_core::live_cursor::LiveCursor;
+use crate::ee_core::puts::{has_put, values_put};
 use crate::ee_codec::Address;
 use crate::ee_flash::{Cut, Flash, HEADER_WORDS};
 use crate::ee_pages::{Layout, LiveBatch, Mark, first_page, mark, next_batch};
@@ -68,58 +69,60 @@ struct Place {
     at: usize,
 }
 
-/// Fills the other set, which was opened, with the map after a change: a value that is written
-/// comes first, and then each other live address, rising. Gives how many slots that takes.
+/// Fills the other set, which was opened, with the map after changes: the values that are put come
+/// first, in their order, and then each other live address, rising. Where they are forgotten, their
+/// addresses are left out alone. Gives how many slots that takes.
 pub(crate) fn fill_set<F: Flash, C: LiveCursor>(
     flash: &mut F,
     layout: &Layout,
-    change: Change,
+    puts: &[Put],
+    forgets: bool,
     cursor: &mut C,
 ) -> Result<usize, Cut> {
-    let address = change.address();
-    let first = put_first(flash, layout, change)?;
-    let count = copy_others(flash, layout, address, first, cursor)?;
+    let first = put_all(flash, layout, values_put(puts, forgets))?;
+    let count = copy_others(flash, layout, puts, first, cursor)?;
     Ok(count)
 }
 
-/// Writes a value that is put into the first slot of the other set; a forgetting takes no slot.
-/// Gives the place of the next slot.
-fn put_first<F: Flash>(flash: &mut F, layout: &Layout, change: Change) -> Result<Place, Cut> {
+/// Writes values into the first slots of the other set, in their order. Gives the place of the next
+/// slot.
+fn put_all<F: Flash>(flash: &mut F, layout: &Layout, puts: &[Put]) -> Result<Place, Cut> {
     let mut place = first_place(flash, layout);
-    if let Change::Forget { .. } = change {
-        return Ok(place);
+    for put in puts {
+        let (address, value) = (put.address, put.value);
+        stage(flash, layout, &mut place, Change::Put { address, value })?;
     }
-    stage(flash, layout, &mut place, change)?;
     Ok(place)
 }
 
-/// Copies each live address but this one to the other set, from this place on. Gives how many of its
-/// slots are written then.
+/// Copies each live address but those of the changes to the other set, from this place on. Gives how
+/// many of its slots are written then.
 fn copy_others<F: Flash, C: LiveCursor>(
     flash: &mut F,
     layout: &Layout,
-    except: Address,
+    puts: &[Put],
     place: Place,
     cursor: &mut C,
 ) -> Result<usize, Cut> {
     let mut place = place;
     while let Some((address, value)) = cursor.next(flash, layout) {
-        copy_one(flash, layout, except, &mut place, address, value)?;
+        let carries = has_put(puts, address);
+        copy_one(flash, layout, carries, &mut place, address, value)?;
     }
     Ok(place.slot)
 }
 
-/// Copies a live address to this place of the other set, unless it is the one that is not copied.
-/// The place becomes that of the next free slot.
+/// Copies a live address to this place of the other set, unless it is passed over. The place becomes
+/// that of the next free slot.
 fn copy_one<F: Flash>(
     flash: &mut F,
     layout: &Layout,
-    except: Address,
+    passed: bool,
     place: &mut Place,
     address: Address,
     value: u32,
 ) -> Result<(), Cut> {
-    if address == except {
+    if passed {
         return Ok(());
     }
     stage(flash, layout, place, Change::Put { address, value })?;

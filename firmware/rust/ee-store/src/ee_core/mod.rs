@@ -49,13 +49,15 @@ mod live_cursor;
 mod marking;
 mod moving;
 mod opening;
+mod puts;
 mod store;
 mod variables;
 mod writing;
 
+pub use change::Put;
 pub use cleaning::count_pending;
 pub use crate::ee_pages::LiveBatch;
 pub use first_start::start;
 pub use opening::{OpenFault, format, open};
 pub use store::Store;
-pub use variables::{ForgetFault, Off, Variables, WriteFault, Written};
+pub use variables::{ForgetFault, Off, Variables, WriteAllFault, WriteFault, Written};

@@ -1,7 +1,7 @@
 // Made by firmware/rust/erase from crates/ee_core/src/moving.rt. Change that file.
 //! A transfer: the other set is erased, opened and filled, and one mark makes it the live one.
 
-use crate::ee_core::change::Change;
+use crate::ee_core::change::Put;
 use crate::ee_core::cleaning::erase_other;
 use crate::ee_core::copying::fill_set;
 use crate::ee_core::live_cursor::LiveCursor;
@@ -9,16 +9,17 @@ use crate::ee_core::marking::finish;
 use crate::ee_flash::{Cut, Flash, HEADER_WORDS};
 use crate::ee_pages::{Layout, Mark, first_page, is_blank as page_is_blank, mark};
 
-/// Moves the map, with a change, from a live set of which every slot is used to the other set, and
-/// makes that one live. The cursor, which is before the first, goes over the live addresses. The
-/// layout follows.
+/// Moves the map, with values that are put or without their addresses, where these are forgotten, to
+/// the other set, and makes that one live. The cursor, which is before the first, goes over the live addresses.
+/// The layout follows.
 pub(crate) fn transfer<F: Flash, C: LiveCursor>(
     flash: &mut F,
     layout: &mut Layout,
-    change: Change,
+    puts: &[Put],
+    forgets: bool,
     cursor: &mut C,
 ) -> Result<(), Cut> {
-    let count = move_map(flash, layout, change, cursor)?;
+    let count = move_map(flash, layout, puts, forgets, cursor)?;
     let slots = flash.shape().words() - HEADER_WORDS;
     *layout = Layout {
         side: layout.side.other(),
@@ -30,17 +31,18 @@ pub(crate) fn transfer<F: Flash, C: LiveCursor>(
     Ok(())
 }
 
-/// Moves the map, with a change, to the other set, and makes that one live. Gives how many slots it
-/// takes there.
+/// Moves the map, with what it is to carry, to the other set, and makes that one live. Gives how many
+/// slots it takes there.
 fn move_map<F: Flash, C: LiveCursor>(
     flash: &mut F,
     layout: &Layout,
-    change: Change,
+    puts: &[Put],
+    forgets: bool,
     cursor: &mut C,
 ) -> Result<usize, Cut> {
     clear(flash, layout)?;
     open_set(flash, layout)?;
-    let count = fill_set(flash, layout, change, cursor)?;
+    let count = fill_set(flash, layout, puts, forgets, cursor)?;
     commit(flash, layout)?;
     Ok(count)
 }

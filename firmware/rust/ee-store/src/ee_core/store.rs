@@ -1,10 +1,11 @@
 // Made by firmware/rust/erase from crates/ee_core/src/store.rt. Change that file.
 //! The store without an index: it knows where the live set is and how far it is used, and reads the rest.
 
-use crate::ee_core::change::Change;
-use crate::ee_core::changing::make_change;
+use crate::ee_core::change::{Change, Put};
+use crate::ee_core::changing::{make_change, move_unindexed};
 use crate::ee_core::cleaning::{clean, count_pending};
-use crate::ee_core::variables::{ForgetFault, Off, Variables, WriteFault, Written};
+use crate::ee_core::puts::{first_twice, live_with};
+use crate::ee_core::variables::{ForgetFault, Off, Variables, WriteAllFault, WriteFault, Written};
 use crate::ee_codec::Address;
 use crate::ee_flash::{Cut, Flash};
 use crate::ee_pages::{Layout, LiveBatch, latest, live_count, next_batch, next_live, torn_slots};
@@ -45,11 +46,74 @@ impl<F: Flash> Store<F> {
         torn_slots(&self.flash, &self.layout)
     }
 
+    /// Writes these values at once: after this call, and after a cut in it too, the map has all of them
+    /// or is as it was. A list of one is written as by `write`; for more the live set moves to the other
+    /// set, whether a slot is free or not.
+    ///
+    /// Source: ours.
+    ///
+    /// # Errors
+    ///
+    /// The first `WriteAllFault` that applies.
+    pub fn write_all(&mut self, changes: &[Put]) -> Result<Written, WriteAllFault> {
+        if !self.flash.is_on() {
+            return Err(WriteAllFault::Off);
+        }
+        if changes.is_empty() {
+            return Ok(Written::Appended);
+        }
+        if changes.len() == 1 {
+            return self.write_one(changes[0]);
+        }
+        self.write_several(changes)
+    }
+
+    /// Writes the one value of a list.
+    fn write_one(&mut self, put: Put) -> Result<Written, WriteAllFault> {
+        match self.write(put.address, put.value) {
+            Ok(written) => Ok(written),
+            Err(WriteFault::Off) => Err(WriteAllFault::Off),
+            Err(WriteFault::Full) => Err(WriteAllFault::Full),
+            Err(WriteFault::Spent) => Err(WriteAllFault::Spent),
+            Err(WriteFault::Cut) => Err(WriteAllFault::Cut),
+            Err(WriteFault::Memory) => Err(WriteAllFault::Memory),
+        }
+    }
+
+    /// Writes two values or more, with a transfer.
+    fn write_several(&mut self, puts: &[Put]) -> Result<Written, WriteAllFault> {
+        if let Some(place) = first_twice(puts) {
+            return Err(WriteAllFault::Twice(place));
+        }
+        if self.is_full_for_all(puts) {
+            return Err(WriteAllFault::Full);
+        }
+        if self.is_last() {
+            return Err(WriteAllFault::Spent);
+        }
+        match move_unindexed(&mut self.flash, &mut self.layout, puts, false) {
+            Ok(()) => Ok(Written::Moved),
+            Err(Cut) => Err(WriteAllFault::Cut),
+        }
+    }
+
+    /// Whether more addresses would have a value than there are slots, with these values, each of which
+    /// is of an address of its own.
+    fn is_full_for_all(&self, puts: &[Put]) -> bool {
+        let slots = self.flash.shape().slots();
+        puts.len() > slots || live_with(&self.flash, &self.layout, puts) > slots
+    }
+
     /// Whether a write or forgetting must be refused since no generation is left for the transfer
     /// that it needs.
     fn is_spent(&self) -> bool {
         self.layout.fill == self.flash.shape().slots()
             && self.layout.generation == GREATEST_GENERATION
+    }
+
+    /// Whether no generation is left for a transfer.
+    fn is_last(&self) -> bool {
+        self.layout.generation == GREATEST_GENERATION
     }
 
     /// Whether the address has no value and there is no slot for one more. Live addresses are counted
@@ -82,6 +146,7 @@ impl<F: Flash> Variables for Store<F> {
         Ok(latest(&self.flash, &self.layout, address))
     }
 
+    #[inline(always)]
     fn write(&mut self, address: Address, value: u32) -> Result<Written, WriteFault> {
         if !self.flash.is_on() {
             return Err(WriteFault::Off);

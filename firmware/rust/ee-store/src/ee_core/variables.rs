@@ -39,6 +39,27 @@ pub enum WriteFault {
     Cut,
 }
 
+/// Why no value of a list is written, the first cause that applies. All but `Cut` leave the device as
+/// it was.
+///
+/// Source: ours.
+#[derive(Clone, Copy, Debug, PartialEq, Eq)]
+pub enum WriteAllFault {
+    /// The device is off.
+    Off,
+    /// An address is listed twice: the first entry, counted from 0, whose address an earlier one has.
+    Twice(usize),
+    /// More addresses would have a value than there are slots.
+    Full,
+    /// The generation is the greatest, 4294967294; of a list of one, and every slot is used.
+    Spent,
+    /// Memory ran out, in a store that keeps an index, for an address that has no value.
+    Memory,
+    /// Power failed in this call. The device is off; all values of the list are held or none, and
+    /// nothing else changed for any reader.
+    Cut,
+}
+
 /// Why nothing is forgotten, the first cause that applies. All but `Cut` leave the device as it was.
 ///
 /// Source: ours.

@@ -14,8 +14,8 @@ pub returns-then-is_full_for_all-clause-writes : goal.returns-then-is_full_for_a
 returns-then-is_full_for_all-clause-writes g c =
     (c.requires.on, c.in_default.ensures.once, no_place (capacity c.args.self.now) (state_of c.args.self.now) c.args.puts.now c.requires.several c.if-is_full_for_all.ensures, refl)
 
-pub move_changes-requires-clause-apart : goal.move_changes-requires-clause-apart
-move_changes-requires-clause-apart g c = each_apart c.args.puts.now c.in_default.ensures.proper c.in_default.ensures.once
+pub move_unindexed-requires-clause-apart : goal.move_unindexed-requires-clause-apart
+move_unindexed-requires-clause-apart g c = each_apart c.args.puts.now c.in_default.ensures.proper c.in_default.ensures.once
 
 pub returns-then-is_last-clause-writes : goal.returns-then-is_last-clause-writes
 returns-then-is_last-clause-writes g c = (
@@ -26,12 +26,12 @@ returns-then-is_last-clause-writes g c = (
   refl,
 )
 
-pub move_changes-requires-clause-proceeds : goal.move_changes-requires-clause-proceeds
-move_changes-requires-clause-proceeds g c =
+pub move_unindexed-requires-clause-proceeds : goal.move_unindexed-requires-clause-proceeds
+move_unindexed-requires-clause-proceeds g c =
     subst (λ (device : Device). Proceeds device (puts_of c.args.puts.now)) (sym c.self.view_is)
     (several_proceed c.args.self.now c.args.puts.now c.requires.on c.requires.several c.if-is_full_for_all.ensures c.if-is_last.ensures)
 
-pub move_changes-requires-clause-needed : goal.move_changes-requires-clause-needed
-move_changes-requires-clause-needed g c =
+pub move_unindexed-requires-clause-needed : goal.move_unindexed-requires-clause-needed
+move_unindexed-requires-clause-needed g c =
     let device = g.F.Flash.device c.self.inside.flash in
     needs_transfer (capacity device) (state_of device) c.args.puts.now c.requires.several

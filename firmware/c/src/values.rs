@@ -1,0 +1,45 @@
+//! C's lists of values, as the store's.
+
+use crate::{EE_NULL, EE_WRONG_NUMBER};
+use core::mem::{align_of, size_of, transmute};
+use core::slice::from_raw_parts;
+use ee_store::{Address, Put};
+
+/// `ee_value` of `ee.h`: a `Put`, but that its address may be no proper one.
+#[repr(C)]
+pub struct Value {
+    address: u16,
+    value: u32,
+}
+
+/// Whether the bytes of an address are those of its number, and a `Put` begins with them.
+const fn is_laid_out_alike(number: u16) -> bool {
+    let Some(address) = Address::new(number) else {
+        return false;
+    };
+    let put = Put { address, value: 0 };
+    let (start, first): (*const Put, *const Address) = (&put, &put.address);
+    // SAFETY: both pointers are into `put`; and every number of 16 bits is a `u16`.
+    unsafe {
+        first.cast::<u8>().offset_from(start.cast()) == 0
+            && transmute::<Address, u16>(address) == number
+    }
+}
+
+const _: () = assert!(is_laid_out_alike(258));
+const _: () = assert!(size_of::<Value>() == size_of::<Put>());
+const _: () = assert!(align_of::<Value>() == align_of::<Put>());
+
+/// C's list as one of the store's, or why it is none. The pointer is null, or good for so many values.
+pub unsafe fn listed<'a>(values: *const Value, count: u32) -> Result<&'a [Put], u32> {
+    if values.is_null() {
+        return Err(EE_NULL);
+    }
+    // SAFETY: a pointer that is not null is good.
+    let given = unsafe { from_raw_parts(values, count as usize) };
+    if given.iter().any(|it| Address::new(it.address).is_none()) {
+        return Err(EE_WRONG_NUMBER);
+    }
+    // SAFETY: each address is proper, so each is a `Put`, which is laid out alike.
+    Ok(unsafe { from_raw_parts(values.cast(), count as usize) })
+}
