@@ -114,3 +114,6 @@ returns-in_err-erase-clause-partly g c =
     (erases_partly 0 (page_count old.size) page old mid new (omega arith) in_range written (λ k low high. c.pages.invariant.blank k high)
     (λ k either. elim either [ inl none ↦ absurd (omega (arith, none)) | inr high ↦ c.pages.invariant.rest k high ])
     others (erase_partly page mid new c.in_err-erase.ensures.cut))
+
+pub pages-init : goal.pages-init
+pages-init g c = search rules fits 100 parts 0
