@@ -98,7 +98,7 @@ impl<E: Format> Format for Show<'_, WriteAllFault<E>> {
         match self.0 {
             WriteAllFault::Off => off(f),
             WriteAllFault::Twice(place) => {
-                defmt::write!(f, "value {=usize} has an address of an earlier one", place)
+                defmt::write!(f, "value {=usize} has an address of an earlier one", *place)
             }
             WriteAllFault::Full => {
                 defmt::write!(f, "more addresses would have a value than there are slots")
