@@ -21,8 +21,8 @@ pub fn no_transfer_erases_more()
     ensures { NoTransferErasesMore }
 {}
 
-/// A run of single changes that begins and ends with no page that waits to be erased has erased one set for every
-/// transfer.
+/// A run of single changes that begins and ends with no page that waits to be erased has erased one
+/// set for every transfer.
 pub fn clean_runs_erase_sets()
     ensures { CleanRunsEraseSets }
 {}
