@@ -26,7 +26,7 @@ use Rattle.ee_core.specs.Picture.{IsDrawn, elements_of, elements_to, filled_set,
 use Rattle.ee_core.specs.Puts.{AreApart, carried, forgets_of, is_put, names, puts_of}
 use Rattle.ee_core.specs.declared.change.Put as listed
 use Rattle.ee_core.proofs.Public.{changed_by-other, elements_front, forget-other, length-put_words, names-puts, next_element, no_words, none_between, put-at, put-other, without-at, without-other}
-use Rattle.ee_index.specs.Index.{HasAddresses, IsIndex, IsRoomFor, is_filled, numbered_slots, place_of, said_at, says_value, shown_index, slot_for}
+use Rattle.ee_index.specs.Index.{HasAddresses, IsIndex, IsRoomFor, is_filled, numbered_slots, listed_place, said_at, says_value, shown_index, slot_for}
 use Rattle.ee_index.proofs.IndexReaders.{absent_to, none_unless, put_elsewhere, put_there}
 use Rattle.ee_index.proofs.IndexedAppends.{drawn_slot}
 use Rattle.ee_index.proofs.IndexedRooms.{changed_alike}
@@ -68,7 +68,7 @@ held_as_numbered puts number (entry ∷ rest) address held = elim (cases_eq entr
       let behind = λ (slot next : ℕ) (is : is_some (slot_for ((entry.0, slot) ∷ numbered_slots puts next rest) address) ≡ true).
       ap is_some (put_elsewhere entry rest address apart) ∙ held_as_numbered puts next rest address (sym (ap is_some (put_elsewhere (entry.0, slot) (numbered_slots puts next rest) address apart)) ∙ is) in
       elim (cases_Bool (is_put puts entry.0)) [
-        | inl here ↦ behind (place_of puts entry.0) number (rw here at held)
+        | inl here ↦ behind (listed_place puts entry.0) number (rw here at held)
         | inr other ↦ behind number (number + 1) (rw other at held)
       ]
 ]
@@ -76,7 +76,7 @@ held_as_numbered puts number (entry ∷ rest) address held = elim (cases_eq entr
 -- the slots behind a transfer: the values that are put, and behind them the elements of the others
 pub record IsMovedTo (puts : List listed.Put) (others : Map) (slots : List Word) : Type 0 where
   pub copied : (place : ℕ) → place < length (elements_of others) → get_or slots (length puts + place) Erased ≡ get_or (elements_of others) place Erased
-  pub put_says : (address : ℕ) → is_put puts address ≡ true → said_at slots (Some (place_of puts address)) address ≡ says_value (meaning slots address)
+  pub put_says : (address : ℕ) → is_put puts address ≡ true → said_at slots (Some (listed_place puts address)) address ≡ says_value (meaning slots address)
   pub put_only : (address : ℕ) → is_put puts address ≡ true → others address ≡ None
   pub others_are : (address : ℕ) → is_put puts address ≡ false → others address ≡ meaning slots address
   pub proper : (address : ℕ) → is_some (meaning slots address) ≡ true → IsAddress address
@@ -156,8 +156,8 @@ module _ (puts : List listed.Put) (others : Map) (slots : List Word) (moved : Is
         ]) in
         let later = numbered_behind entry.0 number rest (counted ∙ ap (λ (words : List Word). length puts + length words) (sym same)) (rest_behind above entry rest so_far) in
         rw here (elim (cases_eq entry.0 address) [
-          | inl is ↦ ap (λ slot. said_at slots slot address) (put_there (entry.0, place_of puts entry.0) (numbered_slots puts number rest) address is) ∙ ap (λ (named : ℕ). said_at slots (Some (place_of puts named)) address) is ∙ moved.put_says address (sym (ap (is_put puts) is) ∙ here)
-          | inr apart ↦ elsewhere above entry rest so_far (place_of puts entry.0) number address later high apart
+          | inl is ↦ ap (λ slot. said_at slots slot address) (put_there (entry.0, listed_place puts entry.0) (numbered_slots puts number rest) address is) ∙ ap (λ (named : ℕ). said_at slots (Some (listed_place puts named)) address) is ∙ moved.put_says address (sym (ap (is_put puts) is) ∙ here)
+          | inr apart ↦ elsewhere above entry rest so_far (listed_place puts entry.0) number address later high apart
         ])
     | inr other ↦
         let more = next_element others above entry.0 (value_here above entry rest so_far).0 (next_copied above entry rest so_far other) in
@@ -204,8 +204,8 @@ changed_proper (change ∷ changes) map each proper = changed_proper changes (ma
 record IsPutThere (puts : List listed.Put) (map : Map) (more : List Word) (address : ℕ) : Type 0 where
   pub value : ℕ
   pub held : changed_by (puts_of puts) map address ≡ Some value
-  pub word : get_or (put_words (puts_of puts) ++ more) (place_of puts address) Erased ≡ Held (element address value)
-  pub within : place_of puts address < length puts
+  pub word : get_or (put_words (puts_of puts) ++ more) (listed_place puts address) Erased ≡ Held (element address value)
+  pub within : listed_place puts address < length puts
   pub proper : IsAddress address
 
 is_put_there : (puts : List listed.Put) (map : Map) (more : List Word) (address : ℕ) → AreApart (puts_of puts) → is_put puts address ≡ true → IsPutThere puts map more address
@@ -213,7 +213,7 @@ is_put_there [] map more address each is = absurd (cc is)
 is_put_there (put ∷ puts) map more address each is = elim (cases_Bool (put.address == address)) [
   | inl here ↦
       let same : put.address ≡ address = eqb-true put.address address here in
-      let place : place_of (put ∷ puts) address ≡ 0 = ap (λ (b : Bool). cond b 0 (place_of puts address + 1)) here in
+      let place : listed_place (put ∷ puts) address ≡ 0 = ap (λ (b : Bool). cond b 0 (listed_place puts address + 1)) here in
       record {
         value = put.value;
         held =
@@ -225,7 +225,7 @@ is_put_there (put ∷ puts) map more address each is = elim (cases_Bool (put.add
       }
   | inr apart ↦
       let later = is_put_there puts (map_after (Put put.address put.value) map) more address each.2 (the_later (put.address == address) (is_put puts address) is apart) in
-      let place : place_of (put ∷ puts) address ≡ suc (place_of puts address) = ap (λ (b : Bool). cond b 0 (place_of puts address + 1)) apart ∙ (omega arith) in
+      let place : listed_place (put ∷ puts) address ≡ suc (listed_place puts address) = ap (λ (b : Bool). cond b 0 (listed_place puts address + 1)) apart ∙ (omega arith) in
       record {
         value = later.value;
         held = later.held;
@@ -266,7 +266,7 @@ moved_puts puts map slots each there now proper =
           ∙ get_or-append-add (put_words (puts_of puts)) more place Erased;
       put_says = λ address is.
           let here = is_put_there puts map more address each is in
-          let word : get_or slots (place_of puts address) Erased ≡ Held (element address here.value) = there (place_of puts address) (omega (arith, here.within, front, long)) ∙ here.word in
+          let word : get_or slots (listed_place puts address) Erased ≡ Held (element address here.value) = there (listed_place puts address) (omega (arith, here.within, front, long)) ∙ here.word in
           ap (λ (word : Word). Some (says word address)) word
           ∙ ap (λ said. Some said) (element_says address here.value here.proper)
           ∙ ap says_value (sym (now address ∙ here.held));

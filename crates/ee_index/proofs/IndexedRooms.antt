@@ -86,9 +86,9 @@ module _ (fill : ℕ) (puts : List listed.Put) (place : ℕ) (put : listed.Put) 
 
   -- it is of a new address, if it is not there yet
   pub was_new : HasAddresses (slot_for now) (changed_by (puts_of (take place puts)) (slot_for old)) → slot_for now put.address ≡ None → slot_for old put.address ≡ None
-  was_new so_far none = none_unless (slot_for old put.address) (λ held. absurd (cc (
-    sym (puts_keep (take place puts) (slot_for old) put.address held) ∙ sym (so_far put.address) ∙ ap is_some none
-  )))
+  was_new so_far none = none_unless (slot_for old put.address) (λ held.
+      let entered = so_far put.address ∙ puts_keep (take place puts) (slot_for old) put.address held in
+      absurd (cc (entered, none)))
 
 pub has_new : (puts : List listed.Put) (map : Map) (place : ℕ) (put : listed.Put) → place < length puts → put ≡ get_or puts place put → map put.address ≡ None → HasNew puts map
 has_new [] map place put within is none = absurd (omega (arith, within))

@@ -6,12 +6,12 @@ use Rattle.std.specs.Map.Calls.{RetainsPairs}
 use Rattle.ee_core.specs.Puts.{is_put}
 use Rattle.ee_core.specs.declared.change.Put as listed
 use Rattle.ee_core.proofs.Public.{neither}
-use Rattle.ee_index.specs.Index.{numbered_slots, place_of}
+use Rattle.ee_index.specs.Index.{numbered_slots, listed_place}
 
 -- what a closure does at one entry: it gives an address that is put its place in the list, and each other the next number
 pub record Numbers {F : Type 0} (T : F → ℕ → ℕ → Bool → ℕ → F → Type 0) (At : F → ℕ → Type 0) (puts : List listed.Put) (end : ℕ) : Type 0 where
   pub keeps : (f : F) (number key slot : ℕ) (kept : Bool) (left : ℕ) (after : F) → At f number → T f key slot kept left after → kept ≡ true
-  pub here : (f : F) (number key slot : ℕ) (kept : Bool) (left : ℕ) (after : F) → At f number → T f key slot kept left after → is_put puts key ≡ true → (left ≡ place_of puts key) × At after number
+  pub here : (f : F) (number key slot : ℕ) (kept : Bool) (left : ℕ) (after : F) → At f number → T f key slot kept left after → is_put puts key ≡ true → (left ≡ listed_place puts key) × At after number
   pub other : (f : F) (number key slot : ℕ) (kept : Bool) (left : ℕ) (after : F) → At f number → T f key slot kept left after → is_put puts key ≡ false → number < end → (left ≡ number) × At after (number + 1)
 
 pub numbered_by : {F : Type 0} (T : F → ℕ → ℕ → Bool → ℕ → F → Type 0) (At : F → ℕ → Type 0) (puts : List listed.Put) (end : ℕ) → Numbers T At puts end
@@ -32,12 +32,12 @@ numbered_by T At puts end does f number (entry ∷ more) kept at h (stays, left,
 
 -- an entry of this address, which no earlier entry has
 pub placed : (puts : List listed.Put) (place : ℕ) (put : listed.Put) (address : ℕ) → place < length puts → put ≡ get_or puts place put → put.address ≡ address → is_put (take place puts) address ≡ false
-    → (is_put puts address ≡ true) × (place ≡ place_of puts address)
+    → (is_put puts address ≡ true) × (place ≡ listed_place puts address)
 placed [] place put address within is here none = absurd (omega (arith, within))
 placed (first ∷ puts) zero put address within is here none =
     let same : (first.address == address) ≡ true = eq-eqb first.address address (ap (λ (put : listed.Put). put.address) (sym is) ∙ here) in
-    (ap (λ (b : Bool). b || is_put puts address) same, sym (ap (λ (b : Bool). cond b 0 (place_of puts address + 1)) same))
+    (ap (λ (b : Bool). b || is_put puts address) same, sym (ap (λ (b : Bool). cond b 0 (listed_place puts address + 1)) same))
 placed (first ∷ puts) (suc place) put address within is here none =
     let parts = neither (first.address == address) (is_put (take place puts) address) none in
     let later = placed puts place put address (omega (arith, within)) is here parts.1 in
-    (ap (λ (b : Bool). b || is_put puts address) parts.0 ∙ later.0, omega (arith, later.1) ∙ sym (ap (λ (b : Bool). cond b 0 (place_of puts address + 1)) parts.0))
+    (ap (λ (b : Bool). b || is_put puts address) parts.0 ∙ later.0, omega (arith, later.1) ∙ sym (ap (λ (b : Bool). cond b 0 (listed_place puts address + 1)) parts.0))

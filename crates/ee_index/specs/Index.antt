@@ -104,15 +104,15 @@ pub record IsRoomFor (slots : List Word) (puts : List listed.Put) (index : Map) 
 -- ---- how a transfer numbers it
 
 -- the place of an address among values that are put, counted from 0
-abbrev pub place_of : List listed.Put → ℕ → ℕ
-place_of [] address = 0
-place_of (put ∷ puts) address = if put.address == address then 0 else place_of puts address + 1
+abbrev pub listed_place : List listed.Put → ℕ → ℕ
+listed_place [] address = 0
+listed_place (put ∷ puts) address = if put.address == address then 0 else listed_place puts address + 1
 
 -- the values that are put have their places in the list for slots, and the others have the slots from this one on
 abbrev pub numbered_slots : List listed.Put → ℕ → List (ℕ × ℕ) → List (ℕ × ℕ)
 numbered_slots puts number [] = []
 numbered_slots puts number (entry ∷ more) =
-    if is_put puts entry.0 then (entry.0, place_of puts entry.0) ∷ numbered_slots puts number more
+    if is_put puts entry.0 then (entry.0, listed_place puts entry.0) ∷ numbered_slots puts number more
     else (entry.0, number) ∷ numbered_slots puts (number + 1) more
 
 -- the entries behind a transfer: those that are forgotten left, and the others are numbered

@@ -6,7 +6,7 @@ ghost use Rattle.ee_flash.specs.Size.{slot_count};
 ghost use Rattle.ee_pages.specs.Layout.{IsLayout};
 ghost use Rattle.ee_pages.specs.Meaning.{AreLiveThrough, IsNextLive, above_of, says};
 ghost use Rattle.ee_pages.specs.Sets.{set_of, slots_of};
-ghost use Rattle.ee_index.specs.Index.{AddsAddresses, IsIndex, IsNextShown, bound_above, index_with_slot, numbered_slots, place_of, slot_for};
+ghost use Rattle.ee_index.specs.Index.{AddsAddresses, IsIndex, IsNextShown, bound_above, index_with_slot, numbered_slots, listed_place, slot_for};
 ghost use Rattle.std.specs.List.Sorted.{IsStrictlySortedBy};
 ghost use Rattle.std.specs.Map.{keys_of};
 ghost use Rattle.std.specs.Ordering.{nat_cmp};
@@ -87,7 +87,7 @@ pub(crate) fn renumber<A: Allocator>(index: &mut Index<A>, puts: &[Put])
 /// next number.
 fn next_number(numbers: &mut Range<usize>, puts: &[Put], address: Address) -> usize
     ensures listed { is_put puts.now address ≡ true
-        → (result ≡ place_of puts.now address) × (numbers.new ≡ numbers.old) }
+        → (result ≡ listed_place puts.now address) × (numbers.new ≡ numbers.old) }
     ensures other { is_put puts.now address ≡ false → numbers.old.start < numbers.old.end
         → (result ≡ numbers.old.start) × (numbers.new.start ≡ numbers.old.start + 1)
         × (numbers.new.end ≡ numbers.old.end) }
@@ -101,7 +101,7 @@ fn next_number(numbers: &mut Range<usize>, puts: &[Put], address: Address) -> us
 /// The place of an address in a list, counted from 0.
 fn place_in(puts: &[Put], address: Address) -> Option<usize>
     ensures { MatchOption result (is_put puts.now address ≡ false)
-        (λ place. (is_put puts.now address ≡ true) × (place ≡ place_of puts.now address)) }
+        (λ place. (is_put puts.now address ≡ true) × (place ≡ listed_place puts.now address)) }
 {
     'entries: for place in 0..puts.len() {
         if puts[place].address == address {

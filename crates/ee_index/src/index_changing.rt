@@ -36,9 +36,9 @@ pub(crate) fn enter_slot<A: Allocator + Copy>(
     Ok(())
 }
 
-/// Makes room in an index for the slots of these values: each new address gets a number that is none
-/// of a used slot, of which there are so many. An `Err`, which only a new address meets, leaves the
-/// index as it is seen.
+/// Makes room in an index for the slots of these values: each new address gets a number that is no used
+/// slot's, of which there are so many. An `Err`, which only a new address meets, leaves the entries of
+/// used slots alone.
 pub(crate) fn make_room<A: Allocator + Copy>(
     index: &mut Index<A>,
     puts: &[Put],
@@ -164,6 +164,7 @@ fn follow<A: Allocator>(index: &mut Index<A>, puts: &[Put], forgets: bool)
     ensures { IsNumberedAfter puts.now forgets index.old.entries index.new.entries }
 {
     let put = values_put(puts, forgets);
+    // Where values are put none is forgotten, and the other way round.
     let forgotten = values_put(puts, !forgets);
     leave_all(index, forgotten);
     renumber(index, put);

@@ -16,7 +16,9 @@ use crate::index::{Index, batch_indexed, count_new, next_indexed, read_index, va
 use crate::index_changing::{append_indexed, enter_slot, make_room, move_indexed};
 use ee_codec::Address;
 use ee_core::inner::{Change, GREATEST_GENERATION, clean, finish, first_twice};
-use ee_core::{ForgetFault, Off, Put, Variables, WriteAllFault, WriteFault, Written, count_pending};
+use ee_core::{
+    ForgetFault, Off, Put, Variables, WriteAllFault, WriteFault, Written, count_pending,
+};
 use ee_flash::{Cut, Flash};
 use ee_pages::{Layout, LiveBatch, ScanFault, scan};
 use std::alloc::{Allocator, Global};

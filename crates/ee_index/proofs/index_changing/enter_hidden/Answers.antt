@@ -14,7 +14,6 @@ entries-preserved g c =
       there = entered_more c.args.fill c.args.puts.now c.entries.put-index c.put-item.result c.entries-test.true c.put-item.is old now next c.entries.invariant.there c.in_ok-enter_new.ensures.there;
     }
 
-
 pub returns-in_err-enter_new-clause-shown : goal.returns-in_err-enter_new-clause-shown
 returns-in_err-enter_new-clause-shown g c = λ address. c.enter_new.ensures.shown address ∙ c.entries.invariant.shown address
 
