@@ -1,4 +1,4 @@
-//! Random calls against a map, each with power cut at every step and in every way.
+//! Random calls against a map, lists of values among them, each with power cut at every step and in every way.
 //!
 //!     calls COUNT SEED [pairs]
 //!
@@ -10,10 +10,11 @@
 #![forbid(unsafe_code)]
 
 use ee_store::{
-    format, open, start, Address, CleanFault, ForgetFault, OpenFault, Shape, Store, WriteFault, Written,
+    format, open, start, Address, CleanFault, ForgetFault, OpenFault, Put, Shape, Store, WriteAllFault,
+    WriteFault, Written,
 };
 use ee_store_differ::{Part, PowerCut, Shared, Tear, TEARS};
-use std::collections::BTreeMap;
+use std::collections::{BTreeMap, BTreeSet};
 use std::{env, process};
 
 type Map = BTreeMap<u16, u32>;
@@ -34,9 +35,11 @@ impl Dice {
     }
 }
 
-#[derive(Clone, Copy, Debug)]
+#[derive(Clone, Debug)]
 enum Call {
     Write(u16, u32),
+    /// Values at once, of addresses of which one may stand there twice.
+    WriteAll(Vec<(u16, u32)>),
     Forget(u16),
     Clean,
 }
@@ -118,12 +121,12 @@ impl Course {
     /// Plays one call with a cut at each step, and then without.
     fn play(&mut self, dice: &mut Dice) {
         let call = self.draw(dice);
-        let after = self.after(call);
+        let after = self.after(&call);
         let mut left = self.part.clone();
         for step in 0.. {
             let mut ends_uncut = false;
             for (_, tear) in TEARS {
-                let (part, end) = self.cut(call, step, tear);
+                let (part, end) = self.cut(&call, step, tear);
                 self.calls += 1;
                 if end != End::Cut {
                     ends_uncut = true;
@@ -152,7 +155,7 @@ impl Course {
             self.part = left;
             return;
         }
-        self.finish(call, after);
+        self.finish(&call, after);
     }
 
     /// A call that is cut in its first steps of an opening, once in a while.
@@ -204,31 +207,50 @@ impl Course {
 
     fn draw(&self, dice: &mut Dice) -> Call {
         let address = self.addresses[dice.below(self.addresses.len() as u64) as usize];
-        match dice.below(10) {
+        match dice.below(12) {
             0..=5 => Call::Write(address, dice.next() as u32),
             6..=7 => Call::Forget(address),
+            8..=9 => Call::WriteAll(self.draw_list(dice)),
             _ => Call::Clean,
         }
     }
 
-    fn after(&self, call: Call) -> Map {
+    /// A list, of no address to all: most of them one after another from some address on, and now and then one twice.
+    fn draw_list(&self, dice: &mut Dice) -> Vec<(u16, u32)> {
+        let many = self.addresses.len() as u64;
+        let first = dice.below(many) as usize;
+        let most = if dice.below(2) == 0 { many.min(3) } else { many };
+        let length = dice.below(1 + most) as usize;
+        let listed = self.addresses.iter().cycle().skip(first).take(length);
+        let mut list: Vec<(u16, u32)> = listed.map(|address| (*address, dice.next() as u32)).collect();
+        if length > 1 && dice.below(8) == 0 {
+            list[length - 1].0 = list[dice.below(length as u64 - 1) as usize].0;
+        }
+        list
+    }
+
+    /// The map after the call: as before it where the call is refused.
+    fn after(&self, call: &Call) -> Map {
         let mut map = self.map.clone();
         match call {
             Call::Write(address, value) => {
-                if map.contains_key(&address) || map.len() < self.shape.slots() {
-                    map.insert(address, value);
-                }
+                map.insert(*address, *value);
             }
+            Call::WriteAll(list) if is_twice(list) => {}
+            Call::WriteAll(list) => map.extend(list.iter().copied()),
             Call::Forget(address) => {
-                map.remove(&address);
+                map.remove(address);
             }
             Call::Clean => {}
+        }
+        if map.len() > self.shape.slots() {
+            return self.map.clone();
         }
         map
     }
 
     /// The part after a call that is cut in this step, if it takes so many.
-    fn cut(&self, call: Call, step: u64, tear: Tear) -> (Part, End) {
+    fn cut(&self, call: &Call, step: u64, tear: Tear) -> (Part, End) {
         let (mut store, shared) = self.opened(&self.part);
         shared.0.borrow_mut().fuse = Some((step, tear));
         let end = made(&mut store, call);
@@ -237,18 +259,22 @@ impl Course {
     }
 
     /// Makes a call without cuts.
-    fn finish(&mut self, call: Call, after: Map) {
+    fn finish(&mut self, call: &Call, after: Map) {
         let (mut store, shared) = self.opened(&self.part);
         let fill = store.fill().unwrap();
         let pending = store.pending().unwrap();
         let end = made(&mut store, call);
         self.calls += 1;
         let refused = match call {
-            Call::Write(address, _) => !after.contains_key(&address),
-            Call::Forget(address) => !self.map.contains_key(&address),
+            Call::Write(address, _) => !after.contains_key(address),
+            Call::WriteAll(list) => is_twice(list) || list.iter().any(|(address, _)| !after.contains_key(address)),
+            Call::Forget(address) => !self.map.contains_key(address),
             Call::Clean => pending == 0,
         };
-        let moved = fill == self.shape.slots();
+        let moved = match call {
+            Call::WriteAll(list) if list.len() != 1 => !list.is_empty(),
+            _ => fill == self.shape.slots(),
+        };
         let expected = match (call, refused, moved) {
             (_, true, _) => End::Refused,
             (Call::Clean, false, _) => End::Done(None),
@@ -298,16 +324,42 @@ fn started(mut part: Part, dice: &mut Dice) -> (Part, u64) {
     unreachable!("a start ends")
 }
 
+/// Whether an address stands in a list twice.
+fn is_twice(list: &[(u16, u32)]) -> bool {
+    let addresses: BTreeSet<u16> = list.iter().map(|(address, _)| *address).collect();
+    addresses.len() < list.len()
+}
+
+/// Writes a list.
+fn listed_end(store: &mut Store<Shared>, list: &[(u16, u32)]) -> End {
+    let put = |(address, value): &(u16, u32)| Put {
+        address: named(*address),
+        value: *value,
+    };
+    let puts: Vec<Put> = list.iter().map(put).collect();
+    match store.write_all(&puts) {
+        Ok(written) => End::Done(Some(written)),
+        Err(WriteAllFault::Driver(PowerCut)) => End::Cut,
+        Err(WriteAllFault::Twice(place)) => {
+            assert!(is_twice(&list[..=place]) && !is_twice(&list[..place]));
+            End::Refused
+        }
+        Err(WriteAllFault::Full) => End::Refused,
+        Err(fault) => panic!("{list:?} is {fault:?}"),
+    }
+}
+
 /// Makes a call.
-fn made(store: &mut Store<Shared>, call: Call) -> End {
+fn made(store: &mut Store<Shared>, call: &Call) -> End {
     match call {
-        Call::Write(address, value) => match store.write(named(address), value) {
+        Call::WriteAll(list) => listed_end(store, list),
+        Call::Write(address, value) => match store.write(named(*address), *value) {
             Ok(written) => End::Done(Some(written)),
             Err(WriteFault::Driver(PowerCut)) => End::Cut,
             Err(WriteFault::Full) => End::Refused,
             Err(fault) => panic!("{call:?} is {fault:?}"),
         },
-        Call::Forget(address) => match store.forget(named(address)) {
+        Call::Forget(address) => match store.forget(named(*address)) {
             Ok(written) => End::Done(Some(written)),
             Err(ForgetFault::Driver(PowerCut)) => End::Cut,
             Err(ForgetFault::Absent) => End::Refused,
