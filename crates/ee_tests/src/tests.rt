@@ -3,6 +3,7 @@ mod commands;
 mod counted;
 mod cuts;
 mod formats;
+mod lists;
 mod outside;
 mod requests;
 mod saving;
@@ -13,6 +14,7 @@ mod trial;
 use ee_codec::Address;
 use ee_flash::{Flash, MemFlash, Shape};
 use ee_image::{read_image, write_image};
+use ee_store::{Store, open};
 use std::alloc::{AllocError, Global};
 use std::fmt::Debug;
 use std::process::Abort;
@@ -47,6 +49,12 @@ fn address(number: u16) -> Result<Address, Fail> {
 /// What a call gave, if it gave something.
 fn given<T: Drop, E: Drop>(answer: Result<T, E>) -> Result<T, Fail> {
     Ok(answer.ok().ok_or("an error")?)
+}
+
+/// The store of a device, with power turned on.
+fn opened<F: Flash + Drop>(mut flash: F) -> Result<Store<F>, Fail> {
+    flash.power_on();
+    given(open(flash))
 }
 
 /// The image of a device.

@@ -1,14 +1,15 @@
 //! Stores whose erases are cut in every mix of words, one cut after another: what no fuse makes.
-use crate::tests::{address, given, same, same_at, shape};
+use crate::tests::{address, given, opened, same, same_at, shape};
 use ee_codec::Address;
 use ee_fakes::{Fate, Left, ListFlash};
 use ee_flash::Flash;
-use ee_store::{OpenFault, Store, Variables, WriteFault, Written, format, open};
+use ee_store::{OpenFault, Variables, WriteFault, Written, format, open};
 use std::alloc::Global;
 use std::process::Abort;
 use std::test::Fail;
 
-const LEFTS: [Left; 3] = [Left::Before, Left::After, Left::Torn];
+/// What a cut leaves of a word.
+pub const LEFTS: [Left; 3] = [Left::Before, Left::After, Left::Torn];
 
 // What is left of each of five words: each list of them for one number below 243.
 fn mix_of(number: usize) -> [Left; 5] {
@@ -19,12 +20,6 @@ fn mix_of(number: usize) -> [Left; 5] {
         LEFTS[number / 27 % 3],
         LEFTS[number / 81 % 3],
     ]
-}
-
-// The store of a device, with power turned on.
-fn opened<F: Flash + Drop>(mut flash: F) -> Result<Store<F>, Fail> {
-    flash.power_on();
-    given(open(flash))
 }
 
 // A device with so many pages a set and one slot a page. Address 1 was written with 1 in each slot and then with 2 in

@@ -6,7 +6,7 @@ use ee_fakes::{ListFlash, Refusing};
 use ee_flash::{Flash, MemFlash, Shape};
 use ee_image::read_image;
 use ee_store::{
-    Answer, Event, IndexedFault, IndexedStore, Variables, WriteFault, Written, drive, format,
+    Answer, Event, IndexedFault, IndexedStore, Put, Variables, WriteFault, Written, drive, format,
 };
 use std::alloc::Global;
 
@@ -25,7 +25,12 @@ pub fn blank_list(alloc: &Refusing<Global>) -> Option<bool> {
     Some(is_new(&ListFlash::blank(alloc, shape, &[]).ok()?, shape))
 }
 
-fn events(address: Address) -> [Event; 8] {
+fn put(number: u16, value: u32) -> Option<Put> {
+    let address = Address::new(number)?;
+    Some(Put { address, value })
+}
+
+fn events(address: Address, puts: &[Put]) -> [Event<'_>; 10] {
     [
         Event::Get { address },
         Event::Reopen,
@@ -35,11 +40,13 @@ fn events(address: Address) -> [Event; 8] {
         Event::Clean,
         Event::Forget { address },
         Event::Get { address },
+        Event::PutAll(puts),
+        Event::Get { address },
     ]
 }
 
 /// What they are answered after one move.
-const ANSWERS: [Answer; 8] = [
+const ANSWERS: [Answer; 10] = [
     Answer::Off,
     Answer::Opened,
     Answer::Value(Some(12)),
@@ -48,11 +55,15 @@ const ANSWERS: [Answer; 8] = [
     Answer::Cleaned(false),
     Answer::Done(Written::Moved),
     Answer::Value(None),
+    Answer::Done(Written::Moved),
+    Answer::Value(Some(14)),
 ];
 
 pub fn events_driven(alloc: &Refusing<Global>, memory: Global) -> Option<bool> {
     let address = Address::new(1)?;
-    match drive(alloc, read_image(memory, ONE_MOVE).ok()?, &events(address)) {
+    let puts = [put(2, 15)?, put(1, 14)?];
+    let events = events(address, &puts);
+    match drive(alloc, read_image(memory, ONE_MOVE).ok()?, &events) {
         Ok(driven) => Some(driven.log.as_slice() == ANSWERS.as_slice() && driven.kept.is_empty()),
         Err((flash, _)) => unless(flash.is_on() && flash.steps() == 0),
     }
