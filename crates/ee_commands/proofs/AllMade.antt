@@ -8,7 +8,7 @@ use Rattle.ee_codec.specs.Words.{IsAddress}
 use Rattle.ee_pages.specs.Meaning.{Put}
 use Rattle.ee_pages.specs.Meaning as meaning
 use Rattle.ee_core.specs.Changes.{Appends, IsSpent, Moves, greatest_generation}
-use Rattle.ee_core.specs.Runs.{Call, Wrote, Forgot, Cleaned, DidRead, IsRun, is_cut, is_transfer, transfers}
+use Rattle.ee_core.specs.Runs.{Call, Wrote, WroteAll, Forgot, Cleaned, DidRead, IsRun, is_cut, is_transfer, transfers}
 use Rattle.ee_core.specs.State.{State, state_of}
 use Rattle.ee_core.specs.declared.variables.ForgetFault.TheVariants as forget
 use Rattle.ee_core.specs.declared.variables.WriteFault.TheVariants as write
@@ -21,8 +21,8 @@ use Rattle.ee_check.specs.Schedule.{Append, Carry, Copy, EachMove, IsLate, IsPro
 use Rattle.ee_planner.proofs.Public.{keeps_tail}
 use Rattle.ee_plan.proofs.Public.{live_after_forget, live_after_put, appends, forgetting_fits, moves_on, not_full, start_stays}
 use Rattle.ee_plan.specs.Start.{AreLive, IsStartOf}
-use Rattle.ee_commands.specs.ToldSizes.{ForgetsLive, asked_by_calls, made_by_calls, wants_memory}
-use Rattle.ee_commands.proofs.MadeRuns.{AreProper, NotCut, counted, not_counted, uncut_behind}
+use Rattle.ee_commands.specs.ToldSizes.{ForgetsLive, asked_by_calls, writes_list, made_by_calls, wants_memory}
+use Rattle.ee_commands.proofs.MadeRuns.{ArePlain, AreProper, counted, not_counted, plain_behind}
 use Rattle.ee_core.proofs.Public.{not_both}
 
 -- ---- the late store's next move
@@ -114,11 +114,11 @@ module _ (old mid : Device) (call : Call) (calls : List Call) where
         let behind = then (after_move now (Append change)) turn.more there in
         record { all = made ∙ ap (λ l. change ∷ l) behind.all ∙ sym asked; count = not_counted call calls still ∙ behind.count ∙ sym late.1 }
 
-    moves_all : is_transfer call ≡ true → Moves old meant mid → MakesAll mid calls → MakesAll old (call ∷ calls)
+    moves_all : is_transfer call ≡ true → Moves old (meant ∷ []) mid → MakesAll mid calls → MakesAll old (call ∷ calls)
     moves_all turns done then = λ now moves before.
         let here = subst (λ l. IsAt old now moves l) asked before in
         let turn = next moves now change (asked_by_calls calls) here.late here.changes_are in
-        let used : now.fill ≡ now.slots = let a = here.start.fill_is in let b = here.start.slots_are in let c = done.all_used in omega arith in
+        let used : now.fill ≡ now.slots = let a = here.start.fill_is in let b = here.start.slots_are in let c = done.needed in omega arith in
         let moved_on = moves_on old.size (state_of old) (state_of mid) now change meant done.state_is (keeps now here.start) here.start in
         let late = turn.carried used in
         let generation : (state_of mid).generation ≡ (state_of old).generation + 1 = ap (λ (s : State). s.generation) done.state_is in
@@ -168,16 +168,16 @@ never_absent : (old : Device) (now : Situation) (moves : List Move) (address : �
     → (state_of old).map address ≡ None → ⊥
 never_absent old now moves address later here absent = search rules
 
-pub all_made : (calls : List Call) (old new : Device) → IsRun calls old new → NotCut calls → NoneWants calls → AreProper (asked_by_calls calls) → MakesAll old calls
+pub all_made : (calls : List Call) (old new : Device) → IsRun calls old new → ArePlain calls → NoneWants calls → AreProper (asked_by_calls calls) → MakesAll old calls
 all_made [] old new run whole given are = λ now moves here. record { all = refl; count = sym (none_left moves now here.late here.changes_are) }
 all_made (Wrote address value (Ok Appended) ∷ calls) old new run whole given are =
     let call = Wrote address value (Ok Appended) in
     appends_all old run.0 call calls (changes.Write address) (Put address value) refl refl (puts old address value are.0) refl run.1
-    (all_made calls run.0 new run.2 (uncut_behind call calls whole) (given_behind call calls given) are.1)
+    (all_made calls run.0 new run.2 (plain_behind call calls whole) (given_behind call calls given) are.1)
 all_made (Wrote address value (Ok Moved) ∷ calls) old new run whole given are =
     let call = Wrote address value (Ok Moved) in
     moves_all old run.0 call calls (changes.Write address) (Put address value) refl refl (puts old address value are.0) refl run.1
-    (all_made calls run.0 new run.2 (uncut_behind call calls whole) (given_behind call calls given) are.1)
+    (all_made calls run.0 new run.2 (plain_behind call calls whole) (given_behind call calls given) are.1)
 all_made (Wrote address value (Err write.Off) ∷ calls) old new run whole given are = λ now moves here. absurd (not_both old here.on run.1.0)
 all_made (Wrote address value (Err write.Full) ∷ calls) old new run whole given are = λ now moves here.
     absurd (not_full (slot_count old.size) (state_of old) now address are.0 here.start here.keeps.0 run.1.1)
@@ -186,38 +186,40 @@ all_made (Wrote address value (Err write.Spent) ∷ calls) old new run whole giv
 all_made (Wrote address value (Err write.Memory) ∷ calls) old new run whole given are =
     let none : wants_memory (Wrote address value (Err write.Memory)) ≡ false = given 0 (Wrote address value (Err write.Memory)) (omega arith) in absurd cc
 all_made (Wrote address value (Err write.Cut) ∷ calls) old new run whole given are =
-    let cut : is_cut (Wrote address value (Err write.Cut)) ≡ false = whole 0 (Wrote address value (Err write.Cut)) (omega arith) in absurd cc
+    let cut : is_cut (Wrote address value (Err write.Cut)) ≡ false = (whole 0 (Wrote address value (Err write.Cut)) (omega arith)).0 in absurd cc
+all_made (WroteAll puts answer ∷ calls) old new run whole given are =
+    let listed : writes_list (WroteAll puts answer) ≡ false = (whole 0 (WroteAll puts answer) (omega arith)).1 in absurd cc
 all_made (Forgot address (Ok Appended) ∷ calls) old new run whole given are =
     let call = Forgot address (Ok Appended) in
     appends_all old run.0 call calls (changes.Forget address) (meaning.Forget address) refl refl (forgets old address) refl run.1
-    (all_made calls run.0 new run.2 (uncut_behind call calls whole) (given_behind call calls given) are)
+    (all_made calls run.0 new run.2 (plain_behind call calls whole) (given_behind call calls given) are)
 all_made (Forgot address (Ok Moved) ∷ calls) old new run whole given are =
     let call = Forgot address (Ok Moved) in
     moves_all old run.0 call calls (changes.Forget address) (meaning.Forget address) refl refl (forgets old address) refl run.1
-    (all_made calls run.0 new run.2 (uncut_behind call calls whole) (given_behind call calls given) are)
+    (all_made calls run.0 new run.2 (plain_behind call calls whole) (given_behind call calls given) are)
 all_made (Forgot address (Err forget.Absent) ∷ calls) old new run whole given are = λ now moves here.
     absurd (never_absent old now moves address (asked_by_calls calls) here run.1.1)
 all_made (Forgot address (Err forget.Off) ∷ calls) old new run whole given are = λ now moves here. absurd (not_both old here.on run.1.0)
 all_made (Forgot address (Err forget.Spent) ∷ calls) old new run whole given are = λ now moves here.
     absurd (never_spent old now moves (changes.Forget address) (asked_by_calls calls) here run.1.2)
 all_made (Forgot address (Err forget.Cut) ∷ calls) old new run whole given are =
-    let cut : is_cut (Forgot address (Err forget.Cut)) ≡ false = whole 0 (Forgot address (Err forget.Cut)) (omega arith) in absurd cc
+    let cut : is_cut (Forgot address (Err forget.Cut)) ≡ false = (whole 0 (Forgot address (Err forget.Cut)) (omega arith)).0 in absurd cc
 all_made (Cleaned (Ok true) ∷ calls) old new run whole given are =
     let call = Cleaned (Ok true) in
     asks_nothing old run.0 call calls refl refl refl run.1.goes_on.same_power run.1.goes_on.same_size (ap (λ (s : State). s.map) run.1.state_is)
     (ap (λ (s : State). s.fill) run.1.state_is) (ap (λ (s : State). s.generation) run.1.state_is)
-    (all_made calls run.0 new run.2 (uncut_behind call calls whole) (given_behind call calls given) are)
+    (all_made calls run.0 new run.2 (plain_behind call calls whole) (given_behind call calls given) are)
 all_made (Cleaned (Ok false) ∷ calls) old new run whole given are =
     let call = Cleaned (Ok false) in
-    changes_nothing old run.0 call calls refl refl refl run.1.2 (all_made calls run.0 new run.2 (uncut_behind call calls whole) (given_behind call calls given) are)
+    changes_nothing old run.0 call calls refl refl refl run.1.2 (all_made calls run.0 new run.2 (plain_behind call calls whole) (given_behind call calls given) are)
 all_made (Cleaned (Err write.Off) ∷ calls) old new run whole given are =
     let call = Cleaned (Err write.Off) in
-    changes_nothing old run.0 call calls refl refl refl run.1.1 (all_made calls run.0 new run.2 (uncut_behind call calls whole) (given_behind call calls given) are)
+    changes_nothing old run.0 call calls refl refl refl run.1.1 (all_made calls run.0 new run.2 (plain_behind call calls whole) (given_behind call calls given) are)
 all_made (Cleaned (Err write.Cut) ∷ calls) old new run whole given are =
-    let cut : is_cut (Cleaned (Err write.Cut)) ≡ false = whole 0 (Cleaned (Err write.Cut)) (omega arith) in absurd cc
+    let cut : is_cut (Cleaned (Err write.Cut)) ≡ false = (whole 0 (Cleaned (Err write.Cut)) (omega arith)).0 in absurd cc
 all_made (Cleaned (Err write.Full) ∷ calls) old new run whole given are = absurd run.1
 all_made (Cleaned (Err write.Spent) ∷ calls) old new run whole given are = absurd run.1
 all_made (Cleaned (Err write.Memory) ∷ calls) old new run whole given are = absurd run.1
 all_made (DidRead address answer ∷ calls) old new run whole given are =
     let call = DidRead address answer in
-    changes_nothing old run.0 call calls refl refl refl run.1.1 (all_made calls run.0 new run.2 (uncut_behind call calls whole) (given_behind call calls given) are)
+    changes_nothing old run.0 call calls refl refl refl run.1.1 (all_made calls run.0 new run.2 (plain_behind call calls whole) (given_behind call calls given) are)

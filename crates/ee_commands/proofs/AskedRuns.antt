@@ -7,10 +7,9 @@ use Rattle.ee_flash.specs.Size.{slot_count}
 use Rattle.ee_pages.specs.Meaning.{Map, Put, live_in, live_to}
 use Rattle.ee_pages.specs.Meaning as meaning
 use Rattle.ee_pages.proofs.Public.{live_to-suc, live_to-zero}
-use Rattle.ee_core.proofs.Public.{by_effect}
 use Rattle.ee_core.specs.Calls.{ErasesOne}
 use Rattle.ee_core.specs.Changes.{Appends, IsSpent, Moves}
-use Rattle.ee_core.specs.Runs.{Call, Wrote, Forgot, Cleaned, DidRead, Follows, IsRun, changes_of_call, is_cut, is_transfer, transfers}
+use Rattle.ee_core.specs.Runs.{Call, Wrote, WroteAll, Forgot, Cleaned, DidRead, Follows, IsRun, changes_of_call, is_cut, is_transfer, transfers}
 use Rattle.ee_core.specs.State.{State, state_of}
 use Rattle.ee_core.specs.declared.variables.ForgetFault.TheVariants as forget
 use Rattle.ee_check.proofs.Public.{changed-le}
@@ -20,8 +19,8 @@ use Rattle.ee_check.specs.Live.{live_after_one}
 use Rattle.ee_check.specs.Schedule.{Append, Carry, Copy, EachMove, IsAllowed, IsProper, Move, Situation, after_move, changes_of, cost}
 use Rattle.ee_plan.proofs.Public.{live_after_forget, live_after_put, live_count_is, forgetting_fits}
 use Rattle.ee_plan.specs.Start.{AreLive}
-use Rattle.ee_commands.specs.ToldSizes.{asked_by_calls}
-use Rattle.ee_commands.proofs.MadeRuns.{AreProper, NotCut, behind_proper, counted, live_after, not_counted, traced, uncut_behind}
+use Rattle.ee_commands.specs.ToldSizes.{asked_by_calls, writes_list}
+use Rattle.ee_commands.proofs.MadeRuns.{ArePlain, AreProper, IsPlain, behind_proper, by_one_change, counted, live_after, not_counted, plain_behind, traced}
 
 -- ---- maps of which one has a value wherever the other has one
 
@@ -72,7 +71,7 @@ never_appends : (old new : Device) (change : meaning.Change) → Appends old cha
 never_appends old new change call (inl off) = let on = call.proceeds.on in cc
 never_appends old new change call (inr spent) = absurd (omega (arith, call.free, spent.all_used))
 
-never_moves : (old new : Device) (change : meaning.Change) → Moves old change new → IsDone old → ⊥
+never_moves : (old new : Device) (change : meaning.Change) → Moves old (change ∷ []) new → IsDone old → ⊥
 never_moves old new change call (inl off) = let on = call.proceeds.on in cc
 never_moves old new change call (inr spent) = call.proceeds.accepted.not_spent spent
 
@@ -83,14 +82,14 @@ done_behind old new call (inr spent) = search rules
 as_before : (old new : Device) → new ≡ old → IsDone old → IsDone new
 as_before old new same done = subst (λ (device : Device). IsDone device) (sym same) done
 
-stays_done : (call : Call) (old new : Device) → is_cut call ≡ false → Follows call old new → IsDone old → (is_transfer call ≡ false) × IsDone new
-stays_done call old new whole did done = search (rules, as_before, by_effect, done_behind, never_appends, never_moves)
+stays_done : (call : Call) (old new : Device) → IsPlain call → Follows call old new → IsDone old → (is_transfer call ≡ false) × IsDone new
+stays_done call old new plain did done = search (rules, as_before, by_one_change, done_behind, never_appends, never_moves)
 
-no_more_moves : (calls : List Call) (old new : Device) → IsRun calls old new → NotCut calls → IsDone old → transfers calls ≡ 0
+no_more_moves : (calls : List Call) (old new : Device) → IsRun calls old new → ArePlain calls → IsDone old → transfers calls ≡ 0
 no_more_moves [] old new run whole done = refl
 no_more_moves (call ∷ calls) old new run whole done =
     let here = stays_done call old run.0 (whole 0 call (omega arith)) run.1 done in
-    not_counted call calls here.0 ∙ no_more_moves calls run.0 new run.2 (uncut_behind call calls whole) here.1
+    not_counted call calls here.0 ∙ no_more_moves calls run.0 new run.2 (plain_behind call calls whole) here.1
 
 -- ---- the first change of a schedule
 
@@ -255,7 +254,7 @@ module _ (old mid : Device) (call : Call) (calls : List Call) where
         omega (arith, behind, not_counted call calls still, first.cost_is)
 
     -- a change that is carried along when the map moves
-    carried : is_transfer call ≡ true → Moves old meant mid → IsBounded mid calls → IsBounded old (call ∷ calls)
+    carried : is_transfer call ≡ true → Moves old (meant ∷ []) mid → IsBounded mid calls → IsBounded old (call ∷ calls)
     carried turns done then = λ now moves moved spent allowed same below.
         let first = turn moves now change (asked_by_calls calls) allowed (same ∙ asked) below.proper in
         let map : (state_of mid).map ≡ meaning.map_after meant (state_of old).map = ap (λ (s : State). s.map) done.state_is in
@@ -273,7 +272,7 @@ module _ (old mid : Device) (call : Call) (calls : List Call) where
           under = subst (λ (m : Map). IsUnder m (meaning.map_after meant below.wide)) (sym map) under;
           proper = first.proper;
           slots = slots ∙ sym (ap slot_count done.goes_on.same_size);
-          few = few_moved moved spent first.spent (state_of old).fill now.fill first.next.fill (slot_count old.size) below.few below.room first.appended done.all_used within;
+          few = few_moved moved spent first.spent (state_of old).fill now.fill first.next.fill (slot_count old.size) below.few below.room first.appended done.needed within;
           room = λ e. omega (arith, fill, fewer, count, held);
         } in
         let behind = then first.next first.more (moved + 1) (spent + first.spent) first.allowed first.changes_are here in
@@ -283,49 +282,51 @@ module _ (old mid : Device) (call : Call) (calls : List Call) where
 -- ---- a run
 
 -- a call that made a change asked for it
-asked_first : (call : Call) (calls : List Call) (change : meaning.Change) → changes_of_call call ≡ change ∷ [] → asked_by_calls (call ∷ calls) ≡ traced change ∷ asked_by_calls calls
-asked_first (Wrote address value (Ok written)) calls change made = let is : Put address value ≡ change = cc in ap (λ one. traced one ∷ asked_by_calls calls) is
-asked_first (Wrote address value (Err fault)) calls change made = absurd cc
-asked_first (Forgot address (Ok written)) calls change made = let is : meaning.Forget address ≡ change = cc in ap (λ one. traced one ∷ asked_by_calls calls) is
-asked_first (Forgot address (Err fault)) calls change made = absurd cc
-asked_first (Cleaned answer) calls change made = absurd cc
-asked_first (DidRead address answer) calls change made = absurd cc
+asked_first : (call : Call) (calls : List Call) (change : meaning.Change) → writes_list call ≡ false → changes_of_call call ≡ change ∷ [] → asked_by_calls (call ∷ calls) ≡ traced change ∷ asked_by_calls calls
+asked_first (Wrote address value (Ok written)) calls change unlisted made = let is : Put address value ≡ change = cc in ap (λ one. traced one ∷ asked_by_calls calls) is
+asked_first (Wrote address value (Err fault)) calls change unlisted made = absurd cc
+asked_first (WroteAll puts answer) calls change unlisted made = absurd (cc unlisted)
+asked_first (Forgot address (Ok written)) calls change unlisted made = let is : meaning.Forget address ≡ change = cc in ap (λ one. traced one ∷ asked_by_calls calls) is
+asked_first (Forgot address (Err fault)) calls change unlisted made = absurd cc
+asked_first (Cleaned answer) calls change unlisted made = absurd cc
+asked_first (DidRead address answer) calls change unlisted made = absurd cc
 
 -- a call that left the device as it was, and what follows
-unwritten : (call : Call) (calls : List Call) (old mid new : Device) → is_cut call ≡ false → Follows call old mid → IsRun calls mid new → NotCut calls
+unwritten : (call : Call) (calls : List Call) (old mid new : Device) → IsPlain call → Follows call old mid → IsRun calls mid new → ArePlain calls
     → AreProper (asked_by_calls (call ∷ calls)) → is_transfer call ≡ false → changes_of_call call ≡ [] → mid ≡ old
     → (AreProper (asked_by_calls calls) → IsBounded mid calls) → IsBounded old (call ∷ calls)
-unwritten (Wrote address value answer) calls old mid new uncut done run whole are still none same later =
+unwritten (Wrote address value answer) calls old mid new plain done run whole are still none same later =
     refused old mid (Wrote address value answer) calls (changes.Write address) (Put address value) refl (λ wide live is. live_after_put wide live address value are.0 is) still same
     (λ wide under. still_under (state_of old).map wide address value under) (later are.1)
-unwritten (Forgot address (Ok written)) calls old mid new uncut done run whole are still none same later = absurd cc
-unwritten (Forgot address (Err forget.Absent)) calls old mid new uncut done run whole are still none same later =
+unwritten (WroteAll puts answer) calls old mid new plain done run whole are still none same later = let unlisted = plain.1 in absurd cc
+unwritten (Forgot address (Ok written)) calls old mid new plain done run whole are still none same later = absurd cc
+unwritten (Forgot address (Err forget.Absent)) calls old mid new plain done run whole are still none same later =
     refused old mid (Forgot address (Err forget.Absent)) calls (changes.Forget address) (meaning.Forget address) refl (λ wide live is. live_after_forget wide live address is) still same
     (λ wide under. absent_under (state_of old).map wide address done.1 under) (later are)
-unwritten (Forgot address (Err forget.Off)) calls old mid new uncut done run whole are still none same later =
+unwritten (Forgot address (Err forget.Off)) calls old mid new plain done run whole are still none same later =
     none_follows old mid (Forgot address (Err forget.Off)) calls still (no_more_moves calls mid new run whole (as_before old mid same (inl done.0)))
-unwritten (Forgot address (Err forget.Spent)) calls old mid new uncut done run whole are still none same later =
+unwritten (Forgot address (Err forget.Spent)) calls old mid new plain done run whole are still none same later =
     none_follows old mid (Forgot address (Err forget.Spent)) calls still (no_more_moves calls mid new run whole (as_before old mid same (inr done.2)))
-unwritten (Forgot address (Err forget.Cut)) calls old mid new uncut done run whole are still none same later = absurd cc
-unwritten (Cleaned answer) calls old mid new uncut done run whole are still none same later = none_done old mid (Cleaned answer) calls refl still same (later are)
-unwritten (DidRead address answer) calls old mid new uncut done run whole are still none same later =
+unwritten (Forgot address (Err forget.Cut)) calls old mid new plain done run whole are still none same later = let uncut = plain.0 in absurd cc
+unwritten (Cleaned answer) calls old mid new plain done run whole are still none same later = none_done old mid (Cleaned answer) calls refl still same (later are)
+unwritten (DidRead address answer) calls old mid new plain done run whole are still none same later =
     none_done old mid (DidRead address answer) calls refl still same (later are)
 
-pub bounded : (calls : List Call) (old new : Device) → IsRun calls old new → NotCut calls → AreProper (asked_by_calls calls) → IsBounded old calls
+pub bounded : (calls : List Call) (old new : Device) → IsRun calls old new → ArePlain calls → AreProper (asked_by_calls calls) → IsBounded old calls
 bounded [] old new run whole are = λ now moves moved spent allowed same below. let few = below.few in let none : transfers [] ≡ 0 = refl in omega (arith, few, none)
 bounded (call ∷ calls) old new run whole are =
     let mid = run.0 in
     let trace = asked_by_calls calls in
-    let uncut = whole 0 call (omega arith) in
-    let uncut_later = uncut_behind call calls whole in
-    let later : AreProper trace → IsBounded mid calls = λ behind. bounded calls mid new run.2 uncut_later behind in
-    let first : (change : meaning.Change) → changes_of_call call ≡ change ∷ [] → AreProper (traced change ∷ trace) = λ change one. subst AreProper (asked_first call calls change one) are in
+    let plain = whole 0 call (omega arith) in
+    let plain_later = plain_behind call calls whole in
+    let later : AreProper trace → IsBounded mid calls = λ behind. bounded calls mid new run.2 plain_later behind in
+    let first : (change : meaning.Change) → changes_of_call call ≡ change ∷ [] → AreProper (traced change ∷ trace) = λ change one. subst AreProper (asked_first call calls change plain.1 one) are in
     let none : call ≡ Cleaned (Ok true) → asked_by_calls (call ∷ calls) ≡ trace = λ cleaned. ap (λ one. asked_by_calls (one ∷ calls)) cleaned in
-    by_effect (λ transfer list. is_transfer call ≡ transfer → changes_of_call call ≡ list → IsBounded old (call ∷ calls)) call old mid uncut run.1
-    (λ same still empty. unwritten call calls old mid new uncut run.1 run.2 uncut_later are still empty same later)
-    (λ change done still one. appended old mid call calls (traced change) change (asked_first call calls change one) (λ wide live is. live_after change trace wide live (first change one) is)
+    by_one_change (λ transfer list. is_transfer call ≡ transfer → changes_of_call call ≡ list → IsBounded old (call ∷ calls)) call old mid plain run.1
+    (λ same still empty. unwritten call calls old mid new plain run.1 run.2 plain_later are still empty same later)
+    (λ change done still one. appended old mid call calls (traced change) change (asked_first call calls change plain.1 one) (λ wide live is. live_after change trace wide live (first change one) is)
     still done (later (behind_proper (traced change) trace (first change one))))
-    (λ change done turns one. carried old mid call calls (traced change) change (asked_first call calls change one) (λ wide live is. live_after change trace wide live (first change one) is)
+    (λ change done turns one. carried old mid call calls (traced change) change (asked_first call calls change plain.1 one) (λ wide live is. live_after change trace wide live (first change one) is)
     turns done (later (behind_proper (traced change) trace (first change one))))
     (λ cleaned done still empty. none_asked old mid call calls (none cleaned) still done.goes_on.same_size (ap (λ (s : State). s.map) done.state_is)
     (ap (λ (s : State). s.fill) done.state_is) (later (subst AreProper (none cleaned) are)))

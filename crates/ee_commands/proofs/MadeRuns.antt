@@ -1,5 +1,5 @@
 -- Calls of a store move the map as the store does that transfers exactly when each slot is used.
-use Rattle.std.proofs.Common.{◌≡◌, ◌∙◌, ℕ, zero, suc, ◌+◌, ◌<◌, ◌≤◌, true, false, cond, Ok, Err, List, [], ◌∷◌, ◌++◌, length, map, refl, sym, subst, ap, arith, rules}
+use Rattle.std.proofs.Common.{◌≡◌, ◌∙◌, ℕ, zero, suc, ◌+◌, ◌<◌, ◌≤◌, Bool, true, false, cond, Ok, Err, List, [], ◌∷◌, ◌++◌, length, map, refl, sym, subst, ap, arith, rules}
 use Rattle.std.proofs.lemmas.Grind.{common_steps}
 use Rattle.std.proofs.lemmas.List.Elements.{All-tail}
 use Rattle.std.proofs.lemmas.List.Sums.{sum_by-cons}
@@ -10,8 +10,10 @@ use Rattle.ee_codec.specs.Words.{IsAddress}
 use Rattle.ee_pages.specs.Meaning.{Put}
 use Rattle.ee_pages.specs.Meaning as meaning
 use Rattle.ee_core.proofs.Public.{by_effect}
+use Rattle.ee_core.specs.Calls.{ErasesOne}
 use Rattle.ee_core.specs.Changes.{Appends, HasNoPlace, Moves}
-use Rattle.ee_core.specs.Runs.{Call, Wrote, Forgot, Cleaned, DidRead, IsRun, changes_of_call, is_cut, is_transfer, transfers}
+use Rattle.ee_core.specs.Runs.{Call, Wrote, WroteAll, Forgot, Cleaned, DidRead, IsRun, changes_of_call, is_cut, is_transfer, transfers}
+use Rattle.ee_core.specs.Runs as core
 use Rattle.ee_core.specs.State.{State, state_of}
 use Rattle.ee_check.proofs.Public.{changed-le}
 use Rattle.ee_check.specs.declared.change.Change.{Change}
@@ -25,7 +27,7 @@ use Rattle.ee_plan.specs.Start.{AreLive, IsStartOf}
 use Rattle.ee_script.specs.declared.command.Command.{Command}
 use Rattle.ee_script.specs.declared.command.Command.TheVariants as command
 use Rattle.ee_commands.specs.Planning.{IsTraceCommand}
-use Rattle.ee_commands.specs.ToldSizes.{made_by_calls}
+use Rattle.ee_commands.specs.ToldSizes.{writes_list, made_by_calls}
 use Rattle.ee_image_store.specs.Trace.{trace_of}
 
 -- ---- the addresses of a script
@@ -126,22 +128,51 @@ append_then old mid start call calls change meant one still done is live proper 
 
 -- a move, and what follows
 carry_then : (old mid : Device) (start : Situation) (call : Call) (calls : List Call) (change : Change) (meant : meaning.Change)
-    → made_by_calls (call ∷ calls) ≡ change ∷ made_by_calls calls → is_transfer call ≡ true → Moves old meant mid
+    → made_by_calls (call ∷ calls) ≡ change ∷ made_by_calls calls → is_transfer call ≡ true → Moves old (meant ∷ []) mid
     → (is : Starts old start) → AreLive (meaning.map_after meant (state_of old).map) (live_after_one start.live change) → length (live_after_one start.live change) ≤ start.slots
     → Follows mid (after_move start (Carry change)) calls → IsLateOf start (call ∷ calls)
 carry_then old mid start call calls change meant one moved done is live fits follows =
-    let used : start.fill ≡ start.slots = let a = is.fill_is in let b = is.slots_are in let c = done.all_used in omega arith in
+    let used : start.fill ≡ start.slots = let a = is.fill_is in let b = is.slots_are in let c = done.needed in omega arith in
     let kept : IsProper (after_move start (Carry change)) = record { held = omega arith; fits = fits } in
     let here = moves_on old.size (state_of old) (state_of mid) start change meant done.state_is live is in
     let there : Starts mid (after_move start (Carry change)) =
     subst (λ (size : Size). IsStartOf (slot_count size) (state_of mid) (after_move start (Carry change))) (sym done.goes_on.same_size) here in
     carry_first start call calls change one moved used fits (follows there kept)
 
-abbrev pub NotCut : List Call → Type 0
-NotCut calls = All (λ call. is_cut call ≡ false) calls
+-- power was not cut in the call, and it is not of a list
+abbrev pub IsPlain : Call → Type 0
+IsPlain call = (is_cut call ≡ false) × (writes_list call ≡ false)
 
-pub uncut_behind : (call : Call) (calls : List Call) → NotCut (call ∷ calls) → NotCut calls
-uncut_behind call calls whole = All-tail (λ (one : Call). is_cut one ≡ false) call calls whole
+abbrev pub ArePlain : List Call → Type 0
+ArePlain calls = All IsPlain calls
+
+pub plain_behind : (call : Call) (calls : List Call) → ArePlain (call ∷ calls) → ArePlain calls
+plain_behind call calls whole = All-tail IsPlain call calls whole
+
+-- it made one change at the most
+one_made : (call : Call) → writes_list call ≡ false → length (changes_of_call call) ≤ 1
+one_made (Wrote address value (Ok written)) unlisted = omega arith
+one_made (Wrote address value (Err fault)) unlisted = omega arith
+one_made (WroteAll puts answer) unlisted = absurd (cc unlisted)
+one_made (Forgot address (Ok written)) unlisted = omega arith
+one_made (Forgot address (Err fault)) unlisted = omega arith
+one_made (Cleaned answer) unlisted = omega arith
+one_made (DidRead address answer) unlisted = omega arith
+
+one_moved : (holds : Bool → List meaning.Change → Type 0) (old new : Device) (moved : List meaning.Change) → length moved ≤ 1 → Moves old moved new
+    → ((change : meaning.Change) → Moves old (change ∷ []) new → holds true (change ∷ [])) → holds true moved
+one_moved holds old new [] short done moves = absurd done.needed
+one_moved holds old new (change ∷ []) short done moves = moves change done
+one_moved holds old new (first ∷ second ∷ more) short done moves = absurd (omega (arith, short))
+
+-- so what it did is one of four things, of which a move is with one change
+pub by_one_change : (holds : Bool → List meaning.Change → Type 0) (call : Call) (old new : Device) → IsPlain call → core.Follows call old new
+    → (new ≡ old → holds false []) → ((change : meaning.Change) → Appends old change new → holds false (change ∷ []))
+    → ((change : meaning.Change) → Moves old (change ∷ []) new → holds true (change ∷ [])) → (call ≡ Cleaned (Ok true) → ErasesOne old new → holds false [])
+    → holds (is_transfer call) (changes_of_call call)
+by_one_change holds call old new plain done nothing appends moves erases =
+    by_effect (λ transfer made. length made ≤ 1 → holds transfer made) call old new plain.0 done (λ same short. nothing same) (λ change one short. appends change one)
+    (λ made several short. one_moved holds old new made short several moves) (λ cleaned erased short. erases cleaned erased) (one_made call plain.1)
 
 -- a change of the map, as a change of a trace
 abbrev pub traced : meaning.Change → Change
@@ -149,13 +180,14 @@ traced (Put address value) = changes.Write address
 traced (meaning.Forget address) = changes.Forget address
 
 -- what a call made comes before what the calls behind it made
-made_first : (call : Call) (calls : List Call) → made_by_calls (call ∷ calls) ≡ map traced (changes_of_call call) ++ made_by_calls calls
-made_first (Wrote address value (Ok written)) calls = refl
-made_first (Wrote address value (Err fault)) calls = refl
-made_first (Forgot address (Ok written)) calls = refl
-made_first (Forgot address (Err fault)) calls = refl
-made_first (Cleaned answer) calls = refl
-made_first (DidRead address answer) calls = refl
+made_first : (call : Call) (calls : List Call) → writes_list call ≡ false → made_by_calls (call ∷ calls) ≡ map traced (changes_of_call call) ++ made_by_calls calls
+made_first (Wrote address value (Ok written)) calls unlisted = refl
+made_first (Wrote address value (Err fault)) calls unlisted = refl
+made_first (WroteAll puts answer) calls unlisted = absurd (cc unlisted)
+made_first (Forgot address (Ok written)) calls unlisted = refl
+made_first (Forgot address (Err fault)) calls unlisted = refl
+made_first (Cleaned answer) calls unlisted = refl
+made_first (DidRead address answer) calls unlisted = refl
 
 pub behind_proper : (change : Change) (trace : List Change) → AreProper (change ∷ trace) → AreProper trace
 behind_proper (changes.Write address) trace are = are.1
@@ -172,16 +204,16 @@ change_fits : (slots : ℕ) (state : State) (start : Situation) (change : meanin
 change_fits slots state start (Put address value) trace are is proper has_place = write_fits slots state start address value are.0 is proper has_place
 change_fits slots state start (meaning.Forget address) trace are is proper has_place = forgetting_fits start address proper
 
-pub late_calls : (calls : List Call) (old new : Device) (start : Situation) → IsRun calls old new → NotCut calls → AreProper (made_by_calls calls)
+pub late_calls : (calls : List Call) (old new : Device) (start : Situation) → IsRun calls old new → ArePlain calls → AreProper (made_by_calls calls)
     → Starts old start → IsProper start → IsLateOf start calls
 late_calls [] old new start run whole are is proper = record { moves = []; changes_are = refl; late = tt; keeps = tt; carried = λ n. refl }
 late_calls (call ∷ calls) old new start run whole are is proper =
     let mid = run.0 in
     let trace = made_by_calls calls in
-    let made = made_first call calls in
+    let made = made_first call calls (whole 0 call (omega arith)).1 in
     let later : (next : Situation) → AreProper trace → Follows mid next calls = λ next behind here kept.
-    late_calls calls mid new next run.2 (uncut_behind call calls whole) behind here kept in
-    by_effect (λ transfer list. is_transfer call ≡ transfer → made_by_calls (call ∷ calls) ≡ map traced list ++ trace → AreProper (map traced list ++ trace) → IsLateOf start (call ∷ calls))
+    late_calls calls mid new next run.2 (plain_behind call calls whole) behind here kept in
+    by_one_change (λ transfer list. is_transfer call ≡ transfer → made_by_calls (call ∷ calls) ≡ map traced list ++ trace → AreProper (map traced list ++ trace) → IsLateOf start (call ∷ calls))
     call old mid (whole 0 call (omega arith)) run.1
     (λ same still none these. stays_then old mid start call calls none still (ap (λ (d : Device). d.size) same) (ap (λ (d : Device). (state_of d).map) same)
     (ap (λ (d : Device). (state_of d).fill) same) is proper (later start these))

@@ -6,7 +6,7 @@ use Rattle.ee_flash.specs.Device.{Device, IsOn}
 use Rattle.ee_flash.specs.Size.{size_of, slot_count}
 use Rattle.ee_core.proofs.Public.{no_page_wears_more_lem}
 use Rattle.ee_core.specs.Openings.{IsFormatted}
-use Rattle.ee_core.specs.Runs.{Call, IsWholeRun, transfers}
+use Rattle.ee_core.specs.Runs.{Call, IsWholeRun, is_cut, transfers}
 use Rattle.ee_core.specs.State.{State, formatted_state, state_of}
 use Rattle.ee_core.specs.Changes.{greatest_generation}
 use Rattle.ee_check.proofs.Public.{late_moves, late_stores_meet_it_lem}
@@ -19,11 +19,11 @@ use Rattle.ee_planner.specs.Rounds.{IsDemand, fresh, repeated_trace}
 use Rattle.ee_plan.specs.Start.{AreLive, IsStartOf}
 use Rattle.ee_planner.specs.declared.demand.Demand.{Demand}
 use Rattle.ee_planner.specs.declared.demand.Demand.TheVariants.{Transfers, NotFitting}
-use Rattle.ee_commands.specs.ToldSizes.{ForgetsLive, IsDemandOf, WearsAsTold, asked_by_calls, made_by_calls, wants_memory}
+use Rattle.ee_commands.specs.ToldSizes.{ForgetsLive, IsDemandOf, WearsAsTold, asked_by_calls, writes_list, made_by_calls, wants_memory}
 use Rattle.ee_commands.specs.Sizing.{AreDemands, IsSized, erases_for, is_spent_by, most_transfers}
 use Rattle.ee_commands.proofs.AllMade.{all_made}
 use Rattle.ee_commands.proofs.AskedRuns.{IsBelow, bounded}
-use Rattle.ee_commands.proofs.MadeRuns.{AreProper, IsLateOf, late_calls, repeated_proper, trace_proper}
+use Rattle.ee_commands.proofs.MadeRuns.{ArePlain, AreProper, IsLateOf, late_calls, repeated_proper, trace_proper}
 
 -- ---- the line of a size
 
@@ -116,35 +116,38 @@ wears cycles most calls blank old new formats whole few =
           omega (arith, few, leb-true (erases_for most) cycles (and_parts (leb most most_transfers) (leb (erases_for most) cycles) within).1, no_page_wears_more_lem calls old new page whole formats.store.legal none_waits h);
     }
 
+both_plain : (calls : List Call) → All (λ call. is_cut call ≡ false) calls → All (λ call. writes_list call ≡ false) calls → ArePlain calls
+both_plain calls whole unlisted = λ place call here. (whole place call here, unlisted place call here)
+
 -- the addresses of the script that is made so many times
 all_proper : (words cycles runs : ℕ) (text told : List ℕ) (some_enough : Bool) (sized : IsSized words text cycles runs told some_enough) → AreProper (repeated_trace runs sized.trace)
 all_proper words cycles runs text told some_enough sized = search (rules, repeated_proper, trace_proper)
 
 pub each_size_wears_as_told_lem : (text told : List ℕ) (cycles runs most : ℕ) (some_enough : Bool) (calls : List Call) (blank old new : Device)
     → (sized : IsSized old.size.words text cycles runs told some_enough) → IsDemandOf old.size.pages sized.demands (Transfers most)
-    → IsFormatted blank old → IsWholeRun calls old new
+    → IsFormatted blank old → IsWholeRun calls old new → All (λ call. writes_list call ≡ false) calls
     → asked_by_calls calls ≡ repeated_trace runs sized.trace → WearsAsTold cycles most calls old new
-each_size_wears_as_told_lem text told cycles runs most some_enough calls blank old new sized line formats whole asked =
+each_size_wears_as_told_lem text told cycles runs most some_enough calls blank old new sized line formats whole unlisted asked =
     let words = old.size.words in
     let trace = repeated_trace runs sized.trace in
     let are = subst AreProper (sym asked) (all_proper words cycles runs text told some_enough sized) in
     let demanded = demanded_there words old.size.pages trace most sized.demands line sized.demanded in
     let reached = demanded.1.reached in
-    let few = bounded calls old new whole.run whole.without_cuts are (fresh (slot_count old.size)) reached.0 0 0 reached.1.allowed (reached.1.changes ∙ sym asked)
+    let few = bounded calls old new whole.run (both_plain calls whole.without_cuts unlisted) are (fresh (slot_count old.size)) reached.0 0 0 reached.1.allowed (reached.1.changes ∙ sym asked)
     (both_begin old formats.state_is) in
     wears cycles most calls blank old new formats whole (omega (arith, few, reached.2))
 
 pub each_size_moves_as_told_lem : (text told : List ℕ) (cycles runs : ℕ) (some_enough : Bool) (calls : List Call) (blank old new : Device)
-    → (sized : IsSized old.size.words text cycles runs told some_enough) → IsFormatted blank old → IsWholeRun calls old new
+    → (sized : IsSized old.size.words text cycles runs told some_enough) → IsFormatted blank old → IsWholeRun calls old new → All (λ call. writes_list call ≡ false) calls
     → made_by_calls calls ≡ repeated_trace runs sized.trace
     → IsDemandOf old.size.pages sized.demands (Transfers (transfers calls)) × WearsAsTold cycles (transfers calls) calls old new
-each_size_moves_as_told_lem text told cycles runs some_enough calls blank old new sized formats whole made =
+each_size_moves_as_told_lem text told cycles runs some_enough calls blank old new sized formats whole unlisted made =
     let words = old.size.words in
     let slots = slot_count old.size in
     let trace = repeated_trace runs sized.trace in
     let limits = formats.store.legal.2.formed.within_limits in
     let are = subst AreProper (sym made) (all_proper words cycles runs text told some_enough sized) in
-    let late = late_calls calls old new (fresh slots) whole.run whole.without_cuts are (empty_start slots (state_of old) formats.state_is) (empty_proper slots) in
+    let late = late_calls calls old new (fresh slots) whole.run (both_plain calls whole.without_cuts unlisted) are (empty_start slots (state_of old) formats.state_is) (empty_proper slots) in
     let here = among words old.size.pages 1 trace sized.demands limits.some_pages (omega (arith, limits.few_pages, sized.each_size)) sized.demanded in
     let did = did_so (fresh slots) trace here.demand calls (empty_proper slots) late made here.demanded in
     let line : IsDemandOf old.size.pages sized.demands (Transfers (transfers calls)) = record {
@@ -161,10 +164,10 @@ generations_left most device same left = search (rules, ltb-false)
 
 pub each_size_is_made_as_told_lem : (text told : List ℕ) (cycles runs most : ℕ) (some_enough : Bool) (calls : List Call) (blank old new : Device)
     → (sized : IsSized old.size.words text cycles runs told some_enough) → IsDemandOf old.size.pages sized.demands (Transfers most)
-    → IsFormatted blank old → IsOn old → IsWholeRun calls old new → All (λ call. wants_memory call ≡ false) calls
+    → IsFormatted blank old → IsOn old → IsWholeRun calls old new → All (λ call. writes_list call ≡ false) calls → All (λ call. wants_memory call ≡ false) calls
     → asked_by_calls calls ≡ repeated_trace runs sized.trace → ForgetsLive [] (repeated_trace runs sized.trace) → is_spent_by most ≡ false
     → (made_by_calls calls ≡ repeated_trace runs sized.trace) × (transfers calls ≡ most)
-each_size_is_made_as_told_lem text told cycles runs most some_enough calls blank old new sized line formats on whole given asked held left =
+each_size_is_made_as_told_lem text told cycles runs most some_enough calls blank old new sized line formats on whole unlisted given asked held left =
     let words = old.size.words in
     let start = fresh (slot_count old.size) in
     let trace = repeated_trace runs sized.trace in
@@ -172,7 +175,7 @@ each_size_is_made_as_told_lem text told cycles runs most some_enough calls blank
     let demanded = demanded_there words old.size.pages trace most sized.demands line sized.demanded in
     let late = late_moves start trace demanded.1.claim (empty_proper start.slots) demanded.1.tight in
     let cost_is : cost late.moves ≡ most = late.cost_is ∙ sym demanded.1.stretches in
-    let all = all_made calls old new whole.run whole.without_cuts given are start late.moves (record {
+    let all = all_made calls old new whole.run (both_plain calls whole.without_cuts unlisted) given are start late.moves (record {
       on = on;
       start = empty_start start.slots (state_of old) formats.state_is;
       proper = empty_proper start.slots;

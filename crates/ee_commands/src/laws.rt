@@ -3,8 +3,8 @@
 ghost use Rattle.ee_commands.specs.ToldSizes.{EachSizeIsMadeAsTold, EachSizeMovesAsTold, EachSizeWearsAsTold};
 
 /// Where `size_parts` told sizes for a script that is made so many times, and calls of a store that was
-/// just formatted ask for its changes so many times, without a cut, no page is erased more often than
-/// the line of the store's size says, whatever the calls are answered.
+/// just formatted ask for its changes so many times, one by one and without a cut, no page is erased
+/// more often than the line of the store's size says, whatever the calls are answered.
 pub fn each_size_wears_as_told()
     ensures { EachSizeWearsAsTold }
 {}
