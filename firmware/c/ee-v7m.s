@@ -1,6 +1,6 @@
 /* ee: variables in flash, the library of ee.h as one file, for Cortex-M3, M4, M7 and M33.
  *
- * sum of sources: 00f4e8942cb38e481b8707248320efdb61d42d2afcaac0866df5a147da3d5744
+ * sum of sources: c96577f47eb08fdc54dfe75096448855ec2a0856b55d59f1e433e3990e8f98fb
  * sum of the text below: aac19e468c80d14079314dbca4e1859b52c8cdbbb4da48c2dcc1de3115db624c
  * made by: firmware/c/assemble
  * compiler: rustc 1.96.0 (ac68faa20 2026-05-25) (built from a source tarball), LLVM 22.1.8

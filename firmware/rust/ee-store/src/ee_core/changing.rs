@@ -54,7 +54,7 @@ pub(crate) fn move_unindexed<F: Flash>(
 
 /// Makes a change to which no refusal applies with a transfer, where no slot is free. The cursor,
 /// which is before the first, goes over the live addresses. The layout follows.
-pub fn move_change<F: Flash, C: LiveCursor>(
+pub(crate) fn move_change<F: Flash, C: LiveCursor>(
     flash: &mut F,
     layout: &mut Layout,
     change: Change,
@@ -68,7 +68,7 @@ pub fn move_change<F: Flash, C: LiveCursor>(
 /// Makes changes to which no refusal applies with a transfer that they need: values that are put, or
 /// the forgettings of their addresses. The cursor, which is before the first, goes over the live addresses.
 /// The layout follows.
-pub(crate) fn move_changes<F: Flash, C: LiveCursor>(
+pub fn move_changes<F: Flash, C: LiveCursor>(
     flash: &mut F,
     layout: &mut Layout,
     puts: &[Put],

@@ -17,12 +17,12 @@ pub(crate) fn has_put(puts: &[Put], address: Address) -> bool {
 }
 
 /// Of what a transfer carries the values that are put: none, where their addresses are forgotten.
-pub(crate) fn values_put(puts: &[Put], forgets: bool) -> &[Put] {
+pub fn values_put(puts: &[Put], forgets: bool) -> &[Put] {
     if forgets { &[] } else { puts }
 }
 
 /// The first entry, counted from 0, whose address an earlier one has.
-pub(crate) fn first_twice(puts: &[Put]) -> Option<usize> {
+pub fn first_twice(puts: &[Put]) -> Option<usize> {
     for place in 0..puts.len() {
         if has_put(&puts[..place], puts[place].address) {
             return Some(place);

@@ -46,28 +46,6 @@ impl<F: Flash> Store<F> {
         torn_slots(&self.flash, &self.layout)
     }
 
-    /// Writes these values at once: after this call, and after a cut in it too, the map has all of them
-    /// or is as it was. A list of one is written as by `write`; for more the live set moves to the other
-    /// set, whether a slot is free or not.
-    ///
-    /// Source: ours.
-    ///
-    /// # Errors
-    ///
-    /// The first `WriteAllFault` that applies.
-    pub fn write_all(&mut self, changes: &[Put]) -> Result<Written, WriteAllFault> {
-        if !self.flash.is_on() {
-            return Err(WriteAllFault::Off);
-        }
-        if changes.is_empty() {
-            return Ok(Written::Appended);
-        }
-        if changes.len() == 1 {
-            return self.write_one(changes[0]);
-        }
-        self.write_several(changes)
-    }
-
     /// Writes the one value of a list.
     fn write_one(&mut self, put: Put) -> Result<Written, WriteAllFault> {
         match self.write(put.address, put.value) {
@@ -165,6 +143,19 @@ impl<F: Flash> Variables for Store<F> {
             Ok(written) => Ok(written),
             Err(Cut) => Err(WriteFault::Cut),
         }
+    }
+
+    fn write_all(&mut self, changes: &[Put]) -> Result<Written, WriteAllFault> {
+        if !self.flash.is_on() {
+            return Err(WriteAllFault::Off);
+        }
+        if changes.is_empty() {
+            return Ok(Written::Appended);
+        }
+        if changes.len() == 1 {
+            return self.write_one(changes[0]);
+        }
+        self.write_several(changes)
     }
 
     fn forget(&mut self, address: Address) -> Result<Written, ForgetFault> {

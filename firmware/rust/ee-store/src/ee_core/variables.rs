@@ -1,6 +1,7 @@
 // Made by firmware/rust/erase from crates/ee_core/src/variables.rt. Change that file.
 //! What a store is to its users: its calls, what they answer, and why they refuse.
 
+use crate::ee_core::change::Put;
 use crate::ee_codec::Address;
 use crate::ee_pages::LiveBatch;
 
@@ -101,6 +102,15 @@ pub trait Variables {
     ///
     /// The first `WriteFault` that applies.
     fn write(&mut self, address: Address, value: u32) -> Result<Written, WriteFault>;
+
+    /// Writes these values at once: after this call, and after a cut in it too, the map has all of them
+    /// or is as it was. A list of one is written as by `write`; for more the live set moves to the other
+    /// set, whether a slot is free or not.
+    ///
+    /// # Errors
+    ///
+    /// The first `WriteAllFault` that applies.
+    fn write_all(&mut self, changes: &[Put]) -> Result<Written, WriteAllFault>;
 
     /// Takes the value of an address away.
     ///
