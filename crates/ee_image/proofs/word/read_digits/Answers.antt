@@ -18,3 +18,6 @@ returns-then-ne-clause-only c = λ value below spelled.
 pub returns-clause-only : goal.returns-clause-only
 returns-clause-only c = λ value below spelled.
     ap Some (read_back c.args.text.now value c.from_be_bytes-value.result c.from_hex.result c.ok.result c.in_ok-ok.field-0 (omega arith) spelled c.from_hex.ensures c.ok.ensures.value c.in_ok-ok.was c.from_be_bytes-value.ensures)
+
+pub returns-clause-found : goal.returns-clause-found
+returns-clause-found g = search rules fits 100 parts 0
