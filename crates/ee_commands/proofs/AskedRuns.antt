@@ -9,7 +9,7 @@ use Rattle.ee_pages.specs.Meaning as meaning
 use Rattle.ee_pages.proofs.Public.{live_to-suc, live_to-zero}
 use Rattle.ee_core.specs.Calls.{ErasesOne}
 use Rattle.ee_core.specs.Changes.{Appends, IsSpent, Moves}
-use Rattle.ee_core.specs.Runs.{Call, Wrote, WroteAll, Forgot, Cleaned, DidRead, Follows, IsRun, changes_of_call, is_cut, is_transfer, transfers}
+use Rattle.ee_core.specs.Runs.{Call, Wrote, WroteAll, Forgot, Cleaned, DidRead, Follows, IsRun, changes_of_call, is_transfer, transfers}
 use Rattle.ee_core.specs.State.{State, state_of}
 use Rattle.ee_core.specs.declared.variables.ForgetFault.TheVariants as forget
 use Rattle.ee_check.proofs.Public.{changed-le}
