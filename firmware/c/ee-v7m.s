@@ -1,6 +1,6 @@
 /* ee: variables in flash, the library of ee.h as one file, for Cortex-M3, M4, M7 and M33.
  *
- * sum of sources: c96577f47eb08fdc54dfe75096448855ec2a0856b55d59f1e433e3990e8f98fb
+ * sum of sources: 7c23941c6238aa69f70c9294d2feaaf325b2247b469884b72fc847b3ef32a7d0
  * sum of the text below: aac19e468c80d14079314dbca4e1859b52c8cdbbb4da48c2dcc1de3115db624c
  * made by: firmware/c/assemble
  * compiler: rustc 1.96.0 (ac68faa20 2026-05-25) (built from a source tarball), LLVM 22.1.8

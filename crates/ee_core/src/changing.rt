@@ -115,43 +115,6 @@ pub(crate) fn move_unindexed<F: Flash>(
     Ok(())
 }
 
-/// Makes a change to which no refusal applies with a transfer, where no slot is free. The cursor,
-/// which is before the first, goes over the live addresses. The layout follows.
-pub(crate) fn move_change<F: Flash, C: LiveCursor>(
-    flash: &mut F,
-    layout: &mut Layout,
-    change: Change,
-    cursor: &mut C,
-) -> Result<(), Cut>
-    requires layout { IsLayout (F.device flash.old) layout.old }
-    requires address { IsAddress (address_of (meant change)) }
-    requires proceeds { Proceeds (F.device flash.old) (meant change ∷ []) }
-    requires all_used { layout.old.fill ≡ slot_count (F.device flash.old).size }
-    requires first { C.behind cursor.old ≡ 0 }
-    requires over { C.goes_over cursor.old (slots_of (set_of layout.old.side (F.device flash.old))) }
-    ensures moved { OnOk result
-        (Moves (F.device flash.old) (meant change ∷ []) (F.device flash.new)) }
-    ensures has_moved { OnOk result
-        (HasMoved (F.device flash.old) (F.device flash.new) layout.old.side layout.old.generation
-        (meant change ∷ [])) }
-    ensures found { OnOk result (IsLayout (F.device flash.new) layout.new) }
-    ensures other_set { OnOk result (layout.new.side ≡ other_of layout.old.side) }
-    ensures as_many { OnOk result (layout.new.fill ≡ length
-        (moved_words (meant change ∷ []) (map_in layout.old.side (F.device flash.old)))) }
-    ensures new_pages { OnOk result
-        (IsDrawn (other_of layout.old.side) (F.device flash.new)
-        (filled_set (F.device flash.old).size (layout.old.generation + 1)
-        (moved_words (meant change ∷ []) (map_in layout.old.side (F.device flash.old))))) }
-    ensures cut { OnErr result
-        (IsCutChange (F.device flash.old) (meant change) (F.device flash.new)) }
-    ensures store { IsStore (F.device flash.new) }
-    ensures layout { IsOn (F.device flash.new) → IsLayout (F.device flash.new) layout.new }
-{
-    let (put, forgets) = change.entry();
-    move_changes(flash, layout, &[put], forgets, cursor)?;
-    Ok(())
-}
-
 /// Makes changes to which no refusal applies with a transfer that they need: values that are put, or
 /// the forgettings of their addresses. The cursor, which is before the first, goes over the live addresses.
 /// The layout follows.

@@ -52,19 +52,6 @@ pub(crate) fn move_unindexed<F: Flash>(
     Ok(())
 }
 
-/// Makes a change to which no refusal applies with a transfer, where no slot is free. The cursor,
-/// which is before the first, goes over the live addresses. The layout follows.
-pub(crate) fn move_change<F: Flash, C: LiveCursor>(
-    flash: &mut F,
-    layout: &mut Layout,
-    change: Change,
-    cursor: &mut C,
-) -> Result<(), Cut> {
-    let (put, forgets) = change.entry();
-    move_changes(flash, layout, &[put], forgets, cursor)?;
-    Ok(())
-}
-
 /// Makes changes to which no refusal applies with a transfer that they need: values that are put, or
 /// the forgettings of their addresses. The cursor, which is before the first, goes over the live addresses.
 /// The layout follows.
