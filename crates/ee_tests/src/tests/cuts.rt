@@ -8,8 +8,7 @@ use std::alloc::Global;
 use std::process::Abort;
 use std::test::Fail;
 
-/// What a cut leaves of a word.
-pub const LEFTS: [Left; 3] = [Left::Before, Left::After, Left::Torn];
+const LEFTS: [Left; 3] = [Left::Before, Left::After, Left::Torn];
 
 // What is left of each of five words: each list of them for one number below 243.
 fn mix_of(number: usize) -> [Left; 5] {

@@ -1,8 +1,6 @@
 //! Lists of values that are written at once, with power cut in each step, and lists that are refused.
-use crate::tests::cuts::LEFTS;
 use crate::tests::{address, given, opened, same, same_at, shape, text_of};
-use ee_fakes::{Fate, Left, ListFlash};
-use ee_flash::Flash;
+use ee_flash::{Flash, Fuse, MemFlash, Tear};
 use ee_store::{Put, Store, Variables, WriteAllFault, Written, format};
 use std::alloc::Global;
 use std::process::Abort;
@@ -15,7 +13,9 @@ const WORDS: usize = 8;
 const ADDRESSES: usize = 9;
 
 /// More steps than a list takes in any case.
-const STEPS: usize = 40;
+const STEPS: u64 = 40;
+
+const TEARS: [Tear; 4] = [Tear::Nothing, Tear::Done, Tear::Torn, Tear::Mixed];
 
 /// The values of the addresses from 1 on.
 type Values = [Option<u32>; ADDRESSES];
@@ -60,8 +60,8 @@ fn forget_one<V: Variables>(store: &mut V) -> Result<(), Fail> {
     Ok(())
 }
 
-fn device_of<'a>(rt: &impl Abort, alloc: Global, case: Case) -> Result<ListFlash<'a>, Fail> {
-    let flash = ListFlash::blank(alloc, shape(usize::from(case.pages), WORDS)?, &[])?;
+fn device_of(rt: &impl Abort, alloc: Global, case: Case) -> Result<MemFlash, Fail> {
+    let flash = MemFlash::blank(alloc, shape(usize::from(case.pages), WORDS)?)?;
     let mut store = given(format(flash))?;
     match case.start {
         Start::Nothing => {}
@@ -120,7 +120,7 @@ fn list_of(count: u16) -> Result<[Put; ADDRESSES], Fail> {
     for put in puts.iter_mut().take(usize::from(count)) {
         *put = Put {
             address: address(number)?,
-            value: 200 + u32::from(number),
+            value: u32::from(number).saturating_add(200),
         };
         number = number.saturating_sub(1);
     }
@@ -138,22 +138,11 @@ fn write_list<F: Flash + Drop>(
     Ok(store.write_all(list))
 }
 
-// Writes the list with power cut behind so many steps, and gives whether the values are there; nothing if it was written
-// with no cut.
-fn cut_behind(
-    rt: &impl Abort,
-    alloc: Global,
-    case: Case,
-    steps: usize,
-    left: Left,
-) -> Result<Option<bool>, Fail> {
-    let list = [left; WORDS];
-    let mut fates = [Fate::Done; STEPS];
-    if let Some(fate) = fates.get_mut(steps) {
-        *fate = Fate::Cut(&list);
-    }
+// Writes the list with power cut as the fuse says, and gives whether the values are there; nothing if it was written with
+// no cut.
+fn cut_by(rt: &impl Abort, alloc: Global, case: Case, fuse: Fuse) -> Result<Option<bool>, Fail> {
     let mut flash = device_of(rt, alloc, case)?;
-    flash.set_fates(&fates);
+    flash.arm(fuse);
     let mut store = opened(flash)?;
     let answer = write_list(&mut store, case.count, case.count)?;
     let was_cut = !store.is_on();
@@ -162,10 +151,10 @@ fn cut_behind(
     } else {
         Ok(Written::Moved)
     };
-    same_at(rt, (case, steps, left), answer, wanted);
+    same_at(rt, (case, fuse), answer, wanted);
     let store = opened(store.into_flash())?;
     let is_there = is_there(rt, &store, case)?;
-    same_at(rt, (case, steps, left), was_cut || is_there, true);
+    same_at(rt, (case, fuse), was_cut || is_there, true);
     Ok(if was_cut { Some(is_there) } else { None })
 }
 
@@ -178,20 +167,16 @@ fn is_there<V: Variables>(rt: &impl Abort, store: &V, case: Case) -> Result<bool
     Ok(is_there)
 }
 
-// Cuts the list in one step after another, with each tear, until it is written with no cut. Some cuts leave the map as it
-// was, and some the values.
-fn cut_each_step(rt: &impl Abort, alloc: Global, case: Case) -> Result<(), Fail> {
-    let mut found = (false, false);
-    for number in 0..STEPS * 3 {
-        let left = LEFTS[number % 3];
-        match cut_behind(rt, alloc, case, number / 3, left)? {
-            Some(true) => found.1 = true,
-            Some(false) => found.0 = true,
-            None => {
-                same_at(rt, case, found, (true, true));
-                return Ok(());
-            }
-        }
+// Cuts the list in one step after another, with this tear, until it is written with no cut.
+fn cut_each_step(rt: &impl Abort, alloc: Global, case: Case, tear: Tear) -> Result<(), Fail> {
+    let mut is_there = false;
+    for after in 0..STEPS {
+        let Some(found) = cut_by(rt, alloc, case, Fuse { after, tear })? else {
+            return Ok(());
+        };
+        // Once a cut comes too late, so do those behind it.
+        same_at(rt, (case, tear, after), is_there && !found, false);
+        is_there = found;
     }
     Err(Fail::from("too many steps"))
 }
@@ -206,18 +191,25 @@ const STARTS: [(u16, Start); 6] = [
     (2, Start::Full),
 ];
 
-/// Two values, and one for each slot.
-#[test]
-fn a_list_cut_in_each_step(rt: HostRuntime) -> Result<(), Fail> {
+// Of two values, and of one for each slot.
+fn cut_lists(rt: &impl Abort, alloc: Global, tear: Tear) -> Result<(), Fail> {
     for (pages, start) in STARTS {
         let case = Case {
             pages,
             start,
             count: 2,
         };
-        cut_each_step(&rt, rt.alloc(), case)?;
+        cut_each_step(rt, alloc, case, tear)?;
         let count = slots_of(pages);
-        cut_each_step(&rt, rt.alloc(), Case { count, ..case })?;
+        cut_each_step(rt, alloc, Case { count, ..case }, tear)?;
+    }
+    Ok(())
+}
+
+#[test]
+fn a_list_cut_in_each_step(rt: HostRuntime) -> Result<(), Fail> {
+    for tear in TEARS {
+        cut_lists(&rt, rt.alloc(), tear)?;
     }
     Ok(())
 }
