@@ -6,7 +6,8 @@ use ee_fakes::{ListFlash, Refusing};
 use ee_flash::{Flash, MemFlash, Shape};
 use ee_image::read_image;
 use ee_store::{
-    Answer, Event, IndexedFault, IndexedStore, Put, Variables, WriteFault, Written, drive, format,
+    Answer, Event, IndexedFault, IndexedStore, Put, Variables, WriteAllFault, WriteFault, Written,
+    drive, format,
 };
 use std::alloc::Global;
 
@@ -144,5 +145,28 @@ pub fn index_written(alloc: &Refusing<Global>, memory: Global) -> Option<bool> {
         Some(COUNT) => Some(has_all(&store)),
         Some(count) => wants_memory(memory, &store.into_flash(), count),
         None => Some(false),
+    }
+}
+
+// A list of all of them, each with its value.
+fn all_puts() -> Option<[Put; COUNT as usize]> {
+    let mut puts = [put(1, 1001)?; COUNT as usize];
+    let mut number = 0u16;
+    for listed in puts.iter_mut() {
+        number = number.saturating_add(1);
+        *listed = put(number, 1000 + u32::from(number))?;
+    }
+    Some(puts)
+}
+
+/// Where memory is refused for one of a list, also a later one, the store and its device stay as they are.
+pub fn index_written_at_once(alloc: &Refusing<Global>, memory: Global) -> Option<bool> {
+    let mut store = empty_index(alloc, memory)?;
+    match store.write_all(&all_puts()?) {
+        Ok(written) => Some(written == Written::Moved && has_all(&store)),
+        Err(WriteAllFault::Memory) if store.live_count() == 0 => {
+            wants_memory(memory, &store.into_flash(), 0)
+        }
+        Err(_) => Some(false),
     }
 }
