@@ -7,7 +7,8 @@ use Rattle.ee_codec.specs.declared.slot.Slot.{Slot}
 use Rattle.ee_codec.specs.declared.slot.Slot.TheVariants.{Element, Forgotten, Foreign}
 use Rattle.ee_flash.specs.declared.word.Word.{Word}
 use Rattle.ee_flash.specs.declared.word.Word.TheVariants.{Erased, Held, Torn}
-use Rattle.ee_pages.specs.Meaning.{Change, Forget, IsNextLive, Map, Put, changed_by, map_after, latest_in, live_in, live_to, meaning, says, slot_says, value_said}
+use Rattle.ee_pages.specs.Meaning.{Change, Forget, Map, Put, changed_by, map_after, latest_in, live_in, live_to, meaning, says, slot_says, value_said}
+use Rattle.ee_pages.specs.LiveOrder.{IsNextLive}
 use Rattle.ee_pages.proofs.Public.{live_to-zero, live_to-suc}
 use Rattle.ee_pages.specs.Pending.{address_of}
 use Rattle.ee_core.specs.Changes.{HasChange}

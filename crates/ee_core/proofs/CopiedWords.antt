@@ -4,7 +4,8 @@ use Rattle.std.proofs.lemmas.Bool.{cases_Bool, cases_eq, cases_lt}
 use Rattle.ee_codec.specs.Words.{element}
 use Rattle.ee_flash.specs.declared.word.Word.{Word}
 use Rattle.ee_flash.specs.declared.word.Word.TheVariants.{Held}
-use Rattle.ee_pages.specs.Meaning.{Change, IsNextLive, Map}
+use Rattle.ee_pages.specs.Meaning.{Change, Map}
+use Rattle.ee_pages.specs.LiveOrder.{IsNextLive}
 use Rattle.ee_core.proofs.CopiedMaps.{without-at, without-other}
 use Rattle.ee_core.specs.Picture.{element_at, elements_of, elements_to, map_without}
 use Rattle.ee_core.specs.Puts.{names}

@@ -6,7 +6,8 @@ use Rattle.std.proofs.lemmas.List.Elements.{All-head, All-tail}
 use Rattle.std.specs.List.{All}
 use Rattle.std.specs.Prelude.{IfSome}
 use Rattle.ee_codec.specs.Words.{IsAddress}
-use Rattle.ee_pages.specs.Meaning.{AreLiveThrough, IsNextLive, IsNoneLive, Map, last_of}
+use Rattle.ee_pages.specs.Meaning.{Map}
+use Rattle.ee_pages.specs.LiveOrder.{AreLiveThrough, IsNextLive, IsNoneLive, last_of}
 use Rattle.ee_core.specs.Course.{GoesOver}
 
 module _ (map : Map) (from above : ℕ) (none : IsNoneLive map from (Some above)) where

@@ -9,7 +9,8 @@ use Rattle.ee_flash.specs.Device.{Device}
 use Rattle.ee_flash.specs.Size.{slot_count}
 use Rattle.ee_flash.specs.declared.word.Word.{Word}
 use Rattle.ee_flash.specs.declared.word.Word.TheVariants.{Held}
-use Rattle.ee_pages.specs.Meaning.{Change, Forget, IsNextLive, Map, Put, changed_by, map_after, live_in}
+use Rattle.ee_pages.specs.Meaning.{Change, Forget, Map, Put, changed_by, map_after, live_in}
+use Rattle.ee_pages.specs.LiveOrder.{IsNextLive}
 use Rattle.ee_pages.specs.Sets.{other, set_of, slots_of}
 use Rattle.ee_pages.specs.declared.find.Layout.{Layout}
 use Rattle.ee_core.specs.Cuts.{AddsPartly}

@@ -23,7 +23,8 @@ use Rattle.ee_pages.specs.declared.find.Layout.{Layout}
 use Rattle.ee_pages.specs.declared.side.Side.{Side}
 use Rattle.ee_pages.specs.declared.side.Side.TheVariants.{First}
 use Rattle.ee_pages.proofs.Public.{live_commits, change_counts, full_set_has_no_blank_page, live_within_fill, length-set_of, length-slots}
-use Rattle.ee_core.specs.Changes.{Appends, HaveNoGeneration, IsAccepted, IsCutAppend, IsCutChange, IsCutMaking, IsCutMove, IsFull, Moves, NeedsTransfer, Proceeds, ShowsAppended, ShowsCutAppend, ShowsCutMove, ShowsMoved, greatest_generation, is_left, pages_left}
+use Rattle.ee_core.specs.Changes.{Appends, HaveNoGeneration, IsAccepted, IsCutAppend, IsCutChange, IsCutMaking, IsCutMove, IsFull, Moves, NeedsTransfer, Proceeds, greatest_generation, pages_left}
+use Rattle.ee_core.specs.Shown.{ShowsAppended, ShowsCutAppend, ShowsCutMove, ShowsMoved, is_left}
 use Rattle.ee_core.specs.Cuts.{ErasesPartly, IsDrawnPartly, MovesPartly}
 use Rattle.ee_core.specs.Picture.{IsDrawn, filled_set, is_used, moved_words, number_of_change, picture_of, retired_pages, with_change}
 use Rattle.ee_core.specs.Puts.{AreApart}

@@ -10,10 +10,10 @@ use Rattle.ee_pages.specs.declared.side.Side.{Side}
 use Rattle.ee_pages.specs.declared.side.Side.TheVariants.{First, Second}
 use Rattle.ee_core.proofs.States.{state_is, state_stays}
 use Rattle.ee_core.specs.Finished.{IsFinished, IsMarked}
-use Rattle.ee_core.specs.Openings.{IsCutOpening, IsFormatted, Opens, ShowsCutMarks, ShowsMarks}
+use Rattle.ee_core.specs.Openings.{IsCutOpening, IsFormatted, Opens, ShowsCutMarks, ShowsMarks, not_blank_pages}
 use Rattle.ee_core.specs.Picture.{IsDrawn, blank, filled_set}
 use Rattle.ee_core.specs.Parts.{Stays}
-use Rattle.ee_core.specs.State.{State, Wears, formatted_state, not_blank_pages, pending_pages_in, state_of}
+use Rattle.ee_core.specs.State.{State, Wears, formatted_state, pending_pages_in, state_of}
 
 abbrev side_in : Option (Side × ℕ) → Side
 side_in None = First

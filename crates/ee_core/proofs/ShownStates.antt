@@ -20,7 +20,7 @@ use Rattle.ee_pages.specs.declared.state.Mark.TheVariants as marks
 use Rattle.ee_pages.specs.declared.state.State.TheVariants.{Erased as Unused, Erasing}
 use Rattle.ee_pages.proofs.Public.{live_to-zero, change_counts, blank_word, live_to-suc}
 use Rattle.ee_core.specs.Calls.{IsLowestPending}
-use Rattle.ee_core.specs.Changes.{ShowsAppended, ShowsMoved, is_left}
+use Rattle.ee_core.specs.Shown.{ShowsAppended, ShowsMoved, is_left}
 use Rattle.ee_core.specs.Finished.{last_used}
 use Rattle.ee_core.specs.Openings.{ShowsMarks}
 use Rattle.ee_core.specs.PageStates.{MovedWordsAreLive, PicturesTellImages, StatesAfterAppend, StatesAfterClean, StatesAfterFormat, StatesAfterOpening, StatesAfterTransfer, filled_state, marked_state, state_at}

@@ -1,12 +1,11 @@
 -- What a change of a store's map leaves, and when none is made.
-use Rattle.std.specs.Prelude.{◌≡◌, ◌<◌, ◌≤◌, ◌⊎◌, ℕ, ◌+◌, Bool, true, Some, None, List, [], ◌∷◌}
+use Rattle.std.specs.Prelude.{◌≡◌, ◌<◌, ◌≤◌, ◌⊎◌, ℕ, ◌+◌, Some, None, List, [], ◌∷◌}
 use Rattle.ee_flash.specs.Device.{Device, IsOn}
 use Rattle.ee_flash.specs.Power.{GoesOn, IsCut}
 use Rattle.ee_pages.specs.Meaning.{Change, Map, Put, Forget, changed_by, live_in}
-use Rattle.ee_pages.specs.Sets.{first_page, live_of, other}
-use Rattle.ee_pages.specs.declared.side.Side.{Side}
-use Rattle.ee_core.specs.Cuts.{ErasesPartly, IsDrawnPartly, MovesPartly}
-use Rattle.ee_core.specs.Picture.{IsDrawn, OfLive, filled_set, is_used, moved_words, number_of_change, picture_of, retired_pages, with_change}
+use Rattle.ee_pages.specs.Sets.{live_of, other}
+use Rattle.ee_core.specs.Picture.{OfLive}
+use Rattle.ee_core.specs.Shown.{ShowsAppended, ShowsCutAppend, ShowsCutMove, ShowsMoved}
 use Rattle.ee_core.specs.State.{State, Wears, WearsFront, appended_state, capacity, moved_state, pending_pages, torn_state, state_of, next_live, used_pages_of, with_pending}
 
 -- the greatest generation: no transfer follows it
@@ -61,26 +60,11 @@ abbrev pub HasChange : Change → Map → Type 0
 HasChange (Put address value) map = map address ≡ Some value
 HasChange (Forget address) map = map address ≡ None
 
--- what is drawn after an append: the change's word, with the marks of its page; the other set is as before
-pub record ShowsAppended (old : Device) (change : Change) (new : Device) (side : Side) : Type 0 where
-  pub live_pages : IsDrawn side new (with_change old.size (state_of old).fill (number_of_change (state_of old).map change) (picture_of side old))
-  pub old_pages : IsDrawn (other side) new (picture_of (other side) old)
-
--- the pages of the set that a transfer leaves which may be erased then: for one change all, since each slot was used; for
+-- how many pages of the set that a transfer leaves wait to be erased then: for one change all, since each slot was used; for
 -- several those that are not blank
-abbrev pub is_left : List Change → Side → Device → ℕ → Bool
-is_left (change ∷ []) side device page = true
-is_left changes side device page = is_used side device page
-
--- how many these are
 abbrev pub pages_left : List Change → Device → ℕ
 pages_left (change ∷ []) device = device.size.pages
 pages_left changes device = used_pages_of device
-
--- what is drawn after a transfer: the other set is filled with the map, and pages of the set that was live may be erased
-pub record ShowsMoved (old : Device) (changes : List Change) (new : Device) (side : Side) (generation : ℕ) : Type 0 where
-  pub new_pages : IsDrawn (other side) new (filled_set old.size (generation + 1) (moved_words changes (state_of old).map))
-  pub old_pages : IsDrawn side new (retired_pages (is_left changes side old) (picture_of side old))
 
 -- a slot was free, and the change stands in it; the same set is live, the same pages wait, and none was erased
 pub record Appends (old : Device) (change : Change) (new : Device) : Type 0 where
@@ -113,19 +97,6 @@ IsCutAppend old change new = (new ≡ old) ⊎ (new ≡ torn_state old) ⊎ (new
 -- map moved with the changes, and so many waiting.
 abbrev pub IsCutMove : ℕ → ℕ → State → List Change → State → Type 0
 IsCutMove pages left old changes new = ((pending : ℕ) × (pending ≤ pages) × (new ≡ with_pending pending old)) ⊎ (new ≡ moved_state left changes old)
-
--- what is drawn when power was cut in an append: of the change's word and the marks of its page each is as before, as the
--- whole append leaves it, or torn; each other word and the other set are as before
-pub record ShowsCutAppend (old : Device) (change : Change) (new : Device) (side : Side) : Type 0 where
-  pub live_pages : let before = picture_of side old in
-      IsDrawnPartly side new before (with_change old.size (state_of old).fill (number_of_change (state_of old).map change) before)
-  pub old_pages : IsDrawn (other side) new (picture_of (other side) old)
-
--- power was cut in a transfer: in erasing the pages of the other set, or behind that
-abbrev pub ShowsCutMove : Device → List Change → Device → Side → ℕ → Type 0
-ShowsCutMove old changes new side generation =
-    let first = first_page old.size (other side) in
-    ErasesPartly first (first + old.size.pages) old new ⊎ MovesPartly old new side generation (moved_words changes (state_of old).map)
 
 -- Power was cut in a change. With a slot free no page was erased; with none free, a front of those that waited. No more
 -- slots were used than there are, so it is the one or the other.

@@ -2,7 +2,8 @@
 use Rattle.std.specs.Prelude.{ℕ, Option, List, drop, take}
 use Rattle.std.specs.List.{All}
 use Rattle.ee_codec.specs.Words.{IsAddress}
-use Rattle.ee_pages.specs.Meaning.{AreNextLive, IsNoneLive, Map, last_of}
+use Rattle.ee_pages.specs.Meaning.{Map}
+use Rattle.ee_pages.specs.LiveOrder.{AreNextLive, IsNoneLive, last_of}
 
 -- The address behind which it goes on, the next live addresses that it has ready, with their values, and up to where
 -- there are no others: `None` for all addresses.

@@ -2,6 +2,7 @@ pub mod State
 pub mod Puts
 pub mod Picture
 pub mod Finished
+pub mod Shown
 pub mod Changes
 pub mod Calls
 pub mod Openings

@@ -12,7 +12,7 @@ use Rattle.ee_pages.specs.declared.side.Side.TheVariants.{First, Second}
 use Rattle.ee_core.specs.Finished.{IsFinished, IsStore, last_used}
 use Rattle.ee_core.specs.Cuts.{ErasesPartly, IsDrawnPartly}
 use Rattle.ee_core.specs.Picture.{IsDrawn, OfLive, blank, filled_set, marked_to, picture_of, retired_pages}
-use Rattle.ee_core.specs.State.{Wears, WearsFront, formatted_state, not_blank_pages, pending_pages, state_of}
+use Rattle.ee_core.specs.State.{Wears, WearsFront, formatted_state, not_blank_from, pending_pages, state_of}
 use Rattle.ee_core.specs.declared.opening.OpenFault.{OpenFault}
 use Rattle.ee_core.specs.declared.opening.OpenFault.TheVariants.{Scan, Cut}
 
@@ -56,6 +56,10 @@ pub record IsCutOpening (old new : Device) : Type 0 where
 abbrev pub OpenFails : Device → OpenFault → Device → Type 0
 OpenFails old (Scan fault) new = IsScanFault old fault × (new ≡ old)
 OpenFails old Cut new = IsCutOpening old new
+
+-- the pages of the device that are not blank
+abbrev pub not_blank_pages : Device → List ℕ
+not_blank_pages device = not_blank_from 0 device.image
 
 -- what is drawn when power was cut in a format, behind its erases: of the first set each word is erased, as the whole format
 -- leaves it, or torn; the second set is blank

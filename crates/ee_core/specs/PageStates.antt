@@ -10,7 +10,8 @@ use Rattle.ee_pages.specs.declared.state.Mark.TheVariants as marks
 use Rattle.ee_pages.specs.declared.state.State.{State}
 use Rattle.ee_pages.specs.declared.state.State.TheVariants.{Active, Erased, Erasing, Valid}
 use Rattle.ee_core.specs.Calls.{ErasesOne, IsLowestPending}
-use Rattle.ee_core.specs.Changes.{Appends, Moves, is_left}
+use Rattle.ee_core.specs.Changes.{Appends, Moves}
+use Rattle.ee_core.specs.Shown.{is_left}
 use Rattle.ee_core.specs.Finished.{IsStore, last_used}
 use Rattle.ee_core.specs.Openings.{IsFormatted, Opens}
 use Rattle.ee_core.specs.Picture.{IsDrawn, moved_words, picture_of}

@@ -97,10 +97,6 @@ not_blank_from number (page ∷ pages) =
 abbrev pub not_blank_in : Side → Device → List ℕ
 not_blank_in side device = not_blank_from (first_page device.size side) (set_of side device)
 
--- the pages of the device that are not blank
-abbrev pub not_blank_pages : Device → List ℕ
-not_blank_pages device = not_blank_from 0 device.image
-
 abbrev pub pending_pages_in : Device → Option (Side × ℕ) → List ℕ
 pending_pages_in device None = []
 pending_pages_in device (Some live) = not_blank_in (other live.0) device

@@ -9,10 +9,10 @@ ghost use Rattle.ee_pages.specs.Page.{is_blank};
 ghost use Rattle.ee_pages.specs.declared.side.Side.TheVariants.{First, Second};
 ghost use Rattle.ee_core.specs.Cuts.{ErasesPartly};
 ghost use Rattle.ee_core.specs.Finished.{IsMarked};
-ghost use Rattle.ee_core.specs.Openings.{ShowsCutFormat};
+ghost use Rattle.ee_core.specs.Openings.{ShowsCutFormat, not_blank_pages};
 ghost use Rattle.ee_core.specs.Picture.{IsDrawn, blank, filled_set};
 ghost use Rattle.ee_core.specs.Starts.{IsStartable, IsStarting};
-ghost use Rattle.ee_core.specs.State.{Wears, WearsFront, formatted_state, not_blank_pages, state_of};
+ghost use Rattle.ee_core.specs.State.{Wears, WearsFront, formatted_state, state_of};
 
 use ee_flash::{Cut, Flash};
 use ee_pages::{Layout, Mark, Side, is_blank as page_is_blank, mark};

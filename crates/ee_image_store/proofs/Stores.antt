@@ -10,8 +10,7 @@ use Rattle.ee_flash.specs.declared.word.Word.TheVariants.{Erased}
 use Rattle.ee_pages.specs.Page.{is_written}
 use Rattle.ee_pages.specs.Sets.{pending_of}
 use Rattle.ee_core.proofs.Public.{length-not_blank, no_wear, wears_rise}
-use Rattle.ee_core.specs.Openings.{IsFormatted, Opens}
-use Rattle.ee_core.specs.State.{not_blank_pages}
+use Rattle.ee_core.specs.Openings.{IsFormatted, Opens, not_blank_pages}
 use Rattle.ee_image.specs.Text.{at_rest, image_text}
 use Rattle.ee_image_store.specs.Opening.{IsNewStore, IsOpened, StaysOn}
 use Rattle.ee_image_store.proofs.Erasing.{by_wear, unworn}

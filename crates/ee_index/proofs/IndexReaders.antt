@@ -21,7 +21,8 @@ use Rattle.std.specs.declared.ops.Bound.TheVariants.{Unbounded}
 use Rattle.ee_codec.specs.Words.{IsAddress}
 use Rattle.ee_flash.specs.declared.word.Word.{Word}
 use Rattle.ee_flash.specs.declared.word.Word.TheVariants.{Erased}
-use Rattle.ee_pages.specs.Meaning.{IsNextLive, Map, above_of, meaning, says}
+use Rattle.ee_pages.specs.Meaning.{Map, meaning, says}
+use Rattle.ee_pages.specs.LiveOrder.{IsNextLive, above_of}
 use Rattle.ee_index.specs.Index.{AreHidden, IsIndex, IsLeft, IsNextShown, PassesHidden, bound_above, said_at, shown_index, shown_slot, slot_for}
 use Rattle.ee_index.proofs.IndexedStores.{as_put, says_proper, some_is}
 use Rattle.ee_index.proofs.Indexing.{Stands, nothing_if, stands, stands_if}

@@ -3,7 +3,8 @@ use Rattle.std.proofs.Common.{◌≡◌, ℕ, ◌<◌, ◌≤◌, true, Option, 
 use Rattle.std.proofs.lemmas.List.Elements.{All-append}
 use Rattle.std.specs.List.{All}
 use Rattle.ee_codec.specs.Words.{IsAddress}
-use Rattle.ee_pages.specs.Meaning.{AreNextLive, IsNextLive, Map, above_of, last_of}
+use Rattle.ee_pages.specs.Meaning.{Map}
+use Rattle.ee_pages.specs.LiveOrder.{AreNextLive, IsNextLive, above_of, last_of}
 use Rattle.ee_pages.proofs.Public.{one_proper}
 
 -- one more at the end

@@ -17,7 +17,8 @@ use Rattle.ee_codec.specs.Reading.{slot_of}
 use Rattle.ee_codec.specs.Words.{IsAddress, element}
 use Rattle.ee_codec.specs.declared.slot.Slot.{Slot}
 use Rattle.ee_codec.specs.declared.slot.Slot.TheVariants.{Element}
-use Rattle.ee_pages.specs.Meaning.{Change, Forget, IsNextLive, Map, Put, changed_by, map_after, meaning, says, slot_says}
+use Rattle.ee_pages.specs.Meaning.{Change, Forget, Map, Put, changed_by, map_after, meaning, says, slot_says}
+use Rattle.ee_pages.specs.LiveOrder.{IsNextLive}
 use Rattle.ee_pages.specs.Pending.{address_of}
 use Rattle.ee_pages.specs.Sets.{place_of_slot, set_of, slots_of}
 use Rattle.ee_pages.specs.declared.side.Side.{Side}

@@ -20,7 +20,8 @@ use Rattle.ee_codec.specs.Reading.{slot_of}
 use Rattle.ee_codec.specs.declared.slot.Slot.{Slot}
 use Rattle.ee_codec.specs.declared.slot.Slot.TheVariants.{Free, Spoiled, Element, Forgotten, Foreign}
 use Rattle.ee_pages.specs.Layout.{IsLayout}
-use Rattle.ee_pages.specs.Meaning.{IsNextLive, Map, above_of, later, latest_in, meaning, says, slot_says, value_said}
+use Rattle.ee_pages.specs.Meaning.{Map, later, latest_in, meaning, says, slot_says, value_said}
+use Rattle.ee_pages.specs.LiveOrder.{IsNextLive, above_of}
 use Rattle.ee_pages.specs.Sets.{set_of, slots_of}
 use Rattle.ee_pages.specs.declared.find.Layout.{Layout}
 use Rattle.ee_pages.proofs.Public.{latest_in-append, silent_behind, length-slots}

@@ -15,7 +15,8 @@ use Rattle.ee_codec.specs.declared.slot.Slot.{Slot}
 use Rattle.ee_codec.specs.declared.slot.Slot.TheVariants.{Free, Spoiled, Element, Forgotten, Foreign}
 use Rattle.ee_pages.specs.Layout.{IsLayout, IsScanFault}
 use Rattle.ee_pages.specs.Legal.{IsLegal}
-use Rattle.ee_pages.specs.Meaning.{Change, Map, Put, Forget, above_of, changed_by, live_in, map_after, meaning, says}
+use Rattle.ee_pages.specs.Meaning.{Change, Map, Put, Forget, changed_by, live_in, map_after, meaning, says}
+use Rattle.ee_pages.specs.LiveOrder.{above_of}
 use Rattle.ee_pages.specs.Sets.{fill_of, set_of, slots_of}
 use Rattle.ee_pages.specs.declared.find.Layout.{Layout}
 use Rattle.ee_core.specs.Openings.{IsCutOpening}

@@ -4,7 +4,8 @@ ghost use Rattle.std.specs.List.{All};
 ghost use Rattle.ee_codec.specs.Words.{IsAddress};
 ghost use Rattle.ee_flash.specs.Size.{slot_count};
 ghost use Rattle.ee_pages.specs.Layout.{IsLayout};
-ghost use Rattle.ee_pages.specs.Meaning.{AreLiveThrough, IsNextLive, above_of, says};
+ghost use Rattle.ee_pages.specs.Meaning.{says};
+ghost use Rattle.ee_pages.specs.LiveOrder.{AreLiveThrough, IsNextLive, above_of};
 ghost use Rattle.ee_pages.specs.Sets.{set_of, slots_of};
 ghost use Rattle.ee_index.specs.Index.{AddsAddresses, IsIndex, IsNextShown, bound_above, index_with_slot, numbered_slots, listed_place, slot_for};
 ghost use Rattle.std.specs.List.Sorted.{IsStrictlySortedBy};
@@ -245,7 +246,7 @@ impl<'a> IndexCursor<'a> {
 }
 
 impl<'a> LiveCursor for IndexCursor<'a> {
-    ghost use Rattle.ee_pages.specs.Meaning.{above_of};
+    ghost use Rattle.ee_pages.specs.LiveOrder.{above_of};
     ghost use Rattle.ee_index.specs.Index.{IsLeft, is_filled};
 
     ghost behind = { λ cursor. above_of cursor.after };

@@ -1,11 +1,13 @@
 //! The parts of a store with an index, for `ee_replay` alone, which arms the device in memory that a store keeps, makes
-//! an index for a store that is open, and gives it back.
+//! an index for a store that is open, and gives it back, where that pays by what is counted and looked for here.
 ghost use Rattle.std.specs.Prelude.{◌≡◌, IfErr, IfOk};
 ghost use Rattle.ee_flash.specs.Device.{IsOn};
 
+pub use crate::costs::Costs;
 use crate::index::read_index;
 use crate::indexed::IndexedStore;
 pub use crate::indexed::{Kept, parts_of, store_of};
+pub use crate::looking::{count_live, looks_for};
 use ee_core::{Store, inner};
 use ee_flash::Flash;
 use std::alloc::Allocator;

@@ -14,10 +14,12 @@
 //! (`Writes`, `WritesAll`, `failed`).
 #![tactic(auto)]
 
+mod costs;
 mod index;
 mod index_changing;
 mod indexed;
 #[doc(hidden)]
 pub mod inner;
+mod looking;
 
 pub use indexed::{IndexedFault, IndexedStore};

@@ -4,7 +4,8 @@ use Rattle.std.specs.Prelude.{◌≡◌, ◌⊎◌, ℕ, ◌-◌, Some, None}
 use Rattle.ee_flash.specs.Device.{Device}
 use Rattle.ee_pages.specs.Layout.{IsScanFault}
 use Rattle.ee_pages.specs.Legal.{IsLegal}
-use Rattle.ee_pages.specs.Meaning.{IsNextLive, live_in}
+use Rattle.ee_pages.specs.Meaning.{live_in}
+use Rattle.ee_pages.specs.LiveOrder.{IsNextLive}
 use Rattle.ee_core.specs.State.{State, capacity, state_of}
 use Rattle.ee_flash.specs.Size.{Size}
 use Rattle.ee_page.specs.Answers.{foreign_at, status_of}

@@ -2,7 +2,7 @@
 ghost use Rattle.std.specs.Prelude.{◌≡◌};
 ghost use Rattle.ee_page.specs.Looks.{AreStoreCounts, IsNext, IsValueRead};
 ghost use Rattle.ee_page.specs.Mirror.{IsMirror, mirrored_device};
-ghost use Rattle.ee_pages.specs.Meaning.{above_of};
+ghost use Rattle.ee_pages.specs.LiveOrder.{above_of};
 
 use crate::answer::Answer;
 use crate::draft::{DraftFlash, Drafted, Lent};

@@ -10,7 +10,8 @@ use Rattle.ee_codec.specs.declared.slot.Slot.{Slot}
 use Rattle.ee_codec.specs.declared.slot.Slot.TheVariants.{Free, Spoiled, Element, Forgotten, Foreign}
 use Rattle.ee_flash.specs.declared.word.Word.{Word}
 use Rattle.ee_flash.specs.declared.word.Word.TheVariants.{Erased}
-use Rattle.ee_pages.specs.Meaning.{AreLiveThrough, AreNextLive, IsNoneLive, last_of, later, latest_in, meaning, says, slot_says, value_said}
+use Rattle.ee_pages.specs.Meaning.{later, latest_in, meaning, says, slot_says, value_said}
+use Rattle.ee_pages.specs.LiveOrder.{AreLiveThrough, AreNextLive, IsNoneLive, last_of}
 use Rattle.ee_pages.specs.Nearest.{IsPlace, IsRising, Named, with_each_named, last_named, living, with_named, noted_above, slot_names}
 use Rattle.ee_pages.proofs.LastSaid.{later-none}
 

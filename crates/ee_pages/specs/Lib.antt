@@ -1,6 +1,7 @@
 pub mod Page
 pub mod Sets
 pub mod Meaning
+pub mod LiveOrder
 pub mod Legal
 pub mod Layout
 pub mod Laws

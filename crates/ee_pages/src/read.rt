@@ -5,7 +5,8 @@ ghost use Rattle.ee_codec.specs.Words.{IsAddress};
 ghost use Rattle.ee_flash.specs.Size.{slot_count};
 ghost use Rattle.ee_flash.specs.declared.shape.TheConstants.{HEADER_WORDS};
 ghost use Rattle.ee_pages.specs.Layout.{IsLayout};
-ghost use Rattle.ee_pages.specs.Meaning.{IsNextLive, above_of, latest_in, live_in, meaning, says as word_says};
+ghost use Rattle.ee_pages.specs.Meaning.{latest_in, live_in, meaning, says as word_says};
+ghost use Rattle.ee_pages.specs.LiveOrder.{IsNextLive, above_of};
 ghost use Rattle.ee_pages.specs.Sets.{set_of, slots_of, torn_of};
 
 use crate::batch::{LiveBatch, next_batch};

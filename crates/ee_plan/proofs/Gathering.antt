@@ -11,7 +11,8 @@ use Rattle.std.specs.List.Sorted.{IsStrictlySortedBy}
 use Rattle.std.specs.Ordering.{nat_cmp}
 use Rattle.std.specs.BTreeSet.{BTreeSet, IsFromIterResult}
 use Rattle.ee_codec.specs.Words.{IsAddress}
-use Rattle.ee_pages.specs.Meaning.{AreLiveThrough, AreNextLive, IsNextLive, IsNoneLive, Map, last_of, live_in, live_to}
+use Rattle.ee_pages.specs.Meaning.{Map, live_in, live_to}
+use Rattle.ee_pages.specs.LiveOrder.{AreLiveThrough, AreNextLive, IsNextLive, IsNoneLive, last_of}
 use Rattle.ee_pages.proofs.Public.{gap_to, last_below, live_to-end, live_to-next, live_to-zero, live_within_fill}
 use Rattle.ee_pages.specs.Sets.{live_of}
 use Rattle.ee_pages.specs.declared.side.Side.{Side}

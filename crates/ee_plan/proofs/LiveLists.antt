@@ -13,7 +13,8 @@ use Rattle.std.specs.BTreeMap.{is_at}
 use Rattle.std.specs.BTreeSet.{insert_key}
 use Rattle.std.specs.Set.{remove_key}
 use Rattle.ee_codec.specs.Words.{IsAddress}
-use Rattle.ee_pages.specs.Meaning.{IsNextLive, Map, Put, live_in, live_to}
+use Rattle.ee_pages.specs.Meaning.{Map, Put, live_in, live_to}
+use Rattle.ee_pages.specs.LiveOrder.{IsNextLive}
 use Rattle.ee_pages.specs.Meaning as meaning
 use Rattle.ee_pages.proofs.Public.{gap_to, live_to-next, live_to-zero}
 use Rattle.ee_check.specs.declared.change.Change.TheVariants.{Forget, Write}

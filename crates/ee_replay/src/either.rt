@@ -8,8 +8,6 @@ ghost use Rattle.ee_index.specs.Index.{IndexedOpenFails};
 ghost use Rattle.ee_replay.specs.Either.{device_of_either};
 ghost use Rattle.ee_replay.specs.Serving.{ArmsDevice};
 
-use super::costs::Costs;
-use super::looking::{count_live, looks_for};
 use super::opening::{Arming, Opened};
 use ee_codec::Address;
 use ee_core::{
@@ -17,6 +15,7 @@ use ee_core::{
     inner as plain,
 };
 use ee_flash::Fuse;
+use ee_index::inner::{Costs, count_live, looks_for};
 use ee_index::{IndexedFault, IndexedStore, inner as indexed};
 use ee_script::Answer;
 use std::alloc::{Allocator, Global};

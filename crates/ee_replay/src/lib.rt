@@ -11,11 +11,9 @@
 //! What the layers above may use: these calls, each with its faults.
 #![tactic(auto)]
 
-mod costs;
 mod desk;
 mod either;
 pub mod laws;
-mod looking;
 mod noting;
 mod opening;
 mod replaying;

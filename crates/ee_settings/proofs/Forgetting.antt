@@ -5,7 +5,8 @@ use Rattle.std.specs.List.{All}
 use Rattle.std.proofs.lemmas.List.Elements.{All-head, All-tail}
 use Rattle.ee_flash.specs.Device.{Device, IsOn}
 use Rattle.ee_flash.specs.Power.{GoesOn}
-use Rattle.ee_pages.specs.Meaning.{AreNextLive, Forget, Map, map_after}
+use Rattle.ee_pages.specs.Meaning.{Forget, Map, map_after}
+use Rattle.ee_pages.specs.LiveOrder.{AreNextLive}
 use Rattle.ee_core.proofs.Public.{goes_on_both, goes_on_same, forget-other}
 use Rattle.ee_core.specs.Calls.{Forgets}
 use Rattle.ee_core.specs.State.{state_of}

@@ -5,7 +5,8 @@ use Rattle.std.proofs.Math.Path.{fun_ext}
 use Rattle.std.proofs.lemmas.Bool.{cases_eq, cases_lt}
 use Rattle.std.specs.BTreeMap.{BTreeMap, Updates, get}
 use Rattle.ee_flash.specs.Device.{Device}
-use Rattle.ee_pages.specs.Meaning.{AreLiveThrough, AreNextLive, IsNextLive, IsNoneLive, Map, Put, map_after, last_of}
+use Rattle.ee_pages.specs.Meaning.{Map, Put, map_after}
+use Rattle.ee_pages.specs.LiveOrder.{AreLiveThrough, AreNextLive, IsNextLive, IsNoneLive, last_of}
 use Rattle.ee_pages.proofs.Public.{put_there}
 use Rattle.ee_core.specs.Parts.{map_to}
 use Rattle.ee_core.specs.State.{state_of}

@@ -5,7 +5,8 @@ use Rattle.std.proofs.lemmas.List.{drop_more}
 use Rattle.std.proofs.lemmas.List.Elements.{All-cons, All-nil}
 use Rattle.ee_codec.specs.Words.{IsAddress}
 use Rattle.ee_flash.specs.Device.{Device, IsOn}
-use Rattle.ee_pages.specs.Meaning.{AreLiveThrough, AreNextLive, Map, last_of}
+use Rattle.ee_pages.specs.Meaning.{Map}
+use Rattle.ee_pages.specs.LiveOrder.{AreLiveThrough, AreNextLive, last_of}
 use Rattle.ee_pages.proofs.Public.{last_below, last_rises}
 use Rattle.ee_core.specs.State.{state_of}
 use Rattle.ee_settings.proofs.Forgetting.{each_keeps, each_later, each_stays_on, still_next, stops_later}

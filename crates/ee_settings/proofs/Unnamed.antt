@@ -6,7 +6,8 @@ use Rattle.std.proofs.lemmas.Grind.{common_steps, flat_map-append}
 use Rattle.std.proofs.lemmas.List.{append-nil, drop_more, take_more}
 use Rattle.std.proofs.Common.{take-append-drop}
 use Rattle.std.proofs.lemmas.List.Elements.{All-cons, All-nil, All-weaker}
-use Rattle.ee_pages.specs.Meaning.{AreLiveThrough, AreNextLive, IsNextLive, IsNoneLive, Map, last_of}
+use Rattle.ee_pages.specs.Meaning.{Map}
+use Rattle.ee_pages.specs.LiveOrder.{AreLiveThrough, AreNextLive, IsNextLive, IsNoneLive, last_of}
 use Rattle.ee_pages.proofs.Public.{last_rises}
 use Rattle.ee_settings.proofs.Forgetting.{still_next}
 use Rattle.ee_settings.specs.Setting.{Setting, has_address}

@@ -1,7 +1,7 @@
 //! Tidying: each address that has a value and that no setting has is forgotten.
 ghost use Rattle.std.specs.Prelude.{◌≡◌, ◌≢◌, ℕ, None, IfOk, IfErr, OnOk, length};
 ghost use Rattle.ee_flash.specs.Device.{IsOn};
-ghost use Rattle.ee_pages.specs.Meaning.{AreNextLive};
+ghost use Rattle.ee_pages.specs.LiveOrder.{AreNextLive};
 ghost use Rattle.ee_core.specs.State.{state_of};
 ghost use Rattle.ee_settings.specs.Tidying.{ForgetsEach, Stops, Tidies, unnamed_among, unnamed_of};
 

@@ -3,7 +3,8 @@ use Rattle.std.proofs.lemmas.Bool.{cases_Bool}
 use Rattle.std.proofs.lemmas.Result.{err_from_is_err_and}
 use Rattle.ee_flash.specs.Size.{slot_count}
 use Rattle.ee_flash.proofs.Public.{calls_compose}
-use Rattle.ee_pages.specs.Meaning.{IsNextLive, meaning}
+use Rattle.ee_pages.specs.Meaning.{meaning}
+use Rattle.ee_pages.specs.LiveOrder.{IsNextLive}
 use Rattle.ee_core.proofs.Fillings.{all_filled, next_filled, next_partly, none_filled, room}
 use Rattle.ee_core.proofs.copying.copy_others.Goals as goal
 use Rattle.ee_core.proofs.AfterCalls.{goes_on_same}

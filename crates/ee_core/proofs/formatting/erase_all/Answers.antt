@@ -13,7 +13,8 @@ use Rattle.ee_pages.proofs.Public.{step_keeps_other_pages}
 use Rattle.ee_flash.specs.Step.{Erase}
 use Rattle.ee_core.specs.Parts.{IsSameBut}
 use Rattle.ee_core.proofs.Wears.{cut_page_wears, front_begun}
-use Rattle.ee_core.specs.State.{WearsFront, not_blank_pages}
+use Rattle.ee_core.specs.State.{WearsFront}
+use Rattle.ee_core.specs.Openings.{not_blank_pages}
 use Rattle.ee_core.proofs.formatting.erase_all.Goals.{then-not-is_blank+in_ok-erase, else-not-is_blank}
 use Rattle.ee_core.proofs.formatting.erase_all.Goals as goal
 

@@ -1,6 +1,7 @@
 use Rattle.std.proofs.Common.{◌≡◌, ◌<◌, inl, inr, ap, arith, rules, ◌∙◌}
 use Rattle.ee_flash.specs.Device.{Device}
-use Rattle.ee_core.specs.State.{Wears, not_blank_pages}
+use Rattle.ee_core.specs.State.{Wears}
+use Rattle.ee_core.specs.Openings.{not_blank_pages}
 use Rattle.ee_core.proofs.Wears.{front_all, wears_still}
 use Rattle.ee_core.proofs.Marks.{mark_step, program_keeps_wear}
 use Rattle.ee_core.proofs.Cuts.{mark_partly}

@@ -1,5 +1,5 @@
 use Rattle.std.proofs.Common.{arith}
-use Rattle.ee_pages.specs.Meaning.{above_of}
+use Rattle.ee_pages.specs.LiveOrder.{above_of}
 use Rattle.ee_pages.specs.Sets.{set_of, slots_of}
 use Rattle.ee_pages.proofs.Public.{length-slots}
 use Rattle.ee_index.specs.Index.{slot_for}

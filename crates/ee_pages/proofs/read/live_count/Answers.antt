@@ -1,5 +1,6 @@
 use Rattle.std.proofs.Common.{Option, subst, sym, ℕ, arith}
-use Rattle.ee_pages.specs.Meaning.{AreLiveThrough, above_of, meaning}
+use Rattle.ee_pages.specs.Meaning.{meaning}
+use Rattle.ee_pages.specs.LiveOrder.{AreLiveThrough, above_of}
 use Rattle.ee_pages.specs.Sets.{set_of, slots_of}
 use Rattle.ee_pages.proofs.Counts.{counted_all, counted_through, last_rises, live_to-zero}
 use Rattle.ee_pages.proofs.read.live_count.Goals as goal

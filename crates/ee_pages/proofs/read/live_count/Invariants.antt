@@ -1,5 +1,6 @@
 use Rattle.std.proofs.Common.{◌≡◌, ◌≤◌, ◌-◌}
-use Rattle.ee_pages.specs.Meaning.{above_of, live_to, meaning}
+use Rattle.ee_pages.specs.Meaning.{live_to, meaning}
+use Rattle.ee_pages.specs.LiveOrder.{above_of}
 use Rattle.ee_pages.specs.Sets.{set_of, slots_of}
 use Rattle.ee_pages.proofs.read.live_count.Given as goal
 

@@ -1,5 +1,6 @@
 use Rattle.std.proofs.Common.{◌≡◌, ◌≤◌, ◌<◌, ◌-◌, ℕ, None}
-use Rattle.ee_pages.specs.Meaning.{above_of, meaning}
+use Rattle.ee_pages.specs.Meaning.{meaning}
+use Rattle.ee_pages.specs.LiveOrder.{above_of}
 use Rattle.ee_pages.specs.Sets.{set_of, slots_of}
 use Rattle.ee_pages.proofs.read.next_live.Given as goal
 

@@ -1,5 +1,6 @@
 use Rattle.std.proofs.Common.{◌≡◌, Option, subst, arith, ℕ, length}
-use Rattle.ee_pages.specs.Meaning.{AreLiveThrough, above_of, live_in}
+use Rattle.ee_pages.specs.Meaning.{live_in}
+use Rattle.ee_pages.specs.LiveOrder.{AreLiveThrough, above_of}
 use Rattle.ee_core.specs.State.{state_of}
 use Rattle.ee_plan.specs.Start.{AreLive}
 use Rattle.ee_plan.proofs.Gathering.{as_built, last_counted, last_live, none_yet, through_batch, zero_has_none}

@@ -1,5 +1,5 @@
 use Rattle.std.proofs.Common.{◌<◌, ◌-◌}
-use Rattle.ee_pages.specs.Meaning.{above_of}
+use Rattle.ee_pages.specs.LiveOrder.{above_of}
 use Rattle.ee_core.specs.State.{state_of}
 use Rattle.ee_plan.proofs.Gathering.{AreLiveTo}
 use Rattle.ee_plan.proofs.starting.live_addresses.Given as goal

@@ -1,5 +1,5 @@
 use Rattle.std.proofs.Common.{◌∙◌, Option, ℕ, arith, subst, rules}
-use Rattle.ee_pages.specs.Meaning.{AreLiveThrough, above_of}
+use Rattle.ee_pages.specs.LiveOrder.{AreLiveThrough, above_of}
 use Rattle.ee_core.specs.State.{state_of}
 use Rattle.ee_settings.proofs.Stored.{none_yet, put_all, put_through}
 use Rattle.ee_settings.proofs.stale.stored_values.Goals as goal

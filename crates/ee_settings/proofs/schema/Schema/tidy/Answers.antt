@@ -1,7 +1,7 @@
 use Rattle.std.proofs.Common.{◌≡◌, ◌∙◌, ◌<◌, ◌+◌, ℕ, Option, ap, arith, length, refl, rules, subst, sym}
 use Rattle.std.proofs.lemmas.Result.{err_from_is_err_and}
 use Rattle.ee_flash.specs.Device.{IsOn}
-use Rattle.ee_pages.specs.Meaning.{AreLiveThrough, above_of}
+use Rattle.ee_pages.specs.LiveOrder.{AreLiveThrough, above_of}
 use Rattle.ee_core.specs.State.{state_of}
 use Rattle.ee_settings.proofs.Tidied.{few_so_far, tidied_all, tidied_through, tidying_begins, tidying_stops}
 use Rattle.ee_settings.specs.Tidying.{ForgetsEach, Stops, unnamed_among}

@@ -1,5 +1,5 @@
 use Rattle.std.proofs.Common.{◌-◌}
-use Rattle.ee_pages.specs.Meaning.{above_of}
+use Rattle.ee_pages.specs.LiveOrder.{above_of}
 use Rattle.ee_settings.proofs.Tidied.{TidiedTo}
 use Rattle.ee_settings.proofs.schema.Schema.tidy.Given as goal
 

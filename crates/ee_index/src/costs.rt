@@ -33,7 +33,7 @@ const TIMES: u64 = 10;
 
 /// What looking through the slots costs and what an index costs, from line to line.
 #[derive(Clone, Copy)]
-pub(crate) struct Costs {
+pub struct Costs {
     has_index: bool,
     /// How much more looking has cost than an index would have; where there is one, how much it may lose yet.
     ahead: u64,
@@ -51,7 +51,7 @@ pub(crate) struct Costs {
 
 impl Costs {
     /// Nothing was looked for yet, and there is no index.
-    pub(crate) fn new() -> Costs {
+    pub fn new() -> Costs {
         Costs {
             has_index: false,
             ahead: 0,
@@ -64,7 +64,7 @@ impl Costs {
     }
 
     /// An index of so many used slots was made now. It may lose its reserve before it is given back.
-    pub(crate) fn with_index(self, fill: usize) -> Costs {
+    pub fn with_index(self, fill: usize) -> Costs {
         Costs {
             has_index: true,
             ahead: self.reserve(fill),
@@ -74,7 +74,7 @@ impl Costs {
     }
 
     /// The index was given back now.
-    pub(crate) fn without_index(self) -> Costs {
+    pub fn without_index(self) -> Costs {
         Costs {
             has_index: false,
             ahead: 0,
@@ -85,37 +85,40 @@ impl Costs {
     }
 
     /// A change was appended. Says whether an index has nothing left to lose.
-    pub(crate) fn note_append(&mut self) -> bool {
+    #[inline]
+    pub fn note_append(&mut self) -> bool {
         self.ahead = self.ahead.saturating_sub(KEEPING);
         self.has_index && self.ahead == 0
     }
 
     /// A change moved so many live addresses, in a set of so many slots.
-    pub(crate) fn note_move(&mut self, live: usize, slots: usize) {
+    pub fn note_move(&mut self, live: usize, slots: usize) {
         let looking = count_cost(live, slots, slots);
         let moving = (live as u64).saturating_mul(MOVING);
         self.balance(looking, moving.saturating_add(KEEPING));
     }
 
     /// An address with no value was looked for in so many used slots.
-    pub(crate) fn note_absent(&mut self, fill: usize) {
+    pub fn note_absent(&mut self, fill: usize) {
         self.balance(fill as u64, reading(fill));
     }
 
     /// A value was read. Says whether it is this read's turn to be measured: one of some sixty is, at uneven distances.
-    pub(crate) fn note_read(&mut self) -> bool {
+    #[inline]
+    pub fn note_read(&mut self) -> bool {
         self.left = self.left.saturating_sub(1);
         self.measures_now()
     }
 
     /// Whether the read that was noted last is to be measured.
-    pub(crate) fn measures_now(&self) -> bool {
+    #[inline]
+    pub fn measures_now(&self) -> bool {
         self.left == 0
     }
 
     /// This read, which is measured, takes so many looks, or one in an index of so many addresses. It stands for those
     /// since the one before it.
-    pub(crate) fn measure_read(&mut self, looks: usize, addresses: usize) {
+    pub fn measure_read(&mut self, looks: usize, addresses: usize) {
         let reads = u64::from(self.apart);
         let looking = (looks as u64).saturating_mul(reads);
         self.balance(looking, reading(addresses).saturating_mul(reads));
@@ -128,7 +131,7 @@ impl Costs {
     }
 
     /// Whether the other kind of store pays by now, where so many slots are used.
-    pub(crate) fn is_time_to_change(&self, fill: usize) -> bool {
+    pub fn is_time_to_change(&self, fill: usize) -> bool {
         if self.has_index {
             return self.ahead == 0;
         }
@@ -136,7 +139,7 @@ impl Costs {
     }
 
     /// Whether an index pays for one count of so many live addresses, in a set of which so many slots are used.
-    pub(crate) fn pays_for_a_count(&self, live: usize, fill: usize, slots: usize) -> bool {
+    pub fn pays_for_a_count(&self, live: usize, fill: usize, slots: usize) -> bool {
         count_cost(live, fill, slots) >= self.price(fill)
     }
 

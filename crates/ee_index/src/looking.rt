@@ -10,7 +10,7 @@ use ee_pages::{Layout, first_page};
 use std::alloc::{AllocError, Allocator};
 
 /// How many addresses have a value, by one look at each used slot, from the newest down.
-pub(crate) fn count_live<F: Flash, A: Allocator>(
+pub fn count_live<F: Flash, A: Allocator>(
     alloc: A,
     flash: &F,
     layout: &Layout,
@@ -88,7 +88,7 @@ impl<A: Allocator> Told<A> {
 }
 
 /// How many slots a look for the value of an address goes through, from the newest down.
-pub(crate) fn looks_for<F: Flash>(flash: &F, layout: &Layout, address: Address) -> usize {
+pub fn looks_for<F: Flash>(flash: &F, layout: &Layout, address: Address) -> usize {
     let first = first_page(flash, layout.side);
     let mut looks: usize = 0;
     for page in (0..2 * flash.shape().pages()).rev() {
