@@ -3,7 +3,7 @@
 //! `specs/Planning.antt`, `Wear.antt`, `Images.antt` and `Sizing.antt` say what each gives, and the first
 //! fault for which it gives nothing; `specs/ToldSizes.antt` what the sizes that are told mean for a store.
 //!
-//! What the layers above may use: these calls, each with its faults.
+//! What the layers above may use: these calls, each with its faults. What is proved of them the head of `ee_shell` says.
 #![tactic(auto)]
 
 mod images;

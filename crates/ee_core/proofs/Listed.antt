@@ -40,11 +40,6 @@ each_apart (put ∷ puts) proper once = (
   each_apart puts (All-tail (λ (put : listed.Put). IsAddress put.address) put puts proper) (λ place. again_behind put (take place puts) (slice_get puts place) (once (suc place))),
 )
 
--- the entry of this number, looked for among those before it
-pub again_there : (puts : List listed.Put) (place : ℕ) (put : listed.Put) (found : Bool) → place < length puts → put ≡ get_or puts place put → found ≡ is_put (take place puts) put.address → is_twice puts place ≡ found
-again_there puts place put found within is e =
-    ap (is_put_again (take place puts)) (slice_get_read puts (length puts) place put refl within is) ∙ sym e
-
 -- there is none behind the last
 pub none_behind : (puts : List listed.Put) (place : ℕ) → length puts ≤ place → is_twice puts place ≡ false
 none_behind puts place past = ap (is_put_again (take place puts)) (slice_get_past puts place past)

@@ -56,12 +56,6 @@ several_proceed device puts on several fits left = record {
   };
 }
 
--- a list has one value
-pub the_one : (puts : List listed.Put) (put : listed.Put) → length puts ≡ 1 → put ≡ get_or puts 0 put → puts ≡ put ∷ []
-the_one [] put one is = absurd (omega (arith, one))
-the_one (first ∷ []) put one is = ap (λ (found : listed.Put). found ∷ []) (sym is)
-the_one (first ∷ second ∷ puts) put one is = absurd (omega (arith, one))
-
 -- ---- how many addresses have a value with them
 
 -- no more than there are addresses

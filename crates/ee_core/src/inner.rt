@@ -1,5 +1,5 @@
 //! The parts of a call, for `ee_index` alone, whose store makes each change by them; and those of a store, for
-//! `ee_replay` alone, which arms the device in memory that a store keeps.
+//! `ee_index` and `ee_replay`, which make an index and give it back, and arm the device in memory that a store keeps.
 ghost use Rattle.std.specs.Prelude.{◌≡◌};
 ghost use Rattle.ee_flash.specs.Device.{IsOn};
 ghost use Rattle.ee_pages.specs.Layout.{IsLayout};

@@ -20,14 +20,6 @@ use Rattle.ee_dump.specs.Reading.{AreCells, AreWords}
 use Rattle.ee_dump.specs.declared.form.Form.TheVariants.{Words, Pairs}
 use Rattle.ee_dump.proofs.Words.{small_at, value_fits}
 
--- words of eight bytes, where no byte is left
-pub cells_of_words : (size : Size) (dump : List ℕ) (words : List Word) → AreWords dump words → length dump ≡ dump_length Words size → AreCells Words size dump words
-cells_of_words size dump words are long = record {
-  as_many = omega (arith, are.as_many);
-  below_all_ones = are.whole.below_all_ones;
-  spelled = (are.whole, are.bytes_are ∙ take_all (8 * length words) dump (omega (arith, are.as_many)));
-}
-
 -- ---- the pairs of bytes
 
 -- two numbers of eight bytes each

@@ -137,10 +137,6 @@ module _ (shown : ℕ → Bool) (entries : List (ℕ × ℕ)) where
   pub shown_there : (here left : List (ℕ × ℕ)) (found : ℕ × ℕ) → PassesHidden shown entries here → here ≡ found ∷ left → shown found.1 ≡ true → IsNextShown shown entries (Some found) left
   shown_there here left found (passed, hide, are) is shows = (shows, (passed, hide, are ∙ ap (λ (left : List (ℕ × ℕ)). passed ++ left) is))
 
-  pub nothing_shown : (here left : List (ℕ × ℕ)) → PassesHidden shown entries here → here ≡ [] → IsNextShown shown entries None left
-  nothing_shown here left (passed, hide, are) is =
-      subst (λ (entries : List (ℕ × ℕ)). AreHidden shown entries) (sym (are ∙ ap (λ (left : List (ℕ × ℕ)). passed ++ left) is ∙ append-nil passed)) hide
-
 -- so many slots are used
 pub next_used : (entries left : List (ℕ × ℕ)) (found : ℕ × ℕ) (fill used : ℕ) → fill ≡ used → IsNextShown (λ number. nat_lt number fill) entries (Some found) left → IsNextShown (λ number. nat_lt number used) entries (Some found) left
 next_used entries left found fill used e next = subst (λ (fill : ℕ). IsNextShown (λ number. nat_lt number fill) entries (Some found) left) e next

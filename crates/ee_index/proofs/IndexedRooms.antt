@@ -56,25 +56,6 @@ puts_keep (put ∷ puts) map address held = puts_keep puts (map_after (Put put.a
 
 -- ---- an address is entered, if it is new
 
-pub has_already : (address number : ℕ) (index : Map) → is_some (index address) ≡ true → HasAddresses index (map_after (Put address number) index)
-has_already address number index held named = elim (cases_eq named address) [
-  | inl is ↦ ap (λ (named : ℕ). is_some (index named)) is ∙ held ∙ sym (ap is_some (put-at index address number named is))
-  | inr apart ↦ sym (ap is_some (put-other index address number named apart))
-]
-
--- with a number that is not shown
-pub hidden_new : (address number : ℕ) (old new : List (ℕ × ℕ)) → slot_for old address ≡ None → ((named : ℕ) → slot_for new named ≡ map_after (Put address number) (slot_for old) named) → IsShownSame number old new
-hidden_new address number old new none is named = elim (cases_eq named address) [
-  | inl same ↦
-      let there : slot_for new named ≡ Some number = is named ∙ put-at (slot_for old) address number named same in
-      shown_hidden (λ slot. nat_lt slot number) (slot_for new) named number there (not_below number)
-      ∙ sym (ap (shown_slot (λ slot. nat_lt slot number)) (ap (slot_for old) same ∙ none))
-  | inr apart ↦ ap (shown_slot (λ slot. nat_lt slot number)) (is named ∙ put-other (slot_for old) address number named apart)
-]
-  where
-    not_below : (number : ℕ) → nat_lt number number ≡ false
-    not_below number = grind (arith)
-
 module _ (fill : ℕ) (puts : List listed.Put) (place : ℕ) (put : listed.Put) (within : place < length puts) (is : put ≡ get_or puts place put) (old now next : List (ℕ × ℕ)) where
   -- one value more is entered
   pub entered_more : HasAddresses (slot_for now) (changed_by (puts_of (take place puts)) (slot_for old)) → HasAddresses (slot_for next) (map_after (Put put.address fill) (slot_for now))

@@ -1,5 +1,5 @@
-//! The parts of a store with an index, for `ee_replay` alone, which arms the device in memory that a store keeps, makes
-//! an index for a store that is open, and gives it back, where that pays by what is counted and looked for here.
+//! The parts of a store with an index, for `ee_replay` alone: by them it arms the device in memory that a store keeps,
+//! makes an index for a store that is open, and gives it back; and what is counted to tell when that pays.
 ghost use Rattle.std.specs.Prelude.{◌≡◌, IfErr, IfOk};
 ghost use Rattle.ee_flash.specs.Device.{IsOn};
 

@@ -3,7 +3,8 @@
 //!
 //! `specs/Index.antt` says what an index is, how it changes, and why there is no store with one.
 //!
-//! The layers above may use `IndexedStore`. A change is made by the parts of which `ee_core` makes its
+//! The layers above may use `IndexedStore`. For `ee_replay` alone, `inner` makes an index and gives it
+//! back, and `costs.rt` and `looking.rt` tell when that pays. A change is made by the parts of which `ee_core` makes its
 //! own (`ee_core::inner`), and a transfer goes over the live addresses by the index.
 //!
 //! # What is proved

@@ -8,7 +8,7 @@
 //! with a certificate, and the contract says what it shows: no store moves less often
 //! (`specs/Report.antt`, and `Trace.antt` of `ee_image_store`).
 //!
-//! What the layers above may use: these calls, each with its faults.
+//! What the layers above may use: these calls, each with its faults. What is proved of them the head of `ee_shell` says.
 #![tactic(auto)]
 
 mod desk;
