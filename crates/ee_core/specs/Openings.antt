@@ -1,5 +1,5 @@
 -- How a store comes to be: by opening a legal image, or by formatting.
-use Rattle.std.specs.Prelude.{◌≡◌, ◌⊎◌, ◌+◌, Some, [], not}
+use Rattle.std.specs.Prelude.{◌≡◌, ◌⊎◌, ◌+◌, ℕ, Some, List, [], not}
 use Rattle.ee_flash.specs.Device.{Device, page_at}
 use Rattle.ee_flash.specs.Power.{GoesOn, IsCut}
 use Rattle.ee_flash.specs.Size.{page_count}

@@ -1,0 +1,5 @@
+use Rattle.std.proofs.Common.{rules}
+use Rattle.ee_core.proofs.puts.values_put.Goals as goal
+
+pub returns-else-forgets : goal.returns-else-forgets
+returns-else-forgets g = search rules fits 100 parts 0
