@@ -211,6 +211,31 @@ def leftover(place, writer):
         place.put("image", MOVED)
 
 
+def second_name(place, writer):
+    """A second name of the old image's file goes on having it."""
+    new = written_by(place, writer)
+    os.link(place.path("image"), place.path("second"))
+    expect(0, place.run(WRITERS[writer])[0], "status")
+    expect(new, place.text(), "the image")
+    expect(MOVED, place.text("second"), "the file of the second name")
+
+
+def taken(place, writer):
+    """What stands under a name that would be used stays; with none of a hundred free nothing is written."""
+    new = written_by(place, writer)
+    names = [SAVING[:-1] + str(number) for number in range(100)]
+    for name in names:
+        place.put(name, b"another's")
+    expect(CANNOT_WRITE_IMAGE, place.run(WRITERS[writer]), "the end with no name free")
+    expect(MOVED, place.text(), "the image with no name free")
+    os.unlink(place.path(names.pop()))
+    expect(0, place.run(WRITERS[writer])[0], "status with one free")
+    expect(new, place.text(), "the image with one free")
+    for name in names:
+        expect(b"another's", place.text(name), name)
+    expect(sorted([*INPUTS, *names]), place.names(), "files")
+
+
 def held(place, writer):
     """Where another has the image's lock nothing is written; a lock is gone with who had it."""
     new = written_by(place, writer)
@@ -472,10 +497,11 @@ def can_mount(folder):
 
 def usual_checks():
     """The checks that can be made everywhere: a function, and the names that it is given."""
-    return [(no_room, WRITERS), (links, WRITERS), (modes, WRITERS), (leftover, WRITERS), (held, WRITERS),
-            (changed_meanwhile, ["run", "run --indexed"]), (gone_meanwhile, ["run", "run --indexed"]), (at_once, ["runs"]),
-            (lost_output_writer, WRITERS), (lost_output_reader, [name for name in READERS if name != "stale"]),
-            (output_as_image, ["format"]), (new_image, ["format"]), (refused, REFUSED)]
+    return [(no_room, WRITERS), (links, WRITERS), (modes, WRITERS), (leftover, WRITERS), (second_name, WRITERS),
+            (taken, ["run"]), (held, WRITERS), (changed_meanwhile, ["run", "run --indexed"]),
+            (gone_meanwhile, ["run", "run --indexed"]), (at_once, ["runs"]), (lost_output_writer, WRITERS),
+            (lost_output_reader, [name for name in READERS if name != "stale"]), (output_as_image, ["format"]),
+            (new_image, ["format"]), (refused, REFUSED)]
 
 
 def all_checks(program, folder):

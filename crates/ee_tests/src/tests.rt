@@ -3,7 +3,6 @@ mod commands;
 mod counted;
 mod cuts;
 mod formats;
-mod lists;
 mod outside;
 mod requests;
 mod saving;

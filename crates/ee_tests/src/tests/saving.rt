@@ -1,11 +1,10 @@
-//! How an image's file is replaced: in which order, with each call failing, with another run at each call, on a disk that
-//! is full, and behind a link.
+//! How an image's file is replaced: in which order, with each call failing, with another run at each call, and on a disk
+//! that is full. What a user sees of it `bench/files.py` tries: links, modes, locks, what broken runs left.
 use super::trail::Trail;
-use crate::tests::{same, same_at};
+use crate::tests::same_at;
 use ee_fakes::images::{CLEANED, FORMATTED, ONE_MOVE, TWO_MOVES};
-use ee_files::{FileLocks, SaveFault, save};
-use std::fs::{self, Permissions};
-use std::os::unix::fs::{PermissionsExt, symlink};
+use ee_files::{FileLocks, SaveFault};
+use std::fs;
 use std::process::Abort;
 use std::rt::Files;
 use std::test::Fail;
@@ -148,95 +147,6 @@ fn another_run_before_each_call(rt: HostRuntime) -> Result<(), Fail> {
         }
     }
     Ok(())
-}
-
-#[test]
-fn what_is_not_what_was_read_stays(rt: HostRuntime) -> Result<(), Fail> {
-    let changed = Err(SaveFault::Changed);
-    same(&rt, save(&rt, "other", Some(ONE_MOVE), CLEANED), changed);
-    same(&rt, fs::exists(&rt, "other")?, false);
-    let front = ONE_MOVE.split_at(ONE_MOVE.len() / 2).0;
-    for text in [TWO_MOVES, CLEANED, front, b"".as_slice()] {
-        fs::write(&rt, "other", text)?;
-        same(&rt, save(&rt, "other", Some(ONE_MOVE), CLEANED), changed);
-        holds(&rt, text.len() as u64, "other", text)?;
-    }
-    Ok(())
-}
-
-/// Formatting asks for no text, but for the lock.
-#[test]
-fn what_is_held_stays(rt: HostRuntime) -> Result<(), Fail> {
-    let changed = Err(SaveFault::Changed);
-    fs::write(&rt, "held", b"".as_slice())?;
-    let held = fs::open(&rt, "held")?;
-    same(&rt, rt.try_lock(&held).is_ok(), true);
-    same(&rt, save(&rt, "held", None, FORMATTED), changed);
-    same(&rt, save(&rt, "held", Some(b""), FORMATTED), changed);
-    holds(&rt, 0, "held", b"")?;
-    drop(held);
-    same(&rt, save(&rt, "held", None, FORMATTED), Ok(()));
-    holds(&rt, 0, "held", FORMATTED)
-}
-
-/// What a broken run left doesn't hinder, and stays.
-#[test]
-fn a_link_and_a_mode_stay(rt: HostRuntime) -> Result<(), Fail> {
-    fs::write(&rt, "linked", ONE_MOVE)?;
-    fs::write(&rt, "linked.ee-saving-0", b"".as_slice())?;
-    fs::set_permissions(&rt, "linked", Permissions::from_mode(0o640))?;
-    symlink(&rt, "linked", "link")?;
-    same(&rt, save(&rt, "link", Some(ONE_MOVE), CLEANED), Ok(()));
-    holds(&rt, 0, "linked", CLEANED)?;
-    holds(&rt, 0, "linked.ee-saving-0", b"")?;
-    same(&rt, fs::exists(&rt, "linked.ee-saving-1")?, false);
-    same(&rt, fs::symlink_metadata(&rt, "link")?.is_symlink(), true);
-    let mode = fs::metadata(&rt, "linked")?.permissions().mode();
-    same(&rt, mode & 0o777, 0o640);
-    Ok(())
-}
-
-/// A second name of the old image's file goes on having it.
-#[test]
-fn a_hard_link_keeps_the_old_image(rt: HostRuntime) -> Result<(), Fail> {
-    fs::write(&rt, "first", ONE_MOVE)?;
-    fs::hard_link(&rt, "first", "second")?;
-    same(&rt, save(&rt, "first", Some(ONE_MOVE), CLEANED), Ok(()));
-    holds(&rt, 0, "first", CLEANED)?;
-    holds(&rt, 0, "second", ONE_MOVE)
-}
-
-// Makes files of the first so many names that would be used.
-fn take_names<R: Files + AllocGlobal>(rt: &R, count: u8) -> Result<(), Fail> {
-    for number in 0..count {
-        let beside = format!(in rt.alloc(); "taken.ee-saving-{number}")?;
-        fs::write(rt, beside.as_str(), TWO_MOVES)?;
-    }
-    Ok(())
-}
-
-// Compares the first so many of them.
-fn names_stay<R: Files + AllocGlobal + Abort>(rt: &R, count: u8) -> Result<(), Fail> {
-    for number in 0..count {
-        let beside = format!(in rt.alloc(); "taken.ee-saving-{number}")?;
-        holds(rt, u64::from(number), beside.as_str(), TWO_MOVES)?;
-    }
-    Ok(())
-}
-
-/// What stands under a name that would be used isn't this run's, and stays.
-#[test]
-fn names_that_are_taken_stay(rt: HostRuntime) -> Result<(), Fail> {
-    fs::write(&rt, "taken", ONE_MOVE)?;
-    take_names(&rt, 100)?;
-    let failed = Err(SaveFault::Failed);
-    same(&rt, save(&rt, "taken", Some(ONE_MOVE), CLEANED), failed);
-    holds(&rt, 0, "taken", ONE_MOVE)?;
-    fs::remove_file(&rt, "taken.ee-saving-99")?;
-    same(&rt, save(&rt, "taken", Some(ONE_MOVE), CLEANED), Ok(()));
-    holds(&rt, 0, "taken", CLEANED)?;
-    same(&rt, fs::exists(&rt, "taken.ee-saving-99")?, false);
-    names_stay(&rt, 99)
 }
 
 /// A file that wasn't there isn't there after a failure.
