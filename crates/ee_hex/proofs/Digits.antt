@@ -1,5 +1,5 @@
 -- Digits decoded by what each is worth, with the refusal of others put off to the end.
-use Rattle.std.proofs.Common.{◌≡◌, ◌⊎◌, ℕ, zero, suc, ◌+◌, ◌*◌, ◌%◌, ◌<◌, ◌≤◌, List, [], ◌∷◌, length, get_or, set, take, drop, refl, sym, ap, ◌∙◌, arith, inl, inr, Option, Some, None, Ok, Err}
+use Rattle.std.proofs.Common.{rules, ◌≡◌, ◌⊎◌, ℕ, zero, suc, ◌+◌, ◌*◌, ◌%◌, ◌<◌, ◌≤◌, List, [], ◌∷◌, length, get_or, set, take, drop, refl, sym, ap, ◌∙◌, arith, inl, inr, Option, Some, None, Ok, Err}
 use Rattle.std.specs.Int.Bits.{bit_or}
 use Rattle.std.specs.Option.{unwrap_or}
 use Rattle.std.proofs.lemmas.Bool.{cases_lt}
@@ -61,11 +61,7 @@ abbrev pub IsRefused : List ℕ → Type 0
 IsRefused digits = (others : List ℕ) → decode_pairs 0 digits ≡ Ok others → ⊥
 
 small_or : (seen high low : ℕ) → bit_or seen (bit_or high low) < 16 → (seen < 16) × (high < 16) × (low < 16)
-small_or seen high low small = (
-  omega (arith, le_or_l seen (bit_or high low)),
-  omega (arith, le_or_r seen (bit_or high low), le_or_l high low),
-  omega (arith, le_or_r seen (bit_or high low), le_or_r high low),
-)
+small_or seen high low small = search (rules, le_or_l, le_or_r)
 
 joined : (high low : ℕ) → high < 16 → low < 16 → bit_or (high * 16 % 256) low ≡ high * 16 + low
 joined high low first second =
@@ -74,11 +70,7 @@ joined high low first second =
 
 pub one_pair_more : (digits bytes : List ℕ) (i seen high low : ℕ) → 2 * i + 1 < length digits → i < length bytes → high ≡ worth (get_or digits (2 * i) 0) → low ≡ worth (get_or digits (2 * i + 1) 0)
     → (seen < 16 → Decoded digits i bytes) → bit_or seen (bit_or high low) < 16 → Decoded digits (i + 1) (set bytes i (bit_or (high * 16 % 256) low))
-one_pair_more digits bytes i seen high low fits room high_is low_is so_far small =
-    let parts = small_or seen high low small in
-    decode_step digits bytes i (bit_or (high * 16 % 256) low) fits room
-    (pair_found (get_or digits (2 * i) 0) (get_or digits (2 * i + 1) 0) (2 * i) high low high_is low_is parts.1 parts.2 ∙ ap Ok (sym (joined high low parts.1 parts.2)))
-    (so_far parts.0)
+one_pair_more digits bytes i seen high low fits room high_is low_is so_far small = search (rules, small_or, decode_step, pair_found, joined)
 
 all_small : (seen high low : ℕ) → seen < 16 → high < 16 → low < 16 → bit_or seen (bit_or high low) < 16
 all_small seen high low a b c = or_lt 4 seen (bit_or high low) a (or_lt 4 high low b c)
@@ -103,7 +95,4 @@ no_pair_more digits bytes i seen high low fits high_is low_is so_far before larg
 -- ---- all of them
 
 pub all_decoded : (digits bytes : List ℕ) (i seen : ℕ) → length digits ≡ 2 * length bytes → length bytes ≤ i → (seen < 16 → Decoded digits i bytes) → seen < 16 → decode_of digits ≡ Ok bytes
-all_decoded digits bytes i seen long past so_far small =
-    let even : length digits % 2 ≡ 0 = omega arith in
-    let whole : decode_of digits ≡ decode_pairs 0 digits = rw even refl in
-    whole ∙ decode_done digits bytes i past (omega arith) (so_far small)
+all_decoded digits bytes i seen long past so_far small = search (rules, decode_done)

@@ -61,10 +61,7 @@ pub odd_digits : (line digits bytes : List ℕ) (first : ℕ) → line ≡ first
 odd_digits line digits bytes first line_is odd found = search (rules, decode_of-ok, digits_of)
 
 pub bad_digits : (line digits bytes : List ℕ) (first : ℕ) → line ≡ first ∷ digits → ((others : List ℕ) → decode_of digits ≢ Ok others) → bytes_in line ≡ Some bytes → 260 < length bytes
-bad_digits line digits bytes first line_is bad found =
-    let own = digits_of line bytes found in
-    let same : own.digits ≡ digits = cc in
-    absurd (bad bytes (ap decode_of (sym same) ∙ own.digits_are))
+bad_digits line digits bytes first line_is bad found = search (rules, digits_of)
 
 pub no_colon_long : (line digits : List ℕ) (first : ℕ) → line ≡ first ∷ digits → first ≢ 58 → (bytes : List ℕ) → bytes_in line ≡ Some bytes → 260 < length bytes
 no_colon_long line digits first line_is other bytes some = absurd (none-some bytes (sym (no_colon line digits first line_is other) ∙ some))

@@ -1,5 +1,5 @@
 -- How words are spelled: no two alike, and each as a field of a line.
-use Rattle.std.proofs.Common.{◌≡◌, ◌≢◌, ℕ, zero, suc, ◌<◌, ◌^◌, ◌/◌, ◌%◌, List, [], ◌∷◌, ◌++◌, length, get_or, map, take, drop, refl, sym, ap, ◌∙◌, subst, arith, codes, Ok, Result, Option, Some, None, is_some}
+use Rattle.std.proofs.Common.{rules, ◌≡◌, ◌≢◌, ℕ, zero, suc, ◌<◌, ◌^◌, ◌/◌, ◌%◌, List, [], ◌∷◌, ◌++◌, length, get_or, map, take, drop, refl, sym, ap, ◌∙◌, subst, arith, codes, Ok, Result, Option, Some, None, is_some}
 use Rattle.std.specs.Int.{to_be_bytes, from_be_bytes, w64, byte_at, bytes_high_first}
 use Rattle.std.specs.List.{All, AllByRecursion}
 use Rattle.std.proofs.lemmas.List.Elements.{All-head, All-tail}
@@ -90,11 +90,7 @@ not_refused field value r o spelled decoded same none =
 
 pub read_back : (field : List ℕ) (value found : ℕ) (r : Result (List ℕ) FromHexError) (o : Option (List ℕ)) (bytes : List ℕ) → value < 2 ^ 64 → field ≡ digits value
     → r ≡ decode_sized field 8 → o ≡ result_ok r → o ≡ Some bytes → found ≡ from_be_bytes w64 bytes → found ≡ value
-read_back field value found r o bytes fits spelled decoded kept some is =
-    let read : r ≡ Ok (to_be_bytes w64 value) = decoded ∙ ap (λ text. decode_sized text 8) spelled ∙ decode_sized-digits value in
-    let both : Some bytes ≡ Some (to_be_bytes w64 value) = sym some ∙ kept ∙ ap result_ok read in
-    let same : bytes ≡ to_be_bytes w64 value = cc in
-    is ∙ ap (from_be_bytes w64) same ∙ from_be_bytes-to_be_bytes_8 value fits
+read_back field value found r o bytes fits spelled decoded kept some is = search (rules, decode_sized-digits, some, from_be_bytes-to_be_bytes_8)
 
 -- ---- what stands at the front of a text
 

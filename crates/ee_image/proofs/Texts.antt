@@ -1,6 +1,6 @@
 -- A text is one device's, or has one fault, and not both.
 use Rattle.ee_image.specs.declared.fault.ImageFault.{ImageFault}
-use Rattle.std.proofs.Common.{◌≡◌, ◌≢◌, ◌⊎◌, ℕ, ◌+◌, ◌<◌, ◌≤◌, Some, true, List, [], ◌∷◌, ◌++◌, length, refl, sym, ap, ◌∙◌, subst, arith, inl, inr}
+use Rattle.std.proofs.Common.{rules, ◌≡◌, ◌≢◌, ◌⊎◌, ℕ, ◌+◌, ◌<◌, ◌≤◌, Some, true, List, [], ◌∷◌, ◌++◌, length, refl, sym, ap, ◌∙◌, subst, arith, inl, inr}
 use Rattle.std.specs.List.{All}
 use Rattle.std.proofs.lemmas.List.{append-nil}
 use Rattle.std.proofs.lemmas.List.Elements.{All-head, All-tail}
@@ -144,10 +144,7 @@ one_fault_lem text (BadLine m) Memory bad wrong = absurd wrong
 one_fault_lem text BadShape Memory bad wrong = absurd wrong
 
 same_at_rest : (device other : Device) → device.size ≡ other.size → device.image ≡ other.image → device.wear ≡ other.wear → at_rest device ≡ at_rest other
-same_at_rest device other size image wear =
-    ap (λ (s : Size). at_rest record { size = s; image = device.image; wear = device.wear; cuts = 0; cuts_left = Some 0; on = true }) size
-    ∙ ap (λ (pages : List (List Word)). at_rest record { size = other.size; image = pages; wear = device.wear; cuts = 0; cuts_left = Some 0; on = true }) image
-    ∙ ap (λ (wears : List ℕ). at_rest record { size = other.size; image = other.image; wear = wears; cuts = 0; cuts_left = Some 0; on = true }) wear
+same_at_rest device other size image wear = search rules
 
 pub one_device_lem : (device other : Device) → IsFormed device → IsFormed other → image_text device ≡ image_text other → at_rest device ≡ at_rest other
 one_device_lem device other formed right e =
