@@ -1,5 +1,5 @@
 -- Devices and their dumps.
-use Rattle.std.proofs.Common.{◌≡◌, ◌≢◌, ◌⊎◌, ℕ, ◌*◌, ◌<◌, ◌≤◌, None, true, List, [], ◌∷◌, length, get_or, replicate, refl, sym, ap, ◌∙◌, subst, arith, inl, inr, length-append}
+use Rattle.std.proofs.Common.{rules, ◌≡◌, ◌≢◌, ◌⊎◌, ℕ, ◌*◌, ◌<◌, ◌≤◌, None, true, List, [], ◌∷◌, length, get_or, replicate, refl, sym, ap, ◌∙◌, subst, arith, inl, inr, length-append}
 use Rattle.std.specs.List.{All, flat_map}
 use Rattle.std.proofs.lemmas.List.{length-map, length-replicate}
 use Rattle.std.proofs.lemmas.List.Elements.{All-append, All-head, All-nil, All-replicate, All-tail}
@@ -40,11 +40,7 @@ whole_of form device dump formed is = record { none_torn = whole_words device is
 
 -- the length of a dump
 pub dumps_are_read_lem : (form : Form) (device : Device) (dump : List ℕ) → IsFormed device → IsDump form device dump → length dump ≡ dump_length form device.size
-dumps_are_read_lem form device dump formed is =
-    let long = length-words form (words_of device) (whole_words device is.whole) in
-    let many : length (words_of device) ≡ page_count device.size * device.size.words =
-    length_of_pages device.size.words device.image formed.page_lengths ∙ ap (λ n. n * device.size.words) formed.image_length in
-    ap length is.bytes_are ∙ long ∙ ap (λ n. word_length form * n) many
+dumps_are_read_lem form device dump formed is = search (rules, length-words, whole_words, length_of_pages)
 
 -- and it is made of bytes
 pub dumps_are_bytes : (form : Form) (device : Device) (dump : List ℕ) → IsDump form device dump → (i : ℕ) → get_or dump i 0 < 256
@@ -52,10 +48,7 @@ dumps_are_bytes form device dump is i = subst (λ (l : List ℕ). get_or l i 0 <
 
 -- and bytes that made a device are as long, and have no pair that sums to less than all ones
 pairs_length : (device : Device) (dump : List ℕ) → IsFormed device → AreWordsOfPairs dump (words_of device) → length dump ≡ dump_length Pairs device.size
-pairs_length device dump formed are =
-    let many : length (words_of device) ≡ page_count device.size * device.size.words =
-    length_of_pages device.size.words device.image formed.page_lengths ∙ ap (λ n. n * device.size.words) formed.image_length in
-    omega (arith, ap length are.spelled.bytes_are, length-pairs are.pairs, ap length are.words_are, length-map are.pairs word_of_pair, many)
+pairs_length device dump formed are = search (rules, length_of_pages, length-pairs, length-map)
 
 pub imports_are_read : (form : Form) (size : Size) (dump : List ℕ) (device : Device) → IsFormed device → IsImport form size dump device
     → (length dump ≡ dump_length form size) × ((page at : ℕ) → HasLowPair form size dump page at → ⊥)
@@ -90,10 +83,7 @@ one_image device other formed right size words =
 -- ---- the laws
 
 import_again : (form : Form) (device other : Device) (dump : List ℕ) → IsFormed device → IsDump form device dump → IsFormed other → IsImport form device.size dump other → other ≡ unworn_device device
-import_again form device other dump formed is right import =
-    let size : device.size ≡ other.size = sym (ap (λ (d : Device). d.size) import.never_used) in
-    let image : other.image ≡ device.image = sym (one_image device other formed right size (one_row form device other dump formed right is import.dump_is)) in
-    import.never_used ∙ ap (λ (pages : List (List Word)). record (blank_device device.size) { image = pages }) image
+import_again form device other dump formed is right import = search (rules, one_image, one_row)
 
 none_low : (form : Form) (device : Device) (dump : List ℕ) → IsFormed device → IsDump form device dump → (page at : ℕ) → HasLowPair form device.size dump page at → ⊥
 none_low Words device dump formed is page at has = has
@@ -109,12 +99,7 @@ whole_import_lem Pairs size dump device formed import whole = record { whole = w
 
 pub one_device_lem : (form : Form) (device other : Device) (dump : List ℕ) → IsFormed device → IsFormed other → device.size ≡ other.size → device.wear ≡ other.wear → IsDump form device dump → IsDump form other dump
     → other ≡ record device { cuts = other.cuts; cuts_left = other.cuts_left; on = other.on }
-one_device_lem form device other dump formed right size wear is suits =
-    let words = words_injective form (words_of device) (words_of other) (whole_of form device dump formed is) (whole_of form other dump right suits) (sym is.bytes_are ∙ suits.bytes_are) in
-    let image : other.image ≡ device.image = sym (one_image device other formed right size words) in
-    ap (λ (s : Size). record other { size = s }) (sym size)
-    ∙ ap (λ (pages : List (List Word)). record other { size = device.size; image = pages }) image
-    ∙ ap (λ (wears : List ℕ). record other { size = device.size; image = device.image; wear = wears }) (sym wear)
+one_device_lem form device other dump formed right size wear is suits = search (rules, words_injective, whole_of, one_image)
 
 -- words as a device that was never used
 spelled_cells : (form : Form) (dump : List ℕ) (words : List Word) (device : Device) → AreSpelledBy form dump words → words_of device ≡ words → IsSpelledBy form dump device

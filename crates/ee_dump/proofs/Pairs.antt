@@ -1,5 +1,5 @@
 -- Pairs of numbers, their bytes, and the words that they are.
-use Rattle.std.proofs.Common.{◌≡◌, ◌≢◌, ℕ, ◌+◌, ◌*◌, ◌<◌, ◌≤◌, List, [], ◌∷◌, ◌++◌, map, length, take, drop, refl, sym, ap, ◌∙◌, subst, arith, inl, inr, length-append}
+use Rattle.std.proofs.Common.{rules, ◌≡◌, ◌≢◌, ℕ, ◌+◌, ◌*◌, ◌<◌, ◌≤◌, List, [], ◌∷◌, ◌++◌, map, length, take, drop, refl, sym, ap, ◌∙◌, subst, arith, inl, inr, length-append}
 use Rattle.std.specs.Int.{from_le_bytes, to_le_bytes, w64}
 use Rattle.std.specs.List.{All, flat_map}
 use Rattle.std.proofs.lemmas.Bool.{cases_lt, eq-eqb, ne_eqb}
@@ -92,10 +92,7 @@ number_worth number other fits suits e =
     sym (from_le_bytes-to_le_bytes_8 number (omega arith)) ∙ ap (from_le_bytes w64) e ∙ from_le_bytes-to_le_bytes_8 other (omega arith)
 
 pair_injective : (pair other : Pair) → IsPair pair → IsPair other → pair_bytes pair ≡ pair_bytes other → pair ≡ other
-pair_injective pair other fits suits e =
-    let first = number_worth pair.number other.number fits.0 suits.0 (ap (take 8) e) in
-    let second = number_worth pair.check other.check fits.1 suits.1 (ap (drop 8) e) in
-    ap (λ (n : ℕ). record pair { number = n }) first ∙ ap (λ (n : ℕ). record other { check = n }) second
+pair_injective pair other fits suits e = search (rules, number_worth)
 
 pub length-pairs : (pairs : List Pair) → length (flat_map pair_bytes pairs) ≡ 16 * length pairs
 length-pairs [] = omega arith
@@ -129,11 +126,7 @@ high_at pairs place high = elim (cases_lt place (length pairs)) [
 ]
 
 pub no_low_pair : (size : Size) (dump : List ℕ) (words : List Word) (page at : ℕ) → AreWordsOfPairs dump words → IsFirstLowPair size dump page at → ⊥
-no_low_pair size dump words page at are first =
-    let place : ℕ = page * size.words + at in
-    let same = one_row dump first.pairs are.pairs first.spelled are.spelled in
-    let low : sum_at are.pairs place < all_ones = subst (λ (ps : List Pair). sum_at ps place < all_ones) same first.low in
-    omega (arith, high_at are.pairs place are.high)
+no_low_pair size dump words page at are first = search (rules, one_row, high_at)
 
 not_later : (first second : ℕ) (pairs : List Pair) → sum_at pairs second < all_ones → ((k : ℕ) → k < first → all_ones ≤ sum_at pairs k) → first ≤ second
 not_later first second pairs low before = elim (cases_lt second first) [

@@ -1,5 +1,5 @@
 -- Torn words: a device has none, or a first one.
-use Rattle.std.proofs.Common.{◌≡◌, ◌≢◌, ◌⊎◌, ℕ, zero, suc, ◌+◌, ◌<◌, ◌≤◌, List, [], ◌∷◌, ◌++◌, length, get_or, refl, sym, ◌∙◌, subst, arith, inl, inr, length-append}
+use Rattle.std.proofs.Common.{rules, ◌≡◌, ◌≢◌, ◌⊎◌, ℕ, zero, suc, ◌+◌, ◌<◌, ◌≤◌, List, [], ◌∷◌, ◌++◌, length, get_or, refl, sym, ◌∙◌, subst, arith, inl, inr, length-append}
 use Rattle.std.specs.List.{All, flat_map}
 use Rattle.std.proofs.lemmas.Bool.{cases_lt}
 use Rattle.std.proofs.lemmas.List.{get_or-append-add, get_or_append_left, get_or_past}
@@ -143,10 +143,7 @@ place_not_before device page at place first second =
     ]
 
 pub one_first : (device : Device) (page at other place : ℕ) → IsFirstTorn device page at → IsFirstTorn device other place → (other ≡ page) × (place ≡ at)
-one_first device page at other place first second =
-    let same : other ≡ page = omega (arith, not_before device page at other place first second, not_before device other place page at second first) in
-    let here : IsFirstTorn device page place = subst (λ p. IsFirstTorn device p place) same second in
-    (same, omega (arith, place_not_before device page at place first here, place_not_before device page place at here first))
+one_first device page at other place first second = search (rules, page, not_before, at, place_not_before)
 
 -- a dump has none
 pub no_torn : (form : Form) (device : Device) (dump : List ℕ) (page at : ℕ) → IsDump form device dump → IsFirstTorn device page at → ⊥

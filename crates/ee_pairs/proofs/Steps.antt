@@ -1,5 +1,5 @@
 -- A step of words is one or two steps of numbers.
-use Rattle.std.proofs.Common.{◌≡◌, ◌≢◌, ◌⊎◌, inl, inr, ℕ, ◌+◌, ◌*◌, ◌<◌, ◌≤◌, List, [], length, get_or, set, replicate, map, true, false, Result, Ok, Err, OnOk, OnErr, refl, sym, subst, ap, ◌∙◌, arith}
+use Rattle.std.proofs.Common.{rules, ◌≡◌, ◌≢◌, ◌⊎◌, inl, inr, ℕ, ◌+◌, ◌*◌, ◌<◌, ◌≤◌, List, [], length, get_or, set, replicate, map, true, false, Result, Ok, Err, OnOk, OnErr, refl, sym, subst, ap, ◌∙◌, arith}
 use Rattle.std.proofs.lemmas.Bool.{eq-eqb, ne_eqb}
 use Rattle.std.proofs.lemmas.List.{get_or-map, get_or-set_other, get_or-set_same, length-set, map-set, set-get_or, set-set}
 use Rattle.ee_flash.specs.Device.{Device, all_ones, page_at, word_at}
@@ -94,10 +94,7 @@ module _ (nor : NorDevice) (page at : ℕ) (formed : IsNorFormed nor) (in_range 
 
   -- a word that is put where it stood
   same_word : (with_word page at Erased (paired_device nor)).image ≡ (paired_device nor).image
-  same_word =
-      let image = (paired_device nor).image in
-      let words = page_at (paired_device nor) page in
-      ap (set image page) (ap (set words at) (sym erased) ∙ set-get_or words at Erased) ∙ set-get_or image page []
+  same_word = search (rules, set-get_or)
 
   left_so : (value : ℕ) (word : Word) (new : Device) → new.image ≡ (with_word page at word (paired_device nor)).image → (word ≡ Erased) ⊎ ((word ≡ Held value) ⊎ (word ≡ Torn)) → MayLeave (Program page at value) (paired_device nor) new
   left_so value word new is (inl none) = inl (is ∙ ap (λ (word : Word). (with_word page at word (paired_device nor)).image) none ∙ same_word)
@@ -122,20 +119,7 @@ module _ (nor : NorDevice) (page at : ℕ) (formed : IsNorFormed nor) (in_range 
 
   -- it was cut in the second
   pub cut_second : (value : ℕ) (new : NorDevice) → value < all_ones → IsNorCutIn (ProgramNumber page (2 * at + 1) (complement value)) (with_number page (2 * at) value nor) new → IsCutIn (Program page at value) (paired_device nor) (paired_device new)
-  cut_second value new below cut =
-      let left = number_at new page (2 * at + 1) in
-      let mid = with_number page (2 * at) value nor in
-      let image : (paired_device new).image ≡ (paired_device (with_number page (2 * at + 1) left mid)).image =
-      ap (λ (size : Size). map (pair_words size.words) new.image) cut.same_size ∙ ap (map (pair_words nor.size.words)) cut.image.1 in
-      record {
-        was_on = cut.was_on;
-        is_off = cut.is_off;
-        same_size = cut.same_size;
-        image = left_so value _ (paired_device new) (image ∙ ap (λ (device : Device). device.image) (second_put value left)) (inr (second_cut value left below));
-        wear = cut.wear;
-        cuts = cut.cuts;
-        cuts_left = cut.cuts_left;
-      }
+  cut_second value new below cut = search (rules, left_so, second_put, second_cut)
 
   -- ---- sums
 
@@ -158,10 +142,7 @@ module _ (nor : NorDevice) (page at : ℕ) (formed : IsNorFormed nor) (in_range 
         no_low_with nor (with_number page (2 * at + 1) number (with_number page (2 * at) value nor)) page (with_second value number) high (high_of_second value number fits least) (ap (λ (nor : NorDevice). nor.image) (one_page value number))
 
     pub high_cut_second : (value : ℕ) (new : NorDevice) → value ≤ all_ones → IsNorCutIn (ProgramNumber page (2 * at + 1) (complement value)) (with_number page (2 * at) value nor) new → NoLowPair new
-    high_cut_second value new fits cut =
-        let left = number_at new page (2 * at + 1) in
-        no_low_with nor new page (with_second value left) high (high_of_second value left fits (no_less left (complement value) cut.image.0))
-        (cut.image.1 ∙ ap (λ (nor : NorDevice). nor.image) (one_page value left))
+    high_cut_second value new fits cut = search (rules, no_low_with, high_of_second, no_less, one_page)
 
 -- power was cut in an erase
 pub cut_erase : (nor new : NorDevice) (page : ℕ) → IsNorFormed nor → IsNorFormed new → page < page_count nor.size → NoLowPair nor → IsNorCutIn (EraseNumbers page) nor new → IsCutIn (Erase page) (paired_device nor) (paired_device new)
@@ -222,10 +203,7 @@ module _ (nor new : NorDevice) (page at value : ℕ) (formed : IsNorFormed nor) 
     high_second_left (Err e) high done (inr untouched) = rw (untouched.same, put) (high_after_first nor page at formed in_range within erased high value)
 
     pub second_done : new ≡ with_number page (2 * at + 1) (complement value) mid → paired_device new ≡ with_word_programmed page at value (paired_device nor)
-    second_done done =
-        ap paired_device done ∙ ap (λ (mid : NorDevice). paired_device (with_number page (2 * at + 1) (complement value) mid)) put
-        ∙ second_put nor page at formed in_range within erased value (complement value)
-        ∙ ap (λ (word : Word). with_word page at word (paired_device nor)) (held_word value below)
+    second_done done = search (rules, second_put, held_word)
 
     pub second_left : IsNorCutIn (ProgramNumber page (2 * at + 1) (complement value)) mid new ⊎ IsNorUntouched mid new → IsCutIn (Program page at value) (paired_device nor) (paired_device new)
     second_left (inl cut) = cut_second nor page at formed in_range within erased value new below (subst (λ mid. IsNorCutIn (ProgramNumber page (2 * at + 1) (complement value)) mid new) put cut)

@@ -1,5 +1,5 @@
 -- What a change of a page's numbers does to its words.
-use Rattle.std.proofs.Common.{◌≡◌, ◌≢◌, ◌⊎◌, inl, inr, ℕ, ◌+◌, ◌*◌, ◌<◌, ◌≤◌, List, [], length, set, replicate, map, refl, sym, ap, ◌∙◌, arith}
+use Rattle.std.proofs.Common.{rules, ◌≡◌, ◌≢◌, ◌⊎◌, inl, inr, ℕ, ◌+◌, ◌*◌, ◌<◌, ◌≤◌, List, [], length, set, replicate, map, refl, sym, ap, ◌∙◌, arith}
 use Rattle.std.proofs.lemmas.Bool.{cases_eq, cases_lt}
 use Rattle.std.proofs.lemmas.List.{ext_get_or, get_or-map, get_or_past, get_or-replicate, get_or-set_other, get_or-set_same, length-replicate, length-set, map-set}
 use Rattle.ee_flash.specs.Device.{all_ones, page_at}
@@ -25,18 +25,11 @@ pair_words-changed count old new word others =
 
 -- the numbers of other words stay where one number changes
 pub other_pairs : (numbers : List ℕ) (word place number : ℕ) → (place ≡ 2 * word) ⊎ (place ≡ 2 * word + 1) → (other : ℕ) → other ≢ word → (number_in (set numbers place number) (2 * other) ≡ number_in numbers (2 * other)) × (number_in (set numbers place number) (2 * other + 1) ≡ number_in numbers (2 * other + 1))
-other_pairs numbers word place number is other apart = (
-  get_or-set_other numbers place (2 * other) number all_ones (λ same. apart (omega (arith, is))),
-  get_or-set_other numbers place (2 * other + 1) number all_ones (λ same. apart (omega (arith, is))),
-)
+other_pairs numbers word place number is other apart = search (rules, get_or-set_other)
 
 -- the pages of words of changed numbers
 pub paired_device-with : (nor : NorDevice) (page word : ℕ) (numbers : List ℕ) → page < length nor.image → ((other : ℕ) → other ≢ word → pair_in numbers other ≡ pair_in (numbers_at nor page) other) → paired_device (with_numbers page numbers nor) ≡ with_word page word (pair_in numbers word) (paired_device nor)
-paired_device-with nor page word numbers within others =
-    let words = pair_words nor.size.words in
-    let there : page_at (paired_device nor) page ≡ words (numbers_at nor page) = get_or-map words nor.image page [] [] within in
-    let changed : words numbers ≡ set (page_at (paired_device nor) page) word (pair_in numbers word) = pair_words-changed nor.size.words (numbers_at nor page) numbers word others ∙ ap (λ (those : List Word). set those word (pair_in numbers word)) (sym there) in
-    ap (λ (image : List (List Word)). record (paired_device nor) { image = image }) (map-set words nor.image page numbers ∙ ap (set (map words nor.image) page) changed)
+paired_device-with nor page word numbers within others = search (rules, get_or-map, pair_words-changed, map-set)
 
 pair_words-erased : (count : ℕ) → pair_words count (replicate (2 * count) all_ones) ≡ replicate count Erased
 pair_words-erased count =
@@ -46,11 +39,7 @@ pair_words-erased count =
     rw (get_or-pair_words count numbers k Erased below, get_or-replicate (2 * count) (2 * k) all_ones all_ones (omega arith), get_or-replicate (2 * count) (2 * k + 1) all_ones all_ones (omega arith), get_or-replicate count k Erased Erased below) refl)
 
 pub paired_device-erased : (nor : NorDevice) (page : ℕ) → paired_device (with_numbers_erased page nor) ≡ with_page_erased page (paired_device nor)
-paired_device-erased nor page =
-    let words = pair_words nor.size.words in
-    let wear = (with_numbers_erased page nor).wear in
-    ap (λ (image : List (List Word)). record (paired_device nor) { image = image; wear = wear })
-    (map-set words nor.image page (replicate (2 * nor.size.words) all_ones) ∙ ap (set (map words nor.image) page) (pair_words-erased nor.size.words))
+paired_device-erased nor page = search (rules, map-set, pair_words-erased)
 
 -- ---- cuts
 

@@ -9,10 +9,7 @@ pub pages-init : goal.pages-init
 pages-init g c = sym (wiped_none _)
 
 pub is_blank-requires : goal.is_blank-requires
-is_blank-requires g c =
-    let count = ap (λ (size : Size). size.pages) c.shape.ensures in
-    let size = ap (λ (nor : NorDevice). page_count nor.size) c.pages.invariant ∙ ap page_count (wiped_size c.pages.page _) in
-    omega (arith, size, count, c.pages-page-end.ensures.value, c.pages-test.true)
+is_blank-requires g c = search (rules, wiped_size)
 
 pub returns-in_err-erase-clause-cut : goal.returns-in_err-erase-clause-cut
 returns-in_err-erase-clause-cut g c =

@@ -1,16 +1,12 @@
 use Rattle.std.proofs.lemmas.Result.{on_err_weaker, on_ok_weaker}
-use Rattle.std.proofs.Common.{ap, ◌∙◌}
+use Rattle.std.proofs.Common.{rules, ap, ◌∙◌}
 use Rattle.ee_pairs.specs.Pairs.{paired_device}
 use Rattle.ee_pairs.proofs.Steps.{erase_left, high_erased}
 use Rattle.ee_pairs.proofs.Words.{paired_device-erased}
 use Rattle.ee_pairs.proofs.pairs.PairsFlash.erase.Goals as goal
 
 pub invariant_of-self : goal.invariant_of-self
-invariant_of-self g c = record {
-  no_low_pair =
-      let formed = g.met.N.Nor.formed in
-      high_erased _ _ c.args.page (formed c.args.self.now.nor) (formed c.erase.new.self) c.requires c.args.self.now.no_low_pair c.erase.result c.erase.ensures.done c.erase.ensures.cut;
-}
+invariant_of-self g c = search (rules, high_erased)
 
 pub returns-clause-done : goal.returns-clause-done
 returns-clause-done g c = on_ok_weaker c.erase.result (λ done. ap paired_device done ∙ paired_device-erased _ c.args.page) c.erase.ensures.done

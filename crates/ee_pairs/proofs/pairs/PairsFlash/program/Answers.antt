@@ -31,23 +31,10 @@ program-requires-2-clause-erased g c =
     rw c.in_ok-program.ensures.done (still_erased _ c.args.page c.args.at (g.met.N.Nor.formed c.args.self.now.nor) c.requires.page_in_range c.requires.place_in_range c.requires.erased c.args.value)
 
 pub invariant_of-self-2 : goal.invariant_of-self-2
-invariant_of-self-2 g c =
-    let check = c.complement_of-check.ensures in
-    record {
-      no_low_pair = high_second_left (g.N.Nor.nor c.args.self.now.nor) (g.N.Nor.nor c.program-2.new.self) c.args.page c.args.at c.args.value (g.met.N.Nor.formed c.args.self.now.nor) c.requires.page_in_range c.requires.place_in_range c.requires.erased (g.N.Nor.nor c.program.new.self) c.in_ok-program.ensures.on c.in_ok-program.ensures.done c.requires.below_all_ones
-          c.program-2.result c.args.self.now.no_low_pair (rw (sym check) c.program-2.ensures.done) (rw (sym check) c.program-2.ensures.cut);
-    }
+invariant_of-self-2 g c = search (rules, high_second_left)
 
 pub returns-clause-done : goal.returns-clause-done
-returns-clause-done g c =
-    let check = c.complement_of-check.ensures in
-    on_ok_weaker c.program-2.result
-    (second_done _ _ c.args.page c.args.at c.args.value (g.met.N.Nor.formed c.args.self.now.nor) c.requires.page_in_range c.requires.place_in_range c.requires.erased (g.N.Nor.nor c.program.new.self) c.in_ok-program.ensures.on c.in_ok-program.ensures.done c.requires.below_all_ones)
-    (rw (sym check) c.program-2.ensures.done)
+returns-clause-done g c = search (rules, on_ok_weaker, second_done)
 
 pub returns-clause-cut : goal.returns-clause-cut
-returns-clause-cut g c =
-    let check = c.complement_of-check.ensures in
-    on_err_weaker c.program-2.result
-    (λ left. inl (second_left _ _ c.args.page c.args.at c.args.value (g.met.N.Nor.formed c.args.self.now.nor) c.requires.page_in_range c.requires.place_in_range c.requires.erased (g.N.Nor.nor c.program.new.self) c.in_ok-program.ensures.on c.in_ok-program.ensures.done c.requires.below_all_ones left))
-    (rw (sym check) c.program-2.ensures.cut)
+returns-clause-cut g c = search (rules, on_err_weaker, second_left)
