@@ -1,5 +1,5 @@
 -- What was exported is imported as it was, and the other way round.
-use Rattle.std.proofs.Common.{◌≡◌, ◌∙◌, sym, subst, ℕ, List}
+use Rattle.std.proofs.Common.{rules, ◌≡◌, ◌∙◌, sym, subst, ℕ, List}
 use Rattle.ee_flash.specs.Device.{Device}
 use Rattle.ee_flash.specs.Size.{Size}
 use Rattle.ee_dump.specs.Dump.{IsDump, IsWholePage}
@@ -29,11 +29,7 @@ exported_is form bytes device image spelled is = (dumps_are_read_lem form device
 
 pub import_again_lem : (form : Form) (image bytes : List ℕ) (device : Device) → SpellsDevice image device → IsExported form image bytes
     → ((fault : Fault) → IsImportFault form device.size bytes fault → fault ≡ Memory) × ((other : List ℕ) → IsImported form device.size bytes other → SpellsDevice other (unworn_device device))
-import_again_lem form image bytes device spelled exported =
-    let dump = dump_exported form image bytes device spelled exported in (
-      λ fault wrong. import_lacks form device.size bytes fault (exported_is form bytes device image spelled dump) wrong,
-      λ other again. image_again form bytes other device image spelled dump again,
-    )
+import_again_lem form image bytes device spelled exported = search (rules, dump_exported, import_lacks, exported_is, image_again)
 
 pub export_of_import_lem : (image bytes : List ℕ) (size : Size) → IsImported Words size bytes image → IsExported Words image bytes × ((other : List ℕ) → IsExported Words image other → other ≡ bytes)
 export_of_import_lem image bytes size imported = (

@@ -1,4 +1,4 @@
-use Rattle.std.proofs.Common.{◌∙◌, ◌+◌, ap, arith, cond, refl, sym}
+use Rattle.std.proofs.Common.{rules, ◌∙◌, ◌+◌, ap, arith, cond, refl, sym}
 use Rattle.ee_part.specs.Inspecting.{live_slots, speaks_of}
 use Rattle.ee_part.proofs.Counting.{all_counted, counted_more, none_counted}
 use Rattle.ee_part.proofs.Inspections.{last_in_fill, slot_in_range}
@@ -6,10 +6,7 @@ use Rattle.ee_part.proofs.inspecting.count_live.Goals as goal
 use Rattle.ee_part.proofs.inspecting.count_live.Goals.{then-is_last_of, else-is_last_of}
 
 pub slots-init : goal.slots-init
-slots-init g c = record {
-  few = omega arith;
-  counted = none_counted (live_slots (g.F.Flash.device c.args.flash.now) c.args.layout.now);
-}
+slots-init g c = search (rules, none_counted)
 
 pub slot_word-requires-clause-slot_in_range : goal.slot_word-requires-clause-slot_in_range
 slot_word-requires-clause-slot_in_range g c =
@@ -33,9 +30,4 @@ slots-preserved g c =
     ]
 
 pub returns : goal.returns
-returns g c =
-    let device = g.F.Flash.device c.args.flash.now in
-    let slots = live_slots device c.args.layout.now in
-    c.slots.invariant.counted
-    ∙ all_counted slots c.slots.slot (λ address.
-    last_in_fill device c.args.layout.now c.requires.layout (speaks_of address) c.slots.slot refl (omega arith))
+returns g c = search (rules, all_counted, last_in_fill)

@@ -1,3 +1,4 @@
+use Rattle.std.proofs.Common.{rules}
 use Rattle.std.proofs.lemmas.Result.{err_from_is_err_and}
 use Rattle.ee_flash.specs.Memory.{device_of}
 use Rattle.ee_faults.specs.declared.fault.File.TheVariants.{Image}
@@ -10,11 +11,7 @@ returns-in_err-text-clause-fault g c =
     rw p.1 (rw p.2 (no_memory_for Image c.args.image.now (device_of c.in_ok-flash.flash) c.in_ok-flash.ensures.read))
 
 pub returns-clause-inspected : goal.returns-clause-inspected
-returns-clause-inspected g c = record {
-  device = device_of c.in_ok-flash.flash;
-  spelled = c.in_ok-flash.ensures.read;
-  findings = c.in_ok-text.ensures;
-}
+returns-clause-inspected g c = search rules
 
 pub returns-clause-names : goal.returns-clause-names
 returns-clause-names g c = c.in_ok-flash.ensures.names

@@ -1,4 +1,4 @@
-use Rattle.std.proofs.Common.{◌∙◌, ◌<◌, length, arith, refl}
+use Rattle.std.proofs.Common.{rules, ◌∙◌, ◌<◌, length, arith, refl}
 use Rattle.ee_pages.proofs.Public.{length-slots}
 use Rattle.ee_part.specs.Inspecting.{live_slots, speaks_of}
 use Rattle.ee_part.proofs.Inspections.{last_in_fill, slot_in_range, spoken_more}
@@ -19,9 +19,4 @@ slots-preserved g c =
     c.note.ensures.long c.note.ensures.each c.slots.invariant
 
 pub returns : goal.returns
-returns g c = record {
-  long = c.slots.invariant.long;
-  each = λ address below.
-      c.slots.invariant.each address below
-      ∙ last_in_fill (g.F.Flash.device c.args.flash.now) c.args.layout.now c.requires (speaks_of address) c.slots.slot refl (omega arith);
-}
+returns g c = search (rules, last_in_fill)
