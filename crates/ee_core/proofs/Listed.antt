@@ -1,10 +1,10 @@
 -- Lists of values that are put: an address that is listed twice, and lists in which each is listed once.
-use Rattle.std.proofs.Common.{◌≡◌, ℕ, ◌<◌, ◌≤◌, false, Bool, Option, Some, None, List, [], ◌∷◌, length, get_or, take, refl, sym, ap, ◌∙◌, suc}
+use Rattle.std.proofs.Common.{◌≡◌, ℕ, ◌≤◌, false, Bool, Option, Some, None, List, [], ◌∷◌, length, take, refl, ap, ◌∙◌, suc}
 use Rattle.std.specs.Prelude.{◌==◌, ◌||◌, slice_get}
 use Rattle.std.specs.List.{All}
 use Rattle.std.proofs.lemmas.Bool.{ne_eqb}
 use Rattle.std.proofs.lemmas.List.Elements.{All-head, All-tail}
-use Rattle.std.proofs.lemmas.Option.{slice_get_past, slice_get_read}
+use Rattle.std.proofs.lemmas.Option.{slice_get_past}
 use Rattle.ee_codec.specs.Words.{IsAddress}
 use Rattle.ee_core.specs.Puts.{AreApart, IsEachOnce, ListsAreThere, is_put, is_put_again, is_twice, names, puts_of}
 use Rattle.ee_core.specs.declared.change.Put as listed

@@ -1,9 +1,9 @@
 -- What a change of a store's map leaves, and when none is made.
-use Rattle.std.specs.Prelude.{◌≡◌, ◌<◌, ◌≤◌, ◌⊎◌, ℕ, ◌+◌, Some, None, List, [], ◌∷◌}
+use Rattle.std.specs.Prelude.{◌≡◌, ◌<◌, ◌≤◌, ◌⊎◌, ℕ, Some, None, List, [], ◌∷◌}
 use Rattle.ee_flash.specs.Device.{Device, IsOn}
 use Rattle.ee_flash.specs.Power.{GoesOn, IsCut}
 use Rattle.ee_pages.specs.Meaning.{Change, Map, Put, Forget, changed_by, live_in}
-use Rattle.ee_pages.specs.Sets.{live_of, other}
+use Rattle.ee_pages.specs.Sets.{live_of}
 use Rattle.ee_core.specs.Picture.{OfLive}
 use Rattle.ee_core.specs.Shown.{ShowsAppended, ShowsCutAppend, ShowsCutMove, ShowsMoved}
 use Rattle.ee_core.specs.State.{State, Wears, WearsFront, appended_state, capacity, moved_state, pending_pages, torn_state, state_of, next_live, used_pages_of, with_pending}

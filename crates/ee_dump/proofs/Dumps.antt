@@ -4,7 +4,7 @@ use Rattle.std.specs.List.{All, flat_map}
 use Rattle.std.proofs.lemmas.List.{length-map, length-replicate}
 use Rattle.std.proofs.lemmas.List.Elements.{All-append, All-head, All-nil, All-replicate, All-tail}
 use Rattle.ee_flash.specs.Cells.{device_from}
-use Rattle.ee_flash.specs.Device.{Device, IsBelowAllOnes, IsFormed, all_ones, blank_device}
+use Rattle.ee_flash.specs.Device.{Device, IsBelowAllOnes, IsFormed, all_ones}
 use Rattle.ee_flash.specs.Formed.{IsFormed-pages_of}
 use Rattle.ee_flash.specs.Memory.{Memory, unused_memory}
 use Rattle.ee_flash.specs.Pages.{pages_of}
@@ -12,8 +12,8 @@ use Rattle.ee_flash.specs.Size.{IsWithinLimits, Size, page_count}
 use Rattle.ee_flash.specs.declared.word.Word.{Word}
 use Rattle.ee_flash.specs.declared.word.Word.TheVariants.{Torn}
 use Rattle.ee_flash.proofs.Public.{joined_pages, pages_join}
-use Rattle.ee_dump.specs.Pair.{AreWordsOfPairs, word_of_pair}
-use Rattle.ee_dump.specs.Dump.{IsDump, IsFirstTorn, IsImport, IsSpelledBy, IsWholePage, dump_length, word_bytes, word_length, words_of}
+use Rattle.ee_dump.specs.Pair.{AreWordsOfPairs}
+use Rattle.ee_dump.specs.Dump.{IsDump, IsFirstTorn, IsImport, IsSpelledBy, IsWholePage, dump_length, word_bytes, words_of}
 use Rattle.ee_dump.specs.Fault.{HasLowPair}
 use Rattle.ee_dump.specs.Laws.{unworn_device}
 use Rattle.ee_dump.specs.Reading.{AreCells, AreSpelledBy, AreWhole}

@@ -1,5 +1,5 @@
 -- Pairs that are read one by one.
-use Rattle.std.proofs.Common.{rules, ◌≡◌, ℕ, zero, suc, ◌+◌, ◌*◌, ◌/◌, ◌%◌, ◌<◌, ◌≤◌, List, [], ◌∷◌, ◌++◌, map, length, get_or, take, drop, refl, sym, ap, ◌∙◌, subst, arith, inl, inr, length-append}
+use Rattle.std.proofs.Common.{◌≡◌, ℕ, zero, suc, ◌+◌, ◌*◌, ◌/◌, ◌%◌, ◌<◌, ◌≤◌, List, [], ◌∷◌, ◌++◌, map, length, get_or, take, drop, refl, sym, ap, ◌∙◌, subst, arith, inl, inr, length-append}
 use Rattle.std.specs.Int.{from_le_bytes, to_le_bytes, w64}
 use Rattle.std.specs.List.{All}
 use Rattle.std.specs.Simd.{first_chunks}
@@ -16,8 +16,8 @@ use Rattle.ee_pairs.specs.Nor.{IsNorNumber}
 use Rattle.ee_pairs.specs.Pairs.{pair_word}
 use Rattle.ee_dump.specs.Dump.{dump_length}
 use Rattle.ee_dump.specs.Pair.{AreBytesOf, IsFirstLowPair, IsHighPair, IsPair, Pair, erased_pair, pair_bytes, sum_at, word_of_pair}
-use Rattle.ee_dump.specs.Reading.{AreCells, AreWords}
-use Rattle.ee_dump.specs.declared.form.Form.TheVariants.{Words, Pairs}
+use Rattle.ee_dump.specs.Reading.{AreCells}
+use Rattle.ee_dump.specs.declared.form.Form.TheVariants.{Pairs}
 use Rattle.ee_dump.proofs.Words.{small_at, value_fits}
 
 -- ---- the pairs of bytes

@@ -1,5 +1,5 @@
 -- Words and pages, read one after another.
-use Rattle.std.proofs.Common.{rules, ◌≡◌, ◌≢◌, ℕ, suc, ◌+◌, ◌<◌, ◌^◌, List, [], ◌∷◌, ◌++◌, length, take, drop, ◌-◌, min, refl, sym, ap, ◌∙◌, arith, append_assoc, length-append, length-drop, subst, take-append-drop, Option, Some, None, IfNone, IfSome, Bor}
+use Rattle.std.proofs.Common.{◌≡◌, ◌≢◌, ℕ, suc, ◌+◌, ◌<◌, ◌^◌, List, [], ◌∷◌, ◌++◌, length, take, drop, ◌-◌, min, refl, sym, ap, ◌∙◌, arith, append_assoc, length-append, length-drop, subst, take-append-drop, Option, Some, None, IfNone, IfSome, Bor}
 use Rattle.std.specs.Fmt.{decimal}
 use Rattle.std.specs.List.{All, flat_map}
 use Rattle.std.proofs.Math.Seq.{drop-append_seam, take-append-add}

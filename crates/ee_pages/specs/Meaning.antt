@@ -1,5 +1,5 @@
 -- What the slots of a set mean: the map from addresses to values, and what a change does to it.
-use Rattle.std.specs.Prelude.{◌≡◌, ◌<◌, ◌≤◌, ℕ, IfSome, ◌+◌, ◌==◌, is_some, if◌then◌else◌, Option, Some, None, List, [], ◌∷◌, zero, suc}
+use Rattle.std.specs.Prelude.{◌≡◌, ℕ, ◌+◌, ◌==◌, is_some, if◌then◌else◌, Option, Some, None, List, [], ◌∷◌, zero, suc}
 use Rattle.ee_flash.specs.declared.word.Word.{Word}
 use Rattle.ee_codec.specs.Reading.{slot_of}
 use Rattle.ee_codec.specs.Words.{IsAddress, IsValue, element, forgetting}

@@ -1,10 +1,9 @@
 -- What a change of a page's numbers does to its words.
-use Rattle.std.proofs.Common.{rules, ◌≡◌, ◌≢◌, ◌⊎◌, inl, inr, ℕ, ◌+◌, ◌*◌, ◌<◌, ◌≤◌, List, [], length, set, replicate, map, refl, sym, ap, ◌∙◌, arith}
+use Rattle.std.proofs.Common.{rules, ◌≡◌, ◌≢◌, ◌⊎◌, inl, inr, ℕ, ◌+◌, ◌*◌, ◌<◌, ◌≤◌, List, length, set, replicate, refl, sym, ap, ◌∙◌, arith}
 use Rattle.std.proofs.lemmas.Bool.{cases_eq, cases_lt}
 use Rattle.std.proofs.lemmas.List.{ext_get_or, get_or-map, get_or_past, get_or-replicate, get_or-set_other, get_or-set_same, length-replicate, length-set, map-set}
-use Rattle.ee_flash.specs.Device.{all_ones, page_at}
+use Rattle.ee_flash.specs.Device.{all_ones}
 use Rattle.ee_flash.specs.Step.{IsPartlyErased, with_page_erased, with_word}
-use Rattle.ee_flash.specs.declared.word.Word.{Word}
 use Rattle.ee_flash.specs.declared.word.Word.TheVariants.{Erased, Held, Torn}
 use Rattle.ee_pairs.specs.Nor.{HasBits, IsNorNumber, KeepsBits, NorDevice, number_in, numbers_at, with_numbers, with_numbers_erased}
 use Rattle.ee_pairs.specs.Pairs.{paired_device, pair_in, sum_in, pair_word, pair_words}

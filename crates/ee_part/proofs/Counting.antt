@@ -1,5 +1,5 @@
 -- How many addresses have a value, by the last slot that speaks of each.
-use Rattle.std.proofs.Common.{rules, ◌≡◌, ◌≢◌, ◌∙◌, ◌+◌, ◌==◌, ◌<◌, ◌≤◌, ℕ, nat_le, Bool, true, false, cond, is_some, Option, Some, None, List, ◌∷◌, length, get_or, take, refl, sym, ap, arith, inl, inr}
+use Rattle.std.proofs.Common.{◌≡◌, ◌≢◌, ◌∙◌, ◌+◌, ◌==◌, ◌<◌, ◌≤◌, ℕ, nat_le, Bool, true, false, cond, is_some, Option, Some, None, List, ◌∷◌, length, get_or, take, refl, sym, ap, arith, inl, inr}
 use Rattle.std.specs.Prelude.{IfSome, MatchOption}
 use Rattle.std.proofs.Math.Seq.{get_or-append_seam}
 use Rattle.std.specs.List.{list_any}

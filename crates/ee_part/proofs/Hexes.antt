@@ -1,5 +1,5 @@
 -- What was exported by Intel HEX is imported as it was.
-use Rattle.std.proofs.Common.{rules, ◌≡◌, sym, subst, ℕ, ◌+◌, ◌≤◌, ◌^◌, List, length}
+use Rattle.std.proofs.Common.{◌≡◌, sym, subst, ℕ, ◌+◌, ◌≤◌, ◌^◌, List, length}
 use Rattle.ee_flash.specs.Device.{Device}
 use Rattle.ee_dump.specs.Dump.{IsDump, dump_length}
 use Rattle.ee_dump.specs.Laws.{unworn_device}

@@ -1,5 +1,4 @@
-use Rattle.std.proofs.Common.{rules, arith}
-use Rattle.ee_hex.specs.Reading.{judged, lines_in}
+use Rattle.std.proofs.Common.{rules}
 use Rattle.ee_hex.proofs.Lines.{shorter}
 use Rattle.ee_hex.proofs.Parsing.{line_taken}
 use Rattle.ee_hex.proofs.reading.read_lines.Goals as goal

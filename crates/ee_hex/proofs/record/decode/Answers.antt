@@ -1,4 +1,4 @@
-use Rattle.std.proofs.Common.{rules, arith}
+use Rattle.std.proofs.Common.{rules}
 use Rattle.ee_hex.proofs.Digits.{no_pair_more, one_pair_more}
 use Rattle.ee_hex.proofs.record.decode.Goals as goal
 

@@ -1,5 +1,4 @@
-use Rattle.std.proofs.Common.{rules, ◌≡◌, ◌∷◌, ◌++◌, ap, sym, ◌∙◌, arith, length, length-append, decimal}
-use Rattle.ee_text.specs.Field.{space}
+use Rattle.std.proofs.Common.{rules, ap, arith, length, length-append}
 use Rattle.ee_image.proofs.Taken.{behind_front, cut_behind_wear, field_at_front}
 use Rattle.ee_image.proofs.reading.leading_wear.Goals as goal
 

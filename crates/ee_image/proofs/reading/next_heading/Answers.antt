@@ -1,4 +1,3 @@
-use Rattle.std.proofs.Common.{rules}
 use Rattle.ee_image.proofs.Lines.{other_size}
 use Rattle.ee_image.proofs.reading.next_heading.Goals as goal
 

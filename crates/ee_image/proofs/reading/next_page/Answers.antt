@@ -1,8 +1,6 @@
-use Rattle.std.proofs.Common.{rules, ◌≡◌, ◌∷◌, ◌-◌, length, take, drop, arith}
+use Rattle.std.proofs.Common.{rules, ◌-◌, arith}
 use Rattle.std.proofs.lemmas.Grind.{common_steps}
 use Rattle.ee_text.proofs.Public.{passed_on}
-use Rattle.ee_text.specs.Line.{line_feed}
-use Rattle.ee_image.specs.Reading.{IsPageFault}
 use Rattle.ee_image.proofs.Taken.{goes_on_wrong, page_read, words_wrong}
 use Rattle.ee_image.proofs.reading.next_page.Goals as goal
 

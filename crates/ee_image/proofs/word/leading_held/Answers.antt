@@ -1,4 +1,4 @@
-use Rattle.std.proofs.Common.{rules, ◌≡◌, ◌++◌, ◌<◌, length, take, drop, arith, ap, sym, ◌∙◌, length-append, take-append-drop}
+use Rattle.std.proofs.Common.{◌≡◌, ◌++◌, ◌<◌, length, take, drop, arith, ap, sym, ◌∙◌, length-append, take-append-drop}
 use Rattle.ee_flash.specs.declared.word.Word.TheVariants.{Held}
 use Rattle.ee_flash.proofs.Public.{below-held}
 use Rattle.ee_image.specs.Text.{digits}

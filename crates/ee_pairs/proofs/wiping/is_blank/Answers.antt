@@ -1,5 +1,4 @@
-use Rattle.std.proofs.Common.{rules, ◌*◌, sym, arith, ap}
-use Rattle.ee_pairs.specs.Nor.{numbers_at}
+use Rattle.std.proofs.Common.{rules}
 use Rattle.ee_pairs.proofs.Wipes.{blank_page}
 use Rattle.ee_pairs.proofs.wiping.is_blank.Goals as goal
 

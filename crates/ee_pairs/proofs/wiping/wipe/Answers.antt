@@ -1,6 +1,5 @@
-use Rattle.std.proofs.Common.{rules, arith, ap, sym, ◌∙◌}
-use Rattle.ee_flash.specs.Size.{Size, page_count}
-use Rattle.ee_pairs.specs.Nor.{NorDevice}
+use Rattle.std.proofs.Common.{rules, arith, ap, sym}
+use Rattle.ee_flash.specs.Size.{Size}
 use Rattle.ee_pairs.proofs.Wipes.{wipe_left, wiped_blank, wiped_erased, wiped_none, wiped_size}
 use Rattle.ee_pairs.proofs.wiping.wipe.Goals.{then-not-is_blank+in_ok-erase, else-not-is_blank}
 use Rattle.ee_pairs.proofs.wiping.wipe.Goals as goal

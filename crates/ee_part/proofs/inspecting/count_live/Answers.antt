@@ -1,5 +1,5 @@
-use Rattle.std.proofs.Common.{rules, ◌∙◌, ◌+◌, ap, arith, cond, refl, sym}
-use Rattle.ee_part.specs.Inspecting.{live_slots, speaks_of}
+use Rattle.std.proofs.Common.{rules, ◌∙◌, ◌+◌, ap, arith, cond, sym}
+use Rattle.ee_part.specs.Inspecting.{live_slots}
 use Rattle.ee_part.proofs.Counting.{all_counted, counted_more, none_counted}
 use Rattle.ee_part.proofs.Inspections.{last_in_fill, slot_in_range}
 use Rattle.ee_part.proofs.inspecting.count_live.Goals as goal

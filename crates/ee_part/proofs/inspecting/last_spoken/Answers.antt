@@ -1,6 +1,6 @@
-use Rattle.std.proofs.Common.{rules, ◌∙◌, ◌<◌, length, arith, refl}
+use Rattle.std.proofs.Common.{rules, ◌<◌, length, arith}
 use Rattle.ee_pages.proofs.Public.{length-slots}
-use Rattle.ee_part.specs.Inspecting.{live_slots, speaks_of}
+use Rattle.ee_part.specs.Inspecting.{live_slots}
 use Rattle.ee_part.proofs.Inspections.{last_in_fill, slot_in_range, spoken_more}
 use Rattle.ee_part.proofs.inspecting.last_spoken.Goals as goal
 

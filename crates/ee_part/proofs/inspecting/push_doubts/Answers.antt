@@ -1,4 +1,4 @@
-use Rattle.std.proofs.Common.{rules, ◌∙◌, ◌++◌, ap}
+use Rattle.std.proofs.Common.{◌∙◌, ◌++◌, ap}
 use Rattle.ee_part.specs.Inspecting.{live_slots}
 use Rattle.ee_part.proofs.Inspections.{told_doubts}
 use Rattle.ee_part.proofs.inspecting.push_doubts.Goals as goal

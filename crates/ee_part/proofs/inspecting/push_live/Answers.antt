@@ -1,4 +1,4 @@
-use Rattle.std.proofs.Common.{rules, Some, ap}
+use Rattle.std.proofs.Common.{Some, ap}
 use Rattle.std.specs.Prelude.{codes}
 use Rattle.ee_text.specs.Line.{line_of}
 use Rattle.ee_part.specs.Inspecting.{doubt_lines, live_slots, set_text, torn_lines, usage_in}

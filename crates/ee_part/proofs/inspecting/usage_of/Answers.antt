@@ -1,4 +1,4 @@
-use Rattle.std.proofs.Common.{rules, ◌∙◌, ◌+◌, ◌≤◌, ap, arith, sym}
+use Rattle.std.proofs.Common.{◌∙◌, ◌+◌, ◌≤◌, ap, arith, sym}
 use Rattle.ee_flash.specs.Size.{slot_count}
 use Rattle.ee_pages.proofs.Public.{length-slots}
 use Rattle.ee_part.specs.Inspecting.{live_slots}

@@ -1,4 +1,4 @@
-use Rattle.std.proofs.Common.{rules, ◌≡◌, Some, take}
+use Rattle.std.proofs.Common.{◌≡◌, Some, take}
 use Rattle.ee_hex.specs.Reading.{record_of}
 use Rattle.ee_hex.specs.Row.{view}
 use Rattle.ee_hex.proofs.Parsing.{one_row}

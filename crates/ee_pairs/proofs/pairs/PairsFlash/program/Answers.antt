@@ -1,4 +1,4 @@
-use Rattle.std.proofs.Common.{inl, rules, sym}
+use Rattle.std.proofs.Common.{rules}
 use Rattle.std.proofs.lemmas.Result.{on_err_weaker, on_ok_weaker}
 use Rattle.ee_pairs.proofs.Steps.{erased_first, first_left, high_after_first, high_first_left, high_second_left, second_done, second_left, still_erased, zero_done}
 use Rattle.ee_pairs.proofs.pairs.PairsFlash.program.Goals as goal
