@@ -45,7 +45,7 @@ impl fmt::Display for File {
 }
 
 /// What keeps the program from its work.
-#[derive(Clone, Copy, Debug, PartialEq, Eq)]
+#[derive(Clone, Copy, PartialEq, Eq)]
 pub enum Fault {
     /// Opening or reading failed, or the most read calls were made.
     CannotRead(File),
@@ -184,6 +184,18 @@ impl fmt::Display for Fault {
             Fault::SpentAt(entry) => write!(f, "values entry {entry} spent"),
             Fault::Memory => f.write_str("out of memory"),
         }
+    }
+}
+
+/// What the line says, as `Display` has it.
+impl fmt::Debug for Fault {
+    ghost use Rattle.std.specs.Prelude.{Some};
+    ghost use Rattle.ee_faults.specs.Fault.{cause};
+
+    ghost debug_output = { λ fault. Some (cause fault) };
+
+    fn fmt<W: fmt::Write>(&self, f: &mut fmt::Formatter<W>) -> fmt::Result {
+        fmt::Display::fmt(self, f)
     }
 }
 
