@@ -1,3 +1,4 @@
 pub mod ReplayFault
 pub mod Fault
 pub mod Causes
+pub mod Beside

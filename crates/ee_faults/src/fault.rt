@@ -1,7 +1,9 @@
 //! Every fault that the program tells, each with its one line and its status.
 ghost use Rattle.std.specs.Prelude.{◌≡◌, IfOk};
+ghost use Rattle.ee_faults.specs.Beside.{AreLineWords, before, behind};
 ghost use Rattle.ee_faults.specs.Fault.{fault_of_image, fault_of_read, fault_text, status};
 
+use super::beside::Beside;
 use super::replay_fault::ReplayFault;
 use ee_check::{CheckFault, TextFault};
 use ee_command_line::ReadFault;
@@ -138,52 +140,21 @@ impl fmt::Display for Fault {
 
     ghost output = { λ fault. Some (cause fault) };
 
+    #[tactic(auto, unfolding(crate::specs::Beside::AreLineWords))]
     fn fmt<W: fmt::Write>(&self, f: &mut fmt::Formatter<W>) -> fmt::Result {
-        match self {
-            Fault::CannotRead(file) => write!(f, "cannot read {file}"),
-            Fault::TooLong(file) => write!(f, "{file} too long"),
-            Fault::CannotWriteImage => f.write_str("cannot write image"),
-            Fault::ImageChanged => f.write_str("image changed"),
-            Fault::CannotWriteDump => f.write_str("cannot write dump"),
-            Fault::CannotWriteOutput => f.write_str("cannot write output"),
-            Fault::BadLine { file, line } => write!(f, "{file} line {line}"),
-            Fault::BadShape(file) => write!(f, "{file} shape"),
-            Fault::Unformatted => f.write_str("image unformatted"),
-            Fault::NoLiveSet => f.write_str("image no live set"),
-            Fault::TwoLive => f.write_str("image two live sets"),
-            Fault::Foreign { page, at } => write!(f, "image foreign word {page} {at}"),
-            Fault::SettingsText => f.write_str("settings text"),
-            Fault::BadName(entry) => write!(f, "settings entry {entry} bad name"),
-            Fault::BadField(entry) => write!(f, "settings entry {entry} bad field"),
-            Fault::BadRange(entry) => write!(f, "settings entry {entry} bad range"),
-            Fault::SameAddress(entry) => write!(f, "settings entry {entry} same address"),
-            Fault::UnknownName => f.write_str("unknown name"),
-            Fault::OutOfRange { min, max } => write!(f, "out of range {min} {max}"),
-            Fault::Full => f.write_str("full"),
-            Fault::Spent => f.write_str("spent"),
-            Fault::NotFitting(change) => write!(f, "not fitting {change}"),
-            Fault::WrongStart => f.write_str("wrong start"),
-            Fault::NotRising(stretch) => write!(f, "not rising {stretch}"),
-            Fault::WrongFrom(stretch) => write!(f, "wrong from {stretch}"),
-            Fault::NotForced(stretch) => write!(f, "not forced {stretch}"),
-            Fault::OtherShape => f.write_str("other shape"),
-            Fault::Backwards(page) => write!(f, "wear backwards {page}"),
-            Fault::NoSizeEnough => f.write_str("no size is enough"),
-            Fault::DumpLength => f.write_str("dump length"),
-            Fault::LowPair { page, at } => write!(f, "dump pair {page} {at}"),
-            Fault::TornWord { page, at } => write!(f, "torn word {page} {at}"),
-            Fault::Base => f.write_str("base"),
-            Fault::ValuesText => f.write_str("values text"),
-            Fault::BadValue(entry) => write!(f, "values entry {entry} bad field"),
-            Fault::UnknownValue(entry) => write!(f, "values entry {entry} unknown name"),
-            Fault::ValueOutOfRange { entry, min, max } => write!(
-                f,
-                "values entry {entry} out of range {min} {max}"
-            ),
-            Fault::FullAt(entry) => write!(f, "values entry {entry} full"),
-            Fault::SpentAt(entry) => write!(f, "values entry {entry} spent"),
-            Fault::Memory => f.write_str("out of memory"),
-        }
+        write!(f, "{}{}{}", self.before(), self.words(), self.behind())
+    }
+}
+
+/// What the line says, as `Display` has it.
+impl fmt::Debug for Fault {
+    ghost use Rattle.std.specs.Prelude.{Some};
+    ghost use Rattle.ee_faults.specs.Fault.{cause};
+
+    ghost debug_output = { λ fault. Some (cause fault) };
+
+    fn fmt<W: fmt::Write>(&self, f: &mut fmt::Formatter<W>) -> fmt::Result {
+        fmt::Display::fmt(self, f)
     }
 }
 
@@ -202,6 +173,97 @@ impl fmt::Debug for Fault {
 impl Error for Fault {}
 
 impl Fault {
+    /// What stands before the words of its line.
+    fn before(&self) -> Beside
+        ensures { result ≡ before self.now }
+    {
+        match *self {
+            Fault::TooLong(file) | Fault::BadLine { file, .. } | Fault::BadShape(file) => {
+                Beside::File(file)
+            }
+            Fault::BadName(entry)
+            | Fault::BadField(entry)
+            | Fault::BadRange(entry)
+            | Fault::SameAddress(entry) => Beside::Entry(File::Settings, entry),
+            Fault::BadValue(entry)
+            | Fault::UnknownValue(entry)
+            | Fault::ValueOutOfRange { entry, .. }
+            | Fault::FullAt(entry)
+            | Fault::SpentAt(entry) => Beside::Entry(File::Values, entry),
+            _ => Beside::Nothing,
+        }
+    }
+
+    /// The words of its line, with the spaces that keep them apart from what stands beside them.
+    #[tactic(auto, unfolding(crate::specs::Beside::AreLineWords))]
+    fn words(&self) -> &'static str
+        ensures { AreLineWords self.now result.now }
+    {
+        match self {
+            Fault::CannotRead(_) => "cannot read ",
+            Fault::TooLong(_) => " too long",
+            Fault::CannotWriteImage => "cannot write image",
+            Fault::ImageChanged => "image changed",
+            Fault::CannotWriteDump => "cannot write dump",
+            Fault::CannotWriteOutput => "cannot write output",
+            Fault::BadLine { .. } => " line ",
+            Fault::BadShape(_) => " shape",
+            Fault::Unformatted => "image unformatted",
+            Fault::NoLiveSet => "image no live set",
+            Fault::TwoLive => "image two live sets",
+            Fault::Foreign { .. } => "image foreign word ",
+            Fault::SettingsText => "settings text",
+            Fault::BadName(_) => " bad name",
+            Fault::BadField(_) | Fault::BadValue(_) => " bad field",
+            Fault::BadRange(_) => " bad range",
+            Fault::SameAddress(_) => " same address",
+            Fault::UnknownName => "unknown name",
+            Fault::OutOfRange { .. } => "out of range ",
+            Fault::Full => "full",
+            Fault::Spent => "spent",
+            Fault::NotFitting(_) => "not fitting ",
+            Fault::WrongStart => "wrong start",
+            Fault::NotRising(_) => "not rising ",
+            Fault::WrongFrom(_) => "wrong from ",
+            Fault::NotForced(_) => "not forced ",
+            Fault::OtherShape => "other shape",
+            Fault::Backwards(_) => "wear backwards ",
+            Fault::NoSizeEnough => "no size is enough",
+            Fault::DumpLength => "dump length",
+            Fault::LowPair { .. } => "dump pair ",
+            Fault::TornWord { .. } => "torn word ",
+            Fault::Base => "base",
+            Fault::ValuesText => "values text",
+            Fault::UnknownValue(_) => " unknown name",
+            Fault::ValueOutOfRange { .. } => " out of range ",
+            Fault::FullAt(_) => " full",
+            Fault::SpentAt(_) => " spent",
+            Fault::Memory => "out of memory",
+        }
+    }
+
+    /// What stands behind the words of its line.
+    fn behind(&self) -> Beside
+        ensures { result ≡ behind self.now }
+    {
+        match *self {
+            Fault::CannotRead(file) => Beside::File(file),
+            Fault::BadLine { line: number, .. }
+            | Fault::NotFitting(number)
+            | Fault::NotRising(number)
+            | Fault::WrongFrom(number)
+            | Fault::NotForced(number) => Beside::Number(number),
+            Fault::Backwards(page) => Beside::Number(page as u64),
+            Fault::Foreign { page, at }
+            | Fault::LowPair { page, at }
+            | Fault::TornWord { page, at } => Beside::Numbers(page as u64, at as u64),
+            Fault::OutOfRange { min, max } | Fault::ValueOutOfRange { min, max, .. } => {
+                Beside::Numbers(min as u64, max as u64)
+            }
+            _ => Beside::Nothing,
+        }
+    }
+
     /// The fault of a file that can't be read whole.
     pub fn reading(file: File, fault: ReadFault) -> Fault
         ensures { result ≡ fault_of_read file fault }

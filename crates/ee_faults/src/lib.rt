@@ -10,6 +10,7 @@
 //! `fault_line`, `status_of` and the conversions to `Fault` are the table of faults.
 #![tactic(auto)]
 
+mod beside;
 mod fault;
 mod replay_fault;
 
