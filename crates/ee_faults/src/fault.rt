@@ -158,18 +158,6 @@ impl fmt::Debug for Fault {
     }
 }
 
-/// What the line says, as `Display` has it.
-impl fmt::Debug for Fault {
-    ghost use Rattle.std.specs.Prelude.{Some};
-    ghost use Rattle.ee_faults.specs.Fault.{cause};
-
-    ghost debug_output = { λ fault. Some (cause fault) };
-
-    fn fmt<W: fmt::Write>(&self, f: &mut fmt::Formatter<W>) -> fmt::Result {
-        fmt::Display::fmt(self, f)
-    }
-}
-
 impl Error for Fault {}
 
 impl Fault {

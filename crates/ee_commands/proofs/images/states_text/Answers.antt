@@ -20,7 +20,4 @@ pub returns-in-Err-clause-names : goal.returns-in-Err-clause-names
 returns-in-Err-clause-names g c = search (rules, reading_named)
 
 pub returns-clause-names : goal.returns-clause-names
-returns-clause-names g c = λ cause some applies.
-    let formed = formed_of c.in-Ok.flash in
-    reading_good c.args.image.now (device_of c.in-Ok.flash) cause
-    (record { formed = formed; text_is = c.in-Ok.ensures.found }) some applies
+returns-clause-names g c = search (rules, formed_of, reading_good)

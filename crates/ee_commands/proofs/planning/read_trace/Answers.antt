@@ -1,4 +1,4 @@
-use Rattle.std.proofs.Common.{arith, sym, ◌∙◌}
+use Rattle.std.proofs.Common.{rules, arith, sym, ◌∙◌}
 use Rattle.ee_commands.proofs.Traces.{all_read, bad_line, goes_on, line_is_longer, nothing_left, nothing_read, one_line_more, some_left}
 use Rattle.ee_commands.proofs.planning.read_trace.Goals as goal
 
@@ -17,13 +17,7 @@ pub lines-smaller : goal.lines-smaller
 lines-smaller g c = let longer = line_is_longer c.lines.rest.now c.in-Some.more.now c.in-Some.command c.in-Some.ensures.found.1 in omega arith
 
 pub lines-preserved : goal.lines-preserved
-lines-preserved g c =
-    let longer = line_is_longer c.lines.rest.now c.in-Some.more.now c.in-Some.command c.in-Some.ensures.found.1 in
-    record {
-      read = one_line_more c.args.script.now c.lines.rest.now c.in-Some.more.now c.lines.trace.items _ c.lines.line _ c.in-Some.command c.lines.invariant.read
-          (omega arith) c.in-Some.ensures.found c.in_ok-push_change.ensures;
-      counted = omega arith;
-    }
+lines-preserved g c = search (rules, line_is_longer, one_line_more)
 
 pub returns-clause-trace : goal.returns-clause-trace
 returns-clause-trace g c =
