@@ -1,5 +1,5 @@
 -- The lists of a batch: what is moved in them, and what they say together.
-use Rattle.std.proofs.Common.{◌≡◌, inl, inr, ℕ, ◌+◌, ◌<◌, ◌≤◌, true, false, Bool, Option, Some, None, List, [], ◌∷◌, ◌++◌, length, take, drop, get_or, set, is_some, refl, sym, subst, ap, ◌∙◌, arith, suc, zero}
+use Rattle.std.proofs.Common.{rules, ◌≡◌, inl, inr, ℕ, ◌+◌, ◌<◌, ◌≤◌, true, false, Bool, Option, Some, None, List, [], ◌∷◌, ◌++◌, length, take, drop, get_or, set, is_some, refl, sym, subst, ap, ◌∙◌, arith, suc, zero}
 use Rattle.std.proofs.lemmas.Bool.{cases_lt}
 use Rattle.std.proofs.lemmas.Grind.{drop_more_same}
 use Rattle.std.proofs.lemmas.List.{append-nil, drop-set-lt, get_or-drop, get_or_default, length-take, take_all, take_more_set}
@@ -55,11 +55,7 @@ set-with_said (first ∷ items) (false ∷ lives) (suc place) item live = ap (λ
 
 -- what is said of an address of the batch is said anew
 pub said_anew : (count : ℕ) (items : List (ℕ × ℕ)) (lives : List Bool) (place address : ℕ) (said : Option ℕ) → with_said (take count (set items place (address, unwrap_or said 0))) (take count (set lives place (is_some said))) ≡ set (with_said (take count items) (take count lives)) place (address, said)
-said_anew count items lives place address said =
-    ap (λ (l : List (ℕ × ℕ)). with_said l (take count (set lives place (is_some said)))) (take_of_set count items place (address, unwrap_or said 0))
-    ∙ ap (λ (l : List Bool). with_said (set (take count items) place (address, unwrap_or said 0)) l) (take_of_set count lives place (is_some said))
-    ∙ set-with_said (take count items) (take count lives) place (address, unwrap_or said 0) (is_some said)
-    ∙ ap (λ (new : Named). set (with_said (take count items) (take count lives)) place new) (entry_of address said)
+said_anew count items lives place address said = search (rules, take_of_set, set-with_said, entry_of)
 
 get-with_said : (items : List (ℕ × ℕ)) (lives : List Bool) (place : ℕ) (none : Named) (default : ℕ × ℕ) → length lives ≡ length items → place < length items → (get_or (with_said items lives) place none).0 ≡ (get_or items place default).0
 get-with_said [] lives place none default same within = absurd (omega (arith, within))

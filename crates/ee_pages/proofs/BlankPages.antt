@@ -1,7 +1,7 @@
 -- How many pages of a set are not blank after a step in it, and where every slot is written.
 use Rattle.ee_flash.specs.Size.{slot_count}
 use Rattle.ee_pages.specs.Legal.{IsLive}
-use Rattle.std.proofs.Common.{◌≡◌, inl, inr, ℕ, ◌+◌, ◌-◌, ◌*◌, ◌<◌, ◌≤◌, Bool, true, false, not, cond, List, [], ◌∷◌, length, get_or, set, replicate, refl, sym, ap, ◌∙◌, arith, suc, ◌⊎◌}
+use Rattle.std.proofs.Common.{rules, ◌≡◌, inl, inr, ℕ, ◌+◌, ◌-◌, ◌*◌, ◌<◌, ◌≤◌, Bool, true, false, not, cond, List, [], ◌∷◌, length, get_or, set, replicate, refl, sym, ap, ◌∙◌, arith, suc, ◌⊎◌}
 use Rattle.std.specs.List.{filter}
 use Rattle.std.proofs.lemmas.Bool.{cases_Bool}
 use Rattle.std.proofs.lemmas.List.{get_or-replicate, get_or-set_same, length-replicate}
@@ -29,11 +29,7 @@ abbrev counts : List Word → ℕ
 counts page = cond (not (is_blank page)) 1 0
 
 replaced : (pages : List (List Word)) (k : ℕ) (page : List Word) → k < length pages → pending_of (set pages k page) + counts (get_or pages k []) ≡ pending_of pages + counts page
-replaced pages k page h =
-    let before = length-filter (λ (words : List Word). not (is_blank words)) pages in
-    let after = length-filter (λ (words : List Word). not (is_blank words)) (set pages k page) in
-    let moved = sum_by-set counts pages k page [] h in
-    omega (arith, before, after, moved)
+replaced pages k page h = search (rules, length-filter, sum_by-set)
 
 after_step : (step : Step) (old new : Device) (side : Side) → IsPageOf old.size side (page_of step) → IsStep step old new → pending_of (set_of side new) + counts (page_at old (page_of step)) ≡ pending_of (set_of side old) + counts (page_at new (page_of step))
 after_step step old new side of taken =

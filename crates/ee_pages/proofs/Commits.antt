@@ -1,5 +1,5 @@
 -- The commit of a set that a transfer filled.
-use Rattle.std.proofs.Common.{◌≡◌, ◌⊎◌, inl, inr, ℕ, ◌+◌, ◌<◌, true, false, cond, Option, Some, None, List, [], length, get_or, nat_lt, set, refl, sym, ap, ◌∙◌, arith}
+use Rattle.std.proofs.Common.{rules, ◌≡◌, ◌⊎◌, inl, inr, ℕ, ◌+◌, ◌<◌, true, false, cond, Option, Some, None, List, [], length, get_or, nat_lt, set, refl, sym, ap, ◌∙◌, arith}
 use Rattle.std.proofs.lemmas.Bool.{cases_eq}
 use Rattle.std.proofs.lemmas.Grind.{common_steps}
 use Rattle.std.proofs.lemmas.List.{get_or-set_other, get_or-set_same}
@@ -97,14 +97,7 @@ mark_allowed size generation pages page at some long before =
 module _ (old new : Device) (side : Side) (formed : IsFormed old) (differs : DiffersInPage (first_page old.size side) old new) where
   -- the set's pages, where the first one has a word in that place
   pub set_marked : (word : Word) → new.image ≡ set old.image (first_page old.size side) (set (page_at old (first_page old.size side)) 1 word) → set_of side new ≡ marked (set_of side old) word
-  set_marked word is =
-      let page = first_page old.size side in
-      let at : page ≡ first_page old.size side + 0 = omega arith in
-      let first = page_of_set side old page 0 at formed.within_limits.some_pages in
-      let there : page_at new page ≡ set (page_at old page) 1 word =
-      ap (λ (image : List (List Word)). get_or image page []) is ∙ get_or-set_same old.image page (set (page_at old page) 1 word) [] (first_in_range side old formed) in
-      own_set side old new page 0 differs at formed.within_limits.some_pages
-      ∙ ap (set (set_of side old) 0) (there ∙ ap (λ (words : List Word). set words 1 word) (sym first))
+  set_marked word is = search (rules, page_of_set, get_or-set_same, first_in_range, own_set)
 
 pub first_in_set : (side : Side) (device : Device) → IsFormed device → IsPageOf device.size side (first_page device.size side)
 first_in_set side device formed = record { from = omega arith; below = omega (arith, formed.within_limits.some_pages) }
@@ -123,11 +116,7 @@ module _ (old new : Device) (side : Side) (generation count : ℕ) (live : IsLiv
   some = omega (arith, length-set_of (other side) old taken.formed, taken.formed.within_limits.some_pages)
 
   long : 1 < length (get_or (set_of (other side) old) 0 [])
-  long =
-      let at : first_page old.size (other side) ≡ first_page old.size (other side) + 0 = omega arith in
-      let same = page_of_set (other side) old (first_page old.size (other side)) 0 at taken.formed.within_limits.some_pages in
-      let count = length-page_at old (first_page old.size (other side)) taken.formed taken.may.0 in
-      omega (arith, ap length same, count, taken.formed.within_limits.some_words)
+  long = search (rules, page_of_set, length-page_at)
 
   -- the whole mark
   commits_whole : new.image ≡ (device_after (marking (first_page old.size (other side)) Active) old).image → IsCommitted old new (other side) (generation + 1)

@@ -1,5 +1,5 @@
 -- Addresses in their order: the next live one, and how many there are.
-use Rattle.std.proofs.Common.{◌≡◌, ℕ, ◌+◌, ◌-◌, ◌<◌, ◌≤◌, Some, None, List, [], ◌∷◌, length, is_some, cond, refl, subst, ap, ◌∙◌, arith, suc, zero}
+use Rattle.std.proofs.Common.{rules, ◌≡◌, ℕ, ◌+◌, ◌-◌, ◌<◌, ◌≤◌, Some, None, List, [], ◌∷◌, length, is_some, cond, refl, subst, ap, ◌∙◌, arith, suc, zero}
 use Rattle.std.proofs.lemmas.List.Elements.{All-head, All-tail}
 use Rattle.std.specs.List.{All}
 use Rattle.ee_codec.specs.Words.{IsAddress}
@@ -60,13 +60,7 @@ last_below (first ∷ more) above below proper =
 -- what a count that goes over batches is after one
 module _ (map : Map) (found : List (ℕ × ℕ)) (above count : ℕ) (counted : count ≡ live_to map above) where
   pub counted_through : (to : ℕ) → AreLiveThrough map above found (Some to) → count + length found ≡ live_to map to
-  counted_through to batch =
-      let more = live_to-batch map found above batch.next in
-      let rest = gap_to map (last_of above found) to batch.rest.0 batch.rest.1 in
-      omega (arith, counted, more, rest)
+  counted_through to batch = search (rules, live_to-batch, gap_to)
 
   pub counted_all : above < 65535 → All (λ (one : ℕ × ℕ). IsAddress one.0) found → AreLiveThrough map above found None → count + length found ≡ live_to map 65534
-  counted_all below proper batch =
-      let more = live_to-batch map found above batch.next in
-      let rest = live_to-end map (last_of above found) (last_below found above below proper) batch.rest in
-      omega (arith, counted, more, rest)
+  counted_all below proper batch = search (rules, live_to-batch, live_to-end, last_below)

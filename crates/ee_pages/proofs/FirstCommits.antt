@@ -1,5 +1,5 @@
 -- The commit of a set where the other one is not committed.
-use Rattle.std.proofs.Common.{◌≡◌, ℕ, ◌+◌, ◌<◌, Some, None, List, length, get_or, [], refl, subst, sym, ap, ◌∙◌, arith}
+use Rattle.std.proofs.Common.{rules, ◌≡◌, ℕ, ◌<◌, Some, None, List, length, get_or, [], refl, ap, ◌∙◌, arith}
 use Rattle.ee_flash.specs.Device.{Device}
 use Rattle.ee_flash.specs.Laws.{DiffersInPage, IsStep}
 use Rattle.ee_flash.specs.Step.{device_after}
@@ -10,7 +10,6 @@ use Rattle.ee_codec.proofs.Public.{receive_of-receive}
 use Rattle.ee_codec.specs.Reading.{receive_of}
 use Rattle.ee_codec.specs.Words.{mark_number, IsGeneration}
 use Rattle.ee_pages.specs.Filling.{IsCommitted, IsFilling}
-use Rattle.ee_pages.specs.Laws.{IsPageOf}
 use Rattle.ee_pages.specs.Legal.{is_allowed_at}
 use Rattle.ee_pages.specs.Page.{marking}
 use Rattle.ee_pages.specs.Sets.{committed_generation, first_page, live_of, other, set_of, slots_of}
@@ -36,20 +35,13 @@ module _ (old new : Device) (side : Side) (generation count : ℕ) (filling : Is
   differs = step_changes_one_page (marking (first_page old.size side) Active) old new taken
 
   pub other_set_stays : set_of (other side) new ≡ set_of (other side) old
-  other_set_stays =
-      let at : IsPageOf old.size (other (other side)) (first_page old.size side) =
-      subst (λ set. IsPageOf old.size set (first_page old.size side)) (sym (other_twice side)) (first_in_set side old taken.formed) in
-      same_set (other side) old new (first_page old.size side) differs at
+  other_set_stays = search (rules, other_twice, first_in_set, same_set, differs)
 
   some_pages : 0 < length (set_of side old)
   some_pages = omega (arith, length-set_of side old taken.formed, taken.formed.within_limits.some_pages)
 
   long : 1 < length (get_or (set_of side old) 0 [])
-  long =
-      let at : first_page old.size side ≡ first_page old.size side + 0 = omega arith in
-      let same = page_of_set side old (first_page old.size side) 0 at taken.formed.within_limits.some_pages in
-      let count = length-page_at old (first_page old.size side) taken.formed taken.may.0 in
-      omega (arith, ap length same, count, taken.formed.within_limits.some_words)
+  long = search (rules, page_of_set, length-page_at)
 
   pub first_commits : new.image ≡ (device_after (marking (first_page old.size side) Active) old).image → IsCommitted old new side generation
   first_commits is =

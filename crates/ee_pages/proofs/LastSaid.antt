@@ -1,5 +1,5 @@
 -- What the last slots say.
-use Rattle.std.proofs.Common.{◌≡◌, ℕ, ◌+◌, ◌-◌, ◌*◌, ◌%◌, ◌<◌, ◌≤◌, Option, Some, None, false, List, [], ◌∷◌, length, take, drop, ◌++◌, get_or, refl, sym, ap, ◌∙◌, arith, suc, zero}
+use Rattle.std.proofs.Common.{rules, ◌≡◌, ℕ, ◌+◌, ◌-◌, ◌*◌, ◌<◌, ◌≤◌, Option, Some, None, false, List, [], ◌∷◌, length, take, drop, ◌++◌, get_or, refl, sym, ap, ◌∙◌, arith, suc, zero}
 use Rattle.std.proofs.Math.Nat.{div-mul-le_self}
 use Rattle.std.proofs.Math.Seq.{drop-cons}
 use Rattle.std.proofs.lemmas.List.{drop_all, get_or-drop, get_or-take, length-drop, length-take, length-take-le}
@@ -76,12 +76,7 @@ module _ (start count : ℕ) (words : List Word) (address : ℕ) (within : start
 
   -- one word of the row more, where `left` were not yet looked at
   pub one_lower : (left : ℕ) → 0 < left → left ≤ count → latest_in (drop left (take count (drop start words))) address ≡ None → latest_in (drop (left - 1) (take count (drop start words))) address ≡ says (get_or words (start + (left - 1)) Erased) address
-  one_lower left some h silent =
-      let e : left - 1 + 1 ≡ left = omega arith in
-      latest_in-step (left - 1) (take count (drop start words)) address (omega (arith, length-row))
-      ∙ ap (λ n. later (says (get_or (take count (drop start words)) (left - 1) Erased) address) (latest_in (drop n (take count (drop start words))) address)) e
-      ∙ ap (later (says (get_or (take count (drop start words)) (left - 1) Erased) address)) silent
-      ∙ ap (λ (word : Word). says word address) (get_or-row (left - 1) (omega arith))
+  one_lower left some h silent = search (rules, latest_in-step, length-row, get_or-row)
 
   -- what the last word of the row that says something says
   pub newest : (left : ℕ) (said : Option ℕ) → 0 < left → left ≤ count → latest_in (drop left (take count (drop start words))) address ≡ None → says (get_or words (start + (left - 1)) Erased) address ≡ Some said → latest_in (take count (drop start words)) address ≡ Some said
@@ -114,7 +109,4 @@ module _ (device : Device) (layout : Layout) (found : IsLayout device layout) wh
   last_from = omega (arith, div-mul-le_self (layout.fill - 1) (device.size.words - 4))
 
   pub last_to : layout.fill ≤ (page_of_slot device.size (layout.fill - 1) + 1) * (device.size.words - 4)
-  last_to =
-      let some : 0 < device.size.words - 4 = omega (arith, found.live.formed.within_limits.some_words) in
-      let within : (layout.fill - 1) % (device.size.words - 4) < device.size.words - 4 = omega (arith, some) in
-      omega (arith, within, split_by (layout.fill - 1) (device.size.words - 4))
+  last_to = search (rules, split_by)

@@ -2,7 +2,7 @@
 use Rattle.ee_pages.specs.Page.{marking}
 use Rattle.ee_pages.specs.declared.state.Mark.{Mark}
 use Rattle.ee_flash.specs.Size.{slot_count}
-use Rattle.std.proofs.Common.{◌≡◌, ◌≢◌, ◌⊎◌, inl, inr, ℕ, ◌+◌, ◌-◌, ◌*◌, ◌<◌, ◌≤◌, true, Some, None, List, set, refl, sym, subst, ap, ◌∙◌, arith, slice_set}
+use Rattle.std.proofs.Common.{rules, ◌≡◌, ◌≢◌, ◌⊎◌, inl, inr, ℕ, ◌+◌, ◌-◌, ◌*◌, ◌<◌, ◌≤◌, true, Some, None, List, set, refl, sym, subst, ap, ◌∙◌, arith, slice_set}
 use Rattle.ee_flash.specs.Device.{Device, IsFormed}
 use Rattle.ee_flash.specs.Laws.{IsStep}
 use Rattle.ee_flash.specs.Step.{Program, device_after}
@@ -32,32 +32,17 @@ same_commit old new receive mark = rw (receive, mark) refl
 module _ (side : Side) (old new : Device) (generation : ℕ) (live : IsLive old side generation) (formed : IsFormed new) (sizes : new.size ≡ old.size) (apart : set_of (other side) new ≡ set_of (other side) old) where
   -- the set is live still, if its first page commits it as before and the table is obeyed
   live_after : committed_generation (set_of side new) ≡ committed_generation (set_of side old) → IsObeyed old.size generation (set_of side new) → IsLive new side generation
-  live_after commit obeyed = record {
-    formed = formed;
-    live = same_live side old new commit apart ∙ live.live;
-    allowed = subst (λ size. IsObeyed size generation (set_of side new)) (sym sizes) obeyed;
-  }
+  live_after commit obeyed = search (rules, same_live, IsObeyed)
 
   -- and then it is as it was, if its slots are
   keeps : committed_generation (set_of side new) ≡ committed_generation (set_of side old) → IsObeyed old.size generation (set_of side new) → slots_of (set_of side new) ≡ slots_of (set_of side old) → KeepsLiveSet old new side generation
-  keeps commit obeyed same = record {
-    live = live_after commit obeyed;
-    same_size = sizes;
-    same_slots = same;
-    same_fill = ap fill_of same;
-    same_map = λ address. ap (λ slots. meaning slots address) same;
-  }
+  keeps commit obeyed same = search (rules, live_after)
 
   keeps_same : set_of side new ≡ set_of side old → KeepsLiveSet old new side generation
   keeps_same same = keeps (ap committed_generation same) (subst (IsObeyed old.size generation) (sym same) live.allowed) (ap slots_of same)
 
   takes : (slot : ℕ) (word : Word) (map : Map) → IsSlotWritten old generation slot word (set_of side old) (set_of side new) → ((address : ℕ) → meaning (slots_of (set_of side new)) address ≡ map address) → TakesSlot old new side generation map
-  takes slot word map written means = record {
-    live = live_after (same_commit (set_of side old) (set_of side new) (written.headers 0 0 (omega arith)) (written.headers 0 1 (omega arith))) written.obeyed;
-    same_size = sizes;
-    one_more = omega (arith, written.one_more);
-    map_is = means;
-  }
+  takes slot word map written means = search (rules, live_after, same_commit)
 
 pub whole_push_takes : (change : Change) (number : ℕ) (old new : Device) (side : Side) (generation : ℕ) → IsLive old side generation
     → let slots = slots_of (set_of side old) in fill_of slots < slot_count old.size → SpellsChange number change

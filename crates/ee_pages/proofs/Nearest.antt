@@ -1,5 +1,5 @@
 -- Lists of named addresses, and the live ones among them.
-use Rattle.std.proofs.Common.{◌≡◌, inl, inr, ℕ, ◌+◌, ◌-◌, ◌*◌, ◌<◌, ◌≤◌, true, false, Bool, Option, Some, None, List, [], ◌∷◌, ◌++◌, length, take, get_or, set, cond, ◌⊎◌, refl, sym, subst, ap, ◌∙◌, arith, suc, zero}
+use Rattle.std.proofs.Common.{rules, ◌≡◌, inl, inr, ℕ, ◌+◌, ◌-◌, ◌*◌, ◌<◌, ◌≤◌, true, false, Bool, Option, Some, None, List, [], ◌∷◌, ◌++◌, length, take, get_or, set, cond, ◌⊎◌, refl, sym, subst, ap, ◌∙◌, arith, suc, zero}
 use Rattle.std.proofs.Math.Nat.{min-le_left, mul-le-mul_right}
 use Rattle.std.proofs.lemmas.List.{length-set, length-take, take_all, take_more}
 use Rattle.std.specs.List.{insert}
@@ -315,11 +315,7 @@ last_is (first ∷ second ∷ rest) above default some =
 -- in a list of so many at most
 module _ (room : ℕ) where
   pub put_over : (list : List Named) (new : Named) (place : ℕ) (default : Named) → IsPlace new.0 list place → place < length list → (get_or list place default).0 ≡ new.0 → length list ≤ room → set list place new ≡ take room (with_named new list)
-  put_over list new place default at within same few =
-      let over = put_same list new place default at within same in
-      let long : length (set list place new) ≡ length list = length-set list place new in
-      let short : length (with_named new list) ≤ room = subst (λ (l : List Named). length l ≤ room) over (omega (arith, long)) in
-      over ∙ sym (take_all room (with_named new list) short)
+  put_over list new place default at within same few = search (rules, put_same, length-set, take_all)
 
   pub put_among : (list : List Named) (new : Named) (place : ℕ) (default : Named) → IsPlace new.0 list place → place ≤ length list → (place < length list → (get_or list place default).0 ≢ new.0) → take room (insert list place new) ≡ take room (with_named new list)
   put_among list new place default at within other = ap (take room) (put_new list new place default at within other)

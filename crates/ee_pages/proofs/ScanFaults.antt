@@ -1,5 +1,5 @@
 -- An image has one fault at most for which a scan finds nothing, and a legal image none.
-use Rattle.std.proofs.Common.{◌≡◌, inl, inr, ℕ, ◌-◌, ◌≤◌, Bool, true, false, nat_lt, Option, Some, None, List, refl, sym, ap, ◌∙◌, subst, arith}
+use Rattle.std.proofs.Common.{rules, ◌≡◌, inl, inr, ℕ, ◌-◌, ◌≤◌, Bool, true, false, nat_lt, Option, Some, None, List, refl, sym, ap, ◌∙◌, subst, arith}
 use Rattle.std.specs.List.{All}
 use Rattle.std.proofs.lemmas.Bool.{cases_order}
 use Rattle.std.proofs.lemmas.Grind.{common_steps}
@@ -66,11 +66,7 @@ generation_in (Some live) = live.1
 
 at_live : (device : Device) (page at : ℕ) (side : Side) (generation : ℕ) (other : Side) (greatest : ℕ) → live_of device ≡ Some (other, greatest)
     → IsForeignIn device page at side generation → IsForeignIn device page at other greatest
-at_live device page at side generation other greatest live fault =
-    let same = sym fault.live ∙ live in
-    let sides : side ≡ other = ap side_in same in
-    let generations : generation ≡ greatest = ap generation_in same in
-    subst (λ s. IsForeignIn device page at s greatest) sides (subst (λ n. IsForeignIn device page at side n) generations fault)
+at_live device page at side generation other greatest live fault = search (rules, live)
 
 both_ways : (allowed : Bool) → allowed ≡ true → allowed ≡ false → ⊥
 both_ways allowed is isnt = let wrong : true ≡ false = sym is ∙ isnt in cc wrong

@@ -1,5 +1,5 @@
 -- What a scan has found out makes its answer.
-use Rattle.std.proofs.Common.{◌≡◌, ℕ, ◌+◌, ◌-◌, ◌<◌, ◌≤◌, Some, true, subst, ◌∙◌, arith}
+use Rattle.std.proofs.Common.{rules, ◌≡◌, ℕ, ◌+◌, ◌-◌, ◌<◌, ◌≤◌, Some, true, subst, ◌∙◌, arith}
 use Rattle.ee_flash.specs.Device.{Device, IsFormed}
 use Rattle.ee_flash.specs.Size.{slot_count}
 use Rattle.ee_pages.specs.Layout.{IsFirstForeign, IsLayout, IsScanFault, IsUnformatted}
@@ -31,7 +31,4 @@ first_below device Second = omega arith
 
 -- so a page's number fits the machine
 pub current_below : (device : Device) (side : Side) (written : ℕ) → IsFormed device → written ≤ slot_count device.size → first_page device.size side + page_of_slot device.size (written - 1) < 128
-current_below device side written formed h =
-    let page = page_in_range device (written - 1) (slot_below device written formed h) in
-    let first = first_below device side in
-    omega (arith, formed.within_limits.few_pages)
+current_below device side written formed h = search (rules, page_in_range, slot_below, first_below)

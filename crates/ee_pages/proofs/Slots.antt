@@ -1,5 +1,5 @@
 -- Where the slots of a set stand.
-use Rattle.std.proofs.Common.{◌≡◌, ℕ, ◌+◌, ◌-◌, ◌*◌, ◌<◌, ◌≤◌, ◌/◌, ◌%◌, List, [], ◌∷◌, length, take, drop, get_or, sym, subst, ap, ◌∙◌, arith, suc}
+use Rattle.std.proofs.Common.{rules, ◌≡◌, ℕ, ◌+◌, ◌-◌, ◌*◌, ◌<◌, ◌≤◌, ◌/◌, ◌%◌, List, [], ◌∷◌, length, take, drop, get_or, sym, subst, ap, ◌∙◌, arith, suc}
 use Rattle.std.specs.List.{All}
 use Rattle.std.proofs.lemmas.List.{length-take-le, length-drop, length-append, get_or-drop}
 use Rattle.std.proofs.lemmas.List.Concat.{get_or-flat_map}
@@ -54,16 +54,10 @@ pub page_in_range : (device : Device) (slot : ℕ) → slot < slot_count device.
 page_in_range device slot h = row_of slot (device.size.words - 4) device.size.pages h
 
 pub slot_below : (device : Device) (slot : ℕ) → IsFormed device → slot ≤ slot_count device.size → slot - 1 < slot_count device.size
-slot_below device slot formed h =
-    let some : 1 ≤ device.size.words - 4 = omega (arith, formed.within_limits.some_words) in
-    let product = mul-le-mul_left device.size.pages some in
-    omega (arith, product, formed.within_limits.some_pages)
+slot_below device slot formed h = search (rules, mul-le-mul_left)
 
 pub place_in_range : (device : Device) (slot : ℕ) → IsFormed device → place_of_slot device.size slot < device.size.words
-place_in_range device slot formed =
-    let some : 0 < device.size.words - 4 = omega (arith, formed.within_limits.some_words) in
-    let within : slot % (device.size.words - 4) < device.size.words - 4 = omega (arith, some) in
-    omega arith
+place_in_range device slot formed = search rules
 
 -- a slot of a device's set, by its number
 pub slot_at : (side : Side) (device : Device) (slot : ℕ) → IsFormed device → slot < slot_count device.size → get_or (slots_of (set_of side device)) slot Erased ≡ word_of (set_of side device) (page_of_slot device.size slot) (place_of_slot device.size slot)

@@ -1,16 +1,10 @@
-use Rattle.std.proofs.Common.{ap, arith, ◌≡◌, ◌+◌, ◌-◌, ◌/◌}
+use Rattle.std.proofs.Common.{rules, ap, ◌≡◌, ◌+◌, ◌-◌, ◌/◌}
 use Rattle.ee_pages.specs.Sets.{first_page, page_of_slot}
 use Rattle.ee_pages.proofs.Scans.{current_below, foreign_fault, layout_found}
 use Rattle.ee_pages.proofs.find.scan.Goals as goal
 
 pub overflow_add-result-in-None : goal.overflow_add-result-in-None
-overflow_add-result-in-None g c =
-    let device = g.F.Flash.device c.args.flash.now in
-    let below = current_below device c.in_ok-side.side c.count_front-written.result (g.met.F.Flash.formed c.args.flash.now) c.count_front-written.ensures.within in
-    let words = ap (λ size. size.words) c.shape.ensures in
-    let same : c.first_page-start.result + c.saturating_sub.result / (c.words.result - 4) ≡ first_page device.size c.in_ok-side.side + page_of_slot device.size (c.count_front-written.result - 1) =
-    cc (words, c.first_page-start.ensures, c.saturating_sub.ensures, c.words.ensures.value) in
-    omega (arith, below, same)
+overflow_add-result-in-None g c = search (rules, current_below)
 
 pub returns-in-Some-clause-fault : goal.returns-in-Some-clause-fault
 returns-in-Some-clause-fault g c =

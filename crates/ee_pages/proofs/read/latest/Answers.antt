@@ -1,27 +1,15 @@
-use Rattle.std.proofs.Common.{ap, arith, rules, sym, ◌∙◌, ◌≡◌, ◌≤◌, ◌+◌, ◌-◌, ◌*◌, Some, None, drop, take}
+use Rattle.std.proofs.Common.{ap, arith, rules, sym, ◌∙◌, ◌≡◌, ◌≤◌, ◌-◌, ◌*◌, Some, None, drop, take}
 use Rattle.std.proofs.Math.Nat.{mul-le-mul_right}
 use Rattle.ee_pages.specs.Meaning.{latest_in, value_said}
-use Rattle.ee_pages.specs.Sets.{page_of_slot, set_of, slots_of}
+use Rattle.ee_pages.specs.Sets.{set_of, slots_of}
 use Rattle.ee_pages.proofs.LastSaid.{last_from, last_in_range, last_page, last_to, latest_in-drop, latest_in-row, silent_behind}
 use Rattle.ee_pages.proofs.read.latest.Goals as goal
 
 pub loop-page-init : goal.loop-page-init
-loop-page-init g c =
-    let device = g.F.Flash.device c.args.flash.now in
-    let layout = c.args.layout.now in
-    let last = last_page device layout c.requires c.first_page.result c.first_page.ensures in
-    let before_last : layout.current - c.first_page.result + 1 - 1 ≡ page_of_slot device.size (layout.fill - 1) = omega (arith, last) in
-    record {
-      from = rw before_last (last_from device layout c.requires);
-      to = rw last (last_to device layout c.requires);
-      silent = silent_behind device layout c.requires c.args.address;
-    }
+loop-page-init g c = search (rules, last_page, last_from, last_to, silent_behind)
 
 pub said_in_page-requires-clause-page_in_range : goal.said_in_page-requires-clause-page_in_range
-said_in_page-requires-clause-page_in_range g c =
-    let device = g.F.Flash.device c.args.flash.now in
-    let last = last_page device c.args.layout.now c.requires c.first_page.result c.first_page.ensures in
-    omega (arith, last, last_in_range device c.args.layout.now c.requires)
+said_in_page-requires-clause-page_in_range g c = search (rules, last_page, last_in_range)
 
 pub returns-in-Some : goal.returns-in-Some
 returns-in-Some g c =

@@ -1,4 +1,4 @@
-use Rattle.std.proofs.Common.{Option, subst, sym, ℕ, arith}
+use Rattle.std.proofs.Common.{rules, Option, subst, ℕ, arith}
 use Rattle.ee_pages.specs.Meaning.{meaning}
 use Rattle.ee_pages.specs.LiveOrder.{AreLiveThrough, above_of}
 use Rattle.ee_pages.specs.Sets.{set_of, slots_of}
@@ -6,12 +6,7 @@ use Rattle.ee_pages.proofs.Counts.{counted_all, counted_through, last_rises, liv
 use Rattle.ee_pages.proofs.read.live_count.Goals as goal
 
 pub live-init : goal.live-init
-live-init g c =
-    let map = meaning (slots_of (set_of c.args.layout.now.side (g.F.Flash.device c.args.flash.now))) in
-    record {
-      few = omega arith;
-      count = sym (live_to-zero map);
-    }
+live-init g c = search (rules, live_to-zero)
 
 pub live-preserved : goal.live-preserved
 live-preserved g c =

@@ -1,5 +1,4 @@
-use Rattle.std.proofs.Common.{arith, rules, sym, subst, ◌∙◌, ◌≡◌, ◌-◌, ◌*◌, None, drop, take}
-use Rattle.ee_pages.specs.Meaning.{latest_in}
+use Rattle.std.proofs.Common.{arith, rules, sym, ◌∙◌, ◌-◌, ◌*◌, drop}
 use Rattle.ee_pages.specs.Sets.{set_of, slots_of}
 use Rattle.ee_pages.proofs.LastSaid.{latest_in-behind, newest, one_lower}
 use Rattle.ee_pages.proofs.Slots.{row_within}
@@ -28,8 +27,4 @@ loop-slot-preserved g c =
     ∙ search (rules, c.page_slot.ensures, c.says.ensures)
 
 pub returns : goal.returns
-returns g c =
-    let device = g.F.Flash.device c.args.flash.now in
-    let row = take c.args.used (drop (c.args.page * (device.size.words - 4)) (slots_of (set_of c.args.side device))) in
-    let all_seen : c.loop-slot.slot ≡ 0 = omega arith in
-    sym (subst (λ n. latest_in (drop n row) c.args.address ≡ None) all_seen c.loop-slot.invariant)
+returns g c = search rules

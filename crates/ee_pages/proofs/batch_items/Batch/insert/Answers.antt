@@ -1,22 +1,14 @@
-use Rattle.std.proofs.Common.{◌≤◌, length, sym, ap, arith}
+use Rattle.std.proofs.Common.{rules, ◌≤◌, length, sym, ap, arith}
 use Rattle.ee_pages.specs.Nearest.{Batch}
 use Rattle.ee_pages.specs.declared.batch_items.TheConstants.{BATCH}
 use Rattle.ee_pages.proofs.BatchLists.{length_named, put_among}
 use Rattle.ee_pages.proofs.batch_items.Batch.insert.Goals as goal
 
 pub put_in-requires-clause-place : goal.put_in-requires-clause-place
-put_in-requires-clause-place c =
-    let i = c.self.inside in
-    let long = length_named i.len i.items i.lives (omega (arith, c.self.invariant.0, c.self.invariant.1)) (omega (arith, c.self.invariant.0, c.self.invariant.2)) in
-    let same = ap (λ (b : Batch). length b.named) c.self.view_is in
-    omega (arith, long, same, c.requires.within, c.one_more-end.ensures.more)
+put_in-requires-clause-place c = search (rules, length_named)
 
 pub put_in-requires-2-clause-place : goal.put_in-requires-2-clause-place
-put_in-requires-2-clause-place c =
-    let i = c.self.inside in
-    let long = length_named i.len i.items i.lives (omega (arith, c.self.invariant.0, c.self.invariant.1)) (omega (arith, c.self.invariant.0, c.self.invariant.2)) in
-    let same = ap (λ (b : Batch). length b.named) c.self.view_is in
-    omega (arith, long, same, c.requires.within, c.one_more-end.ensures.more)
+put_in-requires-2-clause-place c = search (rules, length_named)
 
 pub returns : goal.returns
 returns c =

@@ -1,4 +1,4 @@
-use Rattle.std.proofs.Common.{◌≡◌, ◌-◌, ◌∙◌, ◌≤◌, None, take, length, get_or, sym, ap, arith}
+use Rattle.std.proofs.Common.{rules, ◌≡◌, ◌-◌, ◌∙◌, ◌≤◌, None, take, length, get_or, sym, ap, arith}
 use Rattle.ee_pages.specs.Nearest.{Batch, Named, with_said}
 use Rattle.ee_pages.specs.declared.batch_items.TheConstants.{BATCH}
 use Rattle.ee_pages.proofs.BatchLists.{length_named, named_at}
@@ -19,17 +19,7 @@ returns-clause-last c above =
     ∙ ap (λ k. (get_or named k none).0) (sym last) ∙ last_is named above none (omega (arith, long, c.if-self-lt-BATCH.false)))
 
 pub returns-then-self-lt-BATCH-clause-none : goal.returns-then-self-lt-BATCH-clause-none
-returns-then-self-lt-BATCH-clause-none c =
-    let i = c.self.inside in
-    let few : i.len ≤ length i.items = omega (arith, c.self.invariant.0, c.self.invariant.1) in
-    let short : i.len ≤ length i.lives = omega (arith, c.self.invariant.0, c.self.invariant.2) in
-    let same = ap (λ (b : Batch). length b.named) c.self.view_is in
-    omega (arith, same, length_named i.len i.items i.lives few short, c.if-self-lt-BATCH.true)
+returns-then-self-lt-BATCH-clause-none c = search (rules, length_named)
 
 pub returns-clause-full : goal.returns-clause-full
-returns-clause-full c =
-    let i = c.self.inside in
-    let few : i.len ≤ length i.items = omega (arith, c.self.invariant.0, c.self.invariant.1) in
-    let short : i.len ≤ length i.lives = omega (arith, c.self.invariant.0, c.self.invariant.2) in
-    let same = ap (λ (b : Batch). length b.named) c.self.view_is in
-    omega (arith, same, length_named i.len i.items i.lives few short, c.self.invariant.0, c.if-self-lt-BATCH.false)
+returns-clause-full c = search (rules, length_named)
