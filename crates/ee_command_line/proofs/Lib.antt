@@ -1,2 +1,3 @@
 mod Bases
 mod Streams
+mod Counted
