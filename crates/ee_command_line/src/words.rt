@@ -69,11 +69,14 @@ fn job_of_two<'a>(command: &'a str, first: &'a str) -> Option<Job<'a>>
         "states" => Some(Job::States { image: first }),
         "inspect" => Some(Job::Inspect { image: first }),
         "clean" => Some(Job::Clean { image: first }),
-        // This word says which constants, and names no settings.
-        "header" if first != "--rust" => Some(Job::Header {
-            rust: false,
-            settings: first,
-        }),
+        "header" => match first {
+            // This word says which constants, and names no settings.
+            "--rust" => None,
+            settings => Some(Job::Header {
+                rust: false,
+                settings,
+            }),
+        },
         _ => None,
     }
 }
@@ -87,18 +90,24 @@ fn job_of_three<'a>(command: &'a str, first: &'a str, second: &'a str) -> Option
         "try" => Some(Job::Try {
             shape: shape_of(first, second)?,
         }),
-        // This word says how to run, and names no image.
-        "run" if first != "--indexed" => Some(Job::Run {
-            indexed: false,
-            image: first,
-            script: second,
-        }),
-        // This word says what part it is, and names no image.
-        "export" if first != "--pairs" => Some(Job::Export {
-            pairs: false,
-            image: first,
-            dump: second,
-        }),
+        "run" => match first {
+            // This word says how to run, and names no image.
+            "--indexed" => None,
+            image => Some(Job::Run {
+                indexed: false,
+                image,
+                script: second,
+            }),
+        },
+        "export" => match first {
+            // This word says what part it is, and names no image.
+            "--pairs" => None,
+            image => Some(Job::Export {
+                pairs: false,
+                image,
+                dump: second,
+            }),
+        },
         "plan" => Some(Job::Plan {
             image: first,
             script: second,
@@ -119,10 +128,13 @@ fn job_of_three<'a>(command: &'a str, first: &'a str, second: &'a str) -> Option
             image: first,
             settings: second,
         }),
-        "header" if first == "--rust" && second != "--rust" => Some(Job::Header {
-            rust: true,
-            settings: second,
-        }),
+        "header" if first == "--rust" => match second {
+            "--rust" => None,
+            settings => Some(Job::Header {
+                rust: true,
+                settings,
+            }),
+        },
         _ => None,
     }
 }
@@ -142,16 +154,22 @@ fn job_of_four<'a>(
             shape: shape_of(first, second)?,
             image: third,
         }),
-        "run" if first == "--indexed" && second != "--indexed" => Some(Job::Run {
-            indexed: true,
-            image: second,
-            script: third,
-        }),
-        "export" if first == "--pairs" && second != "--pairs" => Some(Job::Export {
-            pairs: true,
-            image: second,
-            dump: third,
-        }),
+        "run" if first == "--indexed" => match second {
+            "--indexed" => None,
+            image => Some(Job::Run {
+                indexed: true,
+                image,
+                script: third,
+            }),
+        },
+        "export" if first == "--pairs" => match second {
+            "--pairs" => None,
+            image => Some(Job::Export {
+                pairs: true,
+                image,
+                dump: third,
+            }),
+        },
         "get" => Some(Job::Get {
             image: first,
             settings: second,
@@ -167,12 +185,15 @@ fn job_of_four<'a>(
             script: second,
             certificate: third,
         }),
-        "export-hex" if first != "--pairs" => Some(Job::ExportHex {
-            pairs: false,
-            image: first,
-            base: base_of(second)?,
-            dump: third,
-        }),
+        "export-hex" => match first {
+            "--pairs" => None,
+            image => Some(Job::ExportHex {
+                pairs: false,
+                image,
+                base: base_of(second)?,
+                dump: third,
+            }),
+        },
         _ => None,
     }
 }
@@ -195,12 +216,15 @@ fn job_of_five<'a>(
             dump: third,
             image: fourth,
         }),
-        "export-hex" if first == "--pairs" && second != "--pairs" => Some(Job::ExportHex {
-            pairs: true,
-            image: second,
-            base: base_of(third)?,
-            dump: fourth,
-        }),
+        "export-hex" if first == "--pairs" => match second {
+            "--pairs" => None,
+            image => Some(Job::ExportHex {
+                pairs: true,
+                image,
+                base: base_of(third)?,
+                dump: fourth,
+            }),
+        },
         "set" => Some(Job::Set {
             image: first,
             settings: second,
