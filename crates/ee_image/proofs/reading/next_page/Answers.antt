@@ -1,4 +1,4 @@
-use Rattle.std.proofs.Common.{rules, ◌-◌, arith}
+use Rattle.std.proofs.Common.{rules, arith}
 use Rattle.std.proofs.lemmas.Grind.{common_steps}
 use Rattle.ee_text.proofs.Public.{passed_on}
 use Rattle.ee_image.proofs.Taken.{goes_on_wrong, page_read, words_wrong}
