@@ -1,5 +1,5 @@
 -- What programming a change into the first free slot of the live set leaves.
-use Rattle.std.proofs.Common.{◌≡◌, ◌≢◌, ◌⊎◌, inl, inr, ℕ, ◌+◌, ◌-◌, ◌<◌, ◌/◌, ◌%◌, false, Result, Ok, Err, List, length, get_or, refl, sym, subst, ap, ◌∙◌, arith}
+use Rattle.std.proofs.Common.{rules, ◌≡◌, ◌≢◌, ◌⊎◌, inl, inr, ℕ, ◌+◌, ◌-◌, ◌<◌, ◌/◌, ◌%◌, false, Result, Ok, Err, List, length, get_or, refl, sym, subst, ap, ◌∙◌, arith}
 use Rattle.std.specs.Result.{OnErr}
 use Rattle.std.proofs.lemmas.Bool.{cases_eq}
 use Rattle.ee_flash.specs.Device.{Device, IsOn, all_ones, word_at}
@@ -12,7 +12,7 @@ use Rattle.ee_flash.proofs.Public.{step_leaves_pages}
 use Rattle.ee_pages.specs.Laws.{KeepsLiveSet}
 use Rattle.ee_pages.specs.Legal.{IsLive}
 use Rattle.ee_pages.specs.Meaning.{Change, Map, SpellsChange, map_after, meaning}
-use Rattle.ee_pages.specs.Page.{is_written, place_of_mark}
+use Rattle.ee_pages.specs.Page.{is_written}
 use Rattle.ee_pages.specs.Pushing.{TakesSlot, slot_step}
 use Rattle.ee_pages.specs.Sets.{fill_of, first_page, other, page_of_slot, place_of_slot, set_of, slots_of}
 use Rattle.ee_pages.specs.declared.side.Side.{Side}
@@ -38,10 +38,7 @@ program_keeps_words page at value old new taken there k other = elim (cases_eq t
 
 -- so a program behind the header keeps all marks
 slot_keeps_marks : (page place value : ℕ) (old new : Device) → IsStep (Program page (4 + place) value) old new → KeepsMarks old new
-slot_keeps_marks page place value old new taken there mark was =
-    let low = place_below mark in
-    let other : place_of_mark mark ≢ 4 + place = λ e. omega (arith, low, e) in
-    ap is_written (program_keeps_words page (4 + place) value old new taken there (place_of_mark mark) other) ∙ was
+slot_keeps_marks page place value old new taken there mark was = search (rules, place_below, program_keeps_words)
 
 -- the first free slot is erased
 pub slot_erased : (side : Side) (generation fill : ℕ) (old : Device) → IsLive old side generation → fill ≡ fill_of (slots_of (set_of side old)) → fill < slot_count old.size → word_at old (first_page old.size side + page_of_slot old.size fill) (place_of_slot old.size fill) ≡ Erased
@@ -116,9 +113,4 @@ module _ (side : Side) (generation fill first words : ℕ) (old : Device) (live 
 
 -- a change behind what keeps the live set
 pub taken_after : (old mid new : Device) (side : Side) (generation : ℕ) (now map : Map) → KeepsLiveSet old mid side generation → now ≡ map → TakesSlot mid new side generation now → TakesSlot old new side generation map
-taken_after old mid new side generation now map keeps same takes = record {
-  live = takes.live;
-  same_size = takes.same_size ∙ keeps.same_size;
-  one_more = takes.one_more ∙ ap (λ n. n + 1) keeps.same_fill;
-  map_is = λ address. takes.map_is address ∙ ap (λ (said : Map). said address) same;
-}
+taken_after old mid new side generation now map keeps same takes = search rules

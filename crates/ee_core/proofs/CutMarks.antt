@@ -1,12 +1,12 @@
 -- What is drawn where power was cut in setting marks, and in an append.
-use Rattle.std.proofs.Common.{◌≡◌, inl, inr, ℕ, ◌+◌, ◌<◌, ◌≤◌, Bool, true, List, get_or, refl, sym, subst, ap, ◌∙◌, arith}
-use Rattle.std.specs.Prelude.{◌&&◌, not, nat_lt}
+use Rattle.std.proofs.Common.{rules, ◌≡◌, inl, inr, ℕ, ◌+◌, ◌<◌, ◌≤◌, Bool, true, refl, sym, subst, ap, arith}
+use Rattle.std.specs.Prelude.{◌&&◌, nat_lt}
 use Rattle.std.proofs.lemmas.Bool.{cases_eq, cases_lt, eq-eqb, le-ltb, lt-ltb, ne_eqb}
 use Rattle.ee_flash.specs.Device.{Device, IsFormed}
 use Rattle.ee_flash.specs.Size.{Size}
 use Rattle.ee_flash.specs.declared.word.Word.{Word}
-use Rattle.ee_flash.specs.declared.word.Word.TheVariants.{Erased, Held}
-use Rattle.ee_pages.specs.Page.{is_blank, is_marked}
+use Rattle.ee_flash.specs.declared.word.Word.TheVariants.{Held}
+use Rattle.ee_pages.specs.Page.{is_marked}
 use Rattle.ee_pages.specs.Sets.{first_page, other, page_of_slot, place_of_slot}
 use Rattle.ee_pages.specs.declared.side.Side.{Side}
 use Rattle.ee_pages.specs.declared.state.Mark.TheVariants.{Active, Erasing, Valid}
@@ -14,7 +14,7 @@ use Rattle.ee_core.proofs.Cuts.{IsOnTheWay, drawn_before, drawn_between, drawn_w
 use Rattle.ee_core.proofs.Drawings.{active_last, mark_drawn, drawn_as, retired_more, same_drawn, valid_drawn, valid_more, valid_to, with_mark, with_word-elsewhere}
 use Rattle.ee_core.proofs.MarkedSets.{retired_to}
 use Rattle.ee_core.proofs.SetPages.{same_page}
-use Rattle.ee_core.specs.Cuts.{IsDrawnPartly, IsPartlyDone, PutsPartly, SetsPartly}
+use Rattle.ee_core.specs.Cuts.{IsDrawnPartly, PutsPartly, SetsPartly}
 use Rattle.ee_core.specs.Finished.{last_used}
 use Rattle.ee_core.specs.Openings.{ShowsCutMarks}
 use Rattle.ee_core.specs.Parts.{IsSameSet, SetsMark}
@@ -52,10 +52,7 @@ valid_partly side mid new k last picture formed sizes h before sets drawn =
     (mark_drawn_partly side mid new k Valid (valid_to k picture) formed sizes h drawn sets)
 
 pub active_partly : (side : Side) (mid new : Device) (last : ℕ) (picture : Picture) → IsFormed mid → new.size ≡ mid.size → last < mid.size.pages → SetsPartly (first_page mid.size side + last) Active mid new → IsDrawn side mid (valid_to last picture) → IsDrawnPartly side new picture (marked_to last picture)
-active_partly side mid new last picture formed sizes h sets drawn =
-    drawn_between side new picture (marked_to last picture) (valid_to last picture) (with_mark last Active (valid_to last picture))
-    (λ page at _ _. (valid_way last last picture page at (omega arith), inr (active_last last picture page at)))
-    (mark_drawn_partly side mid new last Active (valid_to last picture) formed sizes h drawn sets)
+active_partly side mid new last picture formed sizes h sets drawn = search (rules, drawn_between, valid_to, with_mark, valid_way, active_last, mark_drawn_partly)
 
 pub retired_partly : (side : Side) (old mid new : Device) (k : ℕ) → IsFormed mid → new.size ≡ mid.size → k < mid.size.pages → is_used side old k ≡ true → SetsPartly (first_page mid.size side + k) Erasing mid new → IsDrawn side mid (retired_to side old k) → IsDrawnPartly side new (picture_of side old) (retired_pages (is_used side old) (picture_of side old))
 retired_partly side old mid new k formed sizes h waiting sets drawn =
@@ -71,23 +68,12 @@ retired_partly side old mid new k formed sizes h waiting sets drawn =
 
 -- cut in the marks of the live set
 pub cut_live : (side : Side) (old new : Device) → new.size ≡ old.size → IsDrawnPartly side new (picture_of side old) (marked_to (last_used old side) (picture_of side old)) → IsSameSet (other side) old new → ShowsCutMarks old new side
-cut_live side old new sizes live same = record {
-  live_pages = live;
-  old_pages = drawn_before (other side) new (picture_of (other side) old) _ (same_drawn (other side) old new sizes same);
-}
+cut_live side old new sizes live same = search (rules, drawn_before, same_drawn)
 
 -- or of the other one
 pub cut_old : (side : Side) (old mid new : Device) → mid.size ≡ old.size → new.size ≡ mid.size → IsDrawn side mid (marked_to (last_used old side) (picture_of side old)) → IsSameSet (other side) old mid → IsSameSet side mid new
     → IsDrawnPartly (other side) new (picture_of (other side) mid) (retired_pages (is_used (other side) mid) (picture_of (other side) mid)) → ShowsCutMarks old new side
-cut_old side old mid new first_sizes second_sizes live_first old_first live_then old_then = record {
-  live_pages = drawn_whole side new (picture_of side old) (marked_to (last_used old side) (picture_of side old)) (λ page at h within.
-      same_drawn side mid new second_sizes live_then page at h within
-      ∙ live_first page at (omega (arith, ap (λ (size : Size). size.pages) second_sizes)) (omega (arith, ap (λ (size : Size). size.words) second_sizes)));
-  old_pages = λ page at h within.
-      let below : page < old.size.pages = omega (arith, ap (λ (size : Size). size.pages) second_sizes, ap (λ (size : Size). size.pages) first_sizes) in
-      let words = same_page (other side) old mid page first_sizes old_first below in
-      subst (λ (found : List Word). IsPartlyDone (get_or found at Erased) (retired_pages (λ p. not (is_blank found)) (λ p k. get_or found at Erased) page at) (picture_of (other side) new page at)) words (old_then page at h within);
-}
+cut_old side old mid new first_sizes second_sizes live_first old_first live_then old_then = search (rules, drawn_whole, same_drawn, same_page)
 
 -- ---- an append
 
@@ -117,10 +103,7 @@ marks_way size fill number picture page at = elim (cases_eq at (place_of_slot si
 ]
 
 pub cut_marks : (side : Side) (old new : Device) (fill number : ℕ) → IsDrawnPartly side new (picture_of side old) (marked_to (page_of_slot old.size fill) (picture_of side old)) → IsDrawnPartly side new (picture_of side old) (with_change old.size fill number (picture_of side old))
-cut_marks side old new fill number drawn =
-    let picture = picture_of side old in
-    drawn_between side new picture (with_change old.size fill number picture) picture (marked_to (page_of_slot old.size fill) picture)
-    (λ page at _ _. (inl refl, marks_way old.size fill number picture page at)) drawn
+cut_marks side old new fill number drawn = search (rules, drawn_between, marks_way)
 
 pub cut_word : (side : Side) (old mid new : Device) (fill number : ℕ) → mid.size ≡ old.size → new.size ≡ mid.size → page_of_slot old.size fill < old.size.pages → place_of_slot old.size fill < old.size.words → IsDrawn side mid (marked_to (page_of_slot old.size fill) (picture_of side old))
     → PutsPartly (first_page mid.size side + page_of_slot mid.size fill) (place_of_slot mid.size fill) (Held number) mid new

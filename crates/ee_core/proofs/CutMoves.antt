@@ -1,5 +1,5 @@
 -- What is drawn where power was cut in filling a set, and in committing it.
-use Rattle.std.proofs.Common.{◌≡◌, suc, zero, append-nil, inl, inr, ℕ, ◌+◌, ◌-◌, ◌<◌, ◌≤◌, ◌/◌, true, List, [], ◌∷◌, ◌++◌, length, refl, sym, subst, ap, ◌∙◌, arith, append_assoc, length-append}
+use Rattle.std.proofs.Common.{rules, ◌≡◌, suc, zero, append-nil, inl, inr, ℕ, ◌+◌, ◌-◌, ◌<◌, ◌≤◌, ◌/◌, true, List, [], ◌∷◌, ◌++◌, length, refl, sym, subst, ap, ◌∙◌, arith, append_assoc, length-append}
 use Rattle.std.proofs.Math.Nat.{div-mul-le_self}
 use Rattle.std.proofs.lemmas.Bool.{cases_eq, cases_lt, le-leb, le-ltb, lt-leb, lt-ltb, ne_eqb}
 use Rattle.std.proofs.lemmas.List.{get_or_append_left, get_or_past}
@@ -169,34 +169,11 @@ commit_partly side old new generation words formed sizes sets holds =
 -- or in a mark behind that
 pub marked_partly : (side : Side) (mid new : Device) (generation last : ℕ) (words : List Word) → new.size ≡ mid.size → IsDrawn side mid (committed mid.size generation words) → last ≡ page_of_slot mid.size (length words - 1)
     → IsDrawnPartly side new (picture_of side mid) (marked_to last (picture_of side mid)) → IsDrawnPartly side new blank (filled_set mid.size generation words)
-marked_partly side mid new generation last words sizes held last_is drawn =
-    drawn_between side new blank (filled_set mid.size generation words) (picture_of side mid) (marked_to last (picture_of side mid))
-    (λ page at h within.
-    let word : picture_of side mid page at ≡ committed mid.size generation words page at =
-    held page at (omega (arith, ap (λ (size : Size). size.pages) sizes)) (omega (arith, ap (λ (size : Size). size.words) sizes)) in
-    let whole : marked_to last (picture_of side mid) page at ≡ filled_set mid.size generation words page at =
-    ap (λ n. marked_to n (picture_of side mid) page at) last_is
-    ∙ ap (λ (found : Word). marked_to (page_of_slot mid.size (length words - 1)) (λ p a. found) page at) word
-    ∙ all_marked mid.size generation words page at in (
-      subst (λ (found : Word). IsOnTheWay Erased (filled_set mid.size generation words page at) found) (sym word) (committed_way mid.size generation words page at),
-      inr whole,
-    )) drawn
+marked_partly side mid new generation last words sizes held last_is drawn = search (rules, drawn_between, committed, all_marked, IsOnTheWay, committed_way)
 
 -- the first mark of blank pages
 pub open_partly : (side : Side) (old new : Device) (generation : ℕ) (words : List Word) → IsFormed old → new.size ≡ old.size → IsDrawn side old blank → SetsPartly (first_page old.size side) (Receive generation) old new → FillsPartly new side generation words
-open_partly side old new generation words formed sizes all sets =
-    let e : first_page old.size side ≡ first_page old.size side + 0 = omega arith in
-    let there = subst (λ n. SetsPartly n (Receive generation) old new) e sets in
-    let first = page_of_slot new.size (0 - 1) in
-    let last = page_of_slot new.size (length words - 1) in
-    let some : 0 < new.size.words - 4 = omega (arith, formed.within_limits.some_words, ap (λ (size : Size). size.words) sizes) in
-    let before : first ≤ last = page_later new.size (0 - 1) (length words - 1) some (omega arith) in
-    drawn_between side new blank (opened_set new.size generation last words) blank (with_mark 0 (Receive generation) blank)
-    (λ page at _ _. (
-      inl refl,
-      subst (λ (found : Word). IsOnTheWay Erased (opened_set new.size generation last words page at) found) (sym (first_opened new.size generation page at)) (opened_front new.size generation first last [] words page at before),
-    ))
-    (mark_drawn_partly side old new 0 (Receive generation) blank formed sizes (omega (arith, formed.within_limits.some_pages)) all there)
+open_partly side old new generation words formed sizes all sets = search (rules, page_later, drawn_between, with_mark, IsOnTheWay, first_opened, opened_front, mark_drawn_partly)
 
 -- ---- a format
 
@@ -255,12 +232,4 @@ elements_front map n (suc m) h = elim (cases_lt n (suc m)) [
 -- cut in a mark of the set that was left
 pub retires_partly : (side : Side) (old mid new : Device) → IsFormed old → IsFormed mid → mid.size ≡ old.size → new.size ≡ mid.size → IsDrawn side mid (picture_of side old)
     → IsDrawnPartly side new (picture_of side mid) (retired_pages (is_used side mid) (picture_of side mid)) → IsDrawnPartly side new (picture_of side old) (retired_pages (is_used side old) (picture_of side old))
-retires_partly side old mid new old_formed formed first_sizes second_sizes same drawn =
-    let picture = picture_of side old in
-    drawn_between side new picture (retired_pages (is_used side old) picture) (picture_of side mid) (retired_pages (is_used side mid) (picture_of side mid))
-    (λ page at h within.
-    let below : page < mid.size.pages = omega (arith, ap (λ (size : Size). size.pages) second_sizes) in
-    let inside : at < mid.size.words = omega (arith, ap (λ (size : Size). size.words) second_sizes) in (
-      inl (same page at below inside),
-      inr (same_retired side old mid old_formed formed first_sizes same page at below inside),
-    )) drawn
+retires_partly side old mid new old_formed formed first_sizes second_sizes same drawn = search (rules, drawn_between, same_retired)

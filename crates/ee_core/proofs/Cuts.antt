@@ -1,5 +1,5 @@
 -- What a cut step leaves of the words, and how that goes together over a call.
-use Rattle.std.proofs.Common.{◌≡◌, ◌≢◌, ◌⊎◌, inl, inr, ℕ, ◌+◌, ◌<◌, ◌≤◌, true, false, List, [], length, get_or, set, refl, sym, subst, ap, ◌∙◌, arith}
+use Rattle.std.proofs.Common.{rules, ◌≡◌, ◌≢◌, ◌⊎◌, inl, inr, ℕ, ◌+◌, ◌<◌, ◌≤◌, true, false, List, [], length, get_or, set, refl, sym, subst, ap, ◌∙◌, arith}
 use Rattle.std.proofs.lemmas.Bool.{cases_Bool, cases_eq}
 use Rattle.std.proofs.lemmas.List.{get_or-set_other, get_or-set_same}
 use Rattle.ee_flash.specs.Device.{Device, IsFormed, page_at, word_at}
@@ -51,10 +51,7 @@ image_puts page at word old new formed h inside is =
     }
 
 same_image : (page at : ℕ) (word : Word) (old new : Device) → new.image ≡ old.image → PutsPartly page at word old new
-same_image page at word old new same = record {
-  there = inl (ap (λ (image : List (List Word)). get_or (get_or image page []) at Erased) same);
-  elsewhere = λ p k away. ap (λ (image : List (List Word)). get_or (get_or image p []) k Erased) same;
-}
+same_image page at word old new same = search rules
 
 pub nothing_put : (page at : ℕ) (word : Word) (old new : Device) → new ≡ old → PutsPartly page at word old new
 nothing_put page at word old new same = same_image page at word old new (ap (λ (device : Device). device.image) same)

@@ -1,5 +1,5 @@
 -- Pictures of sets: what a word that is put into a page, or a mark that is set, leaves of them.
-use Rattle.std.proofs.Common.{◌≡◌, ◌≢◌, ◌⊎◌, inl, inr, ℕ, ◌+◌, ◌<◌, Bool, true, false, List, [], length, get_or, set, refl, sym, subst, ap, ◌∙◌, arith}
+use Rattle.std.proofs.Common.{rules, ◌≡◌, ◌≢◌, ◌⊎◌, inl, inr, ℕ, ◌+◌, ◌<◌, Bool, true, false, List, [], length, get_or, set, refl, sym, subst, ap, ◌∙◌, arith}
 use Rattle.std.specs.Prelude.{◌==◌, ◌&&◌, nat_lt, if◌then◌else◌}
 use Rattle.std.proofs.lemmas.Bool.{cases_Bool, cases_eq, cases_lt, eq-eqb, le-ltb, lt-ltb, ne_eqb}
 use Rattle.std.proofs.lemmas.List.{get_or-set_other, get_or-set_same}
@@ -70,21 +70,14 @@ put_drawn side old new k at word picture sizes drawn puts page place h within =
 
 -- a word is put into a page of the other set
 pub put_apart : (side : Side) (old new : Device) (page at : ℕ) (word : Word) → new.size ≡ old.size → IsPageOf old.size (other side) page → PutsWord page at word old new → IsDrawn side new (picture_of side old)
-put_apart side old new page at word sizes of puts k place h within =
-    let first : first_page new.size side ≡ first_page old.size side = ap (λ (size : Size). first_page size side) sizes in
-    let below : k < old.size.pages = omega (arith, ap (λ (size : Size). size.pages) sizes) in
-    ap (λ n. word_at new (n + k) place) first ∙ puts.elsewhere (first_page old.size side + k) place (inl (apart old.size side page k of below))
+put_apart side old new page at word sizes of puts k place h within = search (rules, apart)
 
 -- the mark is set, where it was not
 abbrev pub with_mark : ℕ → Mark → Picture → Picture
 with_mark k mark picture = picture_with_word k (place_of_mark mark) (marked_word mark (picture k (place_of_mark mark))) picture
 
 pub mark_drawn : (side : Side) (old new : Device) (k : ℕ) (mark : Mark) (picture : Picture) → IsFormed old → new.size ≡ old.size → k < old.size.pages → IsDrawn side old picture → SetsMark (first_page old.size side + k) mark old new → IsDrawn side new (with_mark k mark picture)
-mark_drawn side old new k mark picture formed sizes h drawn sets =
-    let at = place_of_mark mark in
-    let word : word_at old (first_page old.size side + k) at ≡ picture k at = drawn k at h (omega (arith, place_below mark, formed.within_limits.some_words)) in
-    put_drawn side old new k at (marked_word mark (picture k at)) picture sizes drawn
-    (subst (λ (was : Word). PutsWord (first_page old.size side + k) at (marked_word mark was) old new) word sets)
+mark_drawn side old new k mark picture formed sizes h drawn sets = search (rules, place_below, put_drawn)
 
 -- a word that is written already stays
 pub marked-written : (mark : Mark) (word : Word) → is_written word ≡ true → marked_word mark word ≡ word
@@ -120,10 +113,7 @@ program_puts page at value old formed h inside =
 
 -- said of another spelling of the place and the number
 pub put_there : (page at value : ℕ) (old new : Device) (p k n : ℕ) → IsFormed old → p < page_count old.size → k < old.size.words → page ≡ p → at ≡ k → value ≡ n → new ≡ with_word_programmed page at value old → PutsWord p k (Held n) old new
-put_there page at value old new p k n formed h inside page_is at_is value_is done =
-    let whole : new ≡ with_word_programmed p k n old =
-    done ∙ ap (λ q. with_word_programmed q at value old) page_is ∙ ap (λ q. with_word_programmed p q value old) at_is ∙ ap (λ q. with_word_programmed p k q old) value_is in
-    subst (λ (device : Device). PutsWord p k (Held n) old device) (sym whole) (program_puts p k n old formed h inside)
+put_there page at value old new p k n formed h inside page_is at_is value_is done = search (rules, program_puts)
 
 pub same_size_of : (page at value : ℕ) (old new : Device) → new ≡ with_word_programmed page at value old → new.size ≡ old.size
 same_size_of page at value old new done = ap (λ (device : Device). device.size) done

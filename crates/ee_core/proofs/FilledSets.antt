@@ -1,5 +1,5 @@
 -- How the picture of a set that a transfer fills grows, to that of the set that is live afterwards.
-use Rattle.std.proofs.Common.{◌≡◌, ◌≢◌, ◌⊎◌, inl, inr, ℕ, ◌+◌, ◌-◌, ◌*◌, ◌/◌, ◌%◌, ◌<◌, ◌≤◌, List, [], ◌∷◌, ◌++◌, length, get_or, refl, sym, subst, ap, ◌∙◌, arith, append_assoc, append-nil, length-append}
+use Rattle.std.proofs.Common.{rules, ◌≡◌, ◌≢◌, ◌⊎◌, inl, inr, ℕ, ◌+◌, ◌-◌, ◌%◌, ◌<◌, ◌≤◌, List, [], ◌∷◌, ◌++◌, length, get_or, refl, sym, subst, ap, ◌∙◌, arith, append_assoc, length-append}
 use Rattle.std.proofs.Math.Seq.{get_or-append_seam}
 use Rattle.std.proofs.lemmas.Bool.{cases_eq, cases_lt, le-leb, le-ltb, lt-leb, lt-ltb, ne_eqb}
 use Rattle.std.proofs.lemmas.List.{get_or_append_left, get_or_past}
@@ -47,17 +47,10 @@ opens_further size generation last k words page at near = elim (cases_eq at 0) [
 
 -- the word of the first free slot
 slot_is : (size : Size) (page at count : ℕ) → 3 < at → at < size.words → slots_before size page at ≡ count → (page ≡ page_of_slot size count) × (at ≡ place_of_slot size count)
-slot_is size page at count slot within e =
-    let below : at - 4 < size.words - 4 = omega arith in (
-      sym (ap (λ n. n / (size.words - 4)) (sym e) ∙ div-mul-add page (size.words - 4) (at - 4) below),
-      (let rest : count % (size.words - 4) ≡ at - 4 = ap (λ n. n % (size.words - 4)) (sym e) ∙ mod-mul-add page (size.words - 4) (at - 4) below in omega (arith, rest)),
-    )
+slot_is size page at count slot within e = search (rules, div-mul-add, mod-mul-add)
 
 slot_of : (size : Size) (page at count : ℕ) → page ≡ page_of_slot size count → at ≡ place_of_slot size count → slots_before size page at ≡ count
-slot_of size page at count here there =
-    let split = split_by count (size.words - 4) in
-    let rest : at - 4 ≡ count % (size.words - 4) = omega arith in
-    ap (λ n. n * (size.words - 4) + (at - 4)) here ∙ ap (λ n. count / (size.words - 4) * (size.words - 4) + n) rest ∙ sym split
+slot_of size page at count here there = search (rules, split_by)
 
 pub one_word_more : (size : Size) (generation last count : ℕ) (words : List Word) (word : Word) (page at : ℕ) → length words ≡ count → at < size.words → picture_with_word (page_of_slot size count) (place_of_slot size count) word (opened_set size generation last words) page at ≡ opened_set size generation last (words ++ (word ∷ [])) page at
 one_word_more size generation last count words word page at long within =
@@ -124,15 +117,7 @@ adds_both old mid new side generation count more further first_sizes second_size
 
 -- the page of the first free slot may be open
 pub open_already : (device : Device) (side : Side) (generation count : ℕ) → IsFilling device (other side) generation count → count % (device.size.words - 4) ≢ 0 → OpensForSlot device device side generation count
-open_already device side generation count filling inside = record {
-  sizes = refl;
-  filling = filling;
-  same_slots = refl;
-  live_pages = drawn_same side device;
-  opens = λ words long drawn.
-      subst (λ last. IsDrawn (other side) device (opened_set device.size generation last words))
-      (sym (same_place count (device.size.words - 4) (omega (arith, filling.formed.within_limits.some_words)) (inr inside))) drawn;
-}
+open_already device side generation count filling inside = search (rules, drawn_same, same_place)
 
 -- and then a word stands in it
 pub stages : (old mid new : Device) (side : Side) (generation count : ℕ) (change : Change) → OpensForSlot old mid side generation count → PutsInSlot mid new side generation count change → AddsWords old new side generation count (Held (number_written change) ∷ [])
@@ -150,7 +135,4 @@ stages old mid new side generation count change first second = record {
 }
 
 pub adds_none : (device : Device) (side : Side) (generation count : ℕ) → AddsWords device device side generation count []
-adds_none device side generation count = record {
-  live_pages = drawn_same side device;
-  new_pages = λ words long holds. subst (λ (all : List Word). Holds device (other side) generation all) (sym (append-nil words)) holds;
-}
+adds_none device side generation count = search (rules, drawn_same)

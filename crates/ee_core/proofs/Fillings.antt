@@ -1,5 +1,5 @@
 -- What the parts of a transfer leave in the set that it fills, one after another.
-use Rattle.std.proofs.Common.{◌≡◌, inl, inr, ℕ, ◌+◌, ◌<◌, ◌≤◌, Bool, true, false, cond, Some, None, List, [], ◌∷◌, ◌++◌, length, get_or, take, drop, refl, sym, subst, ap, ◌∙◌, arith, suc, length-append}
+use Rattle.std.proofs.Common.{rules, ◌≡◌, inl, inr, ℕ, ◌+◌, ◌<◌, ◌≤◌, Bool, true, false, cond, Some, None, List, [], ◌∷◌, ◌++◌, length, get_or, take, drop, refl, sym, subst, ap, ◌∙◌, arith, suc, length-append}
 use Rattle.std.specs.Prelude.{◌==◌, ◌||◌}
 use Rattle.std.proofs.Math.Path.{fun_ext}
 use Rattle.std.proofs.lemmas.Bool.{cases_Bool}
@@ -11,7 +11,7 @@ use Rattle.ee_flash.specs.declared.word.Word.{Word}
 use Rattle.ee_flash.specs.declared.word.Word.TheVariants.{Held}
 use Rattle.ee_pages.specs.Meaning.{Change, Forget, Map, Put, changed_by, map_after, live_in}
 use Rattle.ee_pages.specs.LiveOrder.{IsNextLive}
-use Rattle.ee_pages.specs.Sets.{other, set_of, slots_of}
+use Rattle.ee_pages.specs.Sets.{other}
 use Rattle.ee_pages.specs.declared.find.Layout.{Layout}
 use Rattle.ee_core.specs.Cuts.{AddsPartly}
 use Rattle.ee_core.specs.Parts.{AddsWords, map_in, replaced_map}
@@ -50,11 +50,7 @@ then_partly old mid new layout count slot words more held first second = record 
 
 -- some words in part are more words in part
 partly_filled : (old new : Device) (layout : Layout) (count : ℕ) (words rest : List Word) → FilledPartly old new layout count words → FilledPartly old new layout count (words ++ rest)
-partly_filled old new layout count words rest partly = record {
-  keeps = partly.keeps;
-  begun = partly_longer old new layout.side (layout.generation + 1) count words rest partly.keeps.live.formed partly.begun;
-  wear = partly.wear;
-}
+partly_filled old new layout count words rest partly = search (rules, partly_longer)
 
 -- the live addresses are copied behind what stands there, but for those that changes name
 module _ (old : Device) (layout : Layout) (place : Place) (changes : List Change) where
@@ -69,14 +65,7 @@ module _ (old : Device) (layout : Layout) (place : Place) (changes : List Change
   FilledTo above now slot = Filled old now layout place.slot (elements_to (others map changes) above) (so_far start map (names changes) above) slot
 
   pub none_filled : IsOpenAt old layout place → ((address : ℕ) → names changes address ≡ false → start address ≡ None) → FilledTo 0 old place.slot
-  none_filled at only = record {
-    keeps = keeps_same old layout at.found;
-    filling = at.filling;
-    map_is = at_first start map (names changes) (meaning-zero (slots_of (set_of layout.side old))) only;
-    adds = rw (no_words map changes) (adds_none old layout.side (layout.generation + 1) place.slot);
-    as_many = rw (no_words map changes) (omega arith);
-    wear = refl;
-  }
+  none_filled at only = search (rules, keeps_same, at_first, meaning-zero, no_words, adds_none)
 
   pub all_filled : (above : ℕ) (now : Device) (slot : ℕ) → FilledTo above now slot → above < 65535 → IsNextLive map above None → Filled old now layout place.slot (elements_of (others map changes)) (replaced_map start (names changes) map) slot
   all_filled above now slot filled below none =
@@ -146,16 +135,10 @@ module _ (puts : List listed.Put) (count : ℕ) (put : listed.Put) (within : cou
   one_put_more = take_more puts count put within ∙ ap (λ (last : listed.Put). take count puts ++ (last ∷ [])) (sym is)
 
   pub words_more : words_to puts (count + 1) ≡ words_to puts count ++ (Held (element put.address put.value) ∷ [])
-  words_more =
-      ap (λ (some : List listed.Put). put_words (puts_of some)) one_put_more
-      ∙ ap put_words (puts-append (take count puts) (put ∷ []))
-      ∙ words-append (puts_of (take count puts)) (Put put.address put.value ∷ [])
+  words_more = search (rules, one_put_more, puts-append, words-append)
 
   map_more_on : (map : Map) → changed_by (puts_of (take (count + 1) puts)) map ≡ map_after (Put put.address put.value) (changed_by (puts_of (take count puts)) map)
-  map_more_on map =
-      ap (λ (some : List listed.Put). changed_by (puts_of some) map) one_put_more
-      ∙ ap (λ (changes : List Change). changed_by changes map) (puts-append (take count puts) (put ∷ []))
-      ∙ changed_by-append (puts_of (take count puts)) (Put put.address put.value ∷ []) map
+  map_more_on map = search (rules, one_put_more, puts-append, changed_by-append)
 
   pub map_more : map_of_first puts (count + 1) ≡ map_after (Put put.address put.value) (map_of_first puts count)
   map_more = map_more_on nothing
@@ -176,14 +159,7 @@ module _ (old : Device) (layout : Layout) (puts : List listed.Put) where
   FilledBy count now slot = Filled old now layout 0 (words_to puts count) (map_of_first puts count) slot
 
   pub none_put : IsNewlyOpened old layout → FilledBy 0 old 0
-  none_put opened = record {
-    keeps = keeps_same old layout opened.found;
-    filling = opened.filling;
-    map_is = opened.nothing;
-    adds = adds_none old layout.side (layout.generation + 1) 0;
-    as_many = refl;
-    wear = refl;
-  }
+  none_put opened = search (rules, keeps_same, adds_none)
 
   module _ (count : ℕ) (put : listed.Put) (mid new : Device) (slot : ℕ) (within : count < length puts) (is : put ≡ get_or puts count put) (filled : FilledBy count mid slot) where
     abbrev put_word : List Word
@@ -259,10 +235,7 @@ module _ (old new : Device) (layout : Layout) (puts : List listed.Put) where
   -- and so the others are those that the list leaves
   pub others_carried : (forgets : Bool) (slot written : ℕ) (start map : Map) → Filled old new layout slot (elements_of (map_without (puts_of puts) map)) (replaced_map start (names (puts_of puts)) map) written
       → Filled old new layout slot (elements_of (map_without (carried puts forgets) map)) (replaced_map start (names (carried puts forgets)) map) written
-  others_carried forgets slot written start map filled =
-      let named : names (puts_of puts) ≡ names (carried puts forgets) = fun_ext (λ address. sym (carried_names puts forgets address)) in
-      subst (λ (left : Map). Filled old new layout slot (elements_of left) (replaced_map start (names (carried puts forgets)) map) written) (sym (carried_without puts forgets map))
-      (subst (λ (which : ℕ → Bool). Filled old new layout slot (elements_of (map_without (puts_of puts) map)) (replaced_map start which map) written) named filled)
+  others_carried forgets slot written start map filled = search (rules, fun_ext, carried_names, carried_without)
 
   pub others_carried_partly : (forgets : Bool) (slot : ℕ) (map : Map) → FilledPartly old new layout slot (elements_of (map_without (puts_of puts) map)) → FilledPartly old new layout slot (elements_of (map_without (carried puts forgets) map))
   others_carried_partly forgets slot map partly = subst (λ (left : Map). FilledPartly old new layout slot (elements_of left)) (sym (carried_without puts forgets map)) partly

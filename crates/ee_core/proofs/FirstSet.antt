@@ -1,5 +1,5 @@
 -- How a blank device gets its first set.
-use Rattle.std.proofs.Common.{◌≡◌, ◌<◌, inl, ℕ, ◌+◌, ◌-◌, ◌/◌, true, false, None, List, [], ◌∷◌, refl, sym, subst, ap, ◌∙◌, arith, suc}
+use Rattle.std.proofs.Common.{rules, ◌≡◌, ◌<◌, inl, ℕ, ◌+◌, ◌-◌, ◌/◌, true, false, None, List, [], ◌∷◌, refl, sym, subst, ap, ◌∙◌, arith, suc}
 use Rattle.std.specs.List.{All}
 use Rattle.std.proofs.Math.Nat.{zero-div}
 use Rattle.std.proofs.lemmas.List.Elements.{All-drop, All-get_or, All-take}
@@ -93,16 +93,7 @@ module _ (blank mid : Device) (formed : IsFormed blank) (all : All (λ words. is
     first_layout = record { live = both.0.live; fill = sym no_fill; current = ap (λ n. 0 + n) (sym (no_slot (new.size.words - 4))) }
 
     pub first_marked : IsMarked new First
-    first_marked = record {
-      live = record {
-        valid = λ page below. let none : page < 0 = subst (λ n. page < n) first_is_last below in absurd (omega (arith, none));
-        active = ap (λ n. is_marked new (0 + n) Active) first_is_last ∙ marked_by 0 Active mid new committing done;
-      };
-      old = λ page below.
-          let count = length-set_of Second new both.0.live.formed in
-          let there = page_of_set Second new (new.size.pages + page) page refl below in
-          inl (ap is_blank (sym there) ∙ All-get_or (λ words. is_blank words ≡ true) (set_of Second new) page [] (omega (arith, count)) second_still_blank);
-    }
+    first_marked = search (rules, first_is_last, marked_by, committing, length-set_of, both, page_of_set, All-get_or, second_still_blank)
 
     pub first_state : state_of new ≡ formatted_state
     first_state =

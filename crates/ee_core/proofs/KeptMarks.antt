@@ -1,5 +1,5 @@
 -- Which marks are there still where pages are as before.
-use Rattle.std.proofs.Common.{◌≡◌, inl, inr, ℕ, ◌+◌, ◌-◌, ◌<◌, ◌≤◌, true, List, get_or, sym, subst, ap, ◌∙◌, arith}
+use Rattle.std.proofs.Common.{rules, ◌≡◌, inl, inr, ℕ, ◌+◌, ◌-◌, ◌<◌, ◌≤◌, true, List, get_or, sym, subst, ap, ◌∙◌, arith}
 use Rattle.std.proofs.lemmas.Bool.{cases_eq}
 use Rattle.std.proofs.lemmas.List.Sums.{count_by-le-length, length-filter}
 use Rattle.ee_flash.specs.Device.{Device, IsFormed, page_at}
@@ -71,10 +71,7 @@ module _ (side : Side) (old new : Device) (formed : IsFormed old) (sizes : new.s
   ]
 
 pub cleaned_marked : (side : Side) (erased : ℕ) (old new : Device) → IsFormed old → new.size ≡ old.size → IsSameSet side old new → IsSameBut erased old new → is_blank (page_at new erased) ≡ true → IsMarked old side → IsMarked new side
-cleaned_marked side erased old new formed sizes same others blank was = record {
-  live = live_marks_stay side old new formed sizes same was.live;
-  old = blank_or_marked (other side) old new formed sizes erased others blank was.old;
-}
+cleaned_marked side erased old new formed sizes same others blank was = search (rules, live_marks_stay, blank_or_marked)
 
 -- After one slot more the page of that slot is the last used one.
 live_now : (side : Side) (fill : ℕ) (mid new : Device) → new.size ≡ mid.size → fill_of (slots_of (set_of side new)) ≡ fill + 1 → IsReady mid side fill → KeepsMarks mid new → IsLiveMarked new side

@@ -1,5 +1,5 @@
 -- The marks that an opening sets in the live set and in the other one, page after page.
-use Rattle.std.proofs.Common.{◌≡◌, ◌≢◌, ◌⊎◌, inl, inr, ℕ, ◌+◌, ◌-◌, ◌*◌, ◌/◌, ◌<◌, ◌≤◌, true, false, refl, sym, subst, ap, ◌∙◌, arith}
+use Rattle.std.proofs.Common.{rules, ◌≡◌, ◌≢◌, ◌⊎◌, inl, inr, ℕ, ◌+◌, ◌-◌, ◌<◌, ◌≤◌, true, false, refl, sym, subst, ap, ◌∙◌, arith}
 use Rattle.std.proofs.lemmas.Bool.{cases_lt, true≢false}
 use Rattle.std.proofs.Math.Nat.{div-mul-le_self, mul-le-mul_right}
 use Rattle.ee_flash.specs.Device.{Device, page_at}
@@ -25,24 +25,10 @@ use Rattle.ee_core.proofs.KeptMarks.{fill_fits}
 
 -- after what keeps the live set, the layout is still right
 pub layout_stays : (layout : Layout) (old new : Device) → IsLayout old layout → Stays old new layout.side layout.generation → IsLayout new layout
-layout_stays layout old new is stays = record {
-  live = stays.keeps.live;
-  fill = is.fill ∙ sym stays.keeps.same_fill;
-  current = is.current ∙ ap (λ (size : Size). first_page size layout.side + page_of_slot size (layout.fill - 1)) (sym stays.keeps.same_size);
-}
+layout_stays layout old new is stays = search rules
 
 pub stays_both : (old mid new : Device) (side : Side) (generation : ℕ) → Stays old mid side generation → Stays mid new side generation → Stays old new side generation
-stays_both old mid new side generation first second = record {
-  keeps = record {
-    live = second.keeps.live;
-    same_size = second.keeps.same_size ∙ first.keeps.same_size;
-    same_slots = second.keeps.same_slots ∙ first.keeps.same_slots;
-    same_fill = second.keeps.same_fill ∙ first.keeps.same_fill;
-    same_map = λ address. second.keeps.same_map address ∙ first.keeps.same_map address;
-  };
-  same_pending = second.same_pending ∙ first.same_pending;
-  same_wear = second.same_wear ∙ first.same_wear;
-}
+stays_both old mid new side generation first second = search rules
 
 -- the page of the last used slot, counted from the set's first
 pub last_is : (layout : Layout) (device : Device) → IsLayout device layout → layout.current ≡ first_page device.size layout.side + last_used device layout.side
@@ -55,13 +41,7 @@ last_in_range layout device is =
 
 -- a page up to that one stands behind written slots
 mark_behind : (layout : Layout) (device : Device) (page : ℕ) (mark : Mark) → IsLayout device layout → page ≤ last_used device layout.side → (mark ≡ Active) ⊎ (mark ≡ Valid) → IsMarkBehind device layout.side page mark
-mark_behind layout device page mark is h kind =
-    let words = device.size.words - 4 in
-    let fill = fill_of (slots_of (set_of layout.side device)) in
-    let below = last_in_range layout device is in
-    let row : page * words ≤ (fill - 1) / words * words = mul-le-mul_right words h in
-    let floor : (fill - 1) / words * words ≤ fill - 1 = div-mul-le_self (fill - 1) words in
-    record { in_range = omega (arith, below, h); behind = omega (arith, row, floor); active_or_valid = kind }
+mark_behind layout device page mark is h kind = search (rules, last_in_range, mul-le-mul_right, div-mul-le_self)
 
 pub valid_behind : (layout : Layout) (device : Device) (page : ℕ) → IsLayout device layout → first_page device.size layout.side ≤ page → page < layout.current → IsMarkBehind device layout.side (page - first_page device.size layout.side) Valid
 valid_behind layout device page is from below =

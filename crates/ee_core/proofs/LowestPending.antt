@@ -1,5 +1,5 @@
 -- The lowest page that waits to be erased, from a look over the pages of the other set.
-use Rattle.std.proofs.Common.{◌≡◌, ◌<◌, ◌≤◌, ℕ, Option, Some, None, true, false, [], ◌∷◌, sym, subst, ap, ◌∙◌}
+use Rattle.std.proofs.Common.{rules, ◌≡◌, ◌<◌, ◌≤◌, ℕ, Option, Some, None, true, false, [], ◌∷◌, sym, subst, ap, ◌∙◌}
 use Rattle.std.proofs.lemmas.Bool.{true≢false}
 use Rattle.ee_flash.specs.Device.{Device, page_at}
 use Rattle.ee_flash.specs.Step.{IsPartlyErased}
@@ -12,7 +12,7 @@ use Rattle.ee_pages.specs.declared.side.Side.TheVariants.{First}
 use Rattle.ee_core.proofs.PendingPages.{lowest_blank}
 use Rattle.ee_core.specs.Calls.{ErasesLowest, IsLowestPending, KeepsAllButLowest}
 use Rattle.ee_core.specs.Parts.{IsSameBut}
-use Rattle.ee_core.specs.State.{Wears, pending_pages, pending_pages_in}
+use Rattle.ee_core.specs.State.{Wears, pending_pages}
 
 abbrev side_in : Option (Side × ℕ) → Side
 side_in None = First
@@ -31,13 +31,7 @@ module _ (old new : Device) (side searched : Side) (generation page : ℕ) (live
   }
 
   waited_first : IsLive old side generation → KeepsLiveSet old new side generation → is_blank (page_at new page) ≡ true → pending_pages old ≡ page ∷ pending_pages new
-  waited_first found keeps blank =
-      let of : IsPageOf old.size (other side) page = subst (λ set. IsPageOf old.size set page) is_other in_set in
-      let lower : (lower : ℕ) → first_page old.size (other side) ≤ lower → lower < page → is_blank (page_at old lower) ≡ true =
-      subst (λ set. (lower : ℕ) → first_page old.size set ≤ lower → lower < page → is_blank (page_at old lower) ≡ true) is_other lower_blank in
-      ap (pending_pages_in old) live
-      ∙ lowest_blank (other side) old new page found.formed keeps.live.formed keeps.same_size of others not_blank lower blank
-      ∙ ap (λ list. page ∷ list) (sym (ap (pending_pages_in new) keeps.live.live))
+  waited_first found keeps blank = search (rules, lowest_blank)
 
   pub erases_lowest : is_blank (page_at new page) ≡ true → IsLive old side generation → KeepsLiveSet old new side generation → ErasesLowest old new
   erases_lowest blank found keeps = record { waited = waited_first found keeps blank; page = page; lowest = is_lowest; blank = blank; others = others; wear = wear }

@@ -1,5 +1,5 @@
 -- What an append or a transfer makes of a state, and when each is done.
-use Rattle.std.proofs.Common.{◌≡◌, ◌≢◌, ◌⊎◌, inl, inr, ℕ, ◌+◌, ◌-◌, ◌<◌, ◌≤◌, ◌&&◌, Bool, true, false, cond, Option, Some, None, is_some, List, [], ◌∷◌, length, nat_lt, refl, sym, subst, ap, ◌∙◌, arith}
+use Rattle.std.proofs.Common.{rules, ◌≡◌, ◌≢◌, ◌⊎◌, inl, inr, ℕ, ◌+◌, ◌-◌, ◌<◌, ◌≤◌, ◌&&◌, Bool, true, false, cond, Option, Some, None, is_some, List, [], ◌∷◌, length, nat_lt, refl, sym, subst, ap, ◌∙◌, arith}
 use Rattle.std.specs.Prelude.{Result, Ok, Err, OnErr, OnOk, not}
 use Rattle.std.proofs.lemmas.Bool.{cases_lt}
 use Rattle.std.proofs.lemmas.Grind.{common_steps}
@@ -34,7 +34,7 @@ use Rattle.ee_core.proofs.Drawings.{drawn_as, same_drawn}
 use Rattle.ee_core.proofs.MovedSets.{used_where_full}
 use Rattle.ee_core.specs.Finished.{IsMarked, IsStore}
 use Rattle.ee_core.specs.Parts.{ForgetsHeld, HasMoved, IsSameSet, meant, number_written}
-use Rattle.ee_core.specs.State.{State, Wears, WearsFront, appended_state, capacity, moved_state, not_blank_from, not_blank_in, pending_pages, pending_pages_in, torn_state, state_of, next_live, used_pages_in}
+use Rattle.ee_core.specs.State.{State, Wears, WearsFront, appended_state, capacity, moved_state, not_blank_in, pending_pages, pending_pages_in, torn_state, state_of, used_pages_in}
 use Rattle.ee_core.proofs.States.{same_states, state_is, state_kept, state_moved}
 use Rattle.ee_core.proofs.MovingFacts.{layout_kept}
 
@@ -64,46 +64,23 @@ module _ (old new : Device) (side : Side) (generation : ℕ) (live : IsLive old 
   pending_was = ap (pending_pages_in old) live.live
 
   pending_stays : IsLive new side generation → new.size ≡ old.size → IsSameSet (other side) old new → pending_pages new ≡ pending_pages old
-  pending_stays now sizes same =
-      ap (pending_pages_in new) now.live
-      ∙ ap (λ (size : Size). not_blank_from (first_page size (other side)) (set_of (other side) new)) sizes
-      ∙ ap (not_blank_from (first_page old.size (other side))) same
-      ∙ sym pending_was
+  pending_stays now sizes same = search (rules, pending_was)
 
   pub state_appended : (change : Change) → TakesSlot old new side generation (map_after change (meaning (slots_of (set_of side old)))) → IsSameSet (other side) old new → state_of new ≡ appended_state change (state_of old)
-  state_appended change takes same =
-      state_is new side generation takes.live
-      ∙ same_states _ _ _ _ generation generation _ _ takes.map_is takes.one_more refl (ap pending_of same)
-      ∙ ap (appended_state change) (sym (state_is old side generation live))
+  state_appended change takes same = search (rules, state_is, same_states)
 
   state_spoiled : TakesSlot old new side generation (meaning (slots_of (set_of side old))) → IsSameSet (other side) old new → state_of new ≡ torn_state (state_of old)
-  state_spoiled takes same =
-      state_is new side generation takes.live
-      ∙ same_states _ _ _ _ generation generation _ _ takes.map_is takes.one_more refl (ap pending_of same)
-      ∙ ap torn_state (sym (state_is old side generation live))
+  state_spoiled takes same = search (rules, state_is, same_states)
 
   state_same : KeepsLiveSet old new side generation → IsSameSet (other side) old new → state_of new ≡ state_of old
-  state_same keeps same =
-      state_is new side generation keeps.live
-      ∙ same_states _ _ _ _ generation generation _ _ keeps.same_map keeps.same_fill refl (ap pending_of same)
-      ∙ sym (state_is old side generation live)
+  state_same keeps same = search (rules, state_is, same_states)
 
   pub shows_appended : (change : Change) (fill number : ℕ) → fill ≡ fill_of (slots_of (set_of side old)) → number ≡ number_of_change (state_of old).map change → new.size ≡ old.size → IsDrawn side new (with_change old.size fill number (picture_of side old)) → IsSameSet (other side) old new → ShowsAppended old change new side
-  shows_appended change fill number filled spelled sizes drawn same = record {
-    live_pages =
-        let there = subst (λ n. IsDrawn side new (with_change old.size n number (picture_of side old))) (filled ∙ sym fill_was) drawn in
-        subst (λ n. IsDrawn side new (with_change old.size (state_of old).fill n (picture_of side old))) spelled there;
-    old_pages = same_drawn (other side) old new sizes same;
-  }
+  shows_appended change fill number filled spelled sizes drawn same = search (rules, fill_was, same_drawn)
 
   pub shows_cut_append : (change : Change) (fill number : ℕ) → fill ≡ fill_of (slots_of (set_of side old)) → number ≡ number_of_change (state_of old).map change → new.size ≡ old.size
       → IsDrawnPartly side new (picture_of side old) (with_change old.size fill number (picture_of side old)) → IsSameSet (other side) old new → ShowsCutAppend old change new side
-  shows_cut_append change fill number filled spelled sizes drawn same = record {
-    live_pages =
-        let there = subst (λ n. IsDrawnPartly side new (picture_of side old) (with_change old.size n number (picture_of side old))) (filled ∙ sym fill_was) drawn in
-        subst (λ n. IsDrawnPartly side new (picture_of side old) (with_change old.size (state_of old).fill n (picture_of side old))) spelled there;
-    old_pages = same_drawn (other side) old new sizes same;
-  }
+  shows_cut_append change fill number filled spelled sizes drawn same = search (rules, fill_was, same_drawn)
 
   -- the slots that one change needs a transfer for are all used
   all_used : (change : Change) → NeedsTransfer (capacity old) (state_of old) (change ∷ []) → fill_of (slots_of (set_of side old)) ≡ capacity old
@@ -137,16 +114,7 @@ module _ (old new : Device) (side : Side) (generation : ℕ) (live : IsLive old 
       subst (λ (said : Map). let first = first_page old.size (other side) in ErasesPartly first (first + old.size.pages) old new ⊎ MovesPartly old new side generation (moved_words changes said)) (sym map) left
 
   pub appends : (change : Change) → Proceeds old (change ∷ []) → GoesOn old new → fill_of (slots_of (set_of side old)) < capacity old → TakesSlot old new side generation (map_after change (meaning (slots_of (set_of side old)))) → IsSameSet (other side) old new → new.wear ≡ old.wear → ShowsAppended old change new side → Appends old change new
-  appends change proceeds goes_on free takes same wear shows = record {
-    image = (side, generation, live.live, shows);
-    proceeds = proceeds;
-    goes_on = goes_on;
-    free = omega (arith, fill_was);
-    state_is = state_appended change takes same;
-    live_is = takes.live.live ∙ sym live.live;
-    same_pending = pending_stays takes.live takes.same_size same;
-    no_wear = wear;
-  }
+  appends change proceeds goes_on free takes same wear shows = search (rules, fill_was, state_is, state_appended, pending_stays)
 
   cut_append : (change : Change) → IsSameSet (other side) old new
       → KeepsLiveSet old new side generation ⊎ TakesSlot old new side generation (meaning (slots_of (set_of side old))) ⊎ TakesSlot old new side generation (map_after change (meaning (slots_of (set_of side old))))
@@ -175,16 +143,7 @@ module _ (old new : Device) (side : Side) (generation : ℕ) (live : IsLive old 
       state_moved old new side generation live changes has ∙ ap (λ n. moved_state n changes (state_of old)) (pending_left changes needed)
 
   pub moves : (changes : List Change) → Proceeds old changes → GoesOn old new → NeedsTransfer (capacity old) (state_of old) changes → HasMoved old new side generation changes → Wears (not_blank_in (other side) old) old new → ShowsMoved old changes new side generation → Moves old changes new
-  moves changes proceeds goes_on needed has wear shows = record {
-    image = (side, generation, live.live, shows);
-    proceeds = proceeds;
-    goes_on = goes_on;
-    needed = needed;
-    few_left = omega (arith, pending_left changes needed, few_pending old side live.formed);
-    state_is = state_left changes needed has;
-    live_is = has.live.live ∙ ap next_live (sym live.live);
-    wear = subst (λ pages. Wears pages old new) (sym pending_was) wear;
-  }
+  moves changes proceeds goes_on needed has wear shows = search (rules, pending_left, few_pending, state_is, state_left, pending_was)
 
   cut_move : (changes : List Change) → NeedsTransfer (capacity old) (state_of old) changes → pending_of (set_of (other side) new) ≤ old.size.pages → KeepsLiveSet old new side generation ⊎ HasMoved old new side generation changes
       → IsCutMove old.size.pages (pages_left changes old) (state_of old) changes (state_of new)
@@ -281,10 +240,7 @@ generation_proper device side generation live = commit_proper (is_mark (mark_of 
 -- where a transfer is accepted, a generation is left for it
 module _ (device : Device) (side : Side) (generation : ℕ) (live : IsLive device side generation) where
   not_greatest : ((state_of device).generation ≡ greatest_generation → ⊥) → IsGeneration (generation + 1)
-  not_greatest left =
-      let proper = generation_proper device side generation live in
-      let not_last : generation ≢ greatest_generation = λ last. left (ap (λ (state : State). state.generation) (state_is device side generation live) ∙ last) in
-      (omega arith, omega (arith, proper.1))
+  not_greatest left = search (rules, generation_proper, state_is)
 
   pub generation_left : (changes : List Change) → NeedsTransfer (capacity device) (state_of device) changes → ¬ HaveNoGeneration (capacity device) (state_of device) changes → IsGeneration (generation + 1)
   generation_left [] needed left = absurd needed
@@ -303,17 +259,11 @@ always_on_err (Err error) claim = claim
 
 -- a device that is off, with a legal image, is a store's
 pub off_store : (device : Device) (side : Side) (generation : ℕ) → IsLive device side generation → IsOff device → IsStore device
-off_store device side generation live off = record {
-  legal = (side, generation, live);
-  finished = λ on. absurd (cc (sym on ∙ off));
-}
+off_store device side generation live off = search rules
 
 -- a device with this live set, and no mark left, is a store's
 pub marked_store : (device : Device) (side : Side) (generation : ℕ) → IsLive device side generation → IsMarked device side → IsStore device
-marked_store device side generation live marked = record {
-  legal = (side, generation, live);
-  finished = λ on found number e. subst (IsMarked device) (ap side_in (sym live.live ∙ e)) marked;
-}
+marked_store device side generation live marked = search rules
 
 -- and the other way round
 pub store_marked : (device : Device) (side : Side) (generation : ℕ) → IsStore device → IsOn device → IsLive device side generation → IsMarked device side
@@ -330,10 +280,7 @@ store_after_move old new side generation changes off (inr has) = off_store new (
 
 -- while a slot is free no address is refused
 pub not_full_yet : (device : Device) (side : Side) (generation : ℕ) (address : ℕ) → IsLive device side generation → fill_of (slots_of (set_of side device)) < capacity device → ¬ IsFull (capacity device) (state_of device) address
-not_full_yet device side generation address live free full =
-    let most = live_within_fill (slots_of (set_of side device)) in
-    let all : live_in (meaning (slots_of (set_of side device))) ≡ capacity device = sym (ap (λ (state : State). live_in state.map) (state_is device side generation live)) ∙ full.all_live in
-    absurd (omega arith)
+not_full_yet device side generation address live free full = search (rules, live_within_fill, state_is)
 
 -- no more slots are written than a set has
 pub few_within : (device : Device) (side : Side) → IsFormed device → fill_of (slots_of (set_of side device)) ≤ capacity device

@@ -1,11 +1,10 @@
 -- The pictures of both sets while an opening sets the marks, page after page.
-use Rattle.std.proofs.Common.{◌≡◌, inl, inr, ℕ, ◌+◌, ◌-◌, ◌<◌, ◌≤◌, true, false, List, get_or, sym, subst, ap, ◌∙◌, arith}
+use Rattle.std.proofs.Common.{rules, ◌≡◌, inl, inr, ℕ, ◌+◌, ◌-◌, ◌<◌, ◌≤◌, true, false, sym, subst, ap, ◌∙◌, arith}
 use Rattle.std.specs.Prelude.{◌&&◌, not, nat_lt}
 use Rattle.std.proofs.lemmas.Bool.{cases_Bool}
 use Rattle.ee_flash.specs.Device.{Device, IsFormed, page_at}
 use Rattle.ee_flash.specs.Size.{Size}
-use Rattle.ee_flash.specs.declared.word.Word.{Word}
-use Rattle.ee_flash.specs.declared.word.Word.TheVariants.{Erased, Held}
+use Rattle.ee_flash.specs.declared.word.Word.TheVariants.{Held}
 use Rattle.ee_pages.specs.Laws.{IsPageOf}
 use Rattle.ee_pages.specs.Page.{is_blank, is_marked}
 use Rattle.ee_pages.specs.Sets.{first_page, other, page_of_slot, place_of_slot}
@@ -23,30 +22,15 @@ module _ (side : Side) (old : Device) (first : ℕ) (first_is : first ≡ first_
 
   -- none of its pages is marked yet
   pub valid_start : (page : ℕ) → page ≡ first → IsDrawn side old (valid_to (page - first) (picture_of side old))
-  valid_start page is =
-      let none : 0 ≡ page - first = omega arith in
-      subst (λ n. IsDrawn side old (valid_to n (picture_of side old))) none
-      (drawn_as side old (picture_of side old) (valid_to 0 (picture_of side old)) (drawn_same side old) (λ p at _ _. valid_none (picture_of side old) p at))
+  valid_start page is = search (rules, valid_to, drawn_as, drawn_same, valid_none)
 
   -- one page more is marked valid
   pub valid_next : (mid new : Device) (page : ℕ) → IsFormed mid → mid.size ≡ old.size → new.size ≡ mid.size → first ≤ page → page - first < mid.size.pages → SetsMark page Valid mid new → IsDrawn side mid (valid_to (page - first) (picture_of side old)) → IsDrawn side new (valid_to (page + 1 - first) (picture_of side old))
-  valid_next mid new page formed first_sizes second_sizes from h sets drawn =
-      let k : ℕ = page - first in
-      let there = subst (λ n. SetsMark n Valid mid new) (place mid page first_sizes from) sets in
-      let more : (page - first) + 1 ≡ page + 1 - first = omega (arith, from) in
-      subst (λ n. IsDrawn side new (valid_to n (picture_of side old))) more
-      (drawn_as side new (with_mark (page - first) Valid (valid_to (page - first) (picture_of side old))) (valid_to (page - first + 1) (picture_of side old))
-      (mark_drawn side mid new (page - first) Valid (valid_to (page - first) (picture_of side old)) formed second_sizes h drawn there)
-      (λ p at _ _. valid_more (page - first) (picture_of side old) p at))
+  valid_next mid new page formed first_sizes second_sizes from h sets drawn = search (rules, place, valid_to, drawn_as, with_mark, mark_drawn, valid_more)
 
   -- and the last one active
   pub active_then : (mid new : Device) (page last : ℕ) → IsFormed mid → mid.size ≡ old.size → new.size ≡ mid.size → page ≡ first + last → last < mid.size.pages → SetsMark page Active mid new → IsDrawn side mid (valid_to last (picture_of side old)) → IsDrawn side new (marked_to last (picture_of side old))
-  active_then mid new page last formed first_sizes second_sizes is h sets drawn =
-      let here : page ≡ first_page mid.size side + last = omega (arith, first_is, is, ap (λ (size : Size). first_page size side) first_sizes) in
-      let there = subst (λ n. SetsMark n Active mid new) here sets in
-      drawn_as side new (with_mark last Active (valid_to last (picture_of side old))) (marked_to last (picture_of side old))
-      (mark_drawn side mid new last Active (valid_to last (picture_of side old)) formed second_sizes h drawn there)
-      (λ p at _ _. active_last last (picture_of side old) p at)
+  active_then mid new page last formed first_sizes second_sizes is h sets drawn = search (rules, drawn_as, with_mark, valid_to, mark_drawn, active_last)
 
   -- the other set is as before
   pub other_stays : (mid new : Device) (page : ℕ) → IsFormed mid → IsFormed new → mid.size ≡ old.size → new.size ≡ mid.size → first ≤ page → page - first < mid.size.pages → IsSameBut page mid new → IsSameSet (other side) old mid → IsSameSet (other side) old new
@@ -68,10 +52,7 @@ retired_to side device last = retired_pages (λ p. nat_lt p last && is_used side
 
 module _ (side : Side) (old : Device) (first : ℕ) (first_is : first ≡ first_page old.size side) where
   pub retired_start : (page : ℕ) → page ≡ first → IsDrawn side old (retired_to side old (page - first))
-  retired_start page is =
-      let none : 0 ≡ page - first = omega arith in
-      subst (λ n. IsDrawn side old (retired_to side old n)) none
-      (drawn_as side old (picture_of side old) (retired_to side old 0) (drawn_same side old) (λ p at _ _. retired_none (is_used side old) (picture_of side old) p at))
+  retired_start page is = search (rules, drawn_as, drawn_same, retired_none)
 
   pub retired_next : (mid new : Device) (page : ℕ) → IsFormed mid → mid.size ≡ old.size → first ≤ page → page - first < mid.size.pages → page_at mid page ≡ page_at old page → RetiresPage mid new page → IsDrawn side mid (retired_to side old (page - first)) → IsDrawn side new (retired_to side old (page + 1 - first))
   retired_next mid new page formed sizes from h same step drawn =
@@ -92,10 +73,7 @@ module _ (side : Side) (old : Device) (first : ℕ) (first_is : first ≡ first_
       ])
 
   pub retired_end : (new : Device) (page : ℕ) → new.size ≡ old.size → page ≡ first + old.size.pages → IsDrawn side new (retired_to side old (page - first)) → IsDrawn side new (retired_pages (is_used side old) (picture_of side old))
-  retired_end new page sizes is drawn =
-      let all : page - first ≡ old.size.pages = omega arith in
-      drawn_as side new (retired_to side old old.size.pages) (retired_pages (is_used side old) (picture_of side old)) (subst (λ n. IsDrawn side new (retired_to side old n)) all drawn)
-      (λ p at h _. retired_all old.size.pages (is_used side old) (picture_of side old) p at (omega (arith, ap (λ (size : Size). size.pages) sizes)))
+  retired_end new page sizes is drawn = search (rules, drawn_as, retired_all, sizes)
 
 -- and the live set is as before
 pub live_stays : (side : Side) (old mid new : Device) (page : ℕ) → IsFormed mid → IsFormed new → new.size ≡ mid.size → IsPageOf mid.size (other side) page → IsSameBut page mid new → IsSameSet side old mid → IsSameSet side old new
@@ -106,17 +84,7 @@ live_stays side old mid new page formed new_formed sizes of others same =
 pub shows : (side : Side) (old mid new : Device) (last : ℕ) → mid.size ≡ old.size → new.size ≡ mid.size → IsDrawn side mid (marked_to last (picture_of side old)) → IsSameSet (other side) old mid → IsSameSet side mid new
     → IsDrawn (other side) new (retired_pages (is_used (other side) mid) (picture_of (other side) mid))
     → IsDrawn side new (marked_to last (picture_of side old)) × IsDrawn (other side) new (retired_pages (is_used (other side) old) (picture_of (other side) old))
-shows side old mid new last first_sizes second_sizes live_first old_first live_then old_then = (
-  λ page at h within.
-      same_drawn side mid new second_sizes live_then page at h within
-      ∙ live_first page at (omega (arith, ap (λ (size : Size). size.pages) second_sizes)) (omega (arith, ap (λ (size : Size). size.words) second_sizes)),
-  λ page at h within.
-      let below : page < old.size.pages = omega (arith, ap (λ (size : Size). size.pages) second_sizes, ap (λ (size : Size). size.pages) first_sizes) in
-      let words = same_page (other side) old mid page first_sizes old_first below in
-      old_then page at h within
-      ∙ ap (λ (found : List Word). retired_pages (λ p. not (is_blank found)) (picture_of (other side) mid) page at) words
-      ∙ ap (λ (found : List Word). retired_pages (λ p. is_used (other side) old page) (λ p k. get_or found at Erased) page at) words,
-)
+shows side old mid new last first_sizes second_sizes live_first old_first live_then old_then = search (rules, same_drawn, same_page)
 
 -- the marks of a further page that is opened
 pub opens_next : (side : Side) (old mid new : Device) (k : ℕ) → IsFormed old → IsFormed mid → mid.size ≡ old.size → new.size ≡ mid.size → k + 1 < old.size.pages → ((page : ℕ) → page < k → is_marked old (first_page old.size side + page) Valid ≡ true)

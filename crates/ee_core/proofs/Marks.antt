@@ -1,10 +1,10 @@
 -- What programming a mark leaves of its device, in every outcome.
-use Rattle.std.proofs.Common.{◌≡◌, ◌⊎◌, inl, inr, ℕ, ◌+◌, ◌-◌, ◌<◌, ◌≤◌, true, false, List, [], length, get_or, set, Result, Ok, Err, OnOk, OnErr, refl, sym, subst, ap, ◌∙◌, arith}
+use Rattle.std.proofs.Common.{rules, ◌≡◌, ◌⊎◌, inl, inr, ℕ, ◌+◌, ◌-◌, ◌<◌, ◌≤◌, true, false, List, [], length, get_or, set, Result, Ok, Err, OnOk, OnErr, refl, sym, subst, ap, ◌∙◌, arith}
 use Rattle.std.proofs.lemmas.Bool.{cases_Bool, cases_eq}
 use Rattle.std.proofs.lemmas.List.{get_or-set_other, get_or-set_same}
 use Rattle.std.proofs.lemmas.List.Elements.{All-get_or}
 use Rattle.ee_codec.specs.Words.{IsGeneration}
-use Rattle.ee_flash.specs.Device.{Device, IsFormed, IsOn, all_ones, page_at, word_at}
+use Rattle.ee_flash.specs.Device.{Device, IsFormed, IsOn, all_ones, page_at}
 use Rattle.ee_flash.specs.Laws.{IsStep}
 use Rattle.ee_flash.specs.Size.{Size, page_count}
 use Rattle.ee_flash.specs.Step.{Step, Program, IsCutIn, IsUntouched, MayFollow, device_after}
@@ -78,11 +78,7 @@ place_below Erasing = omega arith
 
 -- the step of a mark that is not set
 pub mark_step : (page : ℕ) (mark : Mark) (old new : Device) → IsFormed old → page < page_count old.size → IsProper mark → is_marked old page mark ≡ false → MayFollow (marking page mark) old new → IsStep (marking page mark) old new
-mark_step page mark old new formed h proper unset follows = record {
-  formed = formed;
-  may = (h, omega (arith, place_below mark, formed.within_limits.some_words), erased_word (word_at old page (place_of_mark mark)) unset, number_below mark proper);
-  follows = follows;
-}
+mark_step page mark old new formed h proper unset follows = search (rules, place_below, erased_word, number_below)
 
 follows_by : (step : Step) (old new : Device) (result : Result Unit Cut) → OnOk result (IsOn old) → OnOk result (new ≡ device_after step old) → OnErr result (IsCutIn step old new ⊎ IsUntouched old new) → MayFollow step old new
 follows_by step old new (Ok unit) on done cut = inl (record { was_on = on; done = done })
@@ -104,12 +100,7 @@ mark_keeps_marks page mark old new (inr taken) = program_keeps_marks page (place
 
 -- nothing changed
 pub same_stays : (old new : Device) (side : Side) (generation : ℕ) → IsLive old side generation → new ≡ old → Stays old new side generation
-same_stays old new side generation live same =
-    subst (λ (device : Device). Stays old device side generation) (sym same) (record {
-      keeps = record { live = live; same_size = refl; same_slots = refl; same_fill = refl; same_map = λ address. refl };
-      same_pending = refl;
-      same_wear = refl;
-    })
+same_stays old new side generation live same = search rules
 
 -- a mark of the live set, behind written slots
 pub live_mark_stays : (page : ℕ) (mark : Mark) (old new : Device) (side : Side) (generation : ℕ) → IsLive old side generation → first_page old.size side ≤ page → IsMarkBehind old side (page - first_page old.size side) mark → (new ≡ old) ⊎ IsStep (marking page mark) old new → Stays old new side generation
@@ -155,14 +146,7 @@ proper_old generation e = cc
 
 -- the word of a whole mark is written
 pub marked_by : (page : ℕ) (mark : Mark) (old new : Device) → IsStep (marking page mark) old new → new ≡ device_after (marking page mark) old → is_marked new page mark ≡ true
-marked_by page mark old new taken whole =
-    let at = place_of_mark mark in
-    let in_range : page < length old.image = omega (arith, taken.formed.image_length, taken.may.0) in
-    let long = All-get_or (λ words. length words ≡ old.size.words) old.image page [] in_range taken.formed.page_lengths in
-    let within : at < length (page_at old page) = omega (arith, long, taken.may.1) in
-    ap (λ (device : Device). is_written (word_at device page at)) whole
-    ∙ ap (λ (words : List Word). is_written (word_in words at)) (get_or-set_same old.image page _ [] in_range)
-    ∙ ap is_written (get_or-set_same (page_at old page) at _ Erased within)
+marked_by page mark old new taken whole = search (rules, All-get_or, get_or-set_same)
 
 -- it was before, or is now
 pub marked_after : (page : ℕ) (mark : Mark) (old new : Device) → IsFormed old → page < page_count old.size → IsProper mark → (is_marked old page mark ≡ true → new ≡ old) → (is_marked old page mark ≡ false → IsOn old) → (is_marked old page mark ≡ false → new ≡ device_after (marking page mark) old) → is_marked new page mark ≡ true

@@ -1,5 +1,5 @@
 -- The pictures of both sets from the first step of a transfer to the last.
-use Rattle.std.proofs.Common.{◌≡◌, inl, inr, ℕ, ◌+◌, ◌-◌, ◌*◌, ◌<◌, ◌≤◌, true, List, [], length, get_or, refl, sym, subst, ap, ◌∙◌, arith}
+use Rattle.std.proofs.Common.{rules, ◌≡◌, inl, inr, ℕ, ◌+◌, ◌-◌, ◌*◌, ◌<◌, ◌≤◌, true, List, [], length, get_or, refl, sym, ap, ◌∙◌, arith}
 use Rattle.std.specs.Prelude.{◌==◌, ◌&&◌, not, nat_lt, if◌then◌else◌}
 use Rattle.std.specs.List.{All}
 use Rattle.std.proofs.Math.Nat.{zero-div}
@@ -16,7 +16,7 @@ use Rattle.ee_flash.specs.declared.word.Word.TheVariants.{Erased}
 use Rattle.ee_flash.proofs.Public.{length-page_at}
 use Rattle.ee_pages.specs.Laws.{IsPageOf}
 use Rattle.ee_pages.specs.Legal.{IsLive, slots_before}
-use Rattle.ee_pages.specs.Page.{is_blank, is_written, word_in}
+use Rattle.ee_pages.specs.Page.{is_blank, is_written}
 use Rattle.ee_pages.specs.Sets.{fill_of, first_page, front, page_of_slot, set_of, slots_of}
 use Rattle.ee_pages.specs.declared.side.Side.{Side}
 use Rattle.ee_pages.specs.declared.side.Side.TheVariants.{First, Second}
@@ -30,10 +30,7 @@ use Rattle.ee_core.specs.Picture.{IsDrawn, Picture, blank, filled_set, is_used, 
 
 -- blank pages
 pub blank_drawn : (side : Side) (device : Device) → IsFormed device → All (λ page. is_blank page ≡ true) (set_of side device) → IsDrawn side device blank
-blank_drawn side device formed all page at h within =
-    let in_range : page < length (set_of side device) = omega (arith, length-set_of side device formed) in
-    ap (λ (words : List Word). word_in words at) (sym (page_of_set side device page h))
-    ∙ blank_word (get_or (set_of side device) page []) at (All-get_or (λ (words : List Word). is_blank words ≡ true) (set_of side device) page [] in_range all)
+blank_drawn side device formed all page at h within = search (rules, length-set_of, page_of_set, blank_word, All-get_or)
 
 pub first_opened : (size : Size) (generation page at : ℕ) → with_mark 0 (Receive generation) blank page at ≡ opened_set size generation (page_of_slot size (0 - 1)) [] page at
 first_opened size generation page at = elim (cases_eq at 0) [
@@ -53,20 +50,11 @@ first_opened size generation page at = elim (cases_eq at 0) [
 ]
 
 pub opens_blank : (side : Side) (old new : Device) (generation : ℕ) → IsFormed old → new.size ≡ old.size → All (λ page. is_blank page ≡ true) (set_of side old) → SetsMark (first_page old.size side) (Receive generation) old new → Holds new side generation []
-opens_blank side old new generation formed sizes all sets =
-    let e : first_page old.size side ≡ first_page old.size side + 0 = omega arith in
-    let there = subst (λ n. SetsMark n (Receive generation) old new) e sets in
-    drawn_as side new (with_mark 0 (Receive generation) blank) (opened_set new.size generation (page_of_slot new.size (0 - 1)) [])
-    (mark_drawn side old new 0 (Receive generation) blank formed sizes (omega (arith, formed.within_limits.some_pages)) (blank_drawn side old formed all) there)
-    (λ page at _ _. first_opened new.size generation page at)
+opens_blank side old new generation formed sizes all sets = search (rules, drawn_as, with_mark, mark_drawn, blank_drawn, first_opened)
 
 -- the mark that commits the set
 pub commits : (side : Side) (old new : Device) (generation : ℕ) (words : List Word) → IsFormed old → new.size ≡ old.size → SetsMark (first_page old.size side) Active old new → Holds old side generation words → IsCommittedWith new side generation words
-commits side old new generation words formed sizes sets holds =
-    let e : first_page old.size side ≡ first_page old.size side + 0 = omega arith in
-    let there = subst (λ n. SetsMark n Active old new) e sets in
-    let drawn = mark_drawn side old new 0 Active (opened_set old.size generation (page_of_slot old.size (length words - 1)) words) formed sizes (omega (arith, formed.within_limits.some_pages)) holds there in
-    subst (λ (size : Size). IsDrawn side new (with_mark 0 Active (opened_set size generation (page_of_slot size (length words - 1)) words))) (sym sizes) drawn
+commits side old new generation words formed sizes sets holds = search (rules, mark_drawn, with_mark)
 
 -- with the marks of a live set, it is the set that a transfer leaves
 abbrev pub committed : Size → ℕ → List Word → Picture
@@ -98,14 +86,7 @@ all_marked size generation words page at = elim (cases_lt 3 at) [
 ]
 
 pub filled_up : (side : Side) (mid new : Device) (generation : ℕ) (words : List Word) → new.size ≡ mid.size → IsCommittedWith mid side generation words → fill_of (slots_of (set_of side mid)) ≡ length words → IsDrawn side new (marked_to (last_used mid side) (picture_of side mid)) → IsDrawn side new (filled_set mid.size generation words)
-filled_up side mid new generation words sizes held fill drawn page at h within =
-    let last : last_used mid side ≡ page_of_slot mid.size (length words - 1) = ap (λ n. page_of_slot mid.size (n - 1)) fill in
-    let word : picture_of side mid page at ≡ committed mid.size generation words page at =
-    held page at (omega (arith, ap (λ (size : Size). size.pages) sizes)) (omega (arith, ap (λ (size : Size). size.words) sizes)) in
-    drawn page at h within
-    ∙ ap (λ n. marked_to n (picture_of side mid) page at) last
-    ∙ ap (λ (held : Word). marked_to (page_of_slot mid.size (length words - 1)) (λ p a. held) page at) word
-    ∙ all_marked mid.size generation words page at
+filled_up side mid new generation words sizes held fill drawn page at h within = search (rules, all_marked)
 
 -- where every slot is written, the first of each page is
 full_written : (side : Side) (device : Device) (generation page : ℕ) → IsLive device side generation → fill_of (slots_of (set_of side device)) ≡ slot_count device.size → page < device.size.pages → is_written (picture_of side device page 4) ≡ true
@@ -182,12 +163,7 @@ no_further picture page at written = elim (cases_eq at 2) [
 ]
 
 pub empty_set : (device : Device) (side : Side) (generation : ℕ) → IsCommittedWith device side generation [] → IsDrawn side device (filled_set device.size generation [])
-empty_set device side generation held =
-    let last : page_of_slot device.size (0 - 1) ≡ 0 = zero-div (device.size.words - 4) in
-    drawn_as side device (committed device.size generation []) (filled_set device.size generation []) held (λ page at _ _.
-    sym (no_further (committed device.size generation []) page at refl)
-    ∙ ap (λ n. marked_to n (committed device.size generation []) page at) (sym last)
-    ∙ all_marked device.size generation [] page at)
+empty_set device side generation held = search (rules, zero-div, drawn_as, no_further, all_marked)
 
 -- a device that is blank, with the marks that format sets
 module _ (old mid new : Device) (formed : IsFormed old) (mid_formed : IsFormed mid) (first_sizes : mid.size ≡ old.size) (second_sizes : new.size ≡ mid.size) (all : All (λ page. is_blank page ≡ true) old.image) (receives : SetsMark 0 (Receive 1) old mid) (active : SetsMark 0 Active mid new) where

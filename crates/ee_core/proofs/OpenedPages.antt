@@ -1,5 +1,5 @@
 -- The page of the first free slot, and what marks it.
-use Rattle.std.proofs.Common.{◌≡◌, ◌≢◌, ◌⊎◌, inl, inr, ℕ, ◌+◌, ◌-◌, ◌*◌, ◌<◌, ◌≤◌, ◌/◌, ◌%◌, true, refl, sym, subst, ap, ◌∙◌, arith}
+use Rattle.std.proofs.Common.{rules, ◌≡◌, ◌≢◌, ◌⊎◌, inl, inr, ℕ, ◌+◌, ◌-◌, ◌*◌, ◌<◌, ◌/◌, ◌%◌, true, sym, subst, ap, ◌∙◌, arith}
 use Rattle.std.proofs.Math.Nat.{div-add-mod, div-mul-le_self}
 use Rattle.std.proofs.lemmas.Bool.{cases_lt}
 use Rattle.std.proofs.lemmas.Nat.{div-mul-add}
@@ -90,20 +90,7 @@ module _ (old : Device) (layout : Layout) (found : IsLayout old layout) (free : 
 
     -- the further page may be marked
     pub next_behind : (mid : Device) → Stays old mid layout.side layout.generation → IsMarkBehind mid layout.side (layout.current + 1 - first_page mid.size layout.side) Active
-    next_behind mid stays =
-        let keeps = stays.keeps in
-        let first : first_page mid.size layout.side ≡ first_page old.size layout.side = ap (λ (size : Size). first_page size layout.side) keeps.same_size in
-        let e : page_of_slot old.size layout.fill ≡ layout.current + 1 - first_page mid.size layout.side = omega (arith, next_is, first) in
-        let pages : mid.size.pages ≡ old.size.pages = ap (λ (size : Size). size.pages) keeps.same_size in
-        let rows : mid.size.words - 4 ≡ old.size.words - 4 = ap (λ (size : Size). size.words - 4) keeps.same_size in
-        let within = page_in_range old layout.fill free in
-        let most : page_of_slot old.size layout.fill * (mid.size.words - 4) ≤ layout.fill =
-        subst (λ n. page_of_slot old.size layout.fill * n ≤ layout.fill) (sym rows) (div-mul-le_self layout.fill (old.size.words - 4)) in
-        subst (λ page. IsMarkBehind mid layout.side page Active) e (record {
-          in_range = omega (arith, within, pages);
-          behind = omega (arith, most, keeps.same_fill, found.fill);
-          active_or_valid = inl refl;
-        })
+    next_behind mid stays = search (rules, next_is, page_in_range, div-mul-le_self)
 
     -- both marks are set
     pub ready_now : (mid new : Device) → new.size ≡ old.size → IsLiveMarked old layout.side → KeepsMarks old mid → KeepsMarks mid new → is_marked mid layout.current Valid ≡ true → is_marked new (layout.current + 1) Active ≡ true → IsReady new layout.side layout.fill

@@ -1,5 +1,5 @@
 -- What an opening leaves, from what setting the marks leaves.
-use Rattle.std.proofs.Common.{◌≡◌, ℕ, Option, Some, None, [], sym, subst, ap, ◌∙◌}
+use Rattle.std.proofs.Common.{rules, ◌≡◌, ℕ, Option, Some, None, [], sym, subst, ap, ◌∙◌}
 use Rattle.ee_flash.specs.Device.{Device}
 use Rattle.ee_flash.specs.Power.{GoesOn, IsCut}
 use Rattle.ee_pages.specs.Layout.{IsLayout}
@@ -13,7 +13,7 @@ use Rattle.ee_core.specs.Finished.{IsFinished, IsMarked}
 use Rattle.ee_core.specs.Openings.{IsCutOpening, IsFormatted, Opens, ShowsCutMarks, ShowsMarks, not_blank_pages}
 use Rattle.ee_core.specs.Picture.{IsDrawn, blank, filled_set}
 use Rattle.ee_core.specs.Parts.{Stays}
-use Rattle.ee_core.specs.State.{State, Wears, formatted_state, pending_pages_in, state_of}
+use Rattle.ee_core.specs.State.{State, Wears, formatted_state, state_of}
 
 abbrev side_in : Option (Side × ℕ) → Side
 side_in None = First
@@ -27,31 +27,10 @@ finished_from device side generation live marked found number is =
 
 module _ (layout : Layout) (old new : Device) (is : IsLayout old layout) (stays : Stays old new layout.side layout.generation) where
   pub opens : IsMarked new layout.side → ShowsMarks old new layout.side → (IsMarked old layout.side → new ≡ old) → GoesOn old new → Opens old new
-  opens marked shows no_step on = record {
-    image = (layout.side, layout.generation, is.live.live, shows);
-    legal = (layout.side, layout.generation, is.live);
-    store = record {
-      legal = (layout.side, layout.generation, stays.keeps.live);
-      finished = λ power. finished_from new layout.side layout.generation stays.keeps.live marked;
-    };
-    goes_on = on;
-    state_is = state_stays old new layout.side layout.generation is.live stays;
-    live_is = stays.keeps.live.live ∙ sym is.live.live;
-    same_pending = ap (pending_pages_in new) stays.keeps.live.live ∙ stays.same_pending ∙ sym (ap (pending_pages_in old) is.live.live);
-    no_wear = stays.same_wear;
-    no_step = λ finished. no_step (finished layout.side layout.generation is.live.live);
-  }
+  opens marked shows no_step on = search (rules, finished_from, state_is, state_stays)
 
   pub opening_cut : (IsMarked old layout.side → ⊥) → ShowsCutMarks old new layout.side → IsCut old new → IsCutOpening old new
-  opening_cut left shows cut = record {
-    words = (layout.side, layout.generation, is.live.live, shows);
-    was_legal = (layout.side, layout.generation, is.live);
-    mark_left = λ finished. left (finished layout.side layout.generation is.live.live);
-    cut = cut;
-    legal = (layout.side, layout.generation, stays.keeps.live);
-    state_is = state_stays old new layout.side layout.generation is.live stays;
-    no_wear = stays.same_wear;
-  }
+  opening_cut left shows cut = search (rules, state_is, state_stays)
 
 -- a new store whose live set is the first has it with generation 1
 live_first : (layout : Layout) (new : Device) → IsLayout new layout → layout.side ≡ First → state_of new ≡ formatted_state → live_of new ≡ Some (First, 1)
@@ -60,15 +39,4 @@ live_first layout new is first state =
     is.live.live ∙ ap (λ side. Some (side, layout.generation)) first ∙ ap (λ number. Some (First, number)) generation
 
 pub formats : (layout : Layout) (old new : Device) → IsLayout new layout → layout.side ≡ First → IsMarked new First → state_of new ≡ formatted_state → IsDrawn First new (filled_set new.size 1 []) → IsDrawn Second new blank → Wears (not_blank_pages old) old new → GoesOn old new → IsFormatted old new
-formats layout old new is first marked state first_set second_set wear on = record {
-  first_set = first_set;
-  second_set = second_set;
-  store = record {
-    legal = (layout.side, layout.generation, is.live);
-    finished = λ power. finished_from new layout.side layout.generation is.live (subst (λ set. IsMarked new set) (sym first) marked);
-  };
-  live_is = live_first layout new is first state;
-  goes_on = on;
-  state_is = state;
-  wear = wear;
-}
+formats layout old new is first marked state first_set second_set wear on = search (rules, finished_from, live_first, state_is)

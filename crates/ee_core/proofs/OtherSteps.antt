@@ -1,5 +1,5 @@
 -- Steps in the set that a transfer fills.
-use Rattle.std.proofs.Common.{◌≡◌, ◌⊎◌, inl, inr, ℕ, ◌+◌, ◌-◌, ◌<◌, Bool, true, false, None, [], length, refl, sym, subst, ap, ◌∙◌, arith}
+use Rattle.std.proofs.Common.{rules, ◌≡◌, ◌⊎◌, inl, inr, ℕ, ◌+◌, ◌-◌, ◌<◌, Bool, true, false, None, [], length, refl, sym, subst, ap, ◌∙◌, arith}
 use Rattle.std.specs.List.{All}
 use Rattle.std.specs.Prelude.{Result, Ok, Err, slice_set}
 use Rattle.std.proofs.lemmas.Bool.{cases_Bool}
@@ -47,11 +47,7 @@ free_slot device side generation count filling free =
 
 module _ (old new : Device) (side : Side) (generation count number : ℕ) (live : IsLive old side generation) (filling : IsFilling old (other side) (generation + 1) count) (free : count < slot_count old.size) (below : number < all_ones) (follows : MayFollow (slot_step old.size (other side) count number) old new) where
   pub slot_taken : IsStep (slot_step old.size (other side) count number) old new
-  slot_taken = record {
-    formed = live.formed;
-    may = (in_device (other side) old _ (page_in_range old count free), place_in_range old count live.formed, free_slot old (other side) (generation + 1) count filling free, below);
-    follows = follows;
-  }
+  slot_taken = search (rules, in_device, page_in_range, place_in_range, free_slot)
 
   pub slot_keeps : KeepsLiveSet old new side generation
   slot_keeps = (other_set_keeps_live _ old new side generation live slot_taken (in_set (other side) old _ (page_in_range old count free)) ((λ here e. omega arith), (λ here e. absurd (omega arith)))).0
@@ -64,11 +60,7 @@ active_below = omega arith
 
 module _ (old new : Device) (page : ℕ) (mark : Mark) (formed : IsFormed old) (in_range : page < page_count old.size) (below : number_of_mark mark < all_ones) (erased : is_marked old page mark ≡ false) (follows : MayFollow (marking page mark) old new) where
   mark_taken : IsStep (marking page mark) old new
-  mark_taken = record {
-    formed = formed;
-    may = (in_range, omega (arith, place_below mark, formed.within_limits.some_words), erased_word _ erased, below);
-    follows = follows;
-  }
+  mark_taken = search (rules, place_below, erased_word)
 
 -- a mark that is written takes no step, so none is cut
 unmarked : {T E Q : Type 0} (b : Bool) (result : Result T E) (x : T) (e : E) → result ≡ Err e → (b ≡ true → (result ≡ Ok x) × Q) → b ≡ false

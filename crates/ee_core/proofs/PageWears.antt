@@ -1,6 +1,6 @@
 -- How often a page is erased in a run, by where it stands.
 use Rattle.ee_pages.specs.Legal.{IsLegal}
-use Rattle.std.proofs.Common.{◌≡◌, ◌≢◌, ◌⊎◌, inl, inr, ℕ, ◌+◌, ◌/◌, ◌<◌, ◌≤◌, Bool, true, false, cond, eqb, Option, Some, None, List, [], ◌∷◌, get_or, refl, sym, subst, ap, ◌∙◌, arith}
+use Rattle.std.proofs.Common.{rules, ◌≡◌, ◌≢◌, ◌⊎◌, inl, inr, ℕ, ◌+◌, ◌/◌, ◌<◌, ◌≤◌, Bool, true, false, cond, eqb, Option, Some, None, List, [], ◌∷◌, get_or, refl, sym, subst, ap, ◌∙◌, arith}
 use Rattle.std.specs.List.{All}
 use Rattle.std.proofs.lemmas.Bool.{cases_eq, cases_lt, ne_eqb}
 use Rattle.std.proofs.lemmas.List.Elements.{All-tail}
@@ -176,13 +176,7 @@ aged (call ∷ calls) old new run whole =
 
 -- so often at the most, by where a page stood at the start
 pub wears_at_most : (count page : ℕ) (old new : Device) → Aged count old new → WearsAtMost count page old new
-wears_at_most count page old new all = record {
-  live = λ stands. omega (arith, all.live_page stands.side stands.generation page stands.live stands.in_live);
-  spare = λ stands.
-      let none : waits old page ≡ 0 = ap (λ b. cond b 0 1) stands.blank in
-      omega (arith, all.other_page stands.side stands.generation page stands.live stands.in_other, none);
-  pending = λ stands. omega (arith, all.other_page stands.side stands.generation page stands.live stands.in_other, few_wait (is_blank (page_at old page)));
-}
+wears_at_most count page old new all = search (rules, waits, few_wait)
 
 pub each_page_wears_every_second_transfer_lem : (calls : List Call) (old new : Device) (page : ℕ) → IsWholeRun calls old new → WearsAtMost (transfers calls) page old new
 each_page_wears_every_second_transfer_lem calls old new page whole = wears_at_most (transfers calls) page old new (aged calls old new whole.run whole.without_cuts)

@@ -1,5 +1,5 @@
 -- How many pages of a set are not blank.
-use Rattle.std.proofs.Common.{◌≡◌, ℕ, ◌+◌, ◌-◌, ◌<◌, ◌≤◌, Bool, true, false, cond, List, [], ◌∷◌, length, take, get_or, refl, sym, ap, ◌∙◌, arith, zero, suc}
+use Rattle.std.proofs.Common.{rules, ◌≡◌, ℕ, ◌+◌, ◌-◌, ◌<◌, ◌≤◌, Bool, true, false, cond, List, [], ◌∷◌, length, take, get_or, refl, sym, ap, ◌∙◌, arith, zero, suc}
 use Rattle.std.specs.Prelude.{not}
 use Rattle.std.specs.List.{filter}
 use Rattle.std.proofs.Math.Seq.{take-length}
@@ -14,16 +14,10 @@ use Rattle.ee_core.proofs.SetPages.{page_of_set}
 
 module _ (pages : List (List Word)) where
   pub count_not_blank : (n : ℕ) → n < length pages → is_blank (get_or pages n []) ≡ false → pending_of (take (n + 1) pages) ≡ pending_of (take n pages) + 1
-  count_not_blank n h e =
-      length-filter (λ page. not (is_blank page)) (take (n + 1) pages)
-      ∙ count_by_more_yes (λ page. not (is_blank page)) pages n [] h (ap not e)
-      ∙ ap (λ count. count + 1) (sym (length-filter (λ page. not (is_blank page)) (take n pages)))
+  count_not_blank n h e = search (rules, length-filter, count_by_more_yes)
 
   pub count_blank : (n : ℕ) → n < length pages → is_blank (get_or pages n []) ≡ true → pending_of (take (n + 1) pages) ≡ pending_of (take n pages)
-  count_blank n h e =
-      length-filter (λ page. not (is_blank page)) (take (n + 1) pages)
-      ∙ count_by_more_no (λ page. not (is_blank page)) pages n [] h (ap not e)
-      ∙ sym (length-filter (λ page. not (is_blank page)) (take n pages))
+  count_blank n h e = search (rules, length-filter, count_by_more_no)
 
   -- where the first pages are blank, none of them waits
   pub count_none : (n : ℕ) → n ≤ length pages → ((k : ℕ) → k < n → is_blank (get_or pages k []) ≡ true) → pending_of (take n pages) ≡ 0
@@ -64,11 +58,7 @@ module _ (side : Side) (device : Device) (formed : IsFormed device) (first : ℕ
       ∙ ap (λ n. pending_of (take n (set_of side device))) next
 
   pub as_many : (page count : ℕ) → first ≤ page → page < first + device.size.pages → is_blank (page_at device page) ≡ true → count ≡ pending_of (take (page - first) (set_of side device)) → count ≡ pending_of (take (page + 1 - first) (set_of side device))
-  as_many page count from below here so_far =
-      let next : page - first + 1 ≡ page + 1 - first = omega arith in
-      so_far
-      ∙ sym (count_blank (set_of side device) (page - first) (within page from below) (ap is_blank (page_there page from below) ∙ here))
-      ∙ ap (λ n. pending_of (take n (set_of side device))) next
+  as_many page count from below here so_far = search (rules, count_blank, within, page_there)
 
   pub at_end : (page : ℕ) → page ≡ first + device.size.pages → pending_of (take (page - first) (set_of side device)) ≡ pending_of (set_of side device)
   at_end page e =

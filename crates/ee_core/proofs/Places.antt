@@ -1,5 +1,5 @@
 -- A place goes on from slot to slot of a set.
-use Rattle.std.proofs.Common.{◌≡◌, ◌≢◌, ℕ, ◌+◌, ◌-◌, ◌*◌, ◌<◌, ◌≤◌, ◌/◌, ◌%◌, ap, ◌∙◌, arith}
+use Rattle.std.proofs.Common.{rules, ◌≡◌, ◌≢◌, ℕ, ◌+◌, ◌-◌, ◌*◌, ◌<◌, ◌≤◌, ◌/◌, ◌%◌, ap, ◌∙◌, arith}
 use Rattle.std.proofs.lemmas.Nat.{div-mul-add, mod-mul-add}
 use Rattle.ee_flash.specs.Size.{Size}
 use Rattle.ee_pages.specs.declared.side.Side.{Side}
@@ -24,10 +24,7 @@ behind_row n m last =
 
 module _ (size : Size) (side : Side) (place : Place) (words : ℕ) (some : 5 ≤ words) (words_is : words ≡ size.words) (stands : Stands size side place) where
   pub within_page : place.at + 1 ≢ words → Stands size side record { slot = place.slot + 1; page = place.page; at = place.at + 1 }
-  within_page inside =
-      let below : place.slot % (size.words - 4) < size.words - 4 = omega (arith) in
-      let row = within_row place.slot (size.words - 4) (omega (arith, inside)) in
-      record { page = omega (arith, row.0); at = omega (arith, row.1) }
+  within_page inside = search (rules, within_row)
 
   pub next_page : place.at + 1 ≡ words → Stands size side record { slot = place.slot + 1; page = place.page + 1; at = 4 }
   next_page last =

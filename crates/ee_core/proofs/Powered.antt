@@ -1,5 +1,5 @@
 -- What an image says, it says with any power.
-use Rattle.std.proofs.Common.{◌≡◌, ◌≤◌, ℕ, Bool, true, Option, Some, None, refl}
+use Rattle.std.proofs.Common.{rules, ◌≡◌, ◌≤◌, ℕ, Bool, true, Option, Some, None, refl}
 use Rattle.ee_flash.specs.Device.{Device, IsFormed, all_ones}
 use Rattle.ee_pages.specs.Legal.{IsLegal, IsLive}
 use Rattle.ee_pages.specs.declared.side.Side.{Side}
@@ -19,16 +19,7 @@ module _ (cuts : ℕ) (left : Option ℕ) (on : Bool) (device : Device) where
 
   module _ (cuts_fit : cuts ≤ all_ones) (left_fit : (count : ℕ) → left ≡ Some count → count ≤ all_ones) where
     formed_powered : IsFormed device → IsFormed (with_power cuts left on device)
-    formed_powered formed = record {
-      within_limits = formed.within_limits;
-      image_length = formed.image_length;
-      page_lengths = formed.page_lengths;
-      below_all_ones = formed.below_all_ones;
-      wear_length = formed.wear_length;
-      wear_fits = formed.wear_fits;
-      cuts_fit = cuts_fit;
-      cuts_left_fit = left_fit;
-    }
+    formed_powered formed = search rules
 
     pub live_powered : (side : Side) (generation : ℕ) → IsLive device side generation → IsLive (with_power cuts left on device) side generation
     live_powered First generation live = record { formed = formed_powered live.formed; live = live.live; allowed = live.allowed }

@@ -1,5 +1,5 @@
 -- What each call of a run does to power, wear, pending pages and the map, and so what a run does.
-use Rattle.std.proofs.Common.{length, ◌≤◌, ◌≡◌, ℕ, ◌+◌, ◌-◌, ◌*◌, Bool, true, false, cond, Ok, Err, List, [], ◌∷◌, refl, sym, ◌∙◌, ap, subst, arith}
+use Rattle.std.proofs.Common.{rules, length, ◌≤◌, ◌≡◌, ℕ, ◌+◌, ◌-◌, ◌*◌, Bool, true, false, cond, Ok, Err, List, [], ◌∷◌, refl, sym, ◌∙◌, ap, subst, arith}
 use Rattle.std.specs.List.{All, flat_map}
 use Rattle.std.proofs.lemmas.List.Elements.{All-head, All-tail}
 use Rattle.std.proofs.lemmas.List.Sums.{sum_by-cons}
@@ -182,27 +182,15 @@ runs_go_on_lem calls old new whole = assumption (went calls old new whole.run wh
 
 pub each_transfer_erases_a_set_lem : (calls : List Call) (old new : Device) → IsWholeRun calls old new → All (λ call. is_single call ≡ true) calls → CountsWear new
     → total_wear_of new + (state_of new).pending ≡ total_wear_of old + (state_of old).pending + transfers calls * old.size.pages
-each_transfer_erases_a_set_lem calls old new whole singles counts =
-    let counted : CountsWear new = assumption counts in
-    let did = went calls old new whole.run whole.without_cuts in
-    let sum = did.adds counted in
-    omega (arith, sum.1, did.whole singles)
+each_transfer_erases_a_set_lem calls old new whole singles counts = search (rules, went, whole)
 
 pub no_transfer_erases_more_lem : (calls : List Call) (old new : Device) → IsWholeRun calls old new → CountsWear new
     → total_wear_of new + (state_of new).pending ≤ total_wear_of old + (state_of old).pending + transfers calls * old.size.pages
-no_transfer_erases_more_lem calls old new whole counts =
-    let counted : CountsWear new = assumption counts in
-    let did = went calls old new whole.run whole.without_cuts in
-    let sum = did.adds counted in
-    omega (arith, sum.1, did.few)
+no_transfer_erases_more_lem calls old new whole counts = search (rules, went, whole)
 
 pub clean_runs_erase_sets_lem : (calls : List Call) (old new : Device) → IsWholeRun calls old new → All (λ call. is_single call ≡ true) calls → CountsWear new → (state_of old).pending ≡ 0
     → (state_of new).pending ≡ 0 → total_wear_of new ≡ total_wear_of old + transfers calls * old.size.pages
-clean_runs_erase_sets_lem calls old new whole singles counts clean cleaned =
-    let counted : CountsWear new = assumption counts in
-    let did = went calls old new whole.run whole.without_cuts in
-    let sum = did.adds counted in
-    omega (arith, sum.1, did.whole singles, clean, cleaned)
+clean_runs_erase_sets_lem calls old new whole singles counts clean cleaned = search (rules, went, whole)
 
 pub the_store_is_a_map_lem : (calls : List Call) (old new : Device) → IsWholeRun calls old new
     → ((state_of new).map ≡ changed_by (flat_map changes_of_call calls) (state_of old).map) × AreAnsweredFrom (state_of old).map calls

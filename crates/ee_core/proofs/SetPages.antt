@@ -1,10 +1,9 @@
 -- The pages of a set by their numbers in the device.
-use Rattle.std.proofs.Common.{◌≡◌, ◌≢◌, ℕ, ◌+◌, ◌<◌, ◌≤◌, inl, inr, List, [], length, get_or, set, sym, ap, ◌∙◌, arith}
+use Rattle.std.proofs.Common.{rules, ◌≡◌, ◌≢◌, ℕ, ◌+◌, ◌<◌, ◌≤◌, inl, inr, [], length, get_or, set, sym, ap, ◌∙◌, arith}
 use Rattle.std.proofs.lemmas.Bool.{cases_eq}
 use Rattle.std.proofs.lemmas.List.{ext_get_or, get_or-drop, get_or-set_other, get_or-set_same, get_or-take, length-set}
 use Rattle.ee_flash.specs.Device.{Device, IsFormed, page_at}
 use Rattle.ee_flash.specs.Size.{Size, page_count}
-use Rattle.ee_flash.specs.declared.word.Word.{Word}
 use Rattle.ee_pages.specs.Laws.{IsPageOf}
 use Rattle.ee_pages.specs.Sets.{first_page, other, set_of}
 use Rattle.ee_pages.specs.declared.side.Side.{Side}
@@ -40,10 +39,7 @@ apart_other size Second page k at h e = omega (arith, at.from)
 
 -- the same set has the same pages
 pub same_page : (side : Side) (old new : Device) (k : ℕ) → new.size ≡ old.size → IsSameSet side old new → k < old.size.pages → page_at new (first_page new.size side + k) ≡ page_at old (first_page old.size side + k)
-same_page side old new k sizes same h =
-    sym (page_of_set side new k (omega (arith, ap (λ (size : Size). size.pages) sizes)))
-    ∙ ap (λ (pages : List (List Word)). get_or pages k []) same
-    ∙ page_of_set side old k h
+same_page side old new k sizes same h = search (rules, page_of_set)
 
 -- what changes one page of a set leaves the other set
 pub same_other : (side : Side) (old new : Device) (page : ℕ) → IsFormed old → IsFormed new → new.size ≡ old.size → IsPageOf old.size side page → IsSameBut page old new → IsSameSet (other side) old new

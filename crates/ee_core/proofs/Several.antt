@@ -1,5 +1,5 @@
 -- Lists of two values or more: when one is refused, and how many addresses have a value with it.
-use Rattle.std.proofs.Common.{◌≡◌, ℕ, ◌+◌, ◌<◌, ◌≤◌, true, false, Bool, cond, Option, Some, is_some, List, [], ◌∷◌, length, get_or, take, refl, sym, subst, ap, ◌∙◌, arith, suc, zero, length-append}
+use Rattle.std.proofs.Common.{rules, ◌≡◌, ℕ, ◌+◌, ◌<◌, ◌≤◌, true, false, Bool, cond, Option, Some, is_some, List, [], ◌∷◌, length, get_or, take, refl, sym, subst, ap, ◌∙◌, arith, suc, zero, length-append}
 use Rattle.std.specs.Prelude.{◌==◌, slice_get}
 use Rattle.std.proofs.lemmas.Bool.{ne_eqb}
 use Rattle.std.proofs.lemmas.Option.{slice_get_read}
@@ -48,13 +48,7 @@ module _ (slots : ℕ) (state : State) where
   needs_transfer (first ∷ second ∷ puts) several = tt
 
 pub several_proceed : (device : Device) (puts : List listed.Put) → IsOn device → 1 < length puts → live_in (changed_by (puts_of puts) (state_of device).map) ≤ capacity device → ¬ ((state_of device).generation ≡ greatest_generation) → Proceeds device (puts_of puts)
-several_proceed device puts on several fits left = record {
-  on = on;
-  accepted = record {
-    has_place = some_place (capacity device) (state_of device) puts several fits;
-    not_spent = some_generation (capacity device) (state_of device) puts several left;
-  };
-}
+several_proceed device puts on several fits left = search (rules, some_place, some_generation)
 
 -- ---- how many addresses have a value with them
 

@@ -1,5 +1,5 @@
 -- What the pictures say of the states of the pages.
-use Rattle.std.proofs.Common.{◌≡◌, inl, inr, ℕ, ◌+◌, ◌-◌, ◌<◌, Bool, true, false, cond, not, Option, Some, None, is_some, List, [], ◌∷◌, length, get_or, refl, sym, subst, ap, ◌∙◌, arith, suc, zero, length-append}
+use Rattle.std.proofs.Common.{rules, ◌≡◌, inl, inr, ℕ, ◌+◌, ◌-◌, ◌<◌, Bool, true, false, cond, not, Option, Some, None, is_some, List, [], ◌∷◌, length, get_or, refl, sym, subst, ap, ◌∙◌, arith, suc, zero, length-append}
 use Rattle.std.specs.Prelude.{◌==◌, ◌&&◌}
 use Rattle.std.proofs.Math.Nat.{zero-div}
 use Rattle.std.proofs.lemmas.Bool.{cases_Bool, cases_eq, cases_lt, eq-eqb, le-ltb, lt-leb, lt-ltb, ne_eqb}
@@ -123,23 +123,13 @@ filled_shown side device size generation words page drawn =
 
 -- of a page that is as before
 same_shown : (side : Side) (old new : Device) (page : ℕ) → ((at : ℕ) → at < 4 → picture_of side new page at ≡ picture_of side old page at) → state_at side new page ≡ state_at side old page
-same_shown side old new page words =
-    let third = words 3 (omega arith) in
-    let second = words 2 (omega arith) in
-    let first = words 1 (omega arith) in
-    let zeroth = words 0 (omega arith) in
-    rw (third, second, first, zeroth) refl
+same_shown side old new page words = search rules
 
 retired_shown : (side : Side) (device : Device) (page : ℕ) → is_written (picture_of side device page 3) ≡ true → state_at side device page ≡ Erasing
 retired_shown side device page written = rw written refl
 
 blank_shown : (side : Side) (device : Device) (page : ℕ) → ((at : ℕ) → at < 4 → picture_of side device page at ≡ Erased) → state_at side device page ≡ Unused
-blank_shown side device page words =
-    let third = words 3 (omega arith) in
-    let second = words 2 (omega arith) in
-    let first = words 1 (omega arith) in
-    let zeroth = words 0 (omega arith) in
-    rw (third, second, first, zeroth) refl
+blank_shown side device page words = search rules
 
 pub states_after_append_lem : StatesAfterAppend
 states_after_append_lem old change new side generation page store appends live h =
@@ -192,12 +182,7 @@ not_used true e = refl
 not_used false e = absurd (cc e)
 
 blank_state : (words : List Word) → is_blank words ≡ true → state_of_words words ≡ Unused
-blank_state words blank =
-    let third = blank_word words 3 blank in
-    let second = blank_word words 2 blank in
-    let first = blank_word words 1 blank in
-    let zeroth = blank_word words 0 blank in
-    rw (third, second, first, zeroth) refl
+blank_state words blank = search (rules, blank_word)
 
 -- where a page may not be erased, its words stay
 kept_word : (waits : ℕ → Bool) (picture : Picture) (page at : ℕ) → waits page ≡ false → retired_pages waits picture page at ≡ picture page at
@@ -263,14 +248,7 @@ states_after_opening_lem old new side generation page opens live h =
     )
 
 pub states_after_format_lem : StatesAfterFormat
-states_after_format_lem old new page formatted h =
-    let formed = formatted.store.legal.2.formed in
-    let inside : 4 < new.size.words = omega (arith, formed.within_limits.some_words) in
-    let none : page_of_slot new.size (0 - 1) ≡ 0 = zero-div (new.size.words - 4) in (
-      filled_shown First new new.size 1 [] page (λ at low. formatted.first_set page at h (omega (arith, low, inside)))
-          ∙ ap (λ n. filled_state n page) none,
-      blank_shown Second new page (λ at low. formatted.second_set page at h (omega (arith, low, inside))),
-    )
+states_after_format_lem old new page formatted h = search (rules, zero-div, filled_shown, blank_shown)
 
 -- the words of a page of the device are those of a page of one of its sets
 page_of_either : (old new : Device) (n at : ℕ) → new.size ≡ old.size → n < page_count old.size → at < old.size.words → ((side : Side) → IsDrawn side new (picture_of side old)) → word_at new n at ≡ word_at old n at

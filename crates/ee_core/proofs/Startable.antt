@@ -1,5 +1,5 @@
 -- What steps leave of a device that can be started: from a first start on, until its set is committed.
-use Rattle.std.proofs.Common.{◌≡◌, ◌≢◌, ◌⊎◌, inl, inr, ℕ, ◌+◌, ◌<◌, ◌≤◌, true, Some, None, Option, List, [], length, get_or, set, refl, sym, subst, ap, ◌∙◌, arith, suc, zero}
+use Rattle.std.proofs.Common.{rules, ◌≡◌, ◌≢◌, ◌⊎◌, inl, inr, ℕ, ◌+◌, ◌<◌, ◌≤◌, true, Some, None, Option, List, [], length, get_or, set, refl, sym, subst, ap, ◌∙◌, arith, suc, zero}
 use Rattle.std.specs.List.{All}
 use Rattle.std.proofs.lemmas.Bool.{cases_eq}
 use Rattle.std.proofs.lemmas.Option.{same_Some}
@@ -96,25 +96,16 @@ blank_in_set Second device all = All-drop (λ page. is_blank page ≡ true) devi
 
 -- a device with no word programmed
 pub blank_startable : (device : Device) → All (λ page. is_blank page ≡ true) device.image → IsStartable device
-blank_startable device all = record {
-  uncommitted = λ side. erased_commits (set_of side device) (blank_set (set_of side device) 0 1 (blank_in_set side device all));
-  none_held = λ page at number behind held. is_held (word_at device page at) number (inl (blank_set device.image page at all)) held;
-}
+blank_startable device all = search (rules, erased_commits, blank_set, blank_in_set, is_held)
 
 -- all that is asked is asked of the image
 pub same_image : (old new : Device) → new.size ≡ old.size → new.image ≡ old.image → IsStartable old → IsStartable new
-same_image old new sizes same startable = record {
-  uncommitted = λ side. ap committed_generation (as_it_was side old new sizes same) ∙ startable.uncommitted side;
-  none_held = λ page at number behind held. startable.none_held page at number behind (ap (λ (image : List (List Word)). get_or (get_or image page []) at Erased) (sym same) ∙ held);
-}
+same_image old new sizes same startable = search (rules, as_it_was)
 
 -- ---- the two steps behind the last erase
 
 cannot_receive : (side : Side) (blank : Device) → IsFormed blank → All (λ page. is_blank page ≡ true) blank.image → CannotCommit (first_page blank.size side) (marking 0 (Receive 1)) blank
-cannot_receive side blank formed all = (
-  λ same one. let e : 0 ≡ 1 = one in omega (arith, e),
-  λ same zero. blank_set blank.image (first_page blank.size side) 1 all,
-)
+cannot_receive side blank formed all = search (rules, blank_set)
 
 module _ (blank mid : Device) (formed : IsFormed blank) (all : All (λ page. is_blank page ≡ true) blank.image) where
   -- whatever the receive word's step leaves

@@ -1,5 +1,5 @@
 -- What a live set says is the state of its device.
-use Rattle.std.proofs.Common.{◌≡◌, ℕ, ◌+◌, List, refl, sym, ap, ◌∙◌}
+use Rattle.std.proofs.Common.{rules, ◌≡◌, ℕ, List, refl, ap}
 use Rattle.std.proofs.Math.Path.{fun_ext}
 use Rattle.ee_flash.specs.Device.{Device}
 use Rattle.ee_pages.specs.Laws.{KeepsLiveSet}
@@ -27,22 +27,12 @@ same_states map new_map fill new_fill generation new_generation pending new_pend
 module _ (old new : Device) (side : Side) (generation : ℕ) (live : IsLive old side generation) where
   -- the live set is as before, and so many pages of the other wait
   pub state_kept : KeepsLiveSet old new side generation → (pending : ℕ) → pending_of (set_of (other side) new) ≡ pending → state_of new ≡ with_pending pending (state_of old)
-  state_kept keeps pending e =
-      state_is new side generation keeps.live
-      ∙ same_states _ _ _ _ generation generation pending _ keeps.same_map keeps.same_fill refl e
-      ∙ ap (with_pending pending) (sym (state_is old side generation live))
+  state_kept keeps pending e = search (rules, state_is, same_states)
 
   -- all is as before
   pub state_stays : Stays old new side generation → state_of new ≡ state_of old
-  state_stays stays =
-      state_is new side generation stays.keeps.live
-      ∙ same_states _ _ _ _ generation generation _ _ stays.keeps.same_map stays.keeps.same_fill refl (as_many_not_blank (other side) old new stays.same_pending)
-      ∙ sym (state_is old side generation live)
+  state_stays stays = search (rules, state_is, same_states, as_many_not_blank)
 
   -- the map was moved
   pub state_moved : (changes : List Change) → HasMoved old new side generation changes → state_of new ≡ moved_state (pending_of (set_of side old)) changes (state_of old)
-  state_moved changes has =
-      let was = state_is old side generation live in
-      state_is new (other side) (generation + 1) has.live
-      ∙ same_states _ _ _ _ (generation + 1) (generation + 1) _ _ has.map_is has.fill_is refl (ap (λ (side : Side). pending_of (set_of side new)) (other_twice side) ∙ has.pending_is)
-      ∙ ap (moved_state (pending_of (set_of side old)) changes) (sym was)
+  state_moved changes has = search (rules, state_is, same_states, other_twice)

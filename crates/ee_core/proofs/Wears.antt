@@ -1,5 +1,5 @@
 -- How wear rises over several steps, page by page and in all.
-use Rattle.std.proofs.Common.{◌≡◌, ◌⊎◌, inl, inr, ℕ, ◌+◌, ◌<◌, ◌++◌, List, [], ◌∷◌, ◌≤◌, Bool, true, false, cond, eqb, length, get_or, set, min, refl, sym, subst, ap, ◌∙◌, arith}
+use Rattle.std.proofs.Common.{rules, ◌≡◌, ◌⊎◌, inl, inr, ℕ, ◌+◌, ◌<◌, ◌++◌, List, [], ◌∷◌, ◌≤◌, Bool, true, false, cond, eqb, length, get_or, set, min, refl, sym, subst, ap, ◌∙◌, arith}
 use Rattle.std.specs.List.{All, sum}
 use Rattle.std.proofs.lemmas.Bool.{cases_Bool, cases_eq, cases_lt, eq-eqb, ne_eqb, true≢false}
 use Rattle.std.proofs.lemmas.List.{append-nil, append_assoc, get_or-set_other, get_or-set_same, get_or_past, length-append, length-set}
@@ -99,10 +99,7 @@ wears_none old new same = record { there = All-nil (λ page. page < length old.w
 
 -- an erase of a page that was begun
 pub page_wears : (page : ℕ) (old new : Device) → page < length old.wear → new.wear ≡ (with_page_erased page old).wear → Wears (page ∷ []) old new
-page_wears page old new h wear = record {
-  there = All-cons (λ page. page < length old.wear) page [] h (All-nil (λ page. page < length old.wear));
-  wear_is = wear;
-}
+page_wears page old new h wear = search (rules, All-cons, All-nil)
 
 -- so is an erase that was cut with the power on
 pub cut_page_wears : (page : ℕ) (old new : Device) → page < length old.wear → IsCutIn (Erase page) old new ⊎ IsUntouched old new → IsOn old → Wears (page ∷ []) old new
@@ -146,12 +143,7 @@ front_more pages more all old mid new first second e = record {
 
 -- and others that were not begun
 pub front_longer : (pages more all : List ℕ) (old new : Device) → WearsFront pages old new → all ≡ pages ++ more → WearsFront all old new
-front_longer pages more all old new some e = record {
-  front = some.front;
-  rest = some.rest ++ more;
-  pages_are = e ∙ ap (λ list. list ++ more) some.pages_are ∙ append_assoc some.front some.rest more;
-  wears = some.wears;
-}
+front_longer pages more all old new some e = search (rules, append_assoc)
 
 -- ---- so many erases
 
