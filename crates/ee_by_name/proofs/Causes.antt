@@ -1,5 +1,5 @@
 -- The image that is left, and that one cause at most applies for which nothing is applied.
-use Rattle.std.proofs.Common.{◌≡◌, ◌⊎◌, ◌∙◌, ℕ, List, length, inl, inr, sym, ap, subst}
+use Rattle.std.proofs.Common.{◌≡◌, ◌⊎◌, ◌∙◌, ℕ, List, inl, inr, sym, ap, subst}
 use Rattle.toml.specs.Data.{Members}
 use Rattle.ee_flash.specs.Device.{Device}
 use Rattle.ee_settings.specs.File.{entries_of}
@@ -11,12 +11,12 @@ use Rattle.ee_image_store.proofs.Public.{no_memory_to_open, same_at_rest, same_s
 use Rattle.ee_by_name.proofs.Named.{one_tree, spelled_once}
 use Rattle.ee_by_name.specs.Settings.{HasNoTree, HasTree, SpellsSettings}
 use Rattle.ee_by_name.proofs.Taken.{IsAlike, applied_good, applied_keeps, one_stop}
-use Rattle.ee_by_name.specs.Applying.{Applies, HasSettings, IsApplied, IsApplyFault, IsValueFault, StopsAtEntry, applied_text}
+use Rattle.ee_by_name.specs.Applying.{Applies, HasSettings, IsApplied, IsApplyFault, IsValueFault, LeavesApplied, StopsAtEntry}
 
-pub is_applied : (image text values new_image line : List ℕ) (store new : Device) (settings : List Setting) (tree : Members) (count : ℕ) → IsOpened image store → SpellsSettings text settings → HasTree values tree
-    → Applies settings (entries_of tree) store count new → IsStoreLeft new.size new_image new → line ≡ applied_text count (length (entries_of tree)) → IsApplied image text values new_image line
-is_applied image text values new_image line store new settings tree count opened spelled has_tree applied left says =
-    let keeps = applied_keeps settings (entries_of tree) store new count opened.stays_on applied in
+pub is_applied : (image text values new_image line : List ℕ) (store : Device) (settings : List Setting) (tree : Members) → IsOpened image store → SpellsSettings text settings → HasTree values tree
+    → LeavesApplied settings (entries_of tree) store new_image line → IsApplied image text values new_image line
+is_applied image text values new_image line store settings tree opened spelled has_tree done =
+    let keeps = applied_keeps settings (entries_of tree) store done.last done.count opened.stays_on done.applied in
     record {
       store = store;
       opened = opened;
@@ -24,11 +24,11 @@ is_applied image text values new_image line store new settings tree count opened
       spelled = spelled;
       tree = tree;
       has_tree = has_tree;
-      count = count;
-      last = new;
-      applied = applied;
-      left = subst (λ size. IsStoreLeft size new_image new) (keeps.1 ∙ opened.same_size) left;
-      line_is = says;
+      count = done.count;
+      last = done.last;
+      applied = done.applied;
+      left = subst (λ size. IsStoreLeft size new_image done.last) (keeps.1 ∙ opened.same_size) done.left;
+      line_is = done.line_is;
     }
 
 pub unread_fault : (image text values : List ℕ) (store : Device) (settings : List Setting) (fault : Fault) → IsOpened image store → SpellsSettings text settings → ((fault ≡ ValuesText) × HasNoTree values) ⊎ (fault ≡ Memory)

@@ -1,7 +1,6 @@
 -- What is read and set by name, and that one cause at most applies for which it is not.
-use Rattle.std.proofs.Common.{◌≡◌, ◌≢◌, ◌⊎◌, ◌∙◌, ℕ, List, inl, inr, refl, sym, ap, subst, codes, Ok, Err, rules, [], ◌∷◌}
+use Rattle.std.proofs.Common.{◌≡◌, ◌≢◌, ◌⊎◌, ◌∙◌, ℕ, List, inl, inr, refl, sym, ap, subst, Ok, Err, rules, [], ◌∷◌}
 use Rattle.toml.specs.Data.{Members}
-use Rattle.ee_text.specs.Line.{line_of}
 use Rattle.ee_flash.specs.Device.{Device}
 use Rattle.ee_flash.specs.Size.{Size, slot_count}
 use Rattle.ee_pages.specs.Meaning.{Put}
@@ -20,10 +19,10 @@ use Rattle.ee_script.specs.declared.answer.Answer.{Answer}
 use Rattle.ee_script.specs.declared.answer.Answer.TheVariants.{Appended, Moved}
 use Rattle.ee_script.specs.declared.command.Command.{Command}
 use Rattle.ee_script.specs.declared.command.Command.TheVariants.{Write}
-use Rattle.ee_by_name.specs.Settings.{fault_of_schema, HasTree, IsUnknownIn, IsSettingRead, IsSettingRefused, IsRefusedIn, IsSet, IsSettingsFault, IsValueRefusal, IsWriteRefusal, IsWriteServed, IsWritten, SpellsSettings}
+use Rattle.ee_by_name.specs.Settings.{fault_of_schema, HasTree, IsGetFault, IsGot, IsReadingLine, IsUnknownIn, IsSettingRead, IsSettingRefused, IsRefusedIn, IsSet, IsSettingsFault, IsValueRefusal, IsWriteRefusal, IsWriteServed, IsWritten, LeavesSet, SpellsSettings}
 use Rattle.ee_faults.specs.declared.fault.Fault.{Fault}
-use Rattle.ee_faults.specs.declared.fault.Fault.TheVariants.{Memory}
-use Rattle.ee_image_store.proofs.Public.{both, by_append, by_move, pages_since, same_at_rest, same_state}
+use Rattle.ee_faults.specs.declared.fault.Fault.TheVariants.{Memory, UnknownName}
+use Rattle.ee_image_store.proofs.Public.{both, by_append, by_move, no_memory_to_open, pages_since, same_at_rest, same_state}
 use Rattle.ee_image_store.specs.Opening.{IsOpened, IsStoreLeft, StaysOn}
 use Rattle.ee_image_store.specs.Steps.{Steps}
 
@@ -75,6 +74,23 @@ schema_only text tree why fault others has gives told spelled = search (rules, n
 pub never_unknown : (text name : List ℕ) (settings : List Setting) (state : State) (reading : Reading) → SpellsSettings text settings → IsSettingRead settings state name reading → IsUnknownIn text name → ⊥
 never_unknown text name settings state reading spelled read h = subst (λ (ss : List Setting). IsUnknown ss name) (spelled_once text h.settings settings h.spelled spelled) h.unknown read.0 read.1
 
+pub is_got : (image text name line : List ℕ) (store : Device) (settings : List Setting) → IsOpened image store → SpellsSettings text settings → IsReadingLine settings (state_of store) name line → IsGot image text name line
+is_got image text name line store settings opened spelled read = record {
+  device = opened.device;
+  old = opened.old;
+  settings = settings;
+  spelled = spelled;
+  reading = read.0;
+  read = subst (λ (state : State). IsSettingRead settings state name read.0) opened.state_is read.1;
+  line_is = read.2;
+}
+
+-- why nothing is read: the name is unknown, or memory ran out
+pub is_get_fault : (image text name : List ℕ) (store : Device) (settings : List Setting) (fault : Fault) → IsOpened image store → SpellsSettings text settings → (IsUnknown settings name × (fault ≡ UnknownName)) ⊎ (fault ≡ Memory)
+    → IsGetFault image text name fault
+is_get_fault image text name store settings fault opened spelled (inl h) = inr (inr ((opened.device, opened.old), record { settings = settings; spelled = spelled; unknown = h.0 }, h.1))
+is_get_fault image text name store settings fault opened spelled (inr none) = rw none (inl (no_memory_to_open image))
+
 -- ---- setting
 
 pub is_written : (settings : List Setting) (old new : Device) (name : List ℕ) (value : ℕ) (answer : Written) → StaysOn old → Sets settings old name value (Ok answer) new → IsWritten settings old name value new
@@ -112,22 +128,22 @@ pub size_kept : (old new : Device) (address value : ℕ) → IsWriteServed old a
 size_kept old new address value (inl h) = h.0.same_size
 size_kept old new address value (inr h) = h.0.same_size
 
-pub is_set : (image text name new_image line : List ℕ) (value : ℕ) (store new : Device) (settings : List Setting) → IsOpened image store → SpellsSettings text settings → IsWritten settings store name value new
-    → IsStoreLeft new.size new_image new → line ≡ line_of (codes "set") → IsSet image text name value new_image line
-is_set image text name new_image line value store new settings opened spelled done left says =
-    let served = served_from_text image store new done.setting.numbers.address value opened done.served in
+pub is_set : (image text name new_image line : List ℕ) (value : ℕ) (store : Device) (settings : List Setting) → IsOpened image store → SpellsSettings text settings → LeavesSet settings store name value new_image line
+    → IsSet image text name value new_image line
+is_set image text name new_image line value store settings opened spelled done =
+    let served = served_from_text image store done.last done.written.setting.numbers.address value opened done.written.served in
     record {
       device = opened.device;
       store = store;
-      last = new;
+      last = done.last;
       old = opened.old;
       opens = opened.opens;
       settings = settings;
       spelled = spelled;
-      written = done;
+      written = done.written;
       served = served;
-      left = subst (λ (size : Size). IsStoreLeft size new_image new) (size_kept opened.device new done.setting.numbers.address value served) left;
-      line_is = says;
+      left = subst (λ (size : Size). IsStoreLeft size new_image done.last) (size_kept opened.device done.last done.written.setting.numbers.address value served) done.left;
+      line_is = done.line_is;
     }
 
 pub is_refused_in : (image text name : List ℕ) (value : ℕ) (store : Device) (settings : List Setting) (fault : Fault) → IsOpened image store → SpellsSettings text settings

@@ -1,5 +1,5 @@
 -- The causes that are a command's own, behind those for which no store is opened or the text spells no settings.
-use Rattle.std.proofs.Common.{◌≡◌, ◌≢◌, ◌⊎◌, List, ℕ, inl, inr}
+use Rattle.std.proofs.Common.{◌≡◌, ◌≢◌, ◌∙◌, ◌⊎◌, List, ℕ, inl, inr, sym}
 use Rattle.ee_faults.specs.declared.fault.Fault.{Fault}
 use Rattle.ee_faults.specs.declared.fault.Fault.TheVariants.{Memory}
 use Rattle.ee_image_store.specs.FileFaults.{IsOpeningFault}
@@ -29,3 +29,8 @@ pub own_left : {Own Answer : Type 0} (image text : List ℕ) (cause : Fault) →
 own_left image text cause good some (inl h) own = absurd (good cause some (inl h))
 own_left image text cause good some (inr (inl h)) own = absurd (good cause some (inr h))
 own_left image text cause good some (inr (inr h)) own = own h
+
+-- of one cause of its own, or want of memory, it tells that cause
+pub one_own : {Why : Type 0} (own fault cause : Fault) → (Why × (fault ≡ own)) ⊎ (fault ≡ Memory) → cause ≡ own → (fault ≡ cause) ⊎ (fault ≡ Memory)
+one_own own fault cause (inl h) is = inl (h.1 ∙ sym is)
+one_own own fault cause (inr none) is = inr none

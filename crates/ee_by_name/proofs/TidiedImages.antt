@@ -1,5 +1,5 @@
 -- What is told and tidied by a later schema, and that one cause at most applies for which it is not.
-use Rattle.std.proofs.Common.{◌≡◌, ◌∙◌, ◌+◌, ℕ, Option, Some, None, List, sym, ap, subst, arith, Ok, Err, rules}
+use Rattle.std.proofs.Common.{◌≡◌, ◌∙◌, ◌⊎◌, ◌+◌, ℕ, Option, Some, None, List, inl, inr, sym, ap, subst, arith, Ok, Err, rules}
 use Rattle.std.specs.Prelude.{option_map}
 use Rattle.ee_flash.specs.Device.{Device}
 use Rattle.ee_flash.specs.Size.{Size}
@@ -10,11 +10,11 @@ use Rattle.ee_settings.specs.Stale.{stale_in}
 use Rattle.ee_settings.specs.Tidying.{IsSpentAmong, Tidies, after_forgettings, kept_map, unnamed_in}
 use Rattle.ee_settings.specs.declared.fault.TidyFault.TheVariants as tidy
 use Rattle.ee_faults.specs.declared.fault.Fault.{Fault}
-use Rattle.ee_faults.specs.declared.fault.Fault.TheVariants.{Spent}
-use Rattle.ee_image_store.proofs.Public.{same_at_rest, same_state}
+use Rattle.ee_faults.specs.declared.fault.Fault.TheVariants.{Memory, Spent}
+use Rattle.ee_image_store.proofs.Public.{no_memory_to_open, same_at_rest, same_state}
 use Rattle.ee_by_name.proofs.Named.{spelled_once}
 use Rattle.ee_image_store.specs.Opening.{IsOpened, IsStoreLeft, StaysOn}
-use Rattle.ee_by_name.specs.SecondSchema.{AreStaleLines, IsSpentFor, IsTidied, IsTidiedImage, stale_lines, tidied_text}
+use Rattle.ee_by_name.specs.SecondSchema.{AreStaleLines, IsSpentFor, IsTidied, IsTidiedImage, IsTidyImageFault, LeavesTidied, stale_lines}
 use Rattle.ee_by_name.specs.Settings.{SpellsSettings}
 
 -- ---- tidying a store
@@ -39,28 +39,34 @@ are_stale_lines image text lines store settings opened spelled says = search rul
 
 -- ---- the image that is left
 
-pub is_tidied_image : (image text new_image line : List ℕ) (store new : Device) (settings : List Setting) (count : ℕ) → IsOpened image store → SpellsSettings text settings → IsTidied settings store count new
-    → IsStoreLeft new.size new_image new → line ≡ tidied_text count → IsTidiedImage image text new_image line
-is_tidied_image image text new_image line store new settings count opened spelled done left says = record {
+pub is_tidied_image : (image text new_image line : List ℕ) (store : Device) (settings : List Setting) → IsOpened image store → SpellsSettings text settings → LeavesTidied settings store new_image line
+    → IsTidiedImage image text new_image line
+is_tidied_image image text new_image line store settings opened spelled done = record {
   store = store;
   opened = opened;
   settings = settings;
   spelled = spelled;
-  count = count;
-  last = new;
-  tidied = done.tidied;
-  map_is = λ address. done.map_is address ∙ ap (λ (state : State). kept_map settings state.map address) opened.state_is;
+  count = done.count;
+  last = done.last;
+  tidied = done.tidied.tidied;
+  map_is = λ address. done.tidied.map_is address ∙ ap (λ (state : State). kept_map settings state.map address) opened.state_is;
   state_is =
-      done.state_is
+      done.tidied.state_is
       ∙ ap (λ (state : State). after_forgettings store.size (unnamed_in settings state.map) state) opened.state_is
       ∙ ap (λ (size : Size). after_forgettings size (unnamed_in settings (state_of opened.device).map) (state_of opened.device)) opened.same_size;
-  left = subst (λ (size : Size). IsStoreLeft size new_image new) (done.same_size ∙ opened.same_size) left;
-  line_is = says;
+  left = subst (λ (size : Size). IsStoreLeft size new_image done.last) (done.tidied.same_size ∙ opened.same_size) done.left;
+  line_is = done.line_is;
 }
 
 pub is_spent_for : (image text : List ℕ) (store : Device) (settings : List Setting) (fault : Fault) → IsOpened image store → SpellsSettings text settings → fault ≡ Spent
     → IsSpentAmong store.size (unnamed_in settings (state_of store).map) (state_of store) → IsSpentFor image text fault
 is_spent_for image text store settings fault opened spelled told spent = search rules
+
+-- why no image is left: the store is spent, or memory ran out
+pub untidied : (image text : List ℕ) (store : Device) (settings : List Setting) (fault : Fault) → IsOpened image store → SpellsSettings text settings
+    → (IsSpentAmong store.size (unnamed_in settings (state_of store).map) (state_of store) × (fault ≡ Spent)) ⊎ (fault ≡ Memory) → IsTidyImageFault image text fault
+untidied image text store settings fault opened spelled (inl h) = inr (inr (is_spent_for image text store settings fault opened spelled h.1 h.0))
+untidied image text store settings fault opened spelled (inr none) = rw none (inl (no_memory_to_open image))
 
 -- ---- the causes
 

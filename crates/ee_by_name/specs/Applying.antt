@@ -155,3 +155,13 @@ ApplyingStoresValues = (settings : List Setting) → IsSchema settings → (entr
 abbrev pub ApplyingTwiceWritesNothing : Type 0
 ApplyingTwiceWritesNothing = (settings : List Setting) → IsSchema settings → (entries : List Entry) → HaveRisingKeys entries
     → (old new : Device) (count : ℕ) → Applies settings entries old count new → Applies settings entries new 0 new
+
+-- ---- for the functions within
+
+-- each entry was taken and the store left the image, with the line that says how many of them were written
+pub record LeavesApplied (settings : List Setting) (entries : List Entry) (store : Device) (image line : List ℕ) : Type 0 where
+  pub count : ℕ
+  pub last : Device
+  pub applied : Applies settings entries store count last
+  pub left : IsStoreLeft last.size image last
+  pub line_is : line ≡ applied_text count (length entries)

@@ -84,3 +84,13 @@ pub record IsSpentFor (image settings_text : List ℕ) (fault : Fault) : Type 0 
 abbrev pub IsTidyImageFault : List ℕ → List ℕ → Fault → Type 0
 IsTidyImageFault image settings_text fault =
     IsOpeningFault image fault ⊎ (HasStore image × IsSettingsFault settings_text fault) ⊎ IsSpentFor image settings_text fault
+
+-- ---- for the functions within
+
+-- the store was tidied and left the image, with the line that says how many addresses were forgotten
+pub record LeavesTidied (settings : List Setting) (store : Device) (image line : List ℕ) : Type 0 where
+  pub count : ℕ
+  pub last : Device
+  pub tidied : IsTidied settings store count last
+  pub left : IsStoreLeft last.size image last
+  pub line_is : line ≡ tidied_text count

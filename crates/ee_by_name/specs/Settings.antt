@@ -176,3 +176,17 @@ IsSetFault image settings_text name value fault =
     IsOpeningFault image fault
     ⊎ (HasStore image × IsSettingsFault settings_text fault)
     ⊎ IsRefusedIn image settings_text name value fault
+
+-- ---- for the functions within
+
+-- the line is the reading of the name's setting in a state's map
+abbrev pub IsReadingLine : List Setting → State → List ℕ → List ℕ → Type 0
+IsReadingLine settings state name line =
+    (reading : Reading) × IsSettingRead settings state name reading × (line ≡ line_of (reading_text reading))
+
+-- the value was written for the name's setting, and the store left the image, with the line that says so
+pub record LeavesSet (settings : List Setting) (store : Device) (name : List ℕ) (value : ℕ) (image line : List ℕ) : Type 0 where
+  pub last : Device
+  pub written : IsWritten settings store name value last
+  pub left : IsStoreLeft last.size image last
+  pub line_is : line ≡ line_of (codes "set")

@@ -6,13 +6,14 @@ ghost use Rattle.ee_core.specs.Calls.{Writes};
 ghost use Rattle.ee_core.specs.State.{state_of};
 ghost use Rattle.ee_settings.specs.File.{entries_of};
 ghost use Rattle.ee_image_store.specs.Opening.{StaysOn};
-ghost use Rattle.ee_by_name.specs.Applying.{Applies, IsApplied, IsApplyFault, IsEntryRefusal, IsWriteRefusalAt, StopsAtEntry, TakesEntry, applied_text};
+ghost use Rattle.ee_by_name.specs.Applying.{Applies, IsApplied, IsApplyFault, IsEntryRefusal, IsWriteRefusalAt, LeavesApplied, StopsAtEntry, TakesEntry, applied_text};
 ghost use Rattle.ee_faults.specs.Causes.{NamesEach};
 
 use super::opening::{open_with_settings, read_table};
 use ee_codec::Address;
-use ee_core::{Variables, WriteFault, Written};
+use ee_core::{Store, Variables, WriteFault, Written};
 use ee_faults::Fault;
+use ee_flash::Flash;
 use ee_image_store::{ImageAndText, text_left};
 use ee_settings::{Numbers, Schema};
 use std::alloc::{AllocError, Allocator, Global};
@@ -45,10 +46,26 @@ pub fn apply_values<A: Allocator + Copy>(
     // No cause is passed over.
     ensures names { NamesEach Fault.Memory (IsApplyFault image.now settings.now values.now) result }
 {
-    let mut opened = open_with_settings(alloc, heap, image, settings)?;
+    let opened = open_with_settings(alloc, heap, image, settings)?;
     let table = read_table(heap, values, Fault::ValuesText)?;
-    let counts = take_entries(&mut opened.store, &opened.schema, &table)?;
-    let image = text_left(alloc, opened.store)?;
+    apply_left(alloc, opened.store, &opened.schema, &table)
+}
+
+/// Takes the entries of a table by a store whose power stays on, and gives what this leaves.
+fn apply_left<A: Allocator + Copy, F: Flash + Drop>(
+    alloc: A,
+    mut store: Store<F>,
+    schema: &Schema<A>,
+    table: &Table,
+) -> Result<ImageAndText<A>, Fault>
+    requires { StaysOn store }
+    ensures applied { IfOk result (λ given. LeavesApplied schema.now
+        (entries_of (table_view table.now)) store given.image.items given.text.items) }
+    ensures stopped { IfErr result (λ fault. StopsAtEntry schema.now (entries_of (table_view table.now))
+        store fault ⊎ (fault ≡ Fault.Memory)) }
+{
+    let counts = take_entries(&mut store, schema, table)?;
+    let image = text_left(alloc, store)?;
     let text = applied_line(alloc, counts)?;
     Ok(ImageAndText { image, text })
 }

@@ -1,18 +1,19 @@
 //! The commands that look at an image with the settings of a later firmware.
-ghost use Rattle.std.specs.Prelude.{◌≡◌, ◌<◌, ◌≤◌, ◌+◌, ◌++◌, IfOk, IfErr, OnOk, length};
+ghost use Rattle.std.specs.Prelude.{◌≡◌, ◌⊎◌, ◌<◌, ◌≤◌, ◌+◌, ◌++◌, IfOk, IfErr, OnOk, length};
 ghost use Rattle.std.specs.List.{All};
 ghost use Rattle.ee_core.specs.State.{state_of};
 ghost use Rattle.ee_settings.specs.Stale.{stale_in};
 ghost use Rattle.ee_settings.specs.Tidying.{IsSpentAmong, unnamed_in};
 ghost use Rattle.ee_settings.specs.declared.stale.Stale.{Stale};
 ghost use Rattle.ee_by_name.specs.Settings.{IsOpenWithSettingsFault};
-ghost use Rattle.ee_by_name.specs.SecondSchema.{AreStaleLines, IsTidied, IsTidiedImage, IsTidyImageFault, stale_line, stale_lines, tidied_text};
+ghost use Rattle.ee_by_name.specs.SecondSchema.{AreStaleLines, IsTidied, IsTidiedImage, IsTidyImageFault, LeavesTidied, stale_line, stale_lines, tidied_text};
 ghost use Rattle.ee_image_store.specs.Opening.{StaysOn};
 ghost use Rattle.ee_faults.specs.Causes.{NamesEach};
 
 use super::opening::open_with_settings;
-use ee_core::Variables;
+use ee_core::{Store, Variables};
 use ee_faults::Fault;
+use ee_flash::Flash;
 use ee_image_store::{ImageAndText, text_left};
 use ee_settings::{Schema, Stale, StaleFault, TidyFault};
 use ee_text::push_number;
@@ -40,9 +41,7 @@ pub fn stale_text<A: Allocator + Copy>(
     ensures names { NamesEach Fault.Memory (IsOpenWithSettingsFault image.now settings.now) result }
 {
     let opened = open_with_settings(alloc, heap, image, settings)?;
-    let stale = stale_on(alloc, &opened.store, &opened.schema)?;
-    let mut text = Vec::new(alloc);
-    push_stale(&mut text, &opened.schema, stale.as_slice())?;
+    let text = stale_lines_on(alloc, &opened.store, &opened.schema)?;
     Ok(text)
 }
 
@@ -69,12 +68,24 @@ pub fn tidy_image<A: Allocator + Copy>(
     // No cause is passed over.
     ensures names { NamesEach Fault.Memory (IsTidyImageFault image.now settings.now) result }
 {
-    let mut opened = open_with_settings(alloc, heap, image, settings)?;
-    let count = tidy_on(&mut opened.store, &opened.schema)?;
-    let image = text_left(alloc, opened.store)?;
+    let opened = open_with_settings(alloc, heap, image, settings)?;
+    tidy_left(alloc, opened.store, &opened.schema)
+}
+
+/// The lines of the stale entries of a store whose power stays on.
+fn stale_lines_on<V: Variables, A: Allocator + Copy>(
+    alloc: A,
+    store: &V,
+    schema: &Schema<A>,
+) -> Result<Vec<u8, A>, AllocError>
+    requires { StaysOn (V.device store.now) }
+    ensures { IfOk result (λ text. text.items
+        ≡ stale_lines schema.now (stale_in (state_of (V.device store.now)).map schema.now)) }
+{
+    let stale = stale_on(alloc, store, schema)?;
     let mut text = Vec::new(alloc);
-    push_tidied(&mut text, count)?;
-    Ok(ImageAndText { image, text })
+    push_stale(&mut text, schema, stale.as_slice())?;
+    Ok(text)
 }
 
 /// The stale entries of a store whose power stays on.
@@ -92,6 +103,25 @@ fn stale_on<V: Variables, A: Allocator + Copy>(
         Err(StaleFault::Memory) => Err(AllocError),
         Err(StaleFault::Off) => unreachable!("power stays on"),
     }
+}
+
+/// Tidies a store whose power stays on, and gives what this leaves.
+fn tidy_left<A: Allocator + Copy, F: Flash + Drop>(
+    alloc: A,
+    mut store: Store<F>,
+    schema: &Schema<A>,
+) -> Result<ImageAndText<A>, Fault>
+    requires { StaysOn store }
+    ensures tidied { IfOk result (λ given.
+        LeavesTidied schema.now store given.image.items given.text.items) }
+    ensures fault { IfErr result (λ fault.
+        (IsSpentAmong store.size (unnamed_in schema.now (state_of store).map) (state_of store)
+        × (fault ≡ Fault.Spent)) ⊎ (fault ≡ Fault.Memory)) }
+{
+    let count = tidy_on(&mut store, schema)?;
+    let image = text_left(alloc, store)?;
+    let text = tidied_line(alloc, count)?;
+    Ok(ImageAndText { image, text })
 }
 
 /// Tidies a store whose power stays on.
@@ -146,12 +176,10 @@ fn push_line<A: Allocator>(
     Ok(())
 }
 
-/// Writes how many addresses were forgotten. After an error there may be a part of the line.
-fn push_tidied<A: Allocator>(out: &mut Vec<u8, A>, count: u64) -> Result<(), AllocError>
-    ensures { OnOk result (out.new.items ≡ out.old.items ++ tidied_text count) }
+/// The line that says how many addresses were forgotten.
+fn tidied_line<A: Allocator + Copy>(alloc: A, count: u64) -> Result<Vec<u8, A>, AllocError>
+    ensures { IfOk result (λ line. line.items ≡ tidied_text count) }
 {
-    out.extend_from_slice(b"tidied ")?;
-    push_number(out, count)?;
-    out.extend_from_slice(b"\n")?;
-    Ok(())
+    let line = format!(in alloc; "tidied {count}\n")?;
+    Ok(line.into_bytes())
 }

@@ -1,15 +1,16 @@
 //! The commands that read and set a setting by its name.
-ghost use Rattle.std.specs.Prelude.{◌≡◌, ◌++◌, IfOk, IfErr, IfSome, IfNone, OnOk};
+ghost use Rattle.std.specs.Prelude.{◌≡◌, ◌⊎◌, ◌++◌, IfOk, IfErr, IfSome, IfNone, OnOk};
 ghost use Rattle.ee_text.specs.Line.{line_of};
 ghost use Rattle.ee_core.specs.State.{state_of};
 ghost use Rattle.ee_settings.specs.Calls.{IsUnknown};
-ghost use Rattle.ee_by_name.specs.Settings.{IsGetFault, IsGot, IsSettingRead, IsSettingRefused, IsSet, IsSetFault, IsWritten, reading_text};
+ghost use Rattle.ee_by_name.specs.Settings.{IsGetFault, IsGot, IsReadingLine, IsSettingRead, IsSettingRefused, IsSet, IsSetFault, IsWritten, LeavesSet, reading_text};
 ghost use Rattle.ee_image_store.specs.Opening.{StaysOn};
 ghost use Rattle.ee_faults.specs.Causes.{NamesEach};
 
 use super::opening::open_with_settings;
-use ee_core::{Variables, WriteFault};
+use ee_core::{Store, Variables, WriteFault};
 use ee_faults::Fault;
+use ee_flash::Flash;
 use ee_image_store::{ImageAndText, text_left};
 use ee_settings::{GetFault, Reading, Schema, SetFault};
 use ee_text::push_number;
@@ -39,12 +40,7 @@ pub fn get_setting<A: Allocator + Copy>(
     ensures names { NamesEach Fault.Memory (IsGetFault image.now settings.now name.now) result }
 {
     let opened = open_with_settings(alloc, heap, image, settings)?;
-    let Some(reading) = read_on(&opened.store, &opened.schema, name) else {
-        return Err(Fault::UnknownName);
-    };
-    let mut text = Vec::new(alloc);
-    push_reading(&mut text, reading)?;
-    Ok(text)
+    reading_on(alloc, &opened.store, &opened.schema, name)
 }
 
 /// Writes a value for the setting of a name, into the image that a text spells, and gives the text
@@ -72,11 +68,29 @@ pub fn set_setting<A: Allocator + Copy>(
     // No cause is passed over.
     ensures names { NamesEach Fault.Memory (IsSetFault image.now settings.now name.now value) result }
 {
-    let mut opened = open_with_settings(alloc, heap, image, settings)?;
-    set_on(&mut opened.store, &opened.schema, name, value)?;
-    let image = text_left(alloc, opened.store)?;
-    let text = Vec::from_slice(alloc, b"set\n")?;
-    Ok(ImageAndText { image, text })
+    let opened = open_with_settings(alloc, heap, image, settings)?;
+    set_left(alloc, opened.store, &opened.schema, name, value)
+}
+
+/// The line of what the setting of a name reads as in a store whose power stays on.
+fn reading_on<V: Variables, A: Allocator + Copy>(
+    alloc: A,
+    store: &V,
+    schema: &Schema<A>,
+    name: &str,
+) -> Result<Vec<u8, A>, Fault>
+    requires { StaysOn (V.device store.now) }
+    ensures got { IfOk result (λ text.
+        IsReadingLine schema.now (state_of (V.device store.now)) name.now text.items) }
+    ensures fault { IfErr result (λ fault.
+        (IsUnknown schema.now name.now × (fault ≡ Fault.UnknownName)) ⊎ (fault ≡ Fault.Memory)) }
+{
+    let Some(reading) = read_on(store, schema, name) else {
+        return Err(Fault::UnknownName);
+    };
+    let mut text = Vec::new(alloc);
+    push_reading(&mut text, reading)?;
+    Ok(text)
 }
 
 /// What the setting of a name reads as, if there is one.
@@ -90,6 +104,26 @@ fn read_on<V: Variables, A: Allocator>(store: &V, schema: &Schema<A>, name: &str
         Err(GetFault::UnknownName) => None,
         Err(GetFault::Off) => unreachable!("power stays on"),
     }
+}
+
+/// Writes a value for the setting of a name in a store whose power stays on, and gives what this leaves.
+fn set_left<A: Allocator + Copy, F: Flash + Drop>(
+    alloc: A,
+    mut store: Store<F>,
+    schema: &Schema<A>,
+    name: &str,
+    value: u32,
+) -> Result<ImageAndText<A>, Fault>
+    requires { StaysOn store }
+    ensures set { IfOk result (λ given.
+        LeavesSet schema.now store name.now value given.image.items given.text.items) }
+    ensures fault { IfErr result
+        (IsSettingRefused schema.now store.size (state_of store) name.now value) }
+{
+    set_on(&mut store, schema, name, value)?;
+    let image = text_left(alloc, store)?;
+    let text = Vec::from_slice(alloc, b"set\n")?;
+    Ok(ImageAndText { image, text })
 }
 
 /// Writes a value for the setting of a name.
