@@ -180,6 +180,17 @@ fn push_line<A: Allocator>(
 fn tidied_line<A: Allocator + Copy>(alloc: A, count: u64) -> Result<Vec<u8, A>, AllocError>
     ensures { IfOk result (λ line. line.items ≡ tidied_text count) }
 {
-    let line = format!(in alloc; "tidied {count}\n")?;
-    Ok(line.into_bytes())
+    let mut line = Vec::new(alloc);
+    push_tidied(&mut line, count)?;
+    Ok(line)
+}
+
+/// Writes how many addresses were forgotten. After an error there may be a part of the line.
+fn push_tidied<A: Allocator>(out: &mut Vec<u8, A>, count: u64) -> Result<(), AllocError>
+    ensures { OnOk result (out.new.items ≡ out.old.items ++ tidied_text count) }
+{
+    out.extend_from_slice(b"tidied ")?;
+    push_number(out, count)?;
+    out.extend_from_slice(b"\n")?;
+    Ok(())
 }
