@@ -4,8 +4,9 @@
 //!
 //! `specs/State.antt` says what a store is to its users, `specs/Changes.antt` and `specs/Calls.antt`
 //! what each call answers and leaves, cuts included, `specs/Openings.antt` and `specs/Starts.antt`
-//! how a store comes to be, `specs/Finished.antt` which marks an opening sets, and
-//! `specs/Picture.antt` how the image is drawn that a call leaves.
+//! how a store comes to be, `specs/Finished.antt` which marks an opening sets, `specs/Picture.antt`
+//! how an image is drawn, `specs/Shown.antt` what is drawn after a change, `specs/Cuts.antt` what a
+//! cut leaves of it, and `specs/Puts.antt` what a list of values is.
 //!
 //! The layers above may use: the contract of `Variables`, which is one relation for each call over
 //! the device before and after; `open`, `format` and `start`; that a store's image is legal, always;
@@ -14,15 +15,16 @@
 //! # What is proved
 //!
 //! `Variables` is its contract: one relation for each call, by cases on the answer, over the device
-//! before and after, with power cuts in every one of them (`Reads`, `Writes`, `Forgets`, `Cleans`).
-//! A write or a forgetting is appended or moved with exactly this map, fill, generation and pending
-//! afterwards, or is refused exactly under its cause with nothing changed; a clean step erases the
-//! lowest page that waits, a transfer those that wait, each once, and an append none, and each
-//! page's wear rises by that and by nothing else; after a cut the state is the old one or the new
+//! before and after, with power cuts in every one of them (`Reads`, `Writes`, `WritesAll`, `Forgets`,
+//! `Cleans`). A write or a forgetting is appended or moved with exactly this map, fill, generation
+//! and pending afterwards, or is refused exactly under its cause with nothing changed; values that
+//! are written at once are all there or none is; a clean step erases the lowest page that waits, a
+//! transfer those that wait, each once, and an append none, and each page's wear rises by that and
+//! by nothing else; after a cut the state is the old one or the new
 //! one, but for a torn slot or for pages that were erased, and those are a front of the pages that
 //! waited; and each word is as before, as the whole call leaves it, or torn where the whole call
 //! would have changed it, and in a page that was being erased as before, erased or torn
-//! (`IsCutChange`, `IsCutClean`). `Store` keeps it on every device that keeps the contract of
+//! (`IsCutChange`, `IsCutTransfer`, `IsCutClean`). `Store` keeps it on every device that keeps the contract of
 //! `Flash`, takes no memory, and leaves a legal image always. `open` (`opened`, `failed`) and
 //! `format` (`formatted`, `cut`) say what they find and leave, word for word after a cut too, and
 //! `count_pending` says how many pages of a set are not blank, of any device. `start` is the call
@@ -37,7 +39,7 @@
 //! and total wear and pending rise by the pages of a set for each transfer; no page is erased more
 //! often than every second transfer, rounded up, where none waited at the start; the pictures say
 //! all of an image; and the state of each page after each call, by its place. docs/PROMISES.md says
-//! what a cut can and cannot do, in ten sentences.
+//! what a cut can and cannot do, in eleven sentences.
 
 mod change;
 mod changing;

@@ -3,8 +3,9 @@
 //!
 //! A set is a list of pages. `specs/Page.antt` says what a page's header and words say,
 //! `specs/Sets.antt` which set is live and what its slots are, `specs/Meaning.antt` which map the
-//! slots hold, `specs/Legal.antt` which images a store can work on, and `specs/Layout.antt` what a
-//! scan finds. All of it is a function or a relation of the device.
+//! slots hold, `specs/LiveOrder.antt` which live addresses come next, `specs/Legal.antt` which images
+//! a store can work on, and `specs/Layout.antt` what a scan finds. All of it is a function or a
+//! relation of the device.
 //!
 //! The layers above may use: a scan is `Ok` exactly on a legal image; the readers give the image's
 //! values; a mark is one step at most, and none where its word is written; and `laws` says what
