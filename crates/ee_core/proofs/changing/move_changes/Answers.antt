@@ -1,14 +1,20 @@
-use Rattle.std.proofs.Common.{rules, ap, arith}
+use Rattle.std.proofs.Common.{ap, arith}
 use Rattle.ee_pages.specs.Sets.{other}
 use Rattle.ee_core.specs.Puts.{carried}
 use Rattle.ee_core.proofs.Making.{always_on_err, changes_fit, cut_in_move, few_pending, few_within, generation_left, moves, shows_cut_move, shows_moved, store_after_move}
 use Rattle.ee_core.proofs.changing.move_changes.Goals as goal
 
 pub transfer-requires-clause-generation : goal.transfer-requires-clause-generation
-transfer-requires-clause-generation g c = search (rules, generation_left)
+transfer-requires-clause-generation g c =
+    let old = g.F.Flash.device c.args.flash.now in
+    let layout = c.args.layout.now in
+    generation_left old layout.side layout.generation c.requires.layout.live (carried c.args.puts.now c.args.forgets) c.requires.needed c.requires.proceeds.accepted.not_spent
 
 pub transfer-requires-clause-fits : goal.transfer-requires-clause-fits
-transfer-requires-clause-fits g c = search (rules, changes_fit, few_within)
+transfer-requires-clause-fits g c =
+    let old = g.F.Flash.device c.args.flash.now in
+    let layout = c.args.layout.now in
+    changes_fit old layout.side layout.generation c.requires.layout.live (few_within old layout.side (g.met.F.Flash.formed c.args.flash.now)) (carried c.args.puts.now c.args.forgets) c.requires.apart c.requires.proceeds.accepted
 
 pub returns-in_err-transfer-clause-cut : goal.returns-in_err-transfer-clause-cut
 returns-in_err-transfer-clause-cut g c =
@@ -24,7 +30,12 @@ returns-in_err-transfer-clause-cut g c =
     (shows_cut_move old new layout.side layout.generation c.requires.layout.live changes c.in_err-transfer.ensures.moves.words))
 
 pub returns-in_err-transfer-clause-store : goal.returns-in_err-transfer-clause-store
-returns-in_err-transfer-clause-store g c = search (rules, store_after_move)
+returns-in_err-transfer-clause-store g c =
+    let old = g.F.Flash.device c.args.flash.now in
+    let new = g.F.Flash.device c.transfer.new.flash in
+    let layout = c.args.layout.now in
+    let cut = c.in_err-transfer.ensures.power.cut c.requires.proceeds.on in
+    store_after_move old new layout.side layout.generation (carried c.args.puts.now c.args.forgets) cut.is_off c.in_err-transfer.ensures.moves.cut
 
 pub returns-clause-moved : goal.returns-clause-moved
 returns-clause-moved g c =

@@ -1,4 +1,4 @@
-use Rattle.std.proofs.Common.{rules, sym, ◌∙◌, ap, arith, ◌<◌, ◌≤◌, ◌+◌, ◌≡◌}
+use Rattle.std.proofs.Common.{sym, ◌∙◌, ap, arith, ◌<◌, ◌≤◌, ◌+◌, ◌≡◌}
 use Rattle.ee_flash.specs.Size.{Size}
 use Rattle.ee_core.proofs.PendingCounts.{as_many, at_end, none_yet, one_more}
 use Rattle.ee_core.proofs.SetPages.{first_below}
@@ -6,10 +6,16 @@ use Rattle.ee_core.proofs.cleaning.count_pending.Goals.{then-not-is_blank, else-
 use Rattle.ee_core.proofs.cleaning.count_pending.Goals as goal
 
 pub pages-init : goal.pages-init
-pages-init g c = search (rules, none_yet)
+pages-init g c = record {
+  few = omega arith;
+  count = sym (none_yet c.args.side (g.F.Flash.device c.args.flash.now) (g.met.F.Flash.formed c.args.flash.now) c.first_page-first.result c.first_page-first.ensures);
+}
 
 pub overflow_add-count : goal.overflow_add-count
-overflow_add-count g c = search (rules, first_below)
+overflow_add-count g c =
+    let device = g.F.Flash.device c.args.flash.now in
+    let formed = g.met.F.Flash.formed c.args.flash.now in
+    omega (arith, c.pages.invariant.few, first_below device.size c.args.side, c.first_page-first.ensures, c.pages-2.ensures.few, formed.within_limits.few_pages)
 
 pub pages-preserved : goal.pages-preserved
 pages-preserved g c =

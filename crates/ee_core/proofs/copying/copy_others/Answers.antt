@@ -1,4 +1,4 @@
-use Rattle.std.proofs.Common.{rules, ◌≡◌, ◌<◌, inl, inr, false, None, ap, subst, sym, ◌∙◌, arith}
+use Rattle.std.proofs.Common.{◌≡◌, ◌<◌, inl, inr, false, None, ap, subst, sym, ◌∙◌, arith}
 use Rattle.std.proofs.lemmas.Bool.{cases_Bool}
 use Rattle.std.proofs.lemmas.Result.{err_from_is_err_and}
 use Rattle.ee_flash.specs.Size.{slot_count}
@@ -12,7 +12,15 @@ use Rattle.ee_core.proofs.Listed.{names-puts}
 use Rattle.ee_core.specs.Puts.{puts_of}
 
 pub live-init : goal.live-init
-live-init g c = search (rules, none_filled, goes_on_same)
+live-init g c =
+    let device = g.F.Flash.device c.args.flash.now in
+    rw c.requires.first (record {
+      at = c.requires.at;
+      filled = none_filled device c.args.layout.now c.args.place (puts_of c.args.puts.now) c.requires.at c.requires.only;
+      below = omega arith;
+      over = c.requires.over;
+      goes = goes_on_same device;
+    })
 
 pub copy_one-requires-clause-free : goal.copy_one-requires-clause-free
 copy_one-requires-clause-free g c apart =

@@ -1,4 +1,4 @@
-use Rattle.std.proofs.Common.{rules, ◌+◌, ◌≤◌, length, ◌∙◌, subst}
+use Rattle.std.proofs.Common.{◌+◌, ◌≤◌, length, arith, ◌∙◌, subst}
 use Rattle.std.proofs.lemmas.Result.{err_from_is_err_and}
 use Rattle.ee_flash.specs.Size.{slot_count}
 use Rattle.ee_pages.specs.Meaning.{Map}
@@ -43,7 +43,10 @@ returns-clause-fills g c =
     (others_carried mid new layout c.args.puts.now c.args.forgets slot c.in_ok-count.count (map_in (other_of layout.side) mid) (map_in layout.side mid) c.in_ok-count.ensures.fills)
 
 pub returns-clause-each_once : goal.returns-clause-each_once
-returns-clause-each_once g c = search (rules, moved_words_are_live_lem, returns-clause-fills)
+returns-clause-each_once g c =
+    let map = map_in c.args.layout.now.side (g.F.Flash.device c.args.flash.now) in
+    let live = moved_words_are_live_lem (carried c.args.puts.now c.args.forgets) map c.requires.apart in
+    omega (arith, live, (returns-clause-fills g c).as_many)
 
 pub returns-in_err-first-clause-fills : goal.returns-in_err-first-clause-fills
 returns-in_err-first-clause-fills g c =

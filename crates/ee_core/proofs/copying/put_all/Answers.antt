@@ -1,4 +1,4 @@
-use Rattle.std.proofs.Common.{rules, ◌<◌, ap, arith}
+use Rattle.std.proofs.Common.{◌<◌, ap, arith, subst, sym}
 use Rattle.std.proofs.lemmas.Result.{err_from_is_err_and}
 use Rattle.ee_flash.specs.Size.{slot_count}
 use Rattle.ee_flash.proofs.Public.{calls_compose}
@@ -8,10 +8,23 @@ use Rattle.ee_core.proofs.MovingFacts.{layout_kept}
 use Rattle.ee_core.proofs.copying.put_all.Goals as goal
 
 pub puts-init : goal.puts-init
-puts-init g c = search (rules, FilledBy, none_put, goes_on_same)
+puts-init g c =
+    let old = g.F.Flash.device c.args.flash.now in
+    record {
+      filled = subst (λ slot. FilledBy old c.args.layout.now c.args.puts.now 0 old slot) (sym c.first_place-place.ensures.first) (none_put old c.args.layout.now c.args.puts.now c.requires.opened);
+      stands = c.first_place-place.ensures.stands;
+      goes = goes_on_same old;
+    }
 
 pub stage-requires-clause-at : goal.stage-requires-clause-at
-stage-requires-clause-at g c = search (rules, layout_kept)
+stage-requires-clause-at g c =
+    let filled = c.puts.invariant.filled in
+    record {
+      found = layout_kept (g.F.Flash.device c.args.flash.now) (g.F.Flash.device c.puts.flash) c.args.layout.now c.requires.opened.found filled.keeps;
+      generation = c.requires.opened.generation;
+      filling = filled.filling;
+      stands = c.puts.invariant.stands;
+    }
 
 pub stage-requires-clause-free : goal.stage-requires-clause-free
 stage-requires-clause-free g c =

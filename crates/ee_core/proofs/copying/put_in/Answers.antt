@@ -1,5 +1,5 @@
-use Rattle.std.proofs.Common.{rules, inl, inr}
-use Rattle.std.proofs.Common.{◌+◌}
+use Rattle.std.proofs.Common.{inl, inr}
+use Rattle.std.proofs.Common.{◌+◌, arith}
 use Rattle.ee_pages.specs.Sets.{first_page, other as other_of, page_of_slot, place_of_slot}
 use Rattle.ee_pages.proofs.Public.{page_in_range, place_in_range}
 use Rattle.ee_core.specs.Parts.{meant}
@@ -12,7 +12,10 @@ use Rattle.ee_core.proofs.Making.{always_on_err}
 use Rattle.ee_core.proofs.copying.put_in.Goals as goal
 
 pub program-requires-clause-page_in_range : goal.program-requires-clause-page_in_range
-program-requires-clause-page_in_range g c = search (rules, page_in_device, page_in_range)
+program-requires-clause-page_in_range g c =
+    let old = g.F.Flash.device c.args.flash.now in
+    let within = page_in_device old.size (other_of c.args.layout.now.side) (page_of_slot old.size c.args.place.slot) (page_in_range old c.args.place.slot c.requires.free) in
+    omega (arith, within, c.requires.at.stands.page)
 
 pub program-requires-clause-erased : goal.program-requires-clause-erased
 program-requires-clause-erased g c =

@@ -1,4 +1,4 @@
-use Rattle.std.proofs.Common.{rules, ◌+◌, refl}
+use Rattle.std.proofs.Common.{◌+◌, refl, arith}
 use Rattle.ee_pages.proofs.Public.{page_in_range}
 use Rattle.ee_pages.specs.Sets.{first_page, other as other_of, page_of_slot}
 use Rattle.ee_pages.specs.declared.state.Mark.TheVariants.{Receive}
@@ -11,7 +11,10 @@ use Rattle.ee_core.proofs.Making.{always_on_err}
 use Rattle.ee_core.proofs.copying.receive.Goals as goal
 
 pub mark-requires-clause-page_in_range : goal.mark-requires-clause-page_in_range
-mark-requires-clause-page_in_range g c = search (rules, page_in_device, page_in_range)
+mark-requires-clause-page_in_range g c =
+    let old = g.F.Flash.device c.args.flash.now in
+    let within = page_in_device old.size (other_of c.args.layout.now.side) (page_of_slot old.size c.args.place.slot) (page_in_range old c.args.place.slot c.requires.free) in
+    omega (arith, within, c.requires.at.stands.page)
 
 pub returns-in_err-mark-clause-keeps : goal.returns-in_err-mark-clause-keeps
 returns-in_err-mark-clause-keeps g c =

@@ -56,7 +56,13 @@ pages-preserved g c =
     }
 
 pub returns-clause-blank : goal.returns-clause-blank
-returns-clause-blank g c = search (rules, all_blank)
+returns-clause-blank g c =
+    let old = g.F.Flash.device c.args.flash.now in
+    let new = g.F.Flash.device c.pages.flash in
+    let pages = ap (λ size. size.pages) c.shape.ensures in
+    let same = ap page_count c.pages.invariant.power.same_size in
+    let formed = g.met.F.Flash.formed c.pages.flash in
+    all_blank new c.pages.page (omega (arith, c.pages-page-end.ensures.value, pages, same, formed.image_length, c.pages-test.false)) c.pages.invariant.blank
 
 pub returns-clause-wear : goal.returns-clause-wear
 returns-clause-wear g c =
@@ -68,7 +74,12 @@ returns-clause-wear g c =
     all_wear old.image 0 c.pages.page old new all c.pages.invariant.wear
 
 pub returns-in_err-erase-clause-startable : goal.returns-in_err-erase-clause-startable
-returns-in_err-erase-clause-startable g c = search (rules, erase_startable)
+returns-in_err-erase-clause-startable g c =
+    let old = g.F.Flash.device c.args.flash.now in
+    let mid = g.F.Flash.device c.pages.flash in
+    let same = ap page_count c.pages.invariant.power.same_size in
+    let in_range : c.pages.page < page_count mid.size = omega (arith, c.pages-page-end.ensures.value, ap (λ size. size.pages) c.shape.ensures, c.pages-test.true, same) in
+    λ before. erase_startable c.pages.page mid (g.F.Flash.device c.erase.new.self) (g.met.F.Flash.formed c.pages.flash) in_range (inr c.in_err-erase.ensures.cut) (c.pages.invariant.startable before)
 
 pub returns-in_err-erase-clause-begun : goal.returns-in_err-erase-clause-begun
 returns-in_err-erase-clause-begun g c =

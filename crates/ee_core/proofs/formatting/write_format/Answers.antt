@@ -105,7 +105,14 @@ pub returns-in_err-erase_all-clause-starting : goal.returns-in_err-erase_all-cla
 returns-in_err-erase_all-clause-starting g c = always_on_err c.from_residual.result (λ on startable. inl (c.erase_all.ensures.startable startable))
 
 pub returns-in_err-mark-clause-starting : goal.returns-in_err-mark-clause-starting
-returns-in_err-mark-clause-starting g c = search (rules, mark_step, proper_first, unmarked, always_on_err, received_startable)
+returns-in_err-mark-clause-starting g c =
+    let blank = g.F.Flash.device c.erase_all.new.flash in
+    let mid = g.F.Flash.device c.mark.new.flash in
+    let formed = g.met.F.Flash.formed c.erase_all.new.flash in
+    let all = c.in_ok-erase_all.ensures.blank in
+    let h : 0 < page_count blank.size = omega (arith, formed.within_limits.some_pages) in
+    let taken = mark_step 0 (Receive 1) blank mid formed h proper_first (unmarked blank 0 (Receive 1) formed all h) (inr c.in_err-mark.ensures.cut) in
+    always_on_err c.from_residual-in_err-mark.result (λ on startable. inl (received_startable blank mid formed all taken))
 
 pub returns-in_err-mark-2-clause-starting : goal.returns-in_err-mark-2-clause-starting
 returns-in_err-mark-2-clause-starting g c =

@@ -1,4 +1,5 @@
-use Rattle.std.proofs.Common.{rules}
+use Rattle.std.proofs.Common.{refl, ◌∙◌}
+use Rattle.ee_pages.specs.Sets.{other}
 use Rattle.ee_core.proofs.LiveMarks.{layout_stays, live_marks_kept, old_marks_kept, stays_both}
 use Rattle.ee_core.proofs.MarkedSets.{shows}
 use Rattle.ee_core.specs.Finished.{last_used}
@@ -20,7 +21,11 @@ pub mark_old_set-requires : goal.mark_old_set-requires
 mark_old_set-requires g c = layout_stays c.args.layout.now (g.F.Flash.device c.args.flash.now) (g.F.Flash.device c.mark_live_set.new.flash) c.requires c.mark_live_set.ensures.stays
 
 pub returns-clause-no_step : goal.returns-clause-no_step
-returns-clause-no_step g c marked = search (rules, old_marks_kept)
+returns-clause-no_step g c marked =
+    let old = g.F.Flash.device c.args.flash.now in
+    let mid = g.F.Flash.device c.mark_live_set.new.flash in
+    let first = (c.mark_live_set.ensures.no_step marked.live).1 in
+    (refl, (c.mark_old_set.ensures.no_step (old_marks_kept (other c.args.layout.now.side) old mid first marked.old)).1 ∙ first)
 
 pub returns-clause-stays : goal.returns-clause-stays
 returns-clause-stays g c =
@@ -43,7 +48,17 @@ returns-clause-shows g c =
     record { live_pages = both.0; old_pages = both.1 }
 
 pub returns-in_err-mark_live_set-clause-begun : goal.returns-in_err-mark_live_set-clause-begun
-returns-in_err-mark_live_set-clause-begun g c = search (rules, always_on_err, cut_live)
+returns-in_err-mark_live_set-clause-begun g c =
+    let old = g.F.Flash.device c.args.flash.now in
+    let new = g.F.Flash.device c.mark_live_set.new.flash in
+    always_on_err c.from_residual.result
+    (cut_live c.args.layout.now.side old new c.mark_live_set.ensures.stays.keeps.same_size c.in_err-mark_live_set.ensures.begun c.in_err-mark_live_set.ensures.old_pages_stay)
 
 pub returns-in_err-mark_old_set-clause-begun : goal.returns-in_err-mark_old_set-clause-begun
-returns-in_err-mark_old_set-clause-begun g c = search (rules, always_on_err, cut_old)
+returns-in_err-mark_old_set-clause-begun g c =
+    let old = g.F.Flash.device c.args.flash.now in
+    let mid = g.F.Flash.device c.mark_live_set.new.flash in
+    let new = g.F.Flash.device c.mark_old_set.new.flash in
+    always_on_err c.from_residual-in_err-mark_old_set.result
+    (cut_old c.args.layout.now.side old mid new c.mark_live_set.ensures.stays.keeps.same_size c.mark_old_set.ensures.stays.keeps.same_size
+    c.in_ok-mark_live_set.ensures.live_pages c.in_ok-mark_live_set.ensures.old_pages c.in_err-mark_old_set.ensures.live_pages_stay c.in_err-mark_old_set.ensures.begun)

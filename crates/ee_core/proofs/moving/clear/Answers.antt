@@ -1,4 +1,4 @@
-use Rattle.std.proofs.Common.{rules, ◌≡◌, ◌≤◌, ◌<◌, ◌+◌, ◌-◌, ap, false, length, get_or, true, [], ◌∷◌, take, sym, subst, ◌∙◌, arith, inl, inr}
+use Rattle.std.proofs.Common.{◌≡◌, ◌≤◌, ◌<◌, ◌+◌, ◌-◌, ap, false, length, get_or, true, [], ◌∷◌, take, refl, sym, subst, ◌∙◌, arith, inl, inr}
 use Rattle.std.proofs.lemmas.Bool.{cases_eq}
 use Rattle.std.proofs.lemmas.Result.{err_from_is_err_and}
 use Rattle.ee_flash.specs.Device.{page_at}
@@ -18,7 +18,16 @@ use Rattle.ee_core.proofs.moving.clear.Goals as goal
 use Rattle.ee_core.proofs.AfterCalls.{goes_on_same}
 
 pub pages-init : goal.pages-init
-pages-init g c = search (rules, keeps_same, none_wears, goes_on_same)
+pages-init g c =
+    let device = g.F.Flash.device c.args.flash.now in
+    record {
+      keeps = keeps_same device c.args.layout.now c.requires;
+      blank = λ page from below. absurd (omega (arith, from, below));
+      rest = λ page either. refl;
+      wear = none_wears (set_of (other_of c.args.layout.now.side) device) _ _ device (omega arith);
+      same = refl;
+      goes = goes_on_same device;
+    }
 
 pub pages-preserved : goal.pages-preserved
 pages-preserved g c =
@@ -93,7 +102,13 @@ returns-in_err-erase_other-clause-begun g c =
     rw failed.1 (subst (λ n. WearsFront (not_blank_from n (set_of set old)) old new) first begun)
 
 pub returns-clause-blank : goal.returns-clause-blank
-returns-clause-blank g c = search (rules, all_blank)
+returns-clause-blank g c =
+    let first = c.first_page-first.ensures in
+    let same = ap (λ size. first_page size (other_of c.args.layout.now.side)) c.pages.invariant.keeps.same_size in
+    let pages = ap (λ size. size.pages) c.pages.invariant.keeps.same_size in
+    let shape = c.pages-2.ensures.value ∙ ap (λ size. size.pages) c.shape.ensures in
+    let start : c.first_page-first.result ≡ first_page (g.F.Flash.device c.args.flash.now).size (other_of c.args.layout.now.side) = cc (c.first_page-first.ensures, c.other.ensures) in
+    all_blank (other_of c.args.layout.now.side) (g.F.Flash.device c.pages.flash) (g.met.F.Flash.formed c.pages.flash) (λ page from below. c.pages.invariant.blank page (omega arith) (omega (arith, c.pages-test.false)))
 
 pub returns-clause-wear : goal.returns-clause-wear
 returns-clause-wear g c =

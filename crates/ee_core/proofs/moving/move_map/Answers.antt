@@ -1,4 +1,4 @@
-use Rattle.std.proofs.Common.{rules, ◌≡◌, ◌+◌, [], ap, arith, inl, inr, length, refl, subst, ◌∙◌}
+use Rattle.std.proofs.Common.{◌≡◌, ◌+◌, [], ap, arith, inl, inr, length, refl, subst, ◌∙◌}
 use Rattle.std.proofs.Math.Path.{fun_ext}
 use Rattle.std.proofs.lemmas.Result.{err_from_is_err_and}
 use Rattle.ee_pages.specs.Meaning.{Map}
@@ -73,7 +73,10 @@ returns-clause-live_pages g c =
     (same_drawn side filled new last c.in_ok-commit.ensures.same_set)
 
 pub returns-in_err-clear-clause-moves : goal.returns-in_err-clear-clause-moves
-returns-in_err-clear-clause-moves g c = search (rules, err_from_is_err_and)
+returns-in_err-clear-clause-moves g c =
+    let failed = err_from_is_err_and c.from_residual.result c.from_residual.ensures.1 in
+    let cut = c.in_err-clear.ensures in
+    rw failed.1 (record { begun = cut.begun; words = inl cut.partly; cut = inl cut.keeps })
 
 pub returns-in_err-open_set-clause-moves : goal.returns-in_err-open_set-clause-moves
 returns-in_err-open_set-clause-moves g c =

@@ -1,4 +1,4 @@
-use Rattle.std.proofs.Common.{rules, ◌≡◌, ◌+◌, inl, inr}
+use Rattle.std.proofs.Common.{◌≡◌, ◌+◌, inl, inr}
 use Rattle.ee_pages.specs.declared.state.Mark.TheVariants.{Receive}
 use Rattle.ee_pages.specs.Sets.{first_page, other as other_of}
 use Rattle.ee_pages.proofs.Public.{first_in_set}
@@ -43,7 +43,15 @@ returns-clause-opened g c =
     }
 
 pub returns-clause-holds : goal.returns-clause-holds
-returns-clause-holds g c = search (rules, sets_mark_at, page_of_device, first_in_set, opens_blank, returns-clause-keeps)
+returns-clause-holds g c =
+    let old = g.F.Flash.device c.args.flash.now in
+    let new = g.F.Flash.device c.mark.new.flash in
+    let side = other_of c.args.layout.now.side in
+    let formed = c.requires.layout.live.formed in
+    let sets = sets_mark_at _ (first_page old.size side) (Receive (c.args.layout.now.generation + 1)) old new formed
+    (page_of_device old.size side (first_page old.size side) (first_in_set side old formed)) (cc (c.first_page-first.ensures, c.other.ensures))
+    (λ set. (c.in_ok-mark.ensures.present set).1) c.in_ok-mark.ensures.done in
+    opens_blank side old new (c.args.layout.now.generation + 1) formed (returns-clause-keeps g c).same_size c.requires.blank sets
 
 pub returns-in_err-mark-clause-begun : goal.returns-in_err-mark-clause-begun
 returns-in_err-mark-clause-begun g c =
@@ -59,4 +67,13 @@ returns-in_err-mark-clause-begun g c =
     (λ words. open_partly side old new (c.args.layout.now.generation + 1) words formed (returns-in_err-mark-clause-keeps g c).same_size (blank_drawn side old formed c.requires.blank) sets)
 
 pub returns-in_err-mark-clause-live_pages : goal.returns-in_err-mark-clause-live_pages
-returns-in_err-mark-clause-live_pages g c = search (rules, mark_partly_at, page_of_device, first_in_set, put_apart_partly, returns-in_err-mark-clause-keeps)
+returns-in_err-mark-clause-live_pages g c =
+    let old = g.F.Flash.device c.args.flash.now in
+    let new = g.F.Flash.device c.mark.new.flash in
+    let side = other_of c.args.layout.now.side in
+    let formed = c.requires.layout.live.formed in
+    let sets : SetsPartly (first_page old.size side) (Receive (c.args.layout.now.generation + 1)) old new =
+    mark_partly_at _ (first_page old.size side) (Receive (c.args.layout.now.generation + 1)) old new formed
+    (page_of_device old.size side (first_page old.size side) (first_in_set side old formed)) (cc (c.first_page-first.ensures, c.other.ensures))
+    (λ set. (c.mark.ensures.present set).1) c.in_err-mark.ensures.cut in
+    put_apart_partly c.args.layout.now.side old new (first_page old.size side) _ _ (returns-in_err-mark-clause-keeps g c).same_size (first_in_set side old formed) sets

@@ -1,4 +1,4 @@
-use Rattle.std.proofs.Common.{rules, ◌≡◌, ◌+◌, inl, inr, ap, ◌∙◌}
+use Rattle.std.proofs.Common.{rules, ◌≡◌, ◌+◌, inl, inr, sym, ap, ◌∙◌}
 use Rattle.std.proofs.Math.Path.{fun_ext}
 use Rattle.ee_pages.specs.Meaning.{Map, map_after}
 use Rattle.ee_core.proofs.Appending.{taken_after}
@@ -12,7 +12,11 @@ use Rattle.ee_pages.proofs.Public.{page_in_range, place_in_range}
 use Rattle.ee_core.proofs.writing.append.Goals as goal
 
 pub returns-clause-marked : goal.returns-clause-marked
-returns-clause-marked g c = search (rules, appended_marked)
+returns-clause-marked g c =
+    let opened = c.open_page.ensures in
+    let pushed = c.in_ok-page.ensures in
+    let grown = pushed.takes.one_more ∙ ap (λ n. n + 1) (opened.stays.keeps.same_fill ∙ sym c.requires.layout.fill) in
+    appended_marked c.args.layout.now.side c.args.layout.now.fill (g.F.Flash.device c.args.flash.now) (g.F.Flash.device c.open_page.new.flash) (g.F.Flash.device c.push.new.flash) c.requires.layout.live.formed opened.stays.keeps.same_size pushed.takes.same_size grown c.in_ok-open_page.ensures.ready c.push.ensures.marks opened.other c.push.ensures.other c.requires.marked
 
 pub returns-clause-takes : goal.returns-clause-takes
 returns-clause-takes g c =
@@ -26,7 +30,10 @@ returns-clause-takes g c =
     }
 
 pub returns-clause-drawn : goal.returns-clause-drawn
-returns-clause-drawn g c = search (rules, appends_word)
+returns-clause-drawn g c =
+    let layout = c.args.layout.now in
+    appends_word layout.side (g.F.Flash.device c.args.flash.now) (g.F.Flash.device c.open_page.new.flash) (g.F.Flash.device c.push.new.flash) layout.fill (number_written c.args.change)
+    c.open_page.ensures.stays.keeps.same_size c.in_ok-page.ensures.takes.same_size c.in_ok-open_page.ensures.drawn c.in_ok-page.ensures.puts
 
 pub returns-in_err-open_page-clause-begun : goal.returns-in_err-open_page-clause-begun
 returns-in_err-open_page-clause-begun g c =

@@ -1,4 +1,4 @@
-use Rattle.std.proofs.Common.{rules, ◌≡◌, ◌+◌, ◌-◌, inl, inr, ap, ◌∙◌, ◌<◌, arith, sym, subst}
+use Rattle.std.proofs.Common.{◌≡◌, ◌+◌, ◌-◌, inl, inr, ap, ◌∙◌, ◌<◌, arith, sym, subst}
 use Rattle.ee_flash.specs.Size.{Size}
 use Rattle.ee_pages.proofs.Public.{page_in_range}
 use Rattle.ee_pages.specs.Sets.{first_page, page_of_slot}
@@ -30,7 +30,10 @@ returns-in_err-mark_live-clause-other g c =
     first_other (g.F.Flash.device c.args.flash.now) c.args.layout.now c.requires.layout c.requires.free _ words _ first.stays first.others
 
 pub mark_live-requires-2-clause-behind : goal.mark_live-requires-2-clause-behind
-mark_live-requires-2-clause-behind g c = search (rules, next_behind)
+mark_live-requires-2-clause-behind g c =
+    let words = c.words-slots.ensures.value ∙ ap (λ (size : Size). size.words) c.shape.ensures in
+    let some : 0 < c.args.layout.now.fill = omega (arith, c.if-layout-eq0.false) in
+    next_behind (g.F.Flash.device c.args.flash.now) c.args.layout.now c.requires.layout c.requires.free _ words some c.if-layout-slots-ne0.false _ c.mark_live.ensures.stays
 
 pub returns-in_err-mark_live-2-clause-other : goal.returns-in_err-mark_live-2-clause-other
 returns-in_err-mark_live-2-clause-other g c =
@@ -59,7 +62,10 @@ returns-clause-ready g c =
     ready_now (g.F.Flash.device c.args.flash.now) c.args.layout.now c.requires.layout c.requires.free _ words some c.if-layout-slots-ne0.false (g.F.Flash.device c.mark_live.new.flash) (g.F.Flash.device c.mark_live-2.new.flash) (second.stays.keeps.same_size ∙ first.stays.keeps.same_size) c.requires.marked.live first.marks second.marks (cc c.in_ok-mark_live.ensures.marked) (cc c.in_ok-mark_live-2.ensures.marked)
 
 pub returns-then-layout-eq0-clause-drawn : goal.returns-then-layout-eq0-clause-drawn
-returns-then-layout-eq0-clause-drawn g c = search (rules, returns-then-layout-eq0-clause-ready, marks_drawn)
+returns-then-layout-eq0-clause-drawn g c =
+    let old = g.F.Flash.device c.args.flash.now in
+    let ready = returns-then-layout-eq0-clause-ready g c in
+    marks_drawn c.args.layout.now.side old (page_of_slot old.size c.args.layout.now.fill) ready.valid ready.active
 
 pub returns-clause-drawn : goal.returns-clause-drawn
 returns-clause-drawn g c =
