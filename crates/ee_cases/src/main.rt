@@ -13,17 +13,23 @@
 //! the image, and both are to print and to leave the same.
 //!
 //! Standard input names the examples, one a line. `rt ci` lays a copy of `data/` where the program runs, so
-//! that what the commands write is thrown away.
+//! that what the commands write is thrown away. A round of each workload comes behind them.
+//!
+//!     ee_cases JOB SEED ROUNDS
+//!
+//! does rounds of one workload (`workloads.rt`), which `bench/run` times.
 #![tactic(auto)]
 
 mod desk;
 mod typing;
+mod workloads;
 
 use ee_program::FileLocks;
 use std::process::ExitCode;
 use std::rt::Env;
 use std::{env, fs, io};
 use typing::typed;
+use workloads::{read_words, show, show_each};
 
 /// How many examples went as their transcripts say, and how many didn't.
 #[derive(Clone, Copy)]
@@ -74,9 +80,30 @@ fn try_all<R: FileLocks + Env + Input + Print + AllocGlobal>(rt: &R) -> io::Resu
     Ok(count)
 }
 
-fn main(rt: HostRuntime) -> io::Result<ExitCode> {
-    let count = try_all(&rt)?;
-    let Count { passed, failed } = count;
+/// Types each example and does a round of each workload, and tells how many examples went as they were to go.
+fn try_each<R: FileLocks + Env + Input + Print + AllocGlobal>(rt: &R) -> io::Result<u8> {
+    let Count { passed, failed } = try_all(rt)?;
+    show_each(rt)?;
     println!(rt; "{passed} passed, {failed} failed")?;
-    Ok(ExitCode::from(if failed == 0 { 0 } else { 1 }))
+    Ok(if failed == 0 { 0 } else { 1 })
+}
+
+/// Does the workload that the words name.
+fn try_workload<R: Print + AllocGlobal>(rt: &R, words: &[String]) -> io::Result<u8> {
+    let Some(words) = read_words(words) else {
+        println!(rt; "ee_cases JOB SEED ROUNDS")?;
+        return Ok(2);
+    };
+    show(rt, words)?;
+    Ok(0)
+}
+
+fn main(rt: HostRuntime) -> io::Result<ExitCode> {
+    let words: Vec<String> = env::args(&rt)?.skip(1).collect(rt.alloc())?;
+    let status = if words.is_empty() {
+        try_each(&rt)?
+    } else {
+        try_workload(&rt, words.as_slice())?
+    };
+    Ok(ExitCode::from(status))
 }
