@@ -1,7 +1,7 @@
 //! The table of commands, built with `clap`: it takes the lines that `job` takes.
 use clap::{Arg, ArgAction, Command, value_parser};
 use ee_command_line::job;
-use std::alloc::{AllocError, Global};
+use std::alloc::Global;
 use std::test::Fail;
 
 /// The commands with words. Flags and those in brackets may be left out.
@@ -87,33 +87,20 @@ fn word<'a>(alloc: Global, id: &'a str) -> Arg<'a> {
 /// The command of a row.
 fn command<'a>(alloc: Global, row: &'a str) -> Result<Command<'a>, Fail> {
     let (name, operands) = row.split_once(" ").ok_or("no words")?;
-    let mut command = Command::new(alloc, name);
-    for operand in operands.split(' ') {
-        command = command.arg(word(alloc, operand))?;
-    }
-    Ok(command)
-}
-
-/// The table with the command of a row.
-fn with_row<'a>(alloc: Global, table: Command<'a>, row: &'a str) -> Result<Command<'a>, Fail> {
-    let command = command(alloc, row)?;
-    Ok(table.subcommand(command)?)
-}
-
-fn table<'a>(alloc: Global) -> Result<Command<'a>, Fail> {
-    let mut table = Command::new(alloc, "ee");
-    for row in ROWS.split('\n') {
-        table = with_row(alloc, table, row)?;
-    }
-    Ok(table)
-}
-
-fn words_of(alloc: Global, line: &'static str) -> Result<Vec<&'static str>, AllocError> {
     let mut words = Vec::new(alloc);
-    for word in line.split(' ') {
-        words.push(word)?;
+    for operand in operands.split(' ') {
+        words.push(word(alloc, operand))?;
     }
-    Ok(words)
+    Ok(Command::new(alloc, name).args(words)?)
+}
+
+/// The table of commands.
+fn table<'a>(alloc: Global) -> Result<Command<'a>, Fail> {
+    let mut commands = Vec::new(alloc);
+    for row in ROWS.split('\n') {
+        commands.push(command(alloc, row)?)?;
+    }
+    Ok(Command::new(alloc, "ee").subcommands(commands)?)
 }
 
 /// Whether `job` and `clap` both take these words of a line.
@@ -126,7 +113,7 @@ fn is_taken(alloc: Global, words: &[&'static str]) -> Result<bool, Fail> {
 #[test]
 fn clap_takes_the_same_lines(rt: HostRuntime) -> Result<(), Fail> {
     for line in LINES.split('\n') {
-        let words = words_of(rt.alloc(), line)?;
+        let words: Vec<&'static str> = line.split(' ').collect(rt.alloc())?;
         assert!(rt; is_taken(rt.alloc(), words.as_slice())?, "{line}");
     }
     Ok(())

@@ -13,7 +13,7 @@ use std::alloc::{Allocator, Global};
 pub use texts::LastValue;
 
 /// A call, on arguments of its own.
-#[derive(Clone, Copy, Debug)]
+#[derive(Clone, Copy)]
 enum Call {
     BlankDevice,
     BlankList,
@@ -171,8 +171,9 @@ fn gives<T: PartialEq + Drop, A: Allocator, E: PartialEq + Drop>(
 #[test]
 fn each_request_is_refused_in_turn(rt: HostRuntime) {
     let memory = rt.alloc();
-    for (call, least) in CALLS.iter().copied() {
-        with_each_refusal(&rt, memory, call, least, |alloc| {
+    // A failure names the call by its place in the table, from 0.
+    for (place, (call, least)) in CALLS.iter().copied().enumerate() {
+        with_each_refusal(&rt, memory, place, least, |alloc| {
             answer(call, alloc, memory)
         });
     }

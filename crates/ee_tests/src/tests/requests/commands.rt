@@ -84,7 +84,7 @@ pub const SETTINGS: [(&str, u16, u32, u32, u32); 1] = [
 ";
 
 /// A command that gives a text.
-#[derive(Clone, Copy, Debug)]
+#[derive(Clone, Copy)]
 pub enum Text {
     Format,
     States,
@@ -193,7 +193,7 @@ fn finds_no_store<A: Allocator>(given: Result<Replayed<A>, ReplayFault>) -> Opti
 }
 
 /// A command that gives an image beside a text. The last three replay a script over an image that is not formatted.
-#[derive(Clone, Copy, Debug)]
+#[derive(Clone, Copy)]
 pub enum Change {
     Clean,
     Set,
