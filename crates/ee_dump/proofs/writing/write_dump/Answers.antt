@@ -1,4 +1,5 @@
-use Rattle.std.proofs.Common.{rules}
+use Rattle.std.proofs.Common.{arith, rules}
+use Rattle.std.proofs.lemmas.Grind.{common_steps}
 use Rattle.std.proofs.lemmas.Result.{err_from_is_err_and}
 use Rattle.ee_dump.proofs.Growing.{all_written, one_page_more, write_fault}
 use Rattle.ee_dump.proofs.Torn.{no_torn}
@@ -18,3 +19,6 @@ pub returns-clause-names : goal.returns-clause-names
 returns-clause-names g c = λ page at first.
     no_torn c.args.form (g.F.Flash.device c.args.flash.now) c.loop-page.dump.items page at
     (all_written c.args.form (g.F.Flash.device c.args.flash.now) c.loop-page.page c.loop-page.dump.items (g.met.F.Flash.formed c.args.flash.now) (search rules) c.loop-page.invariant) first
+
+pub returns-clause-written : goal.returns-clause-written
+returns-clause-written g c = grind (arith, common_steps)

@@ -1,4 +1,5 @@
-use Rattle.std.proofs.Common.{◌++◌, take, rules}
+use Rattle.std.proofs.Common.{arith, ◌++◌, take, rules}
+use Rattle.std.proofs.lemmas.Grind.{common_steps}
 use Rattle.ee_text.specs.Line.{line_of, IsLonger}
 use Rattle.ee_text.proofs.Public.{longer_still, on_err_anyway}
 use Rattle.ee_image.specs.Text.{page_lines, size_text}
@@ -16,3 +17,6 @@ pub loop-page-preserved : goal.loop-page-preserved
 loop-page-preserved g c =
     image_grows (g.F.Flash.device c.args.flash.now) c.loop-page.page c.args.out.now.items c.loop-page.out.items c.push_page.new.out.items (g.met.F.Flash.formed c.args.flash.now)
     (search rules) c.loop-page.invariant c.in_ok-push_page.ensures.ok
+
+pub returns-clause-ok : goal.returns-clause-ok
+returns-clause-ok g c = grind (arith, common_steps)
