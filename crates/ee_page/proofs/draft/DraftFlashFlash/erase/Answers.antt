@@ -1,3 +1,4 @@
+use Rattle.std.proofs.lemmas.Grind.{common_steps}
 use Rattle.std.proofs.Common.{arith, ◌≡◌, ◌+◌, slice_set, ◌∙◌, ◌≤◌, ◌<◌, ℕ, List, length, subst, sym, ap}
 use Rattle.std.specs.List.{All}
 use Rattle.std.proofs.lemmas.List.{length-set}
@@ -73,3 +74,6 @@ returns-clause-done g c =
     let is = c.erase-step.ensures.erases in
     ap (λ (counts : List ℕ). drafted_device start (steps_of (draft.count + 1) (slice_set draft.listed.now draft.count step)) counts draft.cuts draft.on) worn
     ∙ erase_done start draft.listed.now draft.count room draft.fresh c.args.page step is items draft.cuts draft.on
+
+pub returns-then-self-clause-cut : goal.returns-then-self-clause-cut
+returns-then-self-clause-cut g c = grind (arith, common_steps)

@@ -1,3 +1,4 @@
+use Rattle.std.proofs.lemmas.Grind.{common_steps}
 use Rattle.std.proofs.Common.{arith, ◌≡◌, ◌∙◌, ◌<◌, length}
 use Rattle.std.proofs.lemmas.List.{length-set}
 use Rattle.ee_page.proofs.DraftSteps.{none_cut, program_done, program_taken, program_wear, zero_of_program, zeros_listed}
@@ -31,3 +32,6 @@ pub returns-clause-done : goal.returns-clause-done
 returns-clause-done g c =
     let draft = c.args.self.now in
     program_done g.K.Lent.start draft.listed.now draft.count (omega (arith, draft.within, c.if-self.false)) draft.fresh c.args.page c.args.at c.args.value c.requires.place_in_range draft.wear.items draft.cuts draft.on
+
+pub invariant_of-self : goal.invariant_of-self
+invariant_of-self g c = grind (arith, common_steps)
