@@ -5,10 +5,10 @@ use Rattle.ee_flash.specs.Size.{Size}
 use Rattle.ee_pages.specs.Laws.{IsPageOf}
 use Rattle.ee_pages.specs.Sets.{first_page, other}
 use Rattle.ee_pages.specs.declared.side.Side.{Side}
-use Rattle.ee_core.proofs.AfterCalls.{goes_on_both, goes_on_same}
+use Rattle.ee_core.proofs.AfterCalls.{ends_later, goes_on_both, goes_on_same, never_on_ok}
 use Rattle.ee_core.proofs.MarkedSets.{RetiresPage, live_stays, retired_end, retired_next, retired_start}
 use Rattle.ee_core.proofs.Marks.{same_stays}
-use Rattle.ee_core.proofs.LiveMarks.{IsPageDone, MarksPage, done_already, done_more, marked_from, marks_none, stays_both}
+use Rattle.ee_core.proofs.LiveMarks.{IsPageDone, MarksPage, done_already, done_more, layout_stays, marked_from, marks_none, stays_both}
 use Rattle.ee_core.proofs.marking.mark_old_set.Goals.{then-not-is_blank+in_ok-mark_old, else-not-is_blank}
 use Rattle.ee_core.proofs.CutMarks.{retired_partly}
 use Rattle.ee_core.proofs.Making.{always_on_err}
@@ -153,3 +153,32 @@ returns-in_err-mark_old-clause-live_pages_stay g c =
     record { from = omega (arith, start, first, c.pages.auto.page); below = omega (arith, start, first, c.pages-2.ensures.value, pages, c.pages-test.true, ap (λ (size : Size). size.pages) sizes) } in
     always_on_err c.from_residual.result
     (live_stays layout.side old mid new c.pages.page (g.met.F.Flash.formed c.pages.flash) (g.met.F.Flash.formed c.mark_old.new.flash) c.mark_old.ensures.stays.keeps.same_size of c.mark_old.ensures.others c.pages.invariant.live)
+
+pub returns-in_err-mark_old-clause-stays : goal.returns-in_err-mark_old-clause-stays
+returns-in_err-mark_old-clause-stays g c = stays_both _ _ _ _ _ c.pages.invariant.stays c.mark_old.ensures.stays
+
+pub returns-in_err-mark_old-clause-marked : goal.returns-in_err-mark_old-clause-marked
+returns-in_err-mark_old-clause-marked g c = never_on_ok _ c.from_residual.result c.from_residual.ensures.0
+
+pub returns-in_err-mark_old-clause-live_pages : goal.returns-in_err-mark_old-clause-live_pages
+returns-in_err-mark_old-clause-live_pages g c = never_on_ok _ c.from_residual.result c.from_residual.ensures.0
+
+pub returns-in_err-mark_old-clause-old_pages : goal.returns-in_err-mark_old-clause-old_pages
+returns-in_err-mark_old-clause-old_pages g c = never_on_ok _ c.from_residual.result c.from_residual.ensures.0
+
+pub returns-in_err-mark_old-clause-power : goal.returns-in_err-mark_old-clause-power
+returns-in_err-mark_old-clause-power g c = ends_later c.from_residual.result c.from_residual.ensures.0 c.pages.invariant.power c.in_err-mark_old.ensures.power
+
+pub mark_old-requires-clause-layout : goal.mark_old-requires-clause-layout
+mark_old-requires-clause-layout g c = layout_stays _ _ _ c.requires c.pages.invariant.stays
+
+pub returns-clause-marked : goal.returns-clause-marked
+returns-clause-marked g c = λ k below.
+    let old = g.F.Flash.device c.args.flash.now in
+    let new = g.F.Flash.device c.pages.flash in
+    let side = other c.args.layout.now.side in
+    let pages = ap (λ (size : Size). size.pages) c.shape.ensures in
+    let sizes = c.pages.invariant.stays.keeps.same_size in
+    let first : c.first_page-first.result ≡ first_page old.size side = c.first_page-first.ensures ∙ ap (λ (set : Side). first_page old.size set) c.other.ensures in
+    let within : k < c.pages.page - first_page old.size side = omega (arith, below, ap (λ (size : Size). size.pages) sizes, first, pages, c.pages-2.ensures.value, c.pages-test.false) in
+    subst (λ (size : Size). IsPageDone new (first_page size side + k)) (sym sizes) (c.pages.invariant.done k within)
