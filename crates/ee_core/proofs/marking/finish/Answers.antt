@@ -1,5 +1,6 @@
 use Rattle.std.proofs.Common.{refl, ◌∙◌}
 use Rattle.ee_pages.specs.Sets.{other}
+use Rattle.ee_core.proofs.AfterCalls.{ends_later, goes_on_same, never_on_ok}
 use Rattle.ee_core.proofs.LiveMarks.{layout_stays, live_marks_kept, old_marks_kept, stays_both}
 use Rattle.ee_core.proofs.MarkedSets.{shows}
 use Rattle.ee_core.specs.Finished.{last_used}
@@ -32,11 +33,6 @@ returns-clause-stays g c =
     let layout = c.args.layout.now in
     stays_both (g.F.Flash.device c.args.flash.now) (g.F.Flash.device c.mark_live_set.new.flash) (g.F.Flash.device c.mark_old_set.new.flash) layout.side layout.generation c.mark_live_set.ensures.stays c.mark_old_set.ensures.stays
 
-pub returns-in_err-mark_old_set-clause-stays : goal.returns-in_err-mark_old_set-clause-stays
-returns-in_err-mark_old_set-clause-stays g c =
-    let layout = c.args.layout.now in
-    stays_both (g.F.Flash.device c.args.flash.now) (g.F.Flash.device c.mark_live_set.new.flash) (g.F.Flash.device c.mark_old_set.new.flash) layout.side layout.generation c.mark_live_set.ensures.stays c.mark_old_set.ensures.stays
-
 pub returns-clause-shows : goal.returns-clause-shows
 returns-clause-shows g c =
     let old = g.F.Flash.device c.args.flash.now in
@@ -47,18 +43,38 @@ returns-clause-shows g c =
     c.in_ok-mark_live_set.ensures.live_pages c.in_ok-mark_live_set.ensures.old_pages c.in_ok-mark_old_set.ensures.live_pages c.in_ok-mark_old_set.ensures.old_pages in
     record { live_pages = both.0; old_pages = both.1 }
 
-pub returns-in_err-mark_live_set-clause-begun : goal.returns-in_err-mark_live_set-clause-begun
-returns-in_err-mark_live_set-clause-begun g c =
+pub returns-in_err-mark_live_set : goal.returns-in_err-mark_live_set
+returns-in_err-mark_live_set g c =
     let old = g.F.Flash.device c.args.flash.now in
     let new = g.F.Flash.device c.mark_live_set.new.flash in
-    always_on_err c.from_residual.result
-    (cut_live c.args.layout.now.side old new c.mark_live_set.ensures.stays.keeps.same_size c.in_err-mark_live_set.ensures.begun c.in_err-mark_live_set.ensures.old_pages_stay)
+    let failed = c.from_residual.ensures.0 in
+    record {
+      stays = c.mark_live_set.ensures.stays;
+      finished = never_on_ok _ c.from_residual.result failed;
+      shows = never_on_ok _ c.from_residual.result failed;
+      begun = always_on_err c.from_residual.result
+          (cut_live c.args.layout.now.side old new c.mark_live_set.ensures.stays.keeps.same_size c.in_err-mark_live_set.ensures.begun c.in_err-mark_live_set.ensures.old_pages_stay);
+      no_step = λ marked. absurd (cc ((c.mark_live_set.ensures.no_step marked.live).0, c.in_err-mark_live_set.was));
+      power = ends_later c.from_residual.result failed (goes_on_same old) c.in_err-mark_live_set.ensures.power;
+    }
 
-pub returns-in_err-mark_old_set-clause-begun : goal.returns-in_err-mark_old_set-clause-begun
-returns-in_err-mark_old_set-clause-begun g c =
+pub returns-in_err-mark_old_set : goal.returns-in_err-mark_old_set
+returns-in_err-mark_old_set g c =
     let old = g.F.Flash.device c.args.flash.now in
     let mid = g.F.Flash.device c.mark_live_set.new.flash in
     let new = g.F.Flash.device c.mark_old_set.new.flash in
-    always_on_err c.from_residual-in_err-mark_old_set.result
-    (cut_old c.args.layout.now.side old mid new c.mark_live_set.ensures.stays.keeps.same_size c.mark_old_set.ensures.stays.keeps.same_size
-    c.in_ok-mark_live_set.ensures.live_pages c.in_ok-mark_live_set.ensures.old_pages c.in_err-mark_old_set.ensures.live_pages_stay c.in_err-mark_old_set.ensures.begun)
+    let side = c.args.layout.now.side in
+    let result = c.from_residual-in_err-mark_old_set.result in
+    let failed = c.from_residual-in_err-mark_old_set.ensures.0 in
+    record {
+      stays = stays_both _ _ _ _ _ c.mark_live_set.ensures.stays c.mark_old_set.ensures.stays;
+      finished = never_on_ok _ result failed;
+      shows = never_on_ok _ result failed;
+      begun = always_on_err result
+          (cut_old side old mid new c.mark_live_set.ensures.stays.keeps.same_size c.mark_old_set.ensures.stays.keeps.same_size
+          c.in_ok-mark_live_set.ensures.live_pages c.in_ok-mark_live_set.ensures.old_pages c.in_err-mark_old_set.ensures.live_pages_stay c.in_err-mark_old_set.ensures.begun);
+      no_step = λ marked.
+          let none = c.mark_old_set.ensures.no_step (old_marks_kept (other side) old mid (c.mark_live_set.ensures.no_step marked.live).1 marked.old) in
+          absurd (cc (none.0, c.in_err-mark_old_set.was));
+      power = ends_later result failed c.in_ok-mark_live_set.ensures.power.ok c.in_err-mark_old_set.ensures.power;
+    }

@@ -3,7 +3,7 @@ use Rattle.ee_flash.specs.Size.{Size}
 use Rattle.ee_pages.specs.Page.{is_marked}
 use Rattle.ee_pages.specs.Sets.{first_page}
 use Rattle.ee_pages.specs.declared.state.Mark.TheVariants.{Active, Valid}
-use Rattle.ee_core.proofs.AfterCalls.{goes_on_both, goes_on_same}
+use Rattle.ee_core.proofs.AfterCalls.{ends_later, goes_on_both, goes_on_same, never_on_ok}
 use Rattle.ee_core.proofs.Drawings.{valid_to}
 use Rattle.ee_core.proofs.MarkedSets.{active_then, other_stays, valid_next, valid_start}
 use Rattle.ee_core.proofs.Marks.{same_stays}
@@ -22,15 +22,6 @@ mark_live-requires-clause-behind g c =
     let layout = c.args.layout.now in
     let first : first_page mid.size layout.side ≡ first_page old.size layout.side = ap (λ size. first_page size layout.side) c.pages.invariant.stays.keeps.same_size in
     valid_behind layout mid c.pages.page (layout_stays layout old mid c.requires c.pages.invariant.stays) (omega (arith, first, c.first_page-first.ensures, c.pages.auto.page)) c.pages-test.true
-
-pub returns-in_err-mark_live-clause-no_step : goal.returns-in_err-mark_live-clause-no_step
-returns-in_err-mark_live-clause-no_step g c marked =
-    let old = g.F.Flash.device c.args.flash.now in
-    let mid = g.F.Flash.device c.pages.flash in
-    let same = c.pages.invariant.no_step marked in
-    let set : is_marked old c.pages.page Valid ≡ true = valid_already c.args.layout.now old c.pages.page c.requires marked (omega (arith, c.first_page-first.ensures, c.pages.auto.page)) c.pages-test.true in
-    let none = c.mark_live.ensures.no_step (ap (λ device. is_marked device c.pages.page Valid) same ∙ set) in
-    absurd (cc (none.0, c.in_err-mark_live.was))
 
 pub pages-preserved : goal.pages-preserved
 pages-preserved g c =
@@ -115,60 +106,70 @@ returns-clause-old_pages g c =
     other_stays layout.side old c.first_page-first.result c.first_page-first.ensures mid new layout.current
     (g.met.F.Flash.formed c.pages.flash) (g.met.F.Flash.formed c.mark_live-2.new.flash) c.pages.invariant.stays.keeps.same_size c.mark_live-2.ensures.stays.keeps.same_size (omega (arith, last, c.first_page-first.ensures)) below c.mark_live-2.ensures.others c.pages.invariant.other
 
-pub returns-in_err-mark_live-clause-begun : goal.returns-in_err-mark_live-clause-begun
-returns-in_err-mark_live-clause-begun g c =
+pub returns-in_err-mark_live : goal.returns-in_err-mark_live
+returns-in_err-mark_live g c =
     let old = g.F.Flash.device c.args.flash.now in
     let mid = g.F.Flash.device c.pages.flash in
     let new = g.F.Flash.device c.mark_live.new.flash in
     let layout = c.args.layout.now in
+    let failed = c.from_residual.ensures.0 in
     let sizes = c.pages.invariant.stays.keeps.same_size in
+    let counted = ap (λ (size : Size). size.pages) sizes in
     let last = last_is layout old c.requires in
     let k = c.pages.page - c.first_page-first.result in
+    let from : first_page old.size layout.side ≤ c.pages.page = omega (arith, c.first_page-first.ensures, c.pages.auto.page) in
     let at : c.pages.page ≡ first_page mid.size layout.side + k = omega (arith, c.first_page-first.ensures, c.pages.auto.page, ap (λ (size : Size). first_page size layout.side) sizes) in
     let before : k < last_used old layout.side = omega (arith, last, c.first_page-first.ensures, c.pages.auto.page, c.pages-test.true) in
-    let inside : k < mid.size.pages = omega (arith, before, last_in_range layout old c.requires, ap (λ (size : Size). size.pages) sizes) in
-    always_on_err c.from_residual.result
-    (valid_partly layout.side mid new k (last_used old layout.side) (picture_of layout.side old) (g.met.F.Flash.formed c.pages.flash) c.mark_live.ensures.stays.keeps.same_size inside before
-    (subst (λ n. SetsPartly n Valid mid new) at c.in_err-mark_live.ensures.begun) c.pages.invariant.drawn)
+    let inside : k < mid.size.pages = omega (arith, before, last_in_range layout old c.requires, counted) in
+    record {
+      stays = stays_both _ _ _ _ _ c.pages.invariant.stays c.mark_live.ensures.stays;
+      marked = never_on_ok _ c.from_residual.result failed;
+      live_pages = never_on_ok _ c.from_residual.result failed;
+      old_pages = never_on_ok _ c.from_residual.result failed;
+      begun = always_on_err c.from_residual.result
+          (valid_partly layout.side mid new k (last_used old layout.side) (picture_of layout.side old) (g.met.F.Flash.formed c.pages.flash) c.mark_live.ensures.stays.keeps.same_size inside before
+          (subst (λ n. SetsPartly n Valid mid new) at c.in_err-mark_live.ensures.begun) c.pages.invariant.drawn);
+      old_pages_stay = always_on_err c.from_residual.result
+          (other_stays layout.side old c.first_page-first.result c.first_page-first.ensures mid new c.pages.page (g.met.F.Flash.formed c.pages.flash) (g.met.F.Flash.formed c.mark_live.new.flash)
+          sizes c.mark_live.ensures.stays.keeps.same_size c.pages.auto.page inside c.mark_live.ensures.others c.pages.invariant.other);
+      no_step = λ marked.
+          let set : is_marked old c.pages.page Valid ≡ true = valid_already layout old c.pages.page c.requires marked from c.pages-test.true in
+          let none = c.mark_live.ensures.no_step (ap (λ device. is_marked device c.pages.page Valid) (c.pages.invariant.no_step marked) ∙ set) in
+          absurd (cc (none.0, c.in_err-mark_live.was));
+      power = ends_later c.from_residual.result failed c.pages.invariant.power c.in_err-mark_live.ensures.power;
+    }
 
-pub returns-in_err-mark_live-clause-old_pages_stay : goal.returns-in_err-mark_live-clause-old_pages_stay
-returns-in_err-mark_live-clause-old_pages_stay g c =
-    let old = g.F.Flash.device c.args.flash.now in
-    let mid = g.F.Flash.device c.pages.flash in
-    let new = g.F.Flash.device c.mark_live.new.flash in
-    let layout = c.args.layout.now in
-    let sizes = ap (λ (size : Size). size.pages) c.pages.invariant.stays.keeps.same_size in
-    let behind : c.pages.page - c.first_page-first.result < mid.size.pages =
-    omega (arith, sizes, c.pages-test.true, c.pages.auto.page, c.first_page-first.ensures, last_is layout old c.requires, last_in_range layout old c.requires) in
-    always_on_err c.from_residual.result
-    (other_stays layout.side old c.first_page-first.result c.first_page-first.ensures mid new c.pages.page
-    (g.met.F.Flash.formed c.pages.flash) (g.met.F.Flash.formed c.mark_live.new.flash) c.pages.invariant.stays.keeps.same_size c.mark_live.ensures.stays.keeps.same_size c.pages.auto.page behind c.mark_live.ensures.others c.pages.invariant.other)
-
-pub returns-in_err-mark_live-2-clause-begun : goal.returns-in_err-mark_live-2-clause-begun
-returns-in_err-mark_live-2-clause-begun g c =
+pub returns-in_err-mark_live-2 : goal.returns-in_err-mark_live-2
+returns-in_err-mark_live-2 g c =
     let old = g.F.Flash.device c.args.flash.now in
     let mid = g.F.Flash.device c.pages.flash in
     let new = g.F.Flash.device c.mark_live-2.new.flash in
     let layout = c.args.layout.now in
+    let result = c.from_residual-in_err-mark_live-2.result in
+    let failed = c.from_residual-in_err-mark_live-2.ensures.0 in
     let sizes = c.pages.invariant.stays.keeps.same_size in
     let last = last_is layout old c.requires in
+    let from : c.first_page-first.result ≤ layout.current = omega (arith, last, c.first_page-first.ensures) in
     let reached : c.pages.page - c.first_page-first.result ≡ last_used old layout.side = omega (arith, last, c.first_page-first.ensures, c.pages-test.false, c.pages.auto.page-end) in
     let below : last_used old layout.side < mid.size.pages = omega (arith, last_in_range layout old c.requires, ap (λ (size : Size). size.pages) sizes) in
+    let behind : layout.current - c.first_page-first.result < mid.size.pages = omega (arith, below, last, c.first_page-first.ensures) in
     let drawn = subst (λ n. IsDrawn layout.side mid (valid_to n (picture_of layout.side old))) reached c.pages.invariant.drawn in
     let at : layout.current ≡ first_page mid.size layout.side + last_used old layout.side = omega (arith, last, ap (λ (size : Size). first_page size layout.side) sizes) in
-    always_on_err c.from_residual-in_err-mark_live-2.result
-    (active_partly layout.side mid new (last_used old layout.side) (picture_of layout.side old) (g.met.F.Flash.formed c.pages.flash) c.mark_live-2.ensures.stays.keeps.same_size below
-    (subst (λ n. SetsPartly n Active mid new) at c.in_err-mark_live-2.ensures.begun) drawn)
-
-pub returns-in_err-mark_live-2-clause-old_pages_stay : goal.returns-in_err-mark_live-2-clause-old_pages_stay
-returns-in_err-mark_live-2-clause-old_pages_stay g c =
-    let old = g.F.Flash.device c.args.flash.now in
-    let mid = g.F.Flash.device c.pages.flash in
-    let new = g.F.Flash.device c.mark_live-2.new.flash in
-    let layout = c.args.layout.now in
-    let last = last_is layout old c.requires in
-    let below : layout.current - c.first_page-first.result < mid.size.pages =
-    omega (arith, last, c.first_page-first.ensures, last_in_range layout old c.requires, ap (λ (size : Size). size.pages) c.pages.invariant.stays.keeps.same_size) in
-    always_on_err c.from_residual-in_err-mark_live-2.result
-    (other_stays layout.side old c.first_page-first.result c.first_page-first.ensures mid new layout.current
-    (g.met.F.Flash.formed c.pages.flash) (g.met.F.Flash.formed c.mark_live-2.new.flash) c.pages.invariant.stays.keeps.same_size c.mark_live-2.ensures.stays.keeps.same_size (omega (arith, last, c.first_page-first.ensures)) below c.mark_live-2.ensures.others c.pages.invariant.other)
+    record {
+      stays = stays_both _ _ _ _ _ c.pages.invariant.stays c.mark_live-2.ensures.stays;
+      marked = never_on_ok _ result failed;
+      live_pages = never_on_ok _ result failed;
+      old_pages = never_on_ok _ result failed;
+      begun = always_on_err result
+          (active_partly layout.side mid new (last_used old layout.side) (picture_of layout.side old) (g.met.F.Flash.formed c.pages.flash) c.mark_live-2.ensures.stays.keeps.same_size below
+          (subst (λ n. SetsPartly n Active mid new) at c.in_err-mark_live-2.ensures.begun) drawn);
+      old_pages_stay = always_on_err result
+          (other_stays layout.side old c.first_page-first.result c.first_page-first.ensures mid new layout.current (g.met.F.Flash.formed c.pages.flash) (g.met.F.Flash.formed c.mark_live-2.new.flash)
+          sizes c.mark_live-2.ensures.stays.keeps.same_size from behind c.mark_live-2.ensures.others c.pages.invariant.other);
+      no_step = λ marked.
+          let same = c.pages.invariant.no_step marked in
+          let set : is_marked old layout.current Active ≡ true = ap (λ n. is_marked old n Active) last ∙ marked.active in
+          let none = c.mark_live-2.ensures.no_step (ap (λ device. is_marked device layout.current Active) same ∙ set) in
+          absurd (cc (none.0, c.in_err-mark_live-2.was));
+      power = ends_later result failed c.pages.invariant.power c.in_err-mark_live-2.ensures.power;
+    }

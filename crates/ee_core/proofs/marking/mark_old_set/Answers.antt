@@ -18,18 +18,6 @@ use Rattle.ee_pages.specs.declared.state.Mark.TheVariants.{Erasing}
 use Rattle.ee_core.specs.Cuts.{SetsPartly}
 use Rattle.ee_core.proofs.marking.mark_old_set.Goals as goal
 
-pub returns-in_err-mark_old-clause-no_step : goal.returns-in_err-mark_old-clause-no_step
-returns-in_err-mark_old-clause-no_step g c marked =
-    let old = g.F.Flash.device c.args.flash.now in
-    let mid = g.F.Flash.device c.pages.flash in
-    let side = other c.args.layout.now.side in
-    let pages = ap (λ size. size.pages) c.shape.ensures in
-    let first : c.first_page-first.result ≡ first_page old.size side = c.first_page-first.ensures ∙ ap (λ (set : Side). first_page old.size set) c.other.ensures in
-    let done : IsPageDone old c.pages.page = done_already old side c.pages.page marked (omega (arith, first, c.pages.auto.page)) (omega (arith, first, c.pages-2.ensures.value, pages, c.pages-test.true)) in
-    let now : IsPageDone mid c.pages.page = subst (λ device. IsPageDone device c.pages.page) (sym (c.pages.invariant.no_step marked)) done in
-    let none = c.mark_old.ensures.no_step (marked_from mid c.pages.page (sym c.is_blank.ensures ∙ c.if-not-is_blank.true) now) in
-    absurd (cc (none.0, c.in_err-mark_old.was))
-
 pub pages-preserved : goal.pages-preserved
 pages-preserved g c =
     let old = g.F.Flash.device c.args.flash.now in
@@ -88,9 +76,6 @@ pages-preserved g c =
       power = goes_on_both old mid new c.pages.invariant.power step.power;
     }
 
-pub returns-in_err-mark_old-clause-marks : goal.returns-in_err-mark_old-clause-marks
-returns-in_err-mark_old-clause-marks g c page mark was = c.mark_old.ensures.marks page mark (c.pages.invariant.marks page mark was)
-
 pub pages-init : goal.pages-init
 pages-init g c =
     let old = g.F.Flash.device c.args.flash.now in
@@ -118,57 +103,6 @@ returns-clause-old_pages g c =
     retired_end side old c.first_page-first.result first new c.pages.page c.pages.invariant.stays.keeps.same_size
     (search (arith, c.pages-2.ensures.value, pages, c.pages-test.false, c.pages.auto.page-end)) c.pages.invariant.drawn
 
-pub returns-in_err-mark_old-clause-begun : goal.returns-in_err-mark_old-clause-begun
-returns-in_err-mark_old-clause-begun g c =
-    let old = g.F.Flash.device c.args.flash.now in
-    let mid = g.F.Flash.device c.pages.flash in
-    let new = g.F.Flash.device c.mark_old.new.flash in
-    let side = other c.args.layout.now.side in
-    let pages = ap (λ (size : Size). size.pages) c.shape.ensures in
-    let sizes = c.pages.invariant.stays.keeps.same_size in
-    let first : c.first_page-first.result ≡ first_page old.size side = c.first_page-first.ensures ∙ ap (λ (set : Side). first_page old.size set) c.other.ensures in
-    let k = c.pages.page - c.first_page-first.result in
-    let at : c.pages.page ≡ first_page mid.size side + k = omega (arith, first, c.pages.auto.page, ap (λ (size : Size). first_page size side) sizes) in
-    let there : first_page old.size side + k ≡ c.pages.page = omega (arith, first, c.pages.auto.page) in
-    let inside : k < mid.size.pages = omega (arith, first, c.pages-2.ensures.value, pages, c.pages-test.true, ap (λ (size : Size). size.pages) sizes) in
-    let written : is_blank (page_at mid c.pages.page) ≡ false = sym c.is_blank.ensures ∙ c.if-not-is_blank.true in
-    let was : is_blank (page_at old (first_page old.size side + k)) ≡ false =
-    ap (λ n. is_blank (page_at old n)) there ∙ ap is_blank (sym (c.pages.invariant.rest c.pages.page (omega arith))) ∙ written in
-    always_on_err c.from_residual.result
-    (retired_partly side old mid new k (g.met.F.Flash.formed c.pages.flash) c.mark_old.ensures.stays.keeps.same_size inside (ap not was)
-    (subst (λ n. SetsPartly n Erasing mid new) at c.in_err-mark_old.ensures.begun) c.pages.invariant.drawn)
-
-pub returns-in_err-mark_old-clause-live_pages_stay : goal.returns-in_err-mark_old-clause-live_pages_stay
-returns-in_err-mark_old-clause-live_pages_stay g c =
-    let old = g.F.Flash.device c.args.flash.now in
-    let mid = g.F.Flash.device c.pages.flash in
-    let new = g.F.Flash.device c.mark_old.new.flash in
-    let layout = c.args.layout.now in
-    let side = other layout.side in
-    let pages = ap (λ (size : Size). size.pages) c.shape.ensures in
-    let sizes = c.pages.invariant.stays.keeps.same_size in
-    let first : c.first_page-first.result ≡ first_page old.size side = c.first_page-first.ensures ∙ ap (λ (set : Side). first_page old.size set) c.other.ensures in
-    let of : IsPageOf mid.size side c.pages.page =
-    let start = ap (λ (size : Size). first_page size side) sizes in
-    record { from = omega (arith, start, first, c.pages.auto.page); below = omega (arith, start, first, c.pages-2.ensures.value, pages, c.pages-test.true, ap (λ (size : Size). size.pages) sizes) } in
-    always_on_err c.from_residual.result
-    (live_stays layout.side old mid new c.pages.page (g.met.F.Flash.formed c.pages.flash) (g.met.F.Flash.formed c.mark_old.new.flash) c.mark_old.ensures.stays.keeps.same_size of c.mark_old.ensures.others c.pages.invariant.live)
-
-pub returns-in_err-mark_old-clause-stays : goal.returns-in_err-mark_old-clause-stays
-returns-in_err-mark_old-clause-stays g c = stays_both _ _ _ _ _ c.pages.invariant.stays c.mark_old.ensures.stays
-
-pub returns-in_err-mark_old-clause-marked : goal.returns-in_err-mark_old-clause-marked
-returns-in_err-mark_old-clause-marked g c = never_on_ok _ c.from_residual.result c.from_residual.ensures.0
-
-pub returns-in_err-mark_old-clause-live_pages : goal.returns-in_err-mark_old-clause-live_pages
-returns-in_err-mark_old-clause-live_pages g c = never_on_ok _ c.from_residual.result c.from_residual.ensures.0
-
-pub returns-in_err-mark_old-clause-old_pages : goal.returns-in_err-mark_old-clause-old_pages
-returns-in_err-mark_old-clause-old_pages g c = never_on_ok _ c.from_residual.result c.from_residual.ensures.0
-
-pub returns-in_err-mark_old-clause-power : goal.returns-in_err-mark_old-clause-power
-returns-in_err-mark_old-clause-power g c = ends_later c.from_residual.result c.from_residual.ensures.0 c.pages.invariant.power c.in_err-mark_old.ensures.power
-
 pub mark_old-requires-clause-layout : goal.mark_old-requires-clause-layout
 mark_old-requires-clause-layout g c = layout_stays _ _ _ c.requires c.pages.invariant.stays
 
@@ -182,3 +116,41 @@ returns-clause-marked g c = λ k below.
     let first : c.first_page-first.result ≡ first_page old.size side = c.first_page-first.ensures ∙ ap (λ (set : Side). first_page old.size set) c.other.ensures in
     let within : k < c.pages.page - first_page old.size side = omega (arith, below, ap (λ (size : Size). size.pages) sizes, first, pages, c.pages-2.ensures.value, c.pages-test.false) in
     subst (λ (size : Size). IsPageDone new (first_page size side + k)) (sym sizes) (c.pages.invariant.done k within)
+
+pub returns-in_err-mark_old : goal.returns-in_err-mark_old
+returns-in_err-mark_old g c =
+    let old = g.F.Flash.device c.args.flash.now in
+    let mid = g.F.Flash.device c.pages.flash in
+    let new = g.F.Flash.device c.mark_old.new.flash in
+    let side = other c.args.layout.now.side in
+    let failed = c.from_residual.ensures.0 in
+    let pages = ap (λ (size : Size). size.pages) c.shape.ensures in
+    let sizes = c.pages.invariant.stays.keeps.same_size in
+    let counted = ap (λ (size : Size). size.pages) sizes in
+    let start = ap (λ (size : Size). first_page size side) sizes in
+    let first : c.first_page-first.result ≡ first_page old.size side = c.first_page-first.ensures ∙ ap (λ (set : Side). first_page old.size set) c.other.ensures in
+    let k = c.pages.page - c.first_page-first.result in
+    let there : first_page old.size side + k ≡ c.pages.page = omega (arith, first, c.pages.auto.page) in
+    let from : first_page old.size side ≤ c.pages.page = omega (arith, there) in
+    let below : c.pages.page < first_page old.size side + old.size.pages = omega (arith, first, c.pages-2.ensures.value, pages, c.pages-test.true) in
+    let at : c.pages.page ≡ first_page mid.size side + k = omega (arith, there, start) in
+    let written : is_blank (page_at mid c.pages.page) ≡ false = sym c.is_blank.ensures ∙ c.if-not-is_blank.true in
+    let was : is_blank (page_at old (first_page old.size side + k)) ≡ false =
+    ap (λ n. is_blank (page_at old n)) there ∙ ap is_blank (sym (c.pages.invariant.rest c.pages.page (omega arith))) ∙ written in
+    let of : IsPageOf mid.size side c.pages.page = record { from = omega (arith, start, from); below = omega (arith, start, counted, below) } in
+    record {
+      stays = stays_both _ _ _ _ _ c.pages.invariant.stays c.mark_old.ensures.stays;
+      marks = λ page mark was. c.mark_old.ensures.marks page mark (c.pages.invariant.marks page mark was);
+      marked = never_on_ok _ c.from_residual.result failed;
+      live_pages = never_on_ok _ c.from_residual.result failed;
+      old_pages = never_on_ok _ c.from_residual.result failed;
+      begun = always_on_err c.from_residual.result
+          (retired_partly side old mid new k (g.met.F.Flash.formed c.pages.flash) c.mark_old.ensures.stays.keeps.same_size (omega (arith, there, counted, below)) (ap not was)
+          (subst (λ n. SetsPartly n Erasing mid new) at c.in_err-mark_old.ensures.begun) c.pages.invariant.drawn);
+      live_pages_stay = always_on_err c.from_residual.result
+          (live_stays c.args.layout.now.side old mid new c.pages.page (g.met.F.Flash.formed c.pages.flash) (g.met.F.Flash.formed c.mark_old.new.flash) c.mark_old.ensures.stays.keeps.same_size of c.mark_old.ensures.others c.pages.invariant.live);
+      no_step = λ marked.
+          let now : IsPageDone mid c.pages.page = subst (λ device. IsPageDone device c.pages.page) (sym (c.pages.invariant.no_step marked)) (done_already old side c.pages.page marked from below) in
+          absurd (cc ((c.mark_old.ensures.no_step (marked_from mid c.pages.page written now)).0, c.in_err-mark_old.was));
+      power = ends_later c.from_residual.result failed c.pages.invariant.power c.in_err-mark_old.ensures.power;
+    }
