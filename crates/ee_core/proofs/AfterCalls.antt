@@ -1,9 +1,12 @@
 -- Steps that went on, one after another.
-use Rattle.std.proofs.Common.{refl, sym, ◌∙◌}
+use Rattle.std.proofs.Common.{◌≡◌, ◌⊎◌, inl, inr, ℕ, refl, sym, ◌∙◌}
 use Rattle.std.specs.Prelude.{Result, Ok, Err, IsErr, OnOk}
 use Rattle.std.proofs.lemmas.Bool.{true≢false}
 use Rattle.ee_flash.specs.Device.{Device, IsOff, IsOn}
 use Rattle.ee_flash.specs.Power.{Ends, GoesOn}
+use Rattle.ee_flash.specs.Step.{IsCutIn, IsUntouched, Step, device_after}
+use Rattle.ee_pages.specs.Page.{marking}
+use Rattle.ee_pages.specs.declared.state.Mark.{Mark}
 use Rattle.ee_flash.proofs.Public.{calls_compose}
 
 pub goes_on_same : (device : Device) → GoesOn device device
@@ -28,3 +31,21 @@ ends_later {old = old} {mid = mid} {new = new} (Err error) is on ends = record {
   cut = λ was. (calls_compose old mid new on).1 (ends.cut (on.same_power ∙ was));
   off = λ was. ends.off (on.same_power ∙ was) ∙ on.same_while_off was;
 }
+
+-- power cut in a step, behind steps that went on
+pub ends_in_step : {T E : Type 0} {old mid new : Device} (step : Step) (result : Result T E) → IsErr result → GoesOn old mid → IsCutIn step mid new ⊎ IsUntouched mid new → Ends result old new
+ends_in_step step (Ok value) is on left = absurd (true≢false (sym is))
+ends_in_step {old = old} {mid = mid} {new = new} step (Err error) is on (inl cut) = record {
+  ok = tt;
+  cut = λ was. (calls_compose old mid new on).1 (record { was_on = cut.was_on; is_off = cut.is_off; same_size = cut.same_size; one_more_cut = cut.cuts; one_less_left = cut.cuts_left });
+  off = λ was. absurd (not_both mid cut.was_on (on.same_power ∙ was));
+}
+ends_in_step {mid = mid} step (Err error) is on (inr none) = record {
+  ok = tt;
+  cut = λ was. absurd (not_both mid (on.same_power ∙ was) none.was_off);
+  off = λ was. none.same ∙ on.same_while_off was;
+}
+
+-- a mark that was set
+pub goes_on_marked : {new : Device} (page : ℕ) (mark : Mark) (old : Device) → IsOn old → new ≡ device_after (marking page mark) old → GoesOn old new
+goes_on_marked page mark old on done = rw done (record { same_size = refl; same_power = refl; same_cuts = refl; same_cuts_left = refl; same_while_off = λ off. absurd (not_both old on off) })
