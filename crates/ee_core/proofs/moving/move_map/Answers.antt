@@ -1,6 +1,7 @@
 use Rattle.std.proofs.Common.{◌≡◌, ◌+◌, [], ap, arith, inl, inr, length, refl, subst, ◌∙◌}
 use Rattle.std.proofs.Math.Path.{fun_ext}
-use Rattle.std.proofs.lemmas.Result.{err_from_is_err_and}
+use Rattle.std.proofs.lemmas.Result.{IfOk-from_err, err_from_is_err_and}
+use Rattle.ee_core.proofs.AfterCalls.{ends_later, goes_on_both, goes_on_same, never_on_ok}
 use Rattle.ee_pages.specs.Meaning.{Map}
 use Rattle.ee_pages.specs.Sets.{other as other_of, pending_of, set_of}
 use Rattle.ee_core.specs.Picture.{blank, filled_set, moved_words}
@@ -72,14 +73,20 @@ returns-clause-live_pages g c =
     c.in_ok-count.ensures.fills.adds.live_pages)
     (same_drawn side filled new last c.in_ok-commit.ensures.same_set)
 
-pub returns-in_err-clear-clause-moves : goal.returns-in_err-clear-clause-moves
-returns-in_err-clear-clause-moves g c =
+pub returns-in_err-clear : goal.returns-in_err-clear
+returns-in_err-clear g c =
     let failed = err_from_is_err_and c.from_residual.result c.from_residual.ensures.1 in
     let cut = c.in_err-clear.ensures in
-    rw failed.1 (record { begun = cut.begun; words = inl cut.partly; cut = inl cut.keeps })
+    record {
+      moves = rw failed.1 (record { begun = cut.begun; words = inl cut.partly; cut = inl cut.keeps });
+      each_once = IfOk-from_err c.from_residual.result _ c.from_residual.ensures.0;
+      new_pages = never_on_ok _ c.from_residual.result c.from_residual.ensures.0;
+      live_pages = never_on_ok _ c.from_residual.result c.from_residual.ensures.0;
+      power = ends_later c.from_residual.result c.from_residual.ensures.0 (goes_on_same (g.F.Flash.device c.args.flash.now)) c.in_err-clear.ensures.power;
+    }
 
-pub returns-in_err-open_set-clause-moves : goal.returns-in_err-open_set-clause-moves
-returns-in_err-open_set-clause-moves g c =
+pub returns-in_err-open_set : goal.returns-in_err-open_set
+returns-in_err-open_set g c =
     let old = g.F.Flash.device c.args.flash.now in
     let cleared = g.F.Flash.device c.clear.new.flash in
     let new = g.F.Flash.device c.open_set.new.flash in
@@ -91,18 +98,24 @@ returns-in_err-open_set-clause-moves g c =
     let cut = c.in_err-open_set.ensures in
     let keeps = keeps_both old cleared new side c.args.layout.now.generation clears.keeps cut.keeps in
     let failed = err_from_is_err_and c.from_residual-in_err-open_set.result c.from_residual-in_err-open_set.ensures.1 in
-    rw failed.1 (record {
-      begun = front_all pages old new (wears_still pages old cleared new clears.wear cut.wear);
-      words = inr (record {
-        new_pages = subst (λ (size : Size). IsDrawnPartly (other_of side) new blank (filled_set size generation words)) keeps.same_size
-            (filled_partly (other_of side) new generation words (cut.begun words));
-        live_pages = drawn_both side old cleared new clears.keeps.same_size cut.keeps.same_size (same_drawn side old cleared clears.keeps.same_size clears.live_pages) cut.live_pages;
+    record {
+      moves = rw failed.1 (record {
+        begun = front_all pages old new (wears_still pages old cleared new clears.wear cut.wear);
+        words = inr (record {
+          new_pages = subst (λ (size : Size). IsDrawnPartly (other_of side) new blank (filled_set size generation words)) keeps.same_size
+              (filled_partly (other_of side) new generation words (cut.begun words));
+          live_pages = drawn_both side old cleared new clears.keeps.same_size cut.keeps.same_size (same_drawn side old cleared clears.keeps.same_size clears.live_pages) cut.live_pages;
+        });
+        cut = inl keeps;
       });
-      cut = inl keeps;
-    })
+      each_once = IfOk-from_err c.from_residual-in_err-open_set.result _ c.from_residual-in_err-open_set.ensures.0;
+      new_pages = never_on_ok _ c.from_residual-in_err-open_set.result c.from_residual-in_err-open_set.ensures.0;
+      live_pages = never_on_ok _ c.from_residual-in_err-open_set.result c.from_residual-in_err-open_set.ensures.0;
+      power = ends_later c.from_residual-in_err-open_set.result c.from_residual-in_err-open_set.ensures.0 clears.power.ok c.in_err-open_set.ensures.power;
+    }
 
-pub returns-in_err-count-clause-moves : goal.returns-in_err-count-clause-moves
-returns-in_err-count-clause-moves g c =
+pub returns-in_err-count : goal.returns-in_err-count
+returns-in_err-count g c =
     let old = g.F.Flash.device c.args.flash.now in
     let cleared = g.F.Flash.device c.clear.new.flash in
     let opened = g.F.Flash.device c.open_set.new.flash in
@@ -119,20 +132,26 @@ returns-in_err-count-clause-moves g c =
     let same : map_in side opened ≡ map_in side old = fun_ext before.same_map in
     let adds = subst (λ (map : Map). AddsPartly opened new side generation 0 (moved_words (carried c.args.puts.now c.args.forgets) map)) same cut.begun in
     let failed = err_from_is_err_and c.from_residual-in_err-count.result c.from_residual-in_err-count.ensures.1 in
-    rw failed.1 (record {
-      begun = front_all pages old new (wears_still pages old cleared new clears.wear (cut.wear ∙ opens.wear));
-      words = inr (record {
-        new_pages = subst (λ (size : Size). IsDrawnPartly (other_of side) new blank (filled_set size generation words)) keeps.same_size
-            (filled_partly (other_of side) new generation words (adds.new_pages [] refl opens.holds));
-        live_pages = drawn_both side old opened new before.same_size cut.keeps.same_size
-            (drawn_both side old cleared opened clears.keeps.same_size opens.keeps.same_size (same_drawn side old cleared clears.keeps.same_size clears.live_pages) opens.live_pages)
-            adds.live_pages;
+    record {
+      moves = rw failed.1 (record {
+        begun = front_all pages old new (wears_still pages old cleared new clears.wear (cut.wear ∙ opens.wear));
+        words = inr (record {
+          new_pages = subst (λ (size : Size). IsDrawnPartly (other_of side) new blank (filled_set size generation words)) keeps.same_size
+              (filled_partly (other_of side) new generation words (adds.new_pages [] refl opens.holds));
+          live_pages = drawn_both side old opened new before.same_size cut.keeps.same_size
+              (drawn_both side old cleared opened clears.keeps.same_size opens.keeps.same_size (same_drawn side old cleared clears.keeps.same_size clears.live_pages) opens.live_pages)
+              adds.live_pages;
+        });
+        cut = inl keeps;
       });
-      cut = inl keeps;
-    })
+      each_once = IfOk-from_err c.from_residual-in_err-count.result _ c.from_residual-in_err-count.ensures.0;
+      new_pages = never_on_ok _ c.from_residual-in_err-count.result c.from_residual-in_err-count.ensures.0;
+      live_pages = never_on_ok _ c.from_residual-in_err-count.result c.from_residual-in_err-count.ensures.0;
+      power = ends_later c.from_residual-in_err-count.result c.from_residual-in_err-count.ensures.0 (goes_on_both old cleared opened clears.power.ok opens.power.ok) c.in_err-count.ensures.power;
+    }
 
-pub returns-in_err-commit-clause-moves : goal.returns-in_err-commit-clause-moves
-returns-in_err-commit-clause-moves g c =
+pub returns-in_err-commit : goal.returns-in_err-commit
+returns-in_err-commit g c =
     let old = g.F.Flash.device c.args.flash.now in
     let cleared = g.F.Flash.device c.clear.new.flash in
     let opened = g.F.Flash.device c.open_set.new.flash in
@@ -157,15 +176,21 @@ returns-in_err-commit-clause-moves g c =
     ap pending_of (same_set_drawn side old filling c.requires.layout.live.formed fills.keeps.live.formed filled.same_size drawn) in
     let holds = subst (λ (map : Map). Holds filling (other_of side) (generation + 1) (moved_words changes map)) same (fills.adds.new_pages [] refl opens.holds) in
     let failed = err_from_is_err_and c.from_residual-in_err-commit.result c.from_residual-in_err-commit.ensures.1 in
-    rw failed.1 (record {
-      begun = front_all pages old new (wears_still pages old cleared new clears.wear (cut.wear ∙ fills.wear ∙ opens.wear));
-      words = inr (record {
-        new_pages = subst (λ (size : Size). IsDrawnPartly (other_of side) new blank (filled_set size (generation + 1) words)) filled.same_size (cut.begun words holds);
-        live_pages = drawn_both side old filling new filled.same_size cut.same_size drawn
-            (same_drawn side filling new cut.same_size cut.same_set);
+    record {
+      moves = rw failed.1 (record {
+        begun = front_all pages old new (wears_still pages old cleared new clears.wear (cut.wear ∙ fills.wear ∙ opens.wear));
+        words = inr (record {
+          new_pages = subst (λ (size : Size). IsDrawnPartly (other_of side) new blank (filled_set size (generation + 1) words)) filled.same_size (cut.begun words holds);
+          live_pages = drawn_both side old filling new filled.same_size cut.same_size drawn
+              (same_drawn side filling new cut.same_size cut.same_set);
+        });
+        cut = elim cut.cut [
+          | inl keeps ↦ inl (keeps_both old filling new side generation filled keeps)
+          | inr committed ↦ inr (has_moved old opened filling new side generation c.in_ok-count.count changes before fills.keeps as_used fills.filling fills.map_is c.in_ok-count.ensures.each_once cut.same_set committed)
+        ];
       });
-      cut = elim cut.cut [
-        | inl keeps ↦ inl (keeps_both old filling new side generation filled keeps)
-        | inr committed ↦ inr (has_moved old opened filling new side generation c.in_ok-count.count changes before fills.keeps as_used fills.filling fills.map_is c.in_ok-count.ensures.each_once cut.same_set committed)
-      ];
-    })
+      each_once = IfOk-from_err c.from_residual-in_err-commit.result _ c.from_residual-in_err-commit.ensures.0;
+      new_pages = never_on_ok _ c.from_residual-in_err-commit.result c.from_residual-in_err-commit.ensures.0;
+      live_pages = never_on_ok _ c.from_residual-in_err-commit.result c.from_residual-in_err-commit.ensures.0;
+      power = ends_later c.from_residual-in_err-commit.result c.from_residual-in_err-commit.ensures.0 (goes_on_both old opened filling (goes_on_both old cleared opened clears.power.ok opens.power.ok) c.in_ok-count.ensures.power.ok) c.in_err-commit.ensures.power;
+    }

@@ -4,6 +4,7 @@ use Rattle.ee_flash.specs.Size.{Size}
 use Rattle.ee_pages.specs.declared.side.Side.{Side}
 use Rattle.ee_pages.specs.Sets.{fill_of, other as other_of, set_of, slots_of, page_of_slot}
 use Rattle.ee_pages.proofs.Public.{other_twice}
+use Rattle.ee_core.proofs.AfterCalls.{ends_later, goes_on_same, never_on_ok}
 use Rattle.ee_core.proofs.MovedSets.{all_retired, filled_up}
 use Rattle.ee_core.specs.Picture.{IsDrawn, blank, filled_set, is_used, moved_words, picture_of, retired_pages}
 use Rattle.ee_core.specs.Parts.{map_in}
@@ -58,24 +59,32 @@ returns-clause-old_pages g c =
     all_retired side old mid new c.requires.layout.live.formed moved.live.formed moved.same_size stays.keeps.same_size
     c.in_ok-count.ensures.live_pages drawn
 
-pub returns-in_err-count-clause-moves : goal.returns-in_err-count-clause-moves
-returns-in_err-count-clause-moves g c =
+pub returns-in_err-count : goal.returns-in_err-count
+returns-in_err-count g c =
     let old = g.F.Flash.device c.args.flash.now in
     let new = g.F.Flash.device c.move_map.new.flash in
     let side = c.args.layout.now.side in
     let failed = err_from_is_err_and c.from_residual.result c.from_residual.ensures.1 in
     let partly = c.in_err-count.ensures.moves in
-    rw failed.1 (record {
-      begun = partly.begun;
-      words = elim partly.words [
-        | inl erasing ↦ inl erasing
-        | inr moving ↦ inr (record { new_pages = moving.new_pages; old_pages = drawn_before side new (picture_of side old) (retired_pages (is_used side old) (picture_of side old)) moving.live_pages })
-      ];
-      cut = partly.cut;
-    })
+    record {
+      moves = rw failed.1 (record {
+        begun = partly.begun;
+        words = elim partly.words [
+          | inl erasing ↦ inl erasing
+          | inr moving ↦ inr (record { new_pages = moving.new_pages; old_pages = drawn_before side new (picture_of side old) (retired_pages (is_used side old) (picture_of side old)) moving.live_pages })
+        ];
+        cut = partly.cut;
+      });
+      layout = never_on_ok _ c.from_residual.result c.from_residual.ensures.0;
+      other_set = never_on_ok _ c.from_residual.result c.from_residual.ensures.0;
+      marked = never_on_ok _ c.from_residual.result c.from_residual.ensures.0;
+      new_pages = never_on_ok _ c.from_residual.result c.from_residual.ensures.0;
+      old_pages = never_on_ok _ c.from_residual.result c.from_residual.ensures.0;
+      power = ends_later c.from_residual.result c.from_residual.ensures.0 (goes_on_same old) c.in_err-count.ensures.power;
+    }
 
-pub returns-in_err-finish-clause-moves : goal.returns-in_err-finish-clause-moves
-returns-in_err-finish-clause-moves g c =
+pub returns-in_err-finish : goal.returns-in_err-finish
+returns-in_err-finish g c =
     let old = g.F.Flash.device c.args.flash.now in
     let mid = g.F.Flash.device c.move_map.new.flash in
     let new = g.F.Flash.device c.finish.new.flash in
@@ -90,13 +99,21 @@ returns-in_err-finish-clause-moves g c =
     let drawn : IsDrawnPartly side new (picture_of side mid) (retired_pages (is_used side mid) (picture_of side mid)) =
     subst (λ (set : Side). IsDrawnPartly set new (picture_of set mid) (retired_pages (is_used set mid) (picture_of set mid))) (other_twice side) shows.old_pages in
     let failed = err_from_is_err_and c.from_residual-in_err-finish.result c.from_residual-in_err-finish.ensures.1 in
-    rw failed.1 (record {
-      begun = front_all pages old new (wears_still pages old mid new moves.wear stays.same_wear);
-      words = inr (record {
-        new_pages = subst (λ (size : Size). IsDrawnPartly (other_of side) new blank (filled_set size (c.args.layout.now.generation + 1) words)) moves.moved.same_size
-            (marked_partly (other_of side) mid new (c.args.layout.now.generation + 1) (last_used mid (other_of side)) words stays.keeps.same_size c.in_ok-count.ensures.new_pages last shows.live_pages);
-        old_pages = retires_partly side old mid new c.requires.layout.live.formed moves.moved.live.formed moves.moved.same_size stays.keeps.same_size
-            c.in_ok-count.ensures.live_pages drawn;
+    record {
+      moves = rw failed.1 (record {
+        begun = front_all pages old new (wears_still pages old mid new moves.wear stays.same_wear);
+        words = inr (record {
+          new_pages = subst (λ (size : Size). IsDrawnPartly (other_of side) new blank (filled_set size (c.args.layout.now.generation + 1) words)) moves.moved.same_size
+              (marked_partly (other_of side) mid new (c.args.layout.now.generation + 1) (last_used mid (other_of side)) words stays.keeps.same_size c.in_ok-count.ensures.new_pages last shows.live_pages);
+          old_pages = retires_partly side old mid new c.requires.layout.live.formed moves.moved.live.formed moves.moved.same_size stays.keeps.same_size
+              c.in_ok-count.ensures.live_pages drawn;
+        });
+        cut = inr (moved_stays old mid new side c.args.layout.now.generation (carried c.args.puts.now c.args.forgets) moves.moved stays);
       });
-      cut = inr (moved_stays old mid new side c.args.layout.now.generation (carried c.args.puts.now c.args.forgets) moves.moved stays);
-    })
+      layout = never_on_ok _ c.from_residual-in_err-finish.result c.from_residual-in_err-finish.ensures.0;
+      other_set = never_on_ok _ c.from_residual-in_err-finish.result c.from_residual-in_err-finish.ensures.0;
+      marked = never_on_ok _ c.from_residual-in_err-finish.result c.from_residual-in_err-finish.ensures.0;
+      new_pages = never_on_ok _ c.from_residual-in_err-finish.result c.from_residual-in_err-finish.ensures.0;
+      old_pages = never_on_ok _ c.from_residual-in_err-finish.result c.from_residual-in_err-finish.ensures.0;
+      power = ends_later c.from_residual-in_err-finish.result c.from_residual-in_err-finish.ensures.0 c.in_ok-count.ensures.power.ok c.in_err-finish.ensures.power;
+    }

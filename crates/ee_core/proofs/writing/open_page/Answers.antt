@@ -3,7 +3,9 @@ use Rattle.ee_flash.specs.Size.{Size}
 use Rattle.ee_pages.proofs.Public.{page_in_range}
 use Rattle.ee_pages.specs.Sets.{first_page, page_of_slot}
 use Rattle.ee_pages.specs.declared.state.Mark.TheVariants.{Active, Valid}
+use Rattle.ee_core.proofs.AfterCalls.{ends_later, goes_on_both, goes_on_same, never_on_ok}
 use Rattle.ee_core.proofs.Drawings.{marks_drawn}
+use Rattle.ee_core.proofs.LiveMarks.{stays_both}
 use Rattle.ee_core.proofs.MarkedSets.{opens_next}
 use Rattle.ee_core.specs.Parts.{SetsMark}
 use Rattle.ee_core.specs.Picture.{IsDrawn, marked_to, picture_of}
@@ -23,43 +25,11 @@ returns-then-layout-eq0-clause-ready g c =
       | then-layout-eq0-via-else-layout-eq0+then-layout-slots-ne0 w ↦ ready_already (g.F.Flash.device c.args.flash.now) c.args.layout.now c.requires.layout c.requires.free _ words (inr w.if-layout-slots-ne0.true) marked
     ]
 
-pub returns-in_err-mark_live-clause-other : goal.returns-in_err-mark_live-clause-other
-returns-in_err-mark_live-clause-other g c =
-    let words = c.words-slots.ensures.value ∙ ap (λ (size : Size). size.words) c.shape.ensures in
-    let first = c.mark_live.ensures in
-    first_other (g.F.Flash.device c.args.flash.now) c.args.layout.now c.requires.layout c.requires.free _ words _ first.stays first.others
-
 pub mark_live-requires-2-clause-behind : goal.mark_live-requires-2-clause-behind
 mark_live-requires-2-clause-behind g c =
     let words = c.words-slots.ensures.value ∙ ap (λ (size : Size). size.words) c.shape.ensures in
     let some : 0 < c.args.layout.now.fill = omega (arith, c.if-layout-eq0.false) in
     next_behind (g.F.Flash.device c.args.flash.now) c.args.layout.now c.requires.layout c.requires.free _ words some c.if-layout-slots-ne0.false _ c.mark_live.ensures.stays
-
-pub returns-in_err-mark_live-2-clause-other : goal.returns-in_err-mark_live-2-clause-other
-returns-in_err-mark_live-2-clause-other g c =
-    let words = c.words-slots.ensures.value ∙ ap (λ (size : Size). size.words) c.shape.ensures in
-    let some : 0 < c.args.layout.now.fill = omega (arith, c.if-layout-eq0.false) in
-    let first = c.mark_live.ensures in
-    let second = c.mark_live-2.ensures in
-    let same = first_other (g.F.Flash.device c.args.flash.now) c.args.layout.now c.requires.layout c.requires.free _ words _ first.stays first.others in
-    second_other (g.F.Flash.device c.args.flash.now) c.args.layout.now c.requires.layout c.requires.free _ words some c.if-layout-slots-ne0.false _ _ second.stays.keeps.live.formed first.stays second.stays.keeps.same_size same second.others
-
-pub returns-clause-other : goal.returns-clause-other
-returns-clause-other g c =
-    let words = c.words-slots.ensures.value ∙ ap (λ (size : Size). size.words) c.shape.ensures in
-    let some : 0 < c.args.layout.now.fill = omega (arith, c.if-layout-eq0.false) in
-    let first = c.mark_live.ensures in
-    let second = c.mark_live-2.ensures in
-    let same = first_other (g.F.Flash.device c.args.flash.now) c.args.layout.now c.requires.layout c.requires.free _ words _ first.stays first.others in
-    second_other (g.F.Flash.device c.args.flash.now) c.args.layout.now c.requires.layout c.requires.free _ words some c.if-layout-slots-ne0.false _ _ second.stays.keeps.live.formed first.stays second.stays.keeps.same_size same second.others
-
-pub returns-clause-ready : goal.returns-clause-ready
-returns-clause-ready g c =
-    let words = c.words-slots.ensures.value ∙ ap (λ (size : Size). size.words) c.shape.ensures in
-    let some : 0 < c.args.layout.now.fill = omega (arith, c.if-layout-eq0.false) in
-    let first = c.mark_live.ensures in
-    let second = c.mark_live-2.ensures in
-    ready_now (g.F.Flash.device c.args.flash.now) c.args.layout.now c.requires.layout c.requires.free _ words some c.if-layout-slots-ne0.false (g.F.Flash.device c.mark_live.new.flash) (g.F.Flash.device c.mark_live-2.new.flash) (second.stays.keeps.same_size ∙ first.stays.keeps.same_size) c.requires.marked.live first.marks second.marks (cc c.in_ok-mark_live.ensures.marked) (cc c.in_ok-mark_live-2.ensures.marked)
 
 pub returns-then-layout-eq0-clause-drawn : goal.returns-then-layout-eq0-clause-drawn
 returns-then-layout-eq0-clause-drawn g c =
@@ -67,28 +37,8 @@ returns-then-layout-eq0-clause-drawn g c =
     let ready = returns-then-layout-eq0-clause-ready g c in
     marks_drawn c.args.layout.now.side old (page_of_slot old.size c.args.layout.now.fill) ready.valid ready.active
 
-pub returns-clause-drawn : goal.returns-clause-drawn
-returns-clause-drawn g c =
-    let old = g.F.Flash.device c.args.flash.now in
-    let mid = g.F.Flash.device c.mark_live.new.flash in
-    let new = g.F.Flash.device c.mark_live-2.new.flash in
-    let layout = c.args.layout.now in
-    let words = c.words-slots.ensures.value ∙ ap (λ (size : Size). size.words) c.shape.ensures in
-    let some : 0 < layout.fill = omega (arith, c.if-layout-eq0.false) in
-    let k = page_of_slot old.size (layout.fill - 1) in
-    let next : page_of_slot old.size layout.fill ≡ k + 1 = further old layout c.requires.layout c.requires.free _ words some c.if-layout-slots-ne0.false in
-    let last = last_is old layout c.requires.layout c.requires.free _ words in
-    let here : layout.current ≡ first_page old.size layout.side + k = c.requires.layout.current in
-    let there : layout.current + 1 ≡ first_page old.size layout.side + (k + 1) = omega arith in
-    subst (λ n. IsDrawn layout.side new (marked_to n (picture_of layout.side old))) (sym next)
-    (opens_next layout.side old mid new k c.requires.layout.live.formed c.mark_live.ensures.stays.keeps.live.formed c.mark_live.ensures.stays.keeps.same_size c.mark_live-2.ensures.stays.keeps.same_size
-    (omega (arith, next, page_in_range old layout.fill c.requires.free))
-    (λ page below. c.requires.marked.live.valid page (subst (λ n. page < n) last below))
-    (subst (λ n. SetsMark n Valid old mid) here c.in_ok-mark_live.ensures.sets)
-    (subst (λ n. SetsMark n Active mid new) there c.in_ok-mark_live-2.ensures.sets))
-
-pub returns-in_err-mark_live-clause-begun : goal.returns-in_err-mark_live-clause-begun
-returns-in_err-mark_live-clause-begun g c =
+pub returns-in_err-mark_live : goal.returns-in_err-mark_live
+returns-in_err-mark_live g c =
     let old = g.F.Flash.device c.args.flash.now in
     let new = g.F.Flash.device c.mark_live.new.flash in
     let layout = c.args.layout.now in
@@ -98,15 +48,24 @@ returns-in_err-mark_live-clause-begun g c =
     let next : page_of_slot old.size layout.fill ≡ k + 1 = further old layout c.requires.layout c.requires.free _ words some c.if-layout-slots-ne0.false in
     let last = last_is old layout c.requires.layout c.requires.free _ words in
     let here : layout.current ≡ first_page old.size layout.side + k = c.requires.layout.current in
-    always_on_err c.from_residual.result
-    (subst (λ n. IsDrawnPartly layout.side new (picture_of layout.side old) (marked_to n (picture_of layout.side old))) (sym next)
-    (opens_partly layout.side old new k c.requires.layout.live.formed c.mark_live.ensures.stays.keeps.same_size
-    (omega (arith, next, page_in_range old layout.fill c.requires.free))
-    (λ page below. c.requires.marked.live.valid page (subst (λ n. page < n) last below))
-    (subst (λ n. SetsPartly n Valid old new) here c.in_err-mark_live.ensures.begun)))
+    let first = c.mark_live.ensures in
+    let result = c.from_residual.result in
+    let failed = c.from_residual.ensures.0 in
+    record {
+      stays = first.stays;
+      other = first_other old layout c.requires.layout c.requires.free _ words _ first.stays first.others;
+      ready = never_on_ok _ result failed;
+      drawn = never_on_ok _ result failed;
+      begun = always_on_err result
+          (subst (λ n. IsDrawnPartly layout.side new (picture_of layout.side old) (marked_to n (picture_of layout.side old))) (sym next)
+          (opens_partly layout.side old new k c.requires.layout.live.formed first.stays.keeps.same_size (omega (arith, next, page_in_range old layout.fill c.requires.free))
+          (λ page below. c.requires.marked.live.valid page (subst (λ n. page < n) last below))
+          (subst (λ n. SetsPartly n Valid old new) here c.in_err-mark_live.ensures.begun)));
+      power = ends_later result failed (goes_on_same old) c.in_err-mark_live.ensures.power;
+    }
 
-pub returns-in_err-mark_live-2-clause-begun : goal.returns-in_err-mark_live-2-clause-begun
-returns-in_err-mark_live-2-clause-begun g c =
+pub returns-in_err-mark_live-2 : goal.returns-in_err-mark_live-2
+returns-in_err-mark_live-2 g c =
     let old = g.F.Flash.device c.args.flash.now in
     let mid = g.F.Flash.device c.mark_live.new.flash in
     let new = g.F.Flash.device c.mark_live-2.new.flash in
@@ -117,11 +76,54 @@ returns-in_err-mark_live-2-clause-begun g c =
     let next : page_of_slot old.size layout.fill ≡ k + 1 = further old layout c.requires.layout c.requires.free _ words some c.if-layout-slots-ne0.false in
     let last = last_is old layout c.requires.layout c.requires.free _ words in
     let here : layout.current ≡ first_page old.size layout.side + k = c.requires.layout.current in
-    let there : layout.current + 1 ≡ first_page old.size layout.side + (k + 1) = omega arith in
-    always_on_err c.from_residual-in_err-mark_live-2.result
-    (subst (λ n. IsDrawnPartly layout.side new (picture_of layout.side old) (marked_to n (picture_of layout.side old))) (sym next)
-    (opens_partly_then layout.side old mid new k c.requires.layout.live.formed c.mark_live.ensures.stays.keeps.live.formed c.mark_live.ensures.stays.keeps.same_size c.mark_live-2.ensures.stays.keeps.same_size
-    (omega (arith, next, page_in_range old layout.fill c.requires.free))
-    (λ page below. c.requires.marked.live.valid page (subst (λ n. page < n) last below))
-    (subst (λ n. SetsMark n Valid old mid) here c.in_ok-mark_live.ensures.sets)
-    (subst (λ n. SetsPartly n Active mid new) there c.in_err-mark_live-2.ensures.begun)))
+    let there : layout.current + 1 ≡ first_page old.size layout.side + (k + 1) = omega (arith, here) in
+    let first = c.mark_live.ensures in
+    let second = c.mark_live-2.ensures in
+    let same = first_other old layout c.requires.layout c.requires.free _ words _ first.stays first.others in
+    let result = c.from_residual-in_err-mark_live-2.result in
+    let failed = c.from_residual-in_err-mark_live-2.ensures.0 in
+    record {
+      stays = stays_both _ _ _ _ _ first.stays second.stays;
+      other = second_other old layout c.requires.layout c.requires.free _ words some c.if-layout-slots-ne0.false _ _ second.stays.keeps.live.formed first.stays second.stays.keeps.same_size same second.others;
+      ready = never_on_ok _ result failed;
+      drawn = never_on_ok _ result failed;
+      begun = always_on_err result
+          (subst (λ n. IsDrawnPartly layout.side new (picture_of layout.side old) (marked_to n (picture_of layout.side old))) (sym next)
+          (opens_partly_then layout.side old mid new k c.requires.layout.live.formed first.stays.keeps.live.formed first.stays.keeps.same_size second.stays.keeps.same_size
+          (omega (arith, next, page_in_range old layout.fill c.requires.free))
+          (λ page below. c.requires.marked.live.valid page (subst (λ n. page < n) last below))
+          (subst (λ n. SetsMark n Valid old mid) here c.in_ok-mark_live.ensures.sets)
+          (subst (λ n. SetsPartly n Active mid new) there c.in_err-mark_live-2.ensures.begun)));
+      power = ends_later result failed c.in_ok-mark_live.ensures.power.ok c.in_err-mark_live-2.ensures.power;
+    }
+
+pub returns : goal.returns
+returns g c =
+    let old = g.F.Flash.device c.args.flash.now in
+    let mid = g.F.Flash.device c.mark_live.new.flash in
+    let new = g.F.Flash.device c.mark_live-2.new.flash in
+    let layout = c.args.layout.now in
+    let words = c.words-slots.ensures.value ∙ ap (λ (size : Size). size.words) c.shape.ensures in
+    let some : 0 < layout.fill = omega (arith, c.if-layout-eq0.false) in
+    let k = page_of_slot old.size (layout.fill - 1) in
+    let next : page_of_slot old.size layout.fill ≡ k + 1 = further old layout c.requires.layout c.requires.free _ words some c.if-layout-slots-ne0.false in
+    let last = last_is old layout c.requires.layout c.requires.free _ words in
+    let here : layout.current ≡ first_page old.size layout.side + k = c.requires.layout.current in
+    let there : layout.current + 1 ≡ first_page old.size layout.side + (k + 1) = omega (arith, here) in
+    let first = c.mark_live.ensures in
+    let second = c.mark_live-2.ensures in
+    let same = first_other old layout c.requires.layout c.requires.free _ words _ first.stays first.others in
+    record {
+      stays = stays_both _ _ _ _ _ first.stays second.stays;
+      other = second_other old layout c.requires.layout c.requires.free _ words some c.if-layout-slots-ne0.false _ _ second.stays.keeps.live.formed first.stays second.stays.keeps.same_size same second.others;
+      ready = ready_now old layout c.requires.layout c.requires.free _ words some c.if-layout-slots-ne0.false mid new (second.stays.keeps.same_size ∙ first.stays.keeps.same_size) c.requires.marked.live
+          first.marks second.marks (cc c.in_ok-mark_live.ensures.marked) (cc c.in_ok-mark_live-2.ensures.marked);
+      drawn = subst (λ n. IsDrawn layout.side new (marked_to n (picture_of layout.side old))) (sym next)
+          (opens_next layout.side old mid new k c.requires.layout.live.formed first.stays.keeps.live.formed first.stays.keeps.same_size second.stays.keeps.same_size
+          (omega (arith, next, page_in_range old layout.fill c.requires.free))
+          (λ page below. c.requires.marked.live.valid page (subst (λ n. page < n) last below))
+          (subst (λ n. SetsMark n Valid old mid) here c.in_ok-mark_live.ensures.sets)
+          (subst (λ n. SetsMark n Active mid new) there c.in_ok-mark_live-2.ensures.sets));
+      begun = tt;
+      power = record { ok = goes_on_both old mid new c.in_ok-mark_live.ensures.power.ok c.in_ok-mark_live-2.ensures.power.ok; cut = tt; off = tt };
+    }

@@ -1,8 +1,11 @@
-use Rattle.std.proofs.Common.{◌+◌, ap, subst, ◌∙◌}
+use Rattle.std.proofs.Common.{◌+◌, ap, inr, subst, ◌∙◌}
+use Rattle.std.proofs.lemmas.Result.{IfOk-from_err}
 use Rattle.ee_flash.specs.Size.{Size}
 use Rattle.ee_pages.specs.Sets.{first_page, page_of_slot, place_of_slot}
 use Rattle.ee_pages.proofs.Public.{page_in_range, place_in_range}
+use Rattle.ee_core.proofs.AfterCalls.{ends_in_step, goes_on_same, never_on_ok}
 use Rattle.ee_core.proofs.Drawings.{put_there}
+use Rattle.ee_core.proofs.Marks.{program_keeps_wear}
 use Rattle.ee_core.proofs.SetPages.{page_in_device}
 use Rattle.ee_core.specs.Parts.{meant}
 use Rattle.ee_core.proofs.Appending.{cut_push_leaves, cut_push_marks, cut_push_other, cut_push_partly, free_slot_erased, on_err, push_is_taken, push_marks, push_other}
@@ -16,24 +19,6 @@ program-requires-clause-erased g c =
     let words = c.words-slots.ensures.value ∙ ap (λ (size : Size). size.words) c.shape.ensures in
     let found = c.requires.layout in
     cc (free_slot_erased c.args.layout.now.side c.args.layout.now.generation c.args.layout.now.fill _ _ _ found.live found.fill c.requires.free c.first_page.ensures words)
-
-pub returns-in_err-program-clause-cut : goal.returns-in_err-program-clause-cut
-returns-in_err-program-clause-cut g c =
-    let words = c.words-slots.ensures.value ∙ ap (λ (size : Size). size.words) c.shape.ensures in
-    let found = c.requires.layout in
-    on_err _ c.from_residual.result (cut_push_leaves c.args.layout.now.side c.args.layout.now.generation c.args.layout.now.fill _ _ _ found.live found.fill c.requires.free c.first_page.ensures words _ (meant c.args.change) _ c.word.ensures.spells c.word.ensures.below_all_ones c.in_err-program.ensures.cut)
-
-pub returns-in_err-program-clause-marks : goal.returns-in_err-program-clause-marks
-returns-in_err-program-clause-marks g c =
-    let words = c.words-slots.ensures.value ∙ ap (λ (size : Size). size.words) c.shape.ensures in
-    let found = c.requires.layout in
-    cut_push_marks c.args.layout.now.side c.args.layout.now.generation c.args.layout.now.fill _ _ _ found.live found.fill c.requires.free c.first_page.ensures words _ (meant c.args.change) _ c.word.ensures.spells c.word.ensures.below_all_ones c.in_err-program.ensures.cut
-
-pub returns-in_err-program-clause-other : goal.returns-in_err-program-clause-other
-returns-in_err-program-clause-other g c =
-    let words = c.words-slots.ensures.value ∙ ap (λ (size : Size). size.words) c.shape.ensures in
-    let found = c.requires.layout in
-    cut_push_other c.args.layout.now.side c.args.layout.now.generation c.args.layout.now.fill _ _ _ found.live found.fill c.requires.free c.first_page.ensures words _ (meant c.args.change) _ c.word.ensures.spells c.word.ensures.below_all_ones c.in_err-program.ensures.cut
 
 pub returns-clause-takes : goal.returns-clause-takes
 returns-clause-takes g c =
@@ -65,14 +50,28 @@ returns-clause-puts g c =
     (page_in_device old.size side (page_of_slot old.size fill) (page_in_range old fill c.requires.free)) (place_in_range old fill formed)
     (cc (c.first_page.ensures, words)) (cc (words)) c.word.ensures.number c.in_ok-program.ensures.done
 
-pub returns-in_err-program-clause-begun : goal.returns-in_err-program-clause-begun
-returns-in_err-program-clause-begun g c =
+pub returns-in_err-program : goal.returns-in_err-program
+returns-in_err-program g c =
     let old = g.F.Flash.device c.args.flash.now in
     let new = g.F.Flash.device c.program.new.self in
     let words = c.words-slots.ensures.value ∙ ap (λ (size : Size). size.words) c.shape.ensures in
     let found = c.requires.layout in
     let side = c.args.layout.now.side in
     let fill = c.args.layout.now.fill in
-    let puts = cut_push_partly side c.args.layout.now.generation fill _ _ old found.live found.fill c.requires.free c.first_page.ensures words new (meant c.args.change) _ c.word.ensures.spells c.word.ensures.below_all_ones c.in_err-program.ensures.cut in
-    always_on_err c.from_residual.result
-    (subst (λ n. PutsPartly (first_page old.size side + page_of_slot old.size fill) (place_of_slot old.size fill) (Held n) old new) c.word.ensures.number puts)
+    let cut = c.in_err-program.ensures.cut in
+    let result = c.from_residual.result in
+    let failed = c.from_residual.ensures.0 in
+    let puts = cut_push_partly side c.args.layout.now.generation fill _ _ old found.live found.fill c.requires.free c.first_page.ensures words new (meant c.args.change) _ c.word.ensures.spells c.word.ensures.below_all_ones cut in
+    record {
+      page = IfOk-from_err result _ failed;
+      takes = never_on_ok _ result failed;
+      cut = on_err _ result (cut_push_leaves side c.args.layout.now.generation fill _ _ _ found.live found.fill c.requires.free c.first_page.ensures words _ (meant c.args.change) _ c.word.ensures.spells c.word.ensures.below_all_ones cut);
+      spells = never_on_ok _ result failed;
+      marks = cut_push_marks side c.args.layout.now.generation fill _ _ _ found.live found.fill c.requires.free c.first_page.ensures words _ (meant c.args.change) _ c.word.ensures.spells c.word.ensures.below_all_ones cut;
+      puts = never_on_ok _ result failed;
+      begun = always_on_err result
+          (subst (λ n. PutsPartly (first_page old.size side + page_of_slot old.size fill) (place_of_slot old.size fill) (Held n) old new) c.word.ensures.number puts);
+      other = cut_push_other side c.args.layout.now.generation fill _ _ _ found.live found.fill c.requires.free c.first_page.ensures words _ (meant c.args.change) _ c.word.ensures.spells c.word.ensures.below_all_ones cut;
+      wear = program_keeps_wear _ _ _ old new (inr cut);
+      power = ends_in_step _ result failed (goes_on_same old) cut;
+    }
