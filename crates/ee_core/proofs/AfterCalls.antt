@@ -1,11 +1,13 @@
 -- Steps that went on, one after another.
-use Rattle.std.proofs.Common.{◌≡◌, ◌⊎◌, inl, inr, ℕ, refl, sym, ◌∙◌}
+use Rattle.std.proofs.Common.{◌≡◌, ◌≢◌, ◌⊎◌, inl, inr, ℕ, ap, false, true, refl, sym, ◌∙◌}
 use Rattle.std.specs.Prelude.{Result, Ok, Err, IsErr, OnOk}
-use Rattle.std.proofs.lemmas.Bool.{true≢false}
-use Rattle.ee_flash.specs.Device.{Device, IsOff, IsOn}
+use Rattle.std.proofs.lemmas.Bool.{cases_Bool, true≢false}
+use Rattle.ee_flash.specs.Device.{Device, IsOff, IsOn, page_at}
 use Rattle.ee_flash.specs.Power.{Ends, GoesOn}
 use Rattle.ee_flash.specs.Step.{IsCutIn, IsUntouched, Step, device_after}
-use Rattle.ee_pages.specs.Page.{marking}
+use Rattle.ee_pages.specs.Page.{is_marked, marking}
+use Rattle.ee_flash.specs.Laws.{IsStep}
+use Rattle.ee_pages.proofs.Public.{step_keeps_other_pages}
 use Rattle.ee_pages.specs.declared.state.Mark.{Mark}
 use Rattle.ee_flash.proofs.Public.{calls_compose}
 
@@ -49,3 +51,15 @@ ends_in_step {mid = mid} step (Err error) is on (inr none) = record {
 -- a mark that was set
 pub goes_on_marked : {new : Device} (page : ℕ) (mark : Mark) (old : Device) → IsOn old → new ≡ device_after (marking page mark) old → GoesOn old new
 goes_on_marked page mark old on done = rw done (record { same_size = refl; same_power = refl; same_cuts = refl; same_cuts_left = refl; same_while_off = λ off. absurd (not_both old on off) })
+
+-- or was set before
+pub goes_on_mark : {new : Device} (page : ℕ) (mark : Mark) (old : Device) → (is_marked old page mark ≡ true → new ≡ old) → (is_marked old page mark ≡ false → IsOn old) → (is_marked old page mark ≡ false → new ≡ device_after (marking page mark) old) → GoesOn old new
+goes_on_mark page mark old present on done = elim (cases_Bool (is_marked old page mark)) [
+  | inl set ↦ rw (present set) (goes_on_same old)
+  | inr unset ↦ goes_on_marked page mark old (on unset) (done unset)
+]
+
+-- the pages apart from that of a step
+pub same_but : (page : ℕ) (mark : Mark) (old new : Device) → (new ≡ old) ⊎ IsStep (marking page mark) old new → (other : ℕ) → other ≢ page → page_at new other ≡ page_at old other
+same_but page mark old new (inl same) other apart = ap (λ device. page_at device other) same
+same_but page mark old new (inr taken) other apart = step_keeps_other_pages (marking page mark) old new other taken apart

@@ -1,4 +1,5 @@
 use Rattle.std.proofs.Common.{◌≤◌, length, ap, arith}
+use Rattle.std.proofs.lemmas.Grind.{common_steps}
 use Rattle.ee_core.specs.Course.{last_given}
 use Rattle.ee_core.specs.Parts.{map_in}
 use Rattle.ee_core.proofs.Courses.{further, one_taken}
@@ -24,3 +25,9 @@ batches-preserved g c =
     let all_given : length c.batches.batch.found.items ≤ c.batches.given = omega (arith, ap length c.as_slice-found.ensures.value, c.if-given-found.false) in
     further (map_in c.args.layout.now.side (g.F.Flash.device c.args.flash.now)) (last_given c.args.batch.now.found.items c.args.given.now) c.batches.batch.found.items c.next_batch.new.batch.found.items c.batches.batch.through c.next_batch.new.batch.through c.batches.given c.in-Some.through
     all_given c.in-Some.is c.batches.invariant c.next_batch.ensures.live c.next_batch.ensures.proper
+
+pub returns-then-given-found-clause-next : goal.returns-then-given-found-clause-next
+returns-then-given-found-clause-next g c = grind (arith, common_steps)
+
+pub returns-in_default-clause-next : goal.returns-in_default-clause-next
+returns-in_default-clause-next g c = grind (arith, common_steps)

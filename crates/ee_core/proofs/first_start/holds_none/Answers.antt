@@ -1,5 +1,6 @@
 use Rattle.std.proofs.Common.{◌≡◌, ◌≢◌, ◌<◌, ◌≤◌, inl, inr, ℕ, ap, arith, refl, subst}
 use Rattle.std.proofs.lemmas.Bool.{cases_lt}
+use Rattle.std.proofs.lemmas.Grind.{common_steps}
 use Rattle.ee_flash.specs.Device.{word_at}
 use Rattle.ee_flash.specs.Size.{page_count}
 use Rattle.ee_flash.specs.declared.word.Word.TheVariants.{Held}
@@ -20,3 +21,6 @@ loop-page-preserved g c =
       | inl earlier ↦ c.loop-page.invariant k at number earlier behind
       | inr last ↦ let e : page ≡ k = omega arith in subst (λ n. word_at device n at ≢ Held number) e (none at number behind)
     ]
+
+pub returns-clause-yes : goal.returns-clause-yes
+returns-clause-yes g c = grind (arith, common_steps)

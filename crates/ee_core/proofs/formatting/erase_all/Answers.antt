@@ -2,7 +2,7 @@ use Rattle.std.proofs.Common.{rules, ◌≡◌, ◌≢◌, ◌<◌, ◌+◌, inl
 use Rattle.ee_flash.specs.Device.{page_at}
 use Rattle.ee_flash.specs.Size.{page_count}
 use Rattle.ee_pages.specs.Page.{is_blank}
-use Rattle.ee_core.proofs.AfterCalls.{goes_on_both}
+use Rattle.ee_core.proofs.AfterCalls.{ends_in_step, goes_on_both, never_on_ok}
 use Rattle.ee_core.proofs.FormatFacts.{BlanksPage, all_blank, blank_already, blank_more, blanks_page}
 use Rattle.ee_core.proofs.Startable.{erase_startable}
 use Rattle.ee_core.specs.Starts.{IsStartable}
@@ -14,7 +14,6 @@ use Rattle.ee_flash.specs.Step.{Erase}
 use Rattle.ee_core.specs.Parts.{IsSameBut}
 use Rattle.ee_core.proofs.Wears.{cut_page_wears, front_begun}
 use Rattle.ee_core.specs.State.{WearsFront}
-use Rattle.ee_core.specs.Openings.{not_blank_pages}
 use Rattle.ee_core.proofs.formatting.erase_all.Goals.{then-not-is_blank+in_ok-erase, else-not-is_blank}
 use Rattle.ee_core.proofs.formatting.erase_all.Goals as goal
 
@@ -73,48 +72,37 @@ returns-clause-wear g c =
     let all : c.pages.page ≡ length old.image = omega (arith, c.pages-page-end.ensures.value, pages, formed.image_length, c.pages.auto.page-end, c.pages-test.false) in
     all_wear old.image 0 c.pages.page old new all c.pages.invariant.wear
 
-pub returns-in_err-erase-clause-startable : goal.returns-in_err-erase-clause-startable
-returns-in_err-erase-clause-startable g c =
-    let old = g.F.Flash.device c.args.flash.now in
-    let mid = g.F.Flash.device c.pages.flash in
-    let same = ap page_count c.pages.invariant.power.same_size in
-    let in_range : c.pages.page < page_count mid.size = omega (arith, c.pages-page-end.ensures.value, ap (λ size. size.pages) c.shape.ensures, c.pages-test.true, same) in
-    λ before. erase_startable c.pages.page mid (g.F.Flash.device c.erase.new.self) (g.met.F.Flash.formed c.pages.flash) in_range (inr c.in_err-erase.ensures.cut) (c.pages.invariant.startable before)
+pub pages-init : goal.pages-init
+pages-init g c = search rules fits 100 parts 0
 
-pub returns-in_err-erase-clause-begun : goal.returns-in_err-erase-clause-begun
-returns-in_err-erase-clause-begun g c =
+pub returns-in_err-erase : goal.returns-in_err-erase
+returns-in_err-erase g c =
     let old = g.F.Flash.device c.args.flash.now in
     let mid = g.F.Flash.device c.pages.flash in
     let new = g.F.Flash.device c.erase.new.self in
     let page = c.pages.page in
+    let cut = c.in_err-erase.ensures.cut in
     let pages = ap (λ size. size.pages) c.shape.ensures in
-    let same = ap page_count c.pages.invariant.power.same_size in
     let formed = g.met.F.Flash.formed c.args.flash.now in
     let mid_formed = g.met.F.Flash.formed c.pages.flash in
     let in_range : page < page_count old.size = omega (arith, c.pages-page-end.ensures.value, pages, c.pages-test.true) in
+    let now_in_range : page < page_count mid.size = omega (arith, in_range, ap page_count c.pages.invariant.power.same_size) in
     let within : page < length old.image = omega (arith, in_range, formed.image_length) in
-    let has_wear : page < length mid.wear = omega (arith, in_range, same, mid_formed.wear_length) in
+    let has_wear : page < length mid.wear = omega (arith, now_in_range, mid_formed.wear_length) in
     let written : is_blank (page_at mid page) ≡ false = sym c.is_blank.ensures ∙ c.if-not-is_blank.true in
     let at : 0 + page ≡ page = omega arith in
-    let one : WearsFront (page ∷ []) mid new = front_begun (page ∷ []) mid new (cut_page_wears page mid new has_wear c.in_err-erase.ensures.cut) (search rules) in
-    let begun : WearsFront (not_blank_pages old) old new = front_wears old.image 0 page page old mid new at within (sym (c.pages.invariant.rest page (omega arith))) c.pages.invariant.wear written one in
-    always_on_err c.from_residual.result begun
-
-pub returns-in_err-erase-clause-partly : goal.returns-in_err-erase-clause-partly
-returns-in_err-erase-clause-partly g c =
-    let old = g.F.Flash.device c.args.flash.now in
-    let mid = g.F.Flash.device c.pages.flash in
-    let new = g.F.Flash.device c.erase.new.self in
-    let page = c.pages.page in
-    let pages = ap (λ size. size.pages) c.shape.ensures in
-    let in_range : page < page_count old.size = omega (arith, c.pages-page-end.ensures.value, pages, c.pages-test.true) in
-    let now_in_range : page < page_count mid.size = omega (arith, in_range, ap page_count c.pages.invariant.power.same_size) in
-    let written : is_blank (page_at mid page) ≡ false = sym c.is_blank.ensures ∙ c.if-not-is_blank.true in
-    let others : IsSameBut page mid new = λ k apart. step_keeps_other_pages (Erase page) mid new k (record { formed = g.met.F.Flash.formed c.pages.flash; may = now_in_range; follows = inr c.in_err-erase.ensures.cut }) apart in
-    always_on_err c.from_residual.result
-    (erases_partly 0 (page_count old.size) page old mid new (omega arith) in_range written (λ k low high. c.pages.invariant.blank k high)
-    (λ k either. elim either [ inl none ↦ absurd (omega (arith, none)) | inr high ↦ c.pages.invariant.rest k high ])
-    others (erase_partly page mid new c.in_err-erase.ensures.cut))
-
-pub pages-init : goal.pages-init
-pages-init g c = search rules fits 100 parts 0
+    let one : WearsFront (page ∷ []) mid new = front_begun (page ∷ []) mid new (cut_page_wears page mid new has_wear cut) (search rules) in
+    let others : IsSameBut page mid new = λ k apart. step_keeps_other_pages (Erase page) mid new k (record { formed = mid_formed; may = now_in_range; follows = inr cut }) apart in
+    let result = c.from_residual.result in
+    let failed = c.from_residual.ensures.0 in
+    record {
+      blank = never_on_ok _ result failed;
+      wear = never_on_ok _ result failed;
+      begun = always_on_err result (front_wears old.image 0 page page old mid new at within (sym (c.pages.invariant.rest page (omega arith))) c.pages.invariant.wear written one);
+      partly = always_on_err result
+          (erases_partly 0 (page_count old.size) page old mid new (omega arith) in_range written (λ k low high. c.pages.invariant.blank k high)
+          (λ k either. elim either [ inl none ↦ absurd (omega (arith, none)) | inr high ↦ c.pages.invariant.rest k high ])
+          others (erase_partly page mid new cut));
+      startable = λ before. erase_startable page mid new mid_formed now_in_range (inr cut) (c.pages.invariant.startable before);
+      power = ends_in_step (Erase page) result failed c.pages.invariant.power cut;
+    }

@@ -1,50 +1,52 @@
-use Rattle.std.proofs.Common.{◌<◌, arith}
+use Rattle.std.proofs.Common.{◌≡◌, ◌<◌, arith, refl, true}
 use Rattle.ee_flash.specs.Size.{page_count}
 use Rattle.ee_pages.specs.Sets.{other}
 use Rattle.ee_pages.specs.declared.state.Mark.TheVariants.{Erasing}
-use Rattle.ee_core.proofs.Marks.{mark_keeps_marks, marks, old_mark_stays, page_in_device, proper_old}
+use Rattle.ee_pages.specs.Page.{is_marked, marking}
+use Rattle.ee_core.proofs.AfterCalls.{ends_in_step, goes_on_mark, goes_on_same, never_on_ok, same_but}
+use Rattle.ee_core.proofs.Drawings.{sets_mark}
+use Rattle.ee_core.proofs.Marks.{mark_keeps_marks, marked_after, marks, old_mark_stays, page_in_device, proper_old}
 use Rattle.ee_core.proofs.Cuts.{mark_partly}
 use Rattle.ee_core.proofs.Making.{always_on_err}
 use Rattle.ee_core.proofs.marking.mark_old.Goals as goal
 
-pub returns-in_err-mark-clause-stays : goal.returns-in_err-mark-clause-stays
-returns-in_err-mark-clause-stays g c =
+pub returns-in_err-mark : goal.returns-in_err-mark
+returns-in_err-mark g c =
     let old = g.F.Flash.device c.args.flash.now in
     let new = g.F.Flash.device c.mark.new.flash in
     let layout = c.args.layout.now in
+    let formed = g.met.F.Flash.formed c.args.flash.now in
     let h : c.args.page < page_count old.size = page_in_device old (other layout.side) c.args.page c.requires.page.from (omega (arith, c.requires.page.from, c.requires.page.below)) in
-    let left = marks c.args.page Erasing old new c.mark.result (g.met.F.Flash.formed c.args.flash.now) h proper_old c.mark.ensures.present c.mark.ensures.on c.mark.ensures.done c.mark.ensures.cut in
-    old_mark_stays c.args.page old new layout.side layout.generation c.requires.layout.live c.requires.page c.requires.not_blank left
+    let left = marks c.args.page Erasing old new c.mark.result formed h proper_old c.mark.ensures.present c.mark.ensures.on c.mark.ensures.done c.mark.ensures.cut in
+    let result = c.from_residual.result in
+    let failed = c.from_residual.ensures.0 in
+    record {
+      stays = old_mark_stays c.args.page old new layout.side layout.generation c.requires.layout.live c.requires.page c.requires.not_blank left;
+      others = same_but c.args.page Erasing old new left;
+      marks = mark_keeps_marks c.args.page Erasing old new left;
+      marked = never_on_ok _ result failed;
+      sets = never_on_ok _ result failed;
+      begun = always_on_err result (mark_partly c.args.page Erasing old new formed h (λ set. (c.mark.ensures.present set).1) c.in_err-mark.ensures.cut);
+      no_step = λ set. absurd (cc ((c.mark.ensures.present set).0, c.in_err-mark.was));
+      power = ends_in_step (marking c.args.page Erasing) result failed (goes_on_same old) c.in_err-mark.ensures.cut;
+    }
 
-pub returns-in_err-mark-clause-marks : goal.returns-in_err-mark-clause-marks
-returns-in_err-mark-clause-marks g c =
-    let old = g.F.Flash.device c.args.flash.now in
-    let new = g.F.Flash.device c.mark.new.flash in
-    let h : c.args.page < page_count old.size = page_in_device old (other c.args.layout.now.side) c.args.page c.requires.page.from (omega (arith, c.requires.page.from, c.requires.page.below)) in
-    let left = marks c.args.page Erasing old new c.mark.result (g.met.F.Flash.formed c.args.flash.now) h proper_old c.mark.ensures.present c.mark.ensures.on c.mark.ensures.done c.mark.ensures.cut in
-    mark_keeps_marks c.args.page Erasing old new left
-
-pub returns-clause-stays : goal.returns-clause-stays
-returns-clause-stays g c =
+pub returns : goal.returns
+returns g c =
     let old = g.F.Flash.device c.args.flash.now in
     let new = g.F.Flash.device c.mark.new.flash in
     let layout = c.args.layout.now in
+    let formed = g.met.F.Flash.formed c.args.flash.now in
     let h : c.args.page < page_count old.size = page_in_device old (other layout.side) c.args.page c.requires.page.from (omega (arith, c.requires.page.from, c.requires.page.below)) in
-    let left = marks c.args.page Erasing old new c.mark.result (g.met.F.Flash.formed c.args.flash.now) h proper_old c.mark.ensures.present c.mark.ensures.on c.mark.ensures.done c.mark.ensures.cut in
-    old_mark_stays c.args.page old new layout.side layout.generation c.requires.layout.live c.requires.page c.requires.not_blank left
-
-pub returns-clause-marks : goal.returns-clause-marks
-returns-clause-marks g c =
-    let old = g.F.Flash.device c.args.flash.now in
-    let new = g.F.Flash.device c.mark.new.flash in
-    let h : c.args.page < page_count old.size = page_in_device old (other c.args.layout.now.side) c.args.page c.requires.page.from (omega (arith, c.requires.page.from, c.requires.page.below)) in
-    let left = marks c.args.page Erasing old new c.mark.result (g.met.F.Flash.formed c.args.flash.now) h proper_old c.mark.ensures.present c.mark.ensures.on c.mark.ensures.done c.mark.ensures.cut in
-    mark_keeps_marks c.args.page Erasing old new left
-
-pub returns-in_err-mark-clause-begun : goal.returns-in_err-mark-clause-begun
-returns-in_err-mark-clause-begun g c =
-    let old = g.F.Flash.device c.args.flash.now in
-    let new = g.F.Flash.device c.mark.new.flash in
-    let h : c.args.page < page_count old.size = page_in_device old (other c.args.layout.now.side) c.args.page c.requires.page.from (omega (arith, c.requires.page.from, c.requires.page.below)) in
-    always_on_err c.from_residual.result
-    (mark_partly c.args.page Erasing old new (g.met.F.Flash.formed c.args.flash.now) h (λ set. (c.mark.ensures.present set).1) c.in_err-mark.ensures.cut)
+    let left = marks c.args.page Erasing old new c.mark.result formed h proper_old c.mark.ensures.present c.mark.ensures.on c.mark.ensures.done c.mark.ensures.cut in
+    let same = λ (set : is_marked old c.args.page Erasing ≡ true). (c.in_ok-mark.ensures.present set).1 in
+    record {
+      stays = old_mark_stays c.args.page old new layout.side layout.generation c.requires.layout.live c.requires.page c.requires.not_blank left;
+      others = same_but c.args.page Erasing old new left;
+      marks = mark_keeps_marks c.args.page Erasing old new left;
+      marked = marked_after c.args.page Erasing old new formed h proper_old same c.in_ok-mark.ensures.on c.in_ok-mark.ensures.done;
+      sets = sets_mark c.args.page Erasing old new formed h same c.in_ok-mark.ensures.done;
+      begun = tt;
+      no_step = λ set. (refl, same set);
+      power = record { ok = goes_on_mark c.args.page Erasing old same c.in_ok-mark.ensures.on c.in_ok-mark.ensures.done; cut = tt; off = tt };
+    }

@@ -4,7 +4,7 @@ use Rattle.ee_flash.specs.Size.{Size}
 use Rattle.ee_pages.specs.declared.side.Side.{Side}
 use Rattle.ee_pages.specs.Sets.{fill_of, other as other_of, set_of, slots_of, page_of_slot}
 use Rattle.ee_pages.proofs.Public.{other_twice}
-use Rattle.ee_core.proofs.AfterCalls.{ends_later, goes_on_same, never_on_ok}
+use Rattle.ee_core.proofs.AfterCalls.{ends_later, goes_on_both, goes_on_same, never_on_ok}
 use Rattle.ee_core.proofs.MovedSets.{all_retired, filled_up}
 use Rattle.ee_core.specs.Picture.{IsDrawn, blank, filled_set, is_used, moved_words, picture_of, retired_pages}
 use Rattle.ee_core.specs.Parts.{map_in}
@@ -58,6 +58,9 @@ returns-clause-old_pages g c =
     subst (λ (set : Side). IsDrawn set new (retired_pages (is_used set mid) (picture_of set mid))) (other_twice side) shows.old_pages in
     all_retired side old mid new c.requires.layout.live.formed moved.live.formed moved.same_size stays.keeps.same_size
     c.in_ok-count.ensures.live_pages drawn
+
+pub returns-clause-power : goal.returns-clause-power
+returns-clause-power g c = record { ok = goes_on_both _ _ _ c.in_ok-count.ensures.power.ok c.in_ok-finish.ensures.power.ok; cut = tt; off = tt }
 
 pub returns-in_err-count : goal.returns-in_err-count
 returns-in_err-count g c =
