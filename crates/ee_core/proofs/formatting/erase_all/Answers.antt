@@ -96,8 +96,7 @@ returns-in_err-erase g c =
     let result = c.from_residual.result in
     let failed = c.from_residual.ensures.0 in
     record {
-      blank = never_on_ok _ result failed;
-      wear = never_on_ok _ result failed;
+      blank = never_on_ok _ result failed; wear = never_on_ok _ result failed;
       begun = always_on_err result (front_wears old.image 0 page page old mid new at within (sym (c.pages.invariant.rest page (omega arith))) c.pages.invariant.wear written one);
       partly = always_on_err result
           (erases_partly 0 (page_count old.size) page old mid new (omega arith) in_range written (λ k low high. c.pages.invariant.blank k high)

@@ -50,8 +50,7 @@ returns-in_err-mark_live_set g c =
     let failed = c.from_residual.ensures.0 in
     record {
       stays = c.mark_live_set.ensures.stays;
-      finished = never_on_ok _ c.from_residual.result failed;
-      shows = never_on_ok _ c.from_residual.result failed;
+      finished = never_on_ok _ c.from_residual.result failed; shows = never_on_ok _ c.from_residual.result failed;
       begun = always_on_err c.from_residual.result
           (cut_live c.args.layout.now.side old new c.mark_live_set.ensures.stays.keeps.same_size c.in_err-mark_live_set.ensures.begun c.in_err-mark_live_set.ensures.old_pages_stay);
       no_step = λ marked. absurd (cc ((c.mark_live_set.ensures.no_step marked.live).0, c.in_err-mark_live_set.was));
@@ -68,8 +67,7 @@ returns-in_err-mark_old_set g c =
     let failed = c.from_residual-in_err-mark_old_set.ensures.0 in
     record {
       stays = stays_both _ _ _ _ _ c.mark_live_set.ensures.stays c.mark_old_set.ensures.stays;
-      finished = never_on_ok _ result failed;
-      shows = never_on_ok _ result failed;
+      finished = never_on_ok _ result failed; shows = never_on_ok _ result failed;
       begun = always_on_err result
           (cut_old side old mid new c.mark_live_set.ensures.stays.keeps.same_size c.mark_old_set.ensures.stays.keeps.same_size
           c.in_ok-mark_live_set.ensures.live_pages c.in_ok-mark_live_set.ensures.old_pages c.in_err-mark_old_set.ensures.live_pages_stay c.in_err-mark_old_set.ensures.begun);

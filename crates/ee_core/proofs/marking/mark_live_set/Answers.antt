@@ -123,8 +123,7 @@ returns-in_err-mark_live g c =
     let inside : k < mid.size.pages = omega (arith, before, last_in_range layout old c.requires, counted) in
     record {
       stays = stays_both _ _ _ _ _ c.pages.invariant.stays c.mark_live.ensures.stays;
-      marked = never_on_ok _ c.from_residual.result failed;
-      live_pages = never_on_ok _ c.from_residual.result failed;
+      marked = never_on_ok _ c.from_residual.result failed; live_pages = never_on_ok _ c.from_residual.result failed;
       old_pages = never_on_ok _ c.from_residual.result failed;
       begun = always_on_err c.from_residual.result
           (valid_partly layout.side mid new k (last_used old layout.side) (picture_of layout.side old) (g.met.F.Flash.formed c.pages.flash) c.mark_live.ensures.stays.keeps.same_size inside before
@@ -157,9 +156,7 @@ returns-in_err-mark_live-2 g c =
     let at : layout.current ≡ first_page mid.size layout.side + last_used old layout.side = omega (arith, last, ap (λ (size : Size). first_page size layout.side) sizes) in
     record {
       stays = stays_both _ _ _ _ _ c.pages.invariant.stays c.mark_live-2.ensures.stays;
-      marked = never_on_ok _ result failed;
-      live_pages = never_on_ok _ result failed;
-      old_pages = never_on_ok _ result failed;
+      marked = never_on_ok _ result failed; live_pages = never_on_ok _ result failed; old_pages = never_on_ok _ result failed;
       begun = always_on_err result
           (active_partly layout.side mid new (last_used old layout.side) (picture_of layout.side old) (g.met.F.Flash.formed c.pages.flash) c.mark_live-2.ensures.stays.keeps.same_size below
           (subst (λ n. SetsPartly n Active mid new) at c.in_err-mark_live-2.ensures.begun) drawn);

@@ -24,8 +24,7 @@ returns-in_err-mark g c =
       stays = old_mark_stays c.args.page old new layout.side layout.generation c.requires.layout.live c.requires.page c.requires.not_blank left;
       others = same_but c.args.page Erasing old new left;
       marks = mark_keeps_marks c.args.page Erasing old new left;
-      marked = never_on_ok _ result failed;
-      sets = never_on_ok _ result failed;
+      marked = never_on_ok _ result failed; sets = never_on_ok _ result failed;
       begun = always_on_err result (mark_partly c.args.page Erasing old new formed h (λ set. (c.mark.ensures.present set).1) c.in_err-mark.ensures.cut);
       no_step = λ set. absurd (cc ((c.mark.ensures.present set).0, c.in_err-mark.was));
       power = ends_in_step (marking c.args.page Erasing) result failed (goes_on_same old) c.in_err-mark.ensures.cut;

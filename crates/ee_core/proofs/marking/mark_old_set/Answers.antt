@@ -141,8 +141,7 @@ returns-in_err-mark_old g c =
     record {
       stays = stays_both _ _ _ _ _ c.pages.invariant.stays c.mark_old.ensures.stays;
       marks = λ page mark was. c.mark_old.ensures.marks page mark (c.pages.invariant.marks page mark was);
-      marked = never_on_ok _ c.from_residual.result failed;
-      live_pages = never_on_ok _ c.from_residual.result failed;
+      marked = never_on_ok _ c.from_residual.result failed; live_pages = never_on_ok _ c.from_residual.result failed;
       old_pages = never_on_ok _ c.from_residual.result failed;
       begun = always_on_err c.from_residual.result
           (retired_partly side old mid new k (g.met.F.Flash.formed c.pages.flash) c.mark_old.ensures.stays.keeps.same_size (omega (arith, there, counted, below)) (ap not was)

@@ -79,8 +79,7 @@ returns-in_err-clear g c =
     let cut = c.in_err-clear.ensures in
     record {
       moves = rw failed.1 (record { begun = cut.begun; words = inl cut.partly; cut = inl cut.keeps });
-      each_once = IfOk-from_err c.from_residual.result _ c.from_residual.ensures.0;
-      new_pages = never_on_ok _ c.from_residual.result c.from_residual.ensures.0;
+      each_once = IfOk-from_err c.from_residual.result _ c.from_residual.ensures.0; new_pages = never_on_ok _ c.from_residual.result c.from_residual.ensures.0;
       live_pages = never_on_ok _ c.from_residual.result c.from_residual.ensures.0;
       power = ends_later c.from_residual.result c.from_residual.ensures.0 (goes_on_same (g.F.Flash.device c.args.flash.now)) c.in_err-clear.ensures.power;
     }

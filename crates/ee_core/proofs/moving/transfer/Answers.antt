@@ -78,10 +78,8 @@ returns-in_err-count g c =
         ];
         cut = partly.cut;
       });
-      layout = never_on_ok _ c.from_residual.result c.from_residual.ensures.0;
-      other_set = never_on_ok _ c.from_residual.result c.from_residual.ensures.0;
-      marked = never_on_ok _ c.from_residual.result c.from_residual.ensures.0;
-      new_pages = never_on_ok _ c.from_residual.result c.from_residual.ensures.0;
+      layout = never_on_ok _ c.from_residual.result c.from_residual.ensures.0; other_set = never_on_ok _ c.from_residual.result c.from_residual.ensures.0;
+      marked = never_on_ok _ c.from_residual.result c.from_residual.ensures.0; new_pages = never_on_ok _ c.from_residual.result c.from_residual.ensures.0;
       old_pages = never_on_ok _ c.from_residual.result c.from_residual.ensures.0;
       power = ends_later c.from_residual.result c.from_residual.ensures.0 (goes_on_same old) c.in_err-count.ensures.power;
     }
