@@ -1,4 +1,5 @@
 use Rattle.std.proofs.Common.{rules, ℕ, Some, arith, refl, true}
+use Rattle.std.proofs.lemmas.Grind.{common_steps}
 use Rattle.ee_pages.specs.Sets.{set_of, slots_of}
 use Rattle.ee_pages.proofs.Public.{length-slots}
 use Rattle.ee_core.specs.Parts.{map_in}
@@ -37,3 +38,6 @@ batch-preserved g c =
       left = shown_left slots (λ number. true) c.batch.behind c.batch.entries rest left entry is;
       proper = proper_pushed c.batch.found.items c.push.new.self.items given c.push.ensures.items c.batch.invariant.proper (stands_proper slots entry.0 entry.1 here);
     }
+
+pub batch-smaller : goal.batch-smaller
+batch-smaller g c = grind (arith, common_steps)

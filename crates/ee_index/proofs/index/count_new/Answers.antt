@@ -1,4 +1,5 @@
 use Rattle.std.proofs.Common.{◌≡◌, ◌+◌, Bool, cond, true, false, ap, sym, ◌∙◌, arith}
+use Rattle.std.proofs.lemmas.Grind.{common_steps}
 use Rattle.ee_index.specs.Index.{slot_for}
 use Rattle.ee_index.proofs.IndexedRooms.{counted_more}
 use Rattle.ee_index.proofs.index.count_new.Goals.{then-not-contains_key, else-not-contains_key}
@@ -24,3 +25,6 @@ entries-preserved g c =
             few = omega (arith, w.count-is, c.entries.invariant.few);
           }
     ]
+
+pub returns-clause-adds : goal.returns-clause-adds
+returns-clause-adds g c = grind (arith, common_steps)
