@@ -1,6 +1,6 @@
-use Rattle.std.proofs.Common.{ap, ◌∙◌, sym}
+use Rattle.std.proofs.Common.{ap, is_some, ◌∙◌, sym}
 use Rattle.ee_core.specs.State.{state_of}
-use Rattle.ee_index.proofs.IndexedStores.{slot_in_range, value_held}
+use Rattle.ee_index.proofs.IndexedStores.{no_value, slot_in_range, value_held}
 use Rattle.ee_index.proofs.indexed.IndexedStore.value_of.Goals as goal
 
 pub value_in-requires-clause-slot_in_range : goal.value_in-requires-clause-slot_in_range
@@ -15,3 +15,9 @@ returns-in-Some g c =
     let kept = c.self.invariant.1 (ap (λ device. device.on) c.self.view_is ∙ c.requires) in
     search (value_held device c.self.inside.layout c.self.inside.index.entries kept c.args.address c.in-Some.number.now c.value_in.result (sym c.in-Some.ensures.value) c.value_in.ensures
     ∙ ap (λ device. (state_of device).map c.args.address) c.self.view_is)
+
+pub returns-in-None : goal.returns-in-None
+returns-in-None g c =
+    let kept = c.self.invariant.1 (ap (λ device. device.on) c.self.view_is ∙ c.requires) in
+    sym (no_value (g.F.Flash.device c.self.inside.flash) c.self.inside.layout c.self.inside.index.entries kept c.args.address (ap is_some (sym c.in-None.ensures.value)))
+    ∙ ap (λ device. (state_of device).map c.args.address) c.self.view_is

@@ -56,3 +56,6 @@ returns-in_default-make_room g c =
       subst (λ (device : Device). HasNew puts (state_of device).map) c.self.view_is new,
       c.self.view_is,
     )
+
+pub invariant_of-self-2 : goal.invariant_of-self-2
+invariant_of-self-2 g c = (c.move_indexed.ensures.store, λ on. record { found = c.move_indexed.ensures.layout on; indexes = c.move_indexed.ensures.index on })

@@ -1,4 +1,4 @@
-use Rattle.std.proofs.Common.{rules, ◌≡◌, true, refl, sym, ap, ◌∙◌, arith}
+use Rattle.std.proofs.Common.{rules, ◌≡◌, ◌<◌, true, refl, sym, subst, ap, ◌∙◌, arith}
 use Rattle.ee_flash.specs.Size.{slot_count}
 use Rattle.ee_core.specs.State.{capacity}
 use Rattle.ee_core.proofs.Public.{few_within, store_marked}
@@ -32,3 +32,12 @@ pub append_indexed-requires-clause-ready : goal.append_indexed-requires-clause-r
 append_indexed-requires-clause-ready g c =
     let kept = c.self.invariant.1 (sym (c.if-not-is_on.ensures)) in
     (slot_for c.self.inside.index.entries, kept.indexes, λ address. refl)
+
+pub append_indexed-requires-clause-free : goal.append_indexed-requires-clause-free
+append_indexed-requires-clause-free g c = subst (λ n. c.self.inside.layout.fill < n) (c.slots.ensures.value ∙ ap slot_count c.shape.ensures) c.if-layout-slots.true
+
+pub invariant_of-self : goal.invariant_of-self
+invariant_of-self g c = (c.append_indexed.ensures.store, λ on. record { found = c.append_indexed.ensures.layout on; indexes = c.append_indexed.ensures.index on })
+
+pub invariant_of-self-2 : goal.invariant_of-self-2
+invariant_of-self-2 g c = (c.move_indexed.ensures.store, λ on. record { found = c.move_indexed.ensures.layout on; indexes = c.move_indexed.ensures.index on })

@@ -1,9 +1,9 @@
-use Rattle.std.proofs.Common.{rules, ◌≡◌, ℕ, false, [], ◌∷◌, sym, ap, ◌∙◌, arith}
+use Rattle.std.proofs.Common.{rules, ◌≡◌, ◌<◌, ℕ, false, [], ◌∷◌, sym, subst, ap, ◌∙◌, arith}
 use Rattle.ee_flash.specs.Size.{slot_count}
 use Rattle.ee_pages.specs.Meaning.{Put, map_after}
 use Rattle.ee_core.specs.State.{capacity}
 use Rattle.ee_core.proofs.Public.{few_within, store_marked}
-use Rattle.ee_index.specs.Index.{slot_for}
+use Rattle.ee_index.specs.Index.{IsKept, slot_for}
 use Rattle.ee_index.proofs.IndexedRooms.{needs_one, no_room, room_made}
 use Rattle.ee_index.proofs.indexed.IndexedStoreVariables.write.Goals as goal
 
@@ -39,3 +39,17 @@ pub invariant_of-self-in_default-make_room : goal.invariant_of-self-in_default-m
 invariant_of-self-in_default-make_room g c =
     let kept = c.self.invariant.1 (sym (c.if-not-is_on.ensures)) in
     (c.self.invariant.0, λ on. no_room (g.F.Flash.device c.self.inside.flash) c.self.inside.layout c.self.inside.index.entries kept c.make_room.new.index.entries c.in_default-make_room.ensures.err)
+
+pub append_indexed-requires-clause-free : goal.append_indexed-requires-clause-free
+append_indexed-requires-clause-free g c = subst (λ n. c.self.inside.layout.fill < n) (c.slots.ensures.value ∙ ap slot_count c.shape.ensures) c.if-layout-slots.true
+
+pub invariant_of-self : goal.invariant_of-self
+invariant_of-self g c =
+    let kept = c.self.invariant.1 (sym (c.if-not-is_on.ensures)) in
+    (c.self.invariant.0, λ on. subst (λ entries. IsKept (g.F.Flash.device c.self.inside.flash) c.self.inside.layout entries) (sym c.in_default.ensures.err) kept)
+
+pub invariant_of-self-then-layout-slots : goal.invariant_of-self-then-layout-slots
+invariant_of-self-then-layout-slots g c = (c.append_indexed.ensures.store, λ on. record { found = c.append_indexed.ensures.layout on; indexes = c.append_indexed.ensures.index on })
+
+pub invariant_of-self-2 : goal.invariant_of-self-2
+invariant_of-self-2 g c = (c.move_indexed.ensures.store, λ on. record { found = c.move_indexed.ensures.layout on; indexes = c.move_indexed.ensures.index on })
