@@ -1,7 +1,9 @@
-use Rattle.std.proofs.Common.{rules, ◌≡◌, ap, ◌∙◌, arith}
+use Rattle.std.proofs.Common.{rules, ◌≡◌, ap, ◌∙◌, arith, subst}
+use Rattle.std.proofs.lemmas.Result.{err_from_is_err_and}
 use Rattle.ee_flash.specs.Size.{slot_count}
 use Rattle.ee_core.specs.State.{capacity}
-use Rattle.ee_core.proofs.Making.{few_within}
+use Rattle.ee_core.specs.Changes.{IsCutMaking, Moves}
+use Rattle.ee_core.proofs.Making.{always_on_err, few_within}
 use Rattle.ee_core.proofs.changing.make_change.Goals as goal
 
 pub move_unindexed-requires-clause-needed : goal.move_unindexed-requires-clause-needed
@@ -12,8 +14,31 @@ move_unindexed-requires-clause-needed g c =
     search (arith, slots, c.if-layout-slots.false, c.requires.layout.fill, few_within old c.args.layout.now.side (g.met.F.Flash.formed c.args.flash.now)) in
     rw c.entry-put.ensures (search (rules, used))
 
-pub returns-in_ok-append_change-clause-appended : goal.returns-in_ok-append_change-clause-appended
-returns-in_ok-append_change-clause-appended g c = search rules fits 100
+pub returns-in_err-append_change : goal.returns-in_err-append_change
+returns-in_err-append_change g c =
+    let failed = err_from_is_err_and c.from_residual.result c.from_residual.ensures.1 in
+    record {
+      appended = λ is. absurd (cc (is, failed.1)); moved = λ is. absurd (cc (is, failed.1));
+      cut = always_on_err c.from_residual.result c.in_err-append_change.ensures.cut;
+      store = c.append_change.ensures.store; layout = c.append_change.ensures.layout;
+    }
 
-pub returns-in_ok-append_change-clause-layout : goal.returns-in_ok-append_change-clause-layout
-returns-in_ok-append_change-clause-layout g c = search
+pub returns-in_ok-append_change : goal.returns-in_ok-append_change
+returns-in_ok-append_change g c =
+    record { appended = λ is. c.in_ok-append_change.ensures.appended; moved = λ is. absurd (cc is); cut = tt; store = c.append_change.ensures.store; layout = c.append_change.ensures.layout }
+
+pub returns-in_err-move_unindexed : goal.returns-in_err-move_unindexed
+returns-in_err-move_unindexed g c =
+    let failed = err_from_is_err_and c.from_residual-in_err-move_unindexed.result c.from_residual-in_err-move_unindexed.ensures.1 in
+    record {
+      appended = λ is. absurd (cc (is, failed.1)); moved = λ is. absurd (cc (is, failed.1));
+      cut = always_on_err c.from_residual-in_err-move_unindexed.result (subst (λ changes. IsCutMaking (g.F.Flash.device c.args.flash.now) changes (g.F.Flash.device c.move_unindexed.new.flash)) c.entry-put.ensures c.in_err-move_unindexed.ensures.cut);
+      store = c.move_unindexed.ensures.store; layout = c.move_unindexed.ensures.layout;
+    }
+
+pub returns-in_ok-move_unindexed : goal.returns-in_ok-move_unindexed
+returns-in_ok-move_unindexed g c =
+    record {
+      appended = λ is. absurd (cc is); moved = λ is. subst (λ changes. Moves (g.F.Flash.device c.args.flash.now) changes (g.F.Flash.device c.move_unindexed.new.flash)) c.entry-put.ensures c.in_ok-move_unindexed.ensures.moved;
+      cut = tt; store = c.move_unindexed.ensures.store; layout = c.move_unindexed.ensures.layout;
+    }

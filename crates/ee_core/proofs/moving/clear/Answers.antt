@@ -1,6 +1,5 @@
 use Rattle.std.proofs.Common.{◌≡◌, ◌≤◌, ◌<◌, ◌+◌, ◌-◌, ap, false, length, get_or, true, [], ◌∷◌, take, refl, sym, subst, ◌∙◌, arith, inl, inr}
 use Rattle.std.proofs.lemmas.Bool.{cases_eq}
-use Rattle.std.proofs.lemmas.Result.{err_from_is_err_and}
 use Rattle.ee_flash.specs.Device.{page_at}
 use Rattle.ee_flash.specs.Size.{Size}
 use Rattle.ee_flash.proofs.Public.{calls_compose}
@@ -15,7 +14,8 @@ use Rattle.ee_core.proofs.Wears.{front_begun}
 use Rattle.ee_core.proofs.moving.clear.Goals.{then-not-is_blank+in_ok-erase_other, else-not-is_blank}
 use Rattle.ee_core.proofs.Cuts.{erases_partly}
 use Rattle.ee_core.proofs.moving.clear.Goals as goal
-use Rattle.ee_core.proofs.AfterCalls.{goes_on_same}
+use Rattle.ee_core.proofs.AfterCalls.{ends_later, goes_on_same, never_on_ok}
+use Rattle.ee_core.proofs.Making.{always_on_err}
 
 pub pages-init : goal.pages-init
 pages-init g c =
@@ -79,28 +79,6 @@ pages-preserved g c =
           })
     ]
 
-pub returns-in_err-erase_other-clause-begun : goal.returns-in_err-erase_other-clause-begun
-returns-in_err-erase_other-clause-begun g c =
-    let old = g.F.Flash.device c.args.flash.now in
-    let mid = g.F.Flash.device c.pages.flash in
-    let new = g.F.Flash.device c.erase_other.new.flash in
-    let set = other_of c.args.layout.now.side in
-    let formed = g.met.F.Flash.formed c.args.flash.now in
-    let first : c.first_page-first.result ≡ first_page old.size set = cc (c.first_page-first.ensures, c.other.ensures) in
-    let pages : c.pages-2.result ≡ old.size.pages = c.pages-2.ensures.value ∙ ap (λ (size : Size). size.pages) c.shape.ensures in
-    let from : c.first_page-first.result ≤ c.pages.page = c.pages.auto.page in
-    let below : c.pages.page < c.first_page-first.result + old.size.pages = omega (arith, pages) in
-    let k = c.pages.page - c.first_page-first.result in
-    let at : c.first_page-first.result + k ≡ c.pages.page = omega arith in
-    let within : k < length (set_of set old) = omega (arith, length-set_of set old formed) in
-    let same : get_or (set_of set old) k [] ≡ page_at mid c.pages.page = page_there set old formed _ first c.pages.page from below ∙ sym (c.pages.invariant.rest c.pages.page (inr (omega arith))) in
-    let written : is_blank (page_at mid c.pages.page) ≡ false = sym c.is_blank.ensures ∙ c.if-not-is_blank.true in
-    let failed = err_from_is_err_and c.from_residual.result c.from_residual.ensures.1 in
-    let begun : WearsFront (not_blank_from c.first_page-first.result (set_of set old)) old new =
-    front_wears (set_of set old) _ k c.pages.page old mid new at within same c.pages.invariant.wear written
-    (front_begun (c.pages.page ∷ []) mid new c.in_err-erase_other.ensures.begun c.in_err-erase_other.ensures.power.off) in
-    rw failed.1 (subst (λ n. WearsFront (not_blank_from n (set_of set old)) old new) first begun)
-
 pub returns-clause-blank : goal.returns-clause-blank
 returns-clause-blank g c =
     let first = c.first_page-first.ensures in
@@ -120,19 +98,35 @@ returns-clause-wear g c =
     let all : c.pages.page - c.first_page-first.result ≡ length (set_of set old) = omega (arith, pages, c.pages.auto.page-end, c.pages-test.false, length-set_of set old (g.met.F.Flash.formed c.args.flash.now)) in
     subst (λ n. Wears (not_blank_from n (set_of set old)) old new) first (all_wear (set_of set old) _ _ old new all c.pages.invariant.wear)
 
-pub returns-in_err-erase_other-clause-partly : goal.returns-in_err-erase_other-clause-partly
-returns-in_err-erase_other-clause-partly g c =
+pub returns-in_err-erase_other : goal.returns-in_err-erase_other
+returns-in_err-erase_other g c =
     let old = g.F.Flash.device c.args.flash.now in
     let mid = g.F.Flash.device c.pages.flash in
     let new = g.F.Flash.device c.erase_other.new.flash in
     let set = other_of c.args.layout.now.side in
+    let page = c.pages.page in
+    let formed = g.met.F.Flash.formed c.args.flash.now in
     let first : c.first_page-first.result ≡ first_page old.size set = cc (c.first_page-first.ensures, c.other.ensures) in
     let pages : c.pages-2.result ≡ old.size.pages = c.pages-2.ensures.value ∙ ap (λ (size : Size). size.pages) c.shape.ensures in
-    let from : first_page old.size set ≤ c.pages.page = omega (arith, first, c.pages.auto.page) in
-    let below : c.pages.page < first_page old.size set + old.size.pages = omega (arith, first, pages, c.pages-test.true) in
-    let written : is_blank (page_at mid c.pages.page) ≡ false = sym c.is_blank.ensures ∙ c.if-not-is_blank.true in
-    let failed = err_from_is_err_and c.from_residual.result c.from_residual.ensures.1 in
-    rw failed.1 (erases_partly (first_page old.size set) (first_page old.size set + old.size.pages) c.pages.page old mid new from below written
-    (λ k low high. c.pages.invariant.blank k (omega (arith, first, low)) high)
-    (λ k either. c.pages.invariant.rest k (elim either [ inl low ↦ inl (omega (arith, first, low)) | inr high ↦ inr high ]))
-    c.erase_other.ensures.others c.in_err-erase_other.ensures.partly)
+    let below : page < c.first_page-first.result + old.size.pages = omega (arith, pages) in
+    let k = page - c.first_page-first.result in
+    let at : c.first_page-first.result + k ≡ page = omega arith in
+    let within : k < length (set_of set old) = omega (arith, length-set_of set old formed) in
+    let same : get_or (set_of set old) k [] ≡ page_at mid page = page_there set old formed _ first page c.pages.auto.page below ∙ sym (c.pages.invariant.rest page (inr (omega arith))) in
+    let written : is_blank (page_at mid page) ≡ false = sym c.is_blank.ensures ∙ c.if-not-is_blank.true in
+    let cut = c.in_err-erase_other.ensures in
+    let result = c.from_residual.result in
+    let failed = c.from_residual.ensures.0 in
+    let begun : WearsFront (not_blank_from c.first_page-first.result (set_of set old)) old new =
+    front_wears (set_of set old) _ k page old mid new at within same c.pages.invariant.wear written (front_begun (page ∷ []) mid new cut.begun cut.power.off) in
+    record {
+      keeps = keeps_both _ _ _ _ _ c.pages.invariant.keeps cut.keeps;
+      blank = never_on_ok _ result failed; live_pages = never_on_ok _ result failed; wear = never_on_ok _ result failed;
+      begun = always_on_err result (subst (λ n. WearsFront (not_blank_from n (set_of set old)) old new) first begun);
+      partly = always_on_err result
+          (erases_partly (first_page old.size set) (first_page old.size set + old.size.pages) page old mid new (omega (arith, first, c.pages.auto.page)) (omega (arith, first, below)) written
+          (λ k low high. c.pages.invariant.blank k (omega (arith, first, low)) high)
+          (λ k either. c.pages.invariant.rest k (elim either [ inl low ↦ inl (omega (arith, first, low)) | inr high ↦ inr high ]))
+          c.erase_other.ensures.others cut.partly);
+      power = ends_later result failed c.pages.invariant.goes cut.power;
+    }

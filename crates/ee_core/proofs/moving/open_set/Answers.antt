@@ -5,6 +5,8 @@ use Rattle.ee_pages.proofs.Public.{first_in_set}
 use Rattle.ee_core.proofs.Drawings.{sets_mark_at}
 use Rattle.ee_core.proofs.MovedSets.{blank_drawn, opens_blank}
 use Rattle.ee_core.proofs.SetPages.{page_of_device}
+use Rattle.ee_core.proofs.AfterCalls.{ends_in_step, goes_on_same, never_on_ok}
+use Rattle.ee_core.proofs.Marks.{program_keeps_wear}
 use Rattle.ee_core.proofs.OtherSteps.{opening_done, opening_keeps, opening_unmarked}
 use Rattle.ee_core.proofs.Cuts.{mark_partly_at, put_apart_partly}
 use Rattle.ee_core.proofs.CutMoves.{open_partly}
@@ -12,12 +14,6 @@ use Rattle.ee_core.proofs.Making.{always_on_err}
 use Rattle.ee_core.proofs.MovingFacts.{layout_kept}
 use Rattle.ee_core.specs.Cuts.{SetsPartly}
 use Rattle.ee_core.proofs.moving.open_set.Goals as goal
-
-pub returns-in_err-mark-clause-keeps : goal.returns-in_err-mark-clause-keeps
-returns-in_err-mark-clause-keeps g c =
-    opening_keeps (g.F.Flash.device c.args.flash.now) _ c.args.layout.now.side c.args.layout.now.generation c.requires.layout.live c.requires.generation c.requires.blank _
-    (cc (c.first_page-first.ensures, c.other.ensures))
-    (inr c.in_err-mark.ensures.cut)
 
 pub returns-clause-keeps : goal.returns-clause-keeps
 returns-clause-keeps g c =
@@ -53,27 +49,26 @@ returns-clause-holds g c =
     (λ set. (c.in_ok-mark.ensures.present set).1) c.in_ok-mark.ensures.done in
     opens_blank side old new (c.args.layout.now.generation + 1) formed (returns-clause-keeps g c).same_size c.requires.blank sets
 
-pub returns-in_err-mark-clause-begun : goal.returns-in_err-mark-clause-begun
-returns-in_err-mark-clause-begun g c =
+pub returns-in_err-mark : goal.returns-in_err-mark
+returns-in_err-mark g c =
     let old = g.F.Flash.device c.args.flash.now in
     let new = g.F.Flash.device c.mark.new.flash in
-    let side = other_of c.args.layout.now.side in
+    let layout = c.args.layout.now in
+    let side = other_of layout.side in
     let formed = c.requires.layout.live.formed in
-    let sets : SetsPartly (first_page old.size side) (Receive (c.args.layout.now.generation + 1)) old new =
-    mark_partly_at _ (first_page old.size side) (Receive (c.args.layout.now.generation + 1)) old new formed
-    (page_of_device old.size side (first_page old.size side) (first_in_set side old formed)) (cc (c.first_page-first.ensures, c.other.ensures))
-    (λ set. (c.mark.ensures.present set).1) c.in_err-mark.ensures.cut in
-    always_on_err c.from_residual.result
-    (λ words. open_partly side old new (c.args.layout.now.generation + 1) words formed (returns-in_err-mark-clause-keeps g c).same_size (blank_drawn side old formed c.requires.blank) sets)
-
-pub returns-in_err-mark-clause-live_pages : goal.returns-in_err-mark-clause-live_pages
-returns-in_err-mark-clause-live_pages g c =
-    let old = g.F.Flash.device c.args.flash.now in
-    let new = g.F.Flash.device c.mark.new.flash in
-    let side = other_of c.args.layout.now.side in
-    let formed = c.requires.layout.live.formed in
-    let sets : SetsPartly (first_page old.size side) (Receive (c.args.layout.now.generation + 1)) old new =
-    mark_partly_at _ (first_page old.size side) (Receive (c.args.layout.now.generation + 1)) old new formed
-    (page_of_device old.size side (first_page old.size side) (first_in_set side old formed)) (cc (c.first_page-first.ensures, c.other.ensures))
-    (λ set. (c.mark.ensures.present set).1) c.in_err-mark.ensures.cut in
-    put_apart_partly c.args.layout.now.side old new (first_page old.size side) _ _ (returns-in_err-mark-clause-keeps g c).same_size (first_in_set side old formed) sets
+    let page : c.first_page-first.result ≡ first_page old.size side = cc (c.first_page-first.ensures, c.other.ensures) in
+    let cut = c.in_err-mark.ensures.cut in
+    let keeps = opening_keeps old new layout.side layout.generation c.requires.layout.live c.requires.generation c.requires.blank _ page (inr cut) in
+    let sets : SetsPartly (first_page old.size side) (Receive (layout.generation + 1)) old new =
+    mark_partly_at _ (first_page old.size side) (Receive (layout.generation + 1)) old new formed
+    (page_of_device old.size side (first_page old.size side) (first_in_set side old formed)) page (λ set. (c.mark.ensures.present set).1) cut in
+    let result = c.from_residual.result in
+    let failed = c.from_residual.ensures.0 in
+    record {
+      keeps = keeps;
+      opened = never_on_ok _ result failed; holds = never_on_ok _ result failed;
+      live_pages = put_apart_partly layout.side old new (first_page old.size side) _ _ keeps.same_size (first_in_set side old formed) sets;
+      begun = always_on_err result (λ words. open_partly side old new (layout.generation + 1) words formed keeps.same_size (blank_drawn side old formed c.requires.blank) sets);
+      wear = program_keeps_wear _ _ _ old new (inr cut);
+      power = ends_in_step _ result failed (goes_on_same old) cut;
+    }

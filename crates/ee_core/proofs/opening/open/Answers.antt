@@ -1,5 +1,7 @@
 use Rattle.std.proofs.Common.{◌≡◌, subst, sym}
 use Rattle.ee_flash.specs.Device.{Device}
+use Rattle.ee_core.proofs.LiveMarks.{layout_stays}
+use Rattle.ee_core.proofs.Making.{marked_store}
 use Rattle.ee_core.proofs.OpeningFacts.{opening_cut, opens}
 use Rattle.ee_core.specs.Openings.{Opens}
 use Rattle.ee_core.proofs.opening.open.Goals as goal
@@ -20,3 +22,9 @@ returns-in-Err-finish-clause-failed g c =
     search (opening_cut c.in-Ok.layout old new c.in-Ok.ensures.layout c.in-Err-finish.ensures.stays
     (λ marked. let none = c.finish.ensures.no_step marked in cc (none.0, c.in-Err-finish.is)) c.in-Err-finish.ensures.begun
     (c.in-Err-finish.ensures.power.cut c.requires))
+
+pub of-requires-clause-store : goal.of-requires-clause-store
+of-requires-clause-store g c = marked_store (g.F.Flash.device c.finish.new.flash) c.in-Ok.layout.side c.in-Ok.layout.generation c.finish.ensures.stays.keeps.live c.in-Ok-finish.ensures.finished
+
+pub of-requires-clause-layout : goal.of-requires-clause-layout
+of-requires-clause-layout g c = layout_stays c.in-Ok.layout (g.F.Flash.device c.args.flash) (g.F.Flash.device c.finish.new.flash) c.in-Ok.ensures.layout c.finish.ensures.stays
