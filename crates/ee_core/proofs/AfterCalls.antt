@@ -63,3 +63,7 @@ goes_on_mark page mark old present on done = elim (cases_Bool (is_marked old pag
 pub same_but : (page : ℕ) (mark : Mark) (old new : Device) → (new ≡ old) ⊎ IsStep (marking page mark) old new → (other : ℕ) → other ≢ page → page_at new other ≡ page_at old other
 same_but page mark old new (inl same) other apart = ap (λ device. page_at device other) same
 same_but page mark old new (inr taken) other apart = step_keeps_other_pages (marking page mark) old new other taken apart
+
+-- no result is a success and an error
+pub not_ok : {T E : Type 0} {value : T} {error : E} {result : Result T E} → result ≡ Ok value → result ≡ Err error → ⊥
+not_ok is failed = absurd (cc (is, failed))

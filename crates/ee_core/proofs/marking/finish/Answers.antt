@@ -1,6 +1,6 @@
 use Rattle.std.proofs.Common.{refl, ◌∙◌}
 use Rattle.ee_pages.specs.Sets.{other}
-use Rattle.ee_core.proofs.AfterCalls.{ends_later, goes_on_same, never_on_ok}
+use Rattle.ee_core.proofs.AfterCalls.{ends_later, goes_on_same, never_on_ok, not_ok}
 use Rattle.ee_core.proofs.LiveMarks.{layout_stays, live_marks_kept, old_marks_kept, stays_both}
 use Rattle.ee_core.proofs.MarkedSets.{shows}
 use Rattle.ee_core.specs.Finished.{last_used}
@@ -53,7 +53,7 @@ returns-in_err-mark_live_set g c =
       finished = never_on_ok _ c.from_residual.result failed; shows = never_on_ok _ c.from_residual.result failed;
       begun = always_on_err c.from_residual.result
           (cut_live c.args.layout.now.side old new c.mark_live_set.ensures.stays.keeps.same_size c.in_err-mark_live_set.ensures.begun c.in_err-mark_live_set.ensures.old_pages_stay);
-      no_step = λ marked. absurd (cc ((c.mark_live_set.ensures.no_step marked.live).0, c.in_err-mark_live_set.was));
+      no_step = λ marked. absurd (not_ok (c.mark_live_set.ensures.no_step marked.live).0 c.in_err-mark_live_set.was);
       power = ends_later c.from_residual.result failed (goes_on_same old) c.in_err-mark_live_set.ensures.power;
     }
 
@@ -73,6 +73,6 @@ returns-in_err-mark_old_set g c =
           c.in_ok-mark_live_set.ensures.live_pages c.in_ok-mark_live_set.ensures.old_pages c.in_err-mark_old_set.ensures.live_pages_stay c.in_err-mark_old_set.ensures.begun);
       no_step = λ marked.
           let none = c.mark_old_set.ensures.no_step (old_marks_kept (other side) old mid (c.mark_live_set.ensures.no_step marked.live).1 marked.old) in
-          absurd (cc (none.0, c.in_err-mark_old_set.was));
+          absurd (not_ok none.0 c.in_err-mark_old_set.was);
       power = ends_later result failed c.in_ok-mark_live_set.ensures.power.ok c.in_err-mark_old_set.ensures.power;
     }

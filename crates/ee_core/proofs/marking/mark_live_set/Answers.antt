@@ -3,7 +3,7 @@ use Rattle.ee_flash.specs.Size.{Size}
 use Rattle.ee_pages.specs.Page.{is_marked}
 use Rattle.ee_pages.specs.Sets.{first_page}
 use Rattle.ee_pages.specs.declared.state.Mark.TheVariants.{Active, Valid}
-use Rattle.ee_core.proofs.AfterCalls.{ends_later, goes_on_both, goes_on_same, never_on_ok}
+use Rattle.ee_core.proofs.AfterCalls.{ends_later, goes_on_both, goes_on_same, never_on_ok, not_ok}
 use Rattle.ee_core.proofs.Drawings.{valid_to}
 use Rattle.ee_core.proofs.MarkedSets.{active_then, other_stays, valid_next, valid_start}
 use Rattle.ee_core.proofs.Marks.{same_stays}
@@ -134,7 +134,7 @@ returns-in_err-mark_live g c =
       no_step = λ marked.
           let set : is_marked old c.pages.page Valid ≡ true = valid_already layout old c.pages.page c.requires marked from c.pages-test.true in
           let none = c.mark_live.ensures.no_step (ap (λ device. is_marked device c.pages.page Valid) (c.pages.invariant.no_step marked) ∙ set) in
-          absurd (cc (none.0, c.in_err-mark_live.was));
+          absurd (not_ok none.0 c.in_err-mark_live.was);
       power = ends_later c.from_residual.result failed c.pages.invariant.power c.in_err-mark_live.ensures.power;
     }
 
@@ -167,6 +167,6 @@ returns-in_err-mark_live-2 g c =
           let same = c.pages.invariant.no_step marked in
           let set : is_marked old layout.current Active ≡ true = ap (λ n. is_marked old n Active) last ∙ marked.active in
           let none = c.mark_live-2.ensures.no_step (ap (λ device. is_marked device layout.current Active) same ∙ set) in
-          absurd (cc (none.0, c.in_err-mark_live-2.was));
+          absurd (not_ok none.0 c.in_err-mark_live-2.was);
       power = ends_later result failed c.pages.invariant.power c.in_err-mark_live-2.ensures.power;
     }

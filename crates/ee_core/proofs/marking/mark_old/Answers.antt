@@ -3,7 +3,7 @@ use Rattle.ee_flash.specs.Size.{page_count}
 use Rattle.ee_pages.specs.Sets.{other}
 use Rattle.ee_pages.specs.declared.state.Mark.TheVariants.{Erasing}
 use Rattle.ee_pages.specs.Page.{is_marked, marking}
-use Rattle.ee_core.proofs.AfterCalls.{ends_in_step, goes_on_mark, goes_on_same, never_on_ok, same_but}
+use Rattle.ee_core.proofs.AfterCalls.{ends_in_step, goes_on_mark, goes_on_same, never_on_ok, not_ok, same_but}
 use Rattle.ee_core.proofs.Drawings.{sets_mark}
 use Rattle.ee_core.proofs.Marks.{mark_keeps_marks, marked_after, marks, old_mark_stays, page_in_device, proper_old}
 use Rattle.ee_core.proofs.Cuts.{mark_partly}
@@ -26,7 +26,7 @@ returns-in_err-mark g c =
       marks = mark_keeps_marks c.args.page Erasing old new left;
       marked = never_on_ok _ result failed; sets = never_on_ok _ result failed;
       begun = always_on_err result (mark_partly c.args.page Erasing old new formed h (λ set. (c.mark.ensures.present set).1) c.in_err-mark.ensures.cut);
-      no_step = λ set. absurd (cc ((c.mark.ensures.present set).0, c.in_err-mark.was));
+      no_step = λ set. absurd (not_ok (c.mark.ensures.present set).0 c.in_err-mark.was);
       power = ends_in_step (marking c.args.page Erasing) result failed (goes_on_same old) c.in_err-mark.ensures.cut;
     }
 

@@ -5,7 +5,7 @@ use Rattle.ee_flash.specs.Size.{Size}
 use Rattle.ee_pages.specs.Laws.{IsPageOf}
 use Rattle.ee_pages.specs.Sets.{first_page, other}
 use Rattle.ee_pages.specs.declared.side.Side.{Side}
-use Rattle.ee_core.proofs.AfterCalls.{ends_later, goes_on_both, goes_on_same, never_on_ok}
+use Rattle.ee_core.proofs.AfterCalls.{ends_later, goes_on_both, goes_on_same, never_on_ok, not_ok}
 use Rattle.ee_core.proofs.MarkedSets.{RetiresPage, live_stays, retired_end, retired_next, retired_start}
 use Rattle.ee_core.proofs.Marks.{same_stays}
 use Rattle.ee_core.proofs.LiveMarks.{IsPageDone, MarksPage, done_already, done_more, layout_stays, marked_from, marks_none, stays_both}
@@ -150,6 +150,6 @@ returns-in_err-mark_old g c =
           (live_stays c.args.layout.now.side old mid new c.pages.page (g.met.F.Flash.formed c.pages.flash) (g.met.F.Flash.formed c.mark_old.new.flash) c.mark_old.ensures.stays.keeps.same_size of c.mark_old.ensures.others c.pages.invariant.live);
       no_step = λ marked.
           let now : IsPageDone mid c.pages.page = subst (λ device. IsPageDone device c.pages.page) (sym (c.pages.invariant.no_step marked)) (done_already old side c.pages.page marked from below) in
-          absurd (cc ((c.mark_old.ensures.no_step (marked_from mid c.pages.page written now)).0, c.in_err-mark_old.was));
+          absurd (not_ok (c.mark_old.ensures.no_step (marked_from mid c.pages.page written now)).0 c.in_err-mark_old.was);
       power = ends_later c.from_residual.result failed c.pages.invariant.power c.in_err-mark_old.ensures.power;
     }
