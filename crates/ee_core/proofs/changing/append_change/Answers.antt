@@ -11,12 +11,11 @@ returns-in_err-append g c =
     let new = g.F.Flash.device c.append.new.flash in
     let layout = c.args.layout.now in
     let cut = c.in_err-append.ensures.power.cut c.requires.proceeds.on in
-    let result = c.from_residual.result in
     let failed = c.from_residual.ensures.0 in
     record {
-      appended = never_on_ok _ result failed; takes = never_on_ok _ result failed; spells = never_on_ok _ result failed; drawn = never_on_ok _ result failed;
-      found = never_on_ok _ result failed; same_set = never_on_ok _ result failed;
-      cut = always_on_err result
+      appended = never_on_ok _ _ failed; takes = never_on_ok _ _ failed; spells = never_on_ok _ _ failed; drawn = never_on_ok _ _ failed;
+      found = never_on_ok _ _ failed; same_set = never_on_ok _ _ failed;
+      cut = always_on_err _
           (cut_in_append old new layout.side layout.generation c.requires.layout.live (meant c.args.change) c.requires.proceeds cut
           (omega (arith, c.requires.free, c.requires.layout.fill)) c.append.ensures.other c.in_err-append.ensures.cut c.append.ensures.wear
           (shows_cut_append old new layout.side layout.generation c.requires.layout.live (meant c.args.change) layout.fill (number_written c.args.change) c.requires.layout.fill

@@ -27,7 +27,7 @@ returns-in_err-append_change g c =
     let failed = err_from_is_err_and c.from_residual.result c.from_residual.ensures.1 in
     record {
       appended = λ is. absurd (not_ok is failed.1); moved = λ is. absurd (not_ok is failed.1);
-      cut = always_on_err c.from_residual.result c.in_err-append_change.ensures.cut;
+      cut = always_on_err _ c.in_err-append_change.ensures.cut;
       store = c.append_change.ensures.store; layout = c.append_change.ensures.layout;
     }
 
@@ -40,7 +40,7 @@ returns-in_err-move_unindexed g c =
     let failed = err_from_is_err_and c.from_residual-in_err-move_unindexed.result c.from_residual-in_err-move_unindexed.ensures.1 in
     record {
       appended = λ is. absurd (not_ok is failed.1); moved = λ is. absurd (not_ok is failed.1);
-      cut = always_on_err c.from_residual-in_err-move_unindexed.result (subst (λ changes. IsCutMaking (g.F.Flash.device c.args.flash.now) changes (g.F.Flash.device c.move_unindexed.new.flash)) c.entry-put.ensures c.in_err-move_unindexed.ensures.cut);
+      cut = always_on_err _ (subst (λ changes. IsCutMaking (g.F.Flash.device c.args.flash.now) changes (g.F.Flash.device c.move_unindexed.new.flash)) c.entry-put.ensures c.in_err-move_unindexed.ensures.cut);
       store = c.move_unindexed.ensures.store; layout = c.move_unindexed.ensures.layout;
     }
 

@@ -26,12 +26,11 @@ returns-in_err-transfer g c =
     let left = c.in_err-transfer.ensures.moves in
     let cut = c.in_err-transfer.ensures.power.cut c.requires.proceeds.on in
     let few = few_pending new (other layout.side) (g.met.F.Flash.formed c.transfer.new.flash) in
-    let result = c.from_residual.result in
     let failed = c.from_residual.ensures.0 in
     record {
-      moved = never_on_ok _ result failed; has_moved = never_on_ok _ result failed; found = never_on_ok _ result failed; other_set = never_on_ok _ result failed;
-      as_many = never_on_ok _ result failed; new_pages = never_on_ok _ result failed;
-      cut = always_on_err result
+      moved = never_on_ok _ _ failed; has_moved = never_on_ok _ _ failed; found = never_on_ok _ _ failed; other_set = never_on_ok _ _ failed;
+      as_many = never_on_ok _ _ failed; new_pages = never_on_ok _ _ failed;
+      cut = always_on_err _
           (cut_in_move old new layout.side layout.generation c.requires.layout.live cut (omega (arith, few, ap (λ size. size.pages) cut.same_size)) left.begun
           changes c.requires.proceeds c.requires.needed left.cut (shows_cut_move old new layout.side layout.generation c.requires.layout.live changes left.words));
       store = store_after_move old new layout.side layout.generation changes cut.is_off left.cut;

@@ -2,7 +2,7 @@ use Rattle.std.proofs.Common.{rules, ◌≡◌, ◌≢◌, ◌<◌, ◌+◌, inl
 use Rattle.ee_flash.specs.Device.{page_at}
 use Rattle.ee_flash.specs.Size.{page_count}
 use Rattle.ee_pages.specs.Page.{is_blank}
-use Rattle.ee_core.proofs.AfterCalls.{ends_in_step, goes_on_both, never_on_ok}
+use Rattle.ee_core.proofs.AfterCalls.{ends_in_step, goes_on_both, never_on_ok, not_both}
 use Rattle.ee_core.proofs.FormatFacts.{BlanksPage, all_blank, blank_already, blank_more, blanks_page}
 use Rattle.ee_core.proofs.Startable.{erase_startable}
 use Rattle.ee_core.specs.Starts.{IsStartable}
@@ -91,17 +91,16 @@ returns-in_err-erase g c =
     let has_wear : page < length mid.wear = omega (arith, now_in_range, mid_formed.wear_length) in
     let written : is_blank (page_at mid page) ≡ false = sym c.is_blank.ensures ∙ c.if-not-is_blank.true in
     let at : 0 + page ≡ page = omega arith in
-    let one : WearsFront (page ∷ []) mid new = front_begun (page ∷ []) mid new (cut_page_wears page mid new has_wear cut) (search rules) in
+    let one : WearsFront (page ∷ []) mid new = front_begun (page ∷ []) mid new (cut_page_wears page mid new has_wear cut) (λ off. elim cut [ inl taken ↦ absurd (not_both mid taken.was_on off) | inr none ↦ none.same ]) in
     let others : IsSameBut page mid new = λ k apart. step_keeps_other_pages (Erase page) mid new k (record { formed = mid_formed; may = now_in_range; follows = inr cut }) apart in
-    let result = c.from_residual.result in
     let failed = c.from_residual.ensures.0 in
     record {
-      blank = never_on_ok _ result failed; wear = never_on_ok _ result failed;
-      begun = always_on_err result (front_wears old.image 0 page page old mid new at within (sym (c.pages.invariant.rest page (omega arith))) c.pages.invariant.wear written one);
-      partly = always_on_err result
+      blank = never_on_ok _ _ failed; wear = never_on_ok _ _ failed;
+      begun = always_on_err _ (front_wears old.image 0 page page old mid new at within (sym (c.pages.invariant.rest page (omega arith))) c.pages.invariant.wear written one);
+      partly = always_on_err _
           (erases_partly 0 (page_count old.size) page old mid new (omega arith) in_range written (λ k low high. c.pages.invariant.blank k high)
           (λ k either. elim either [ inl none ↦ absurd (omega (arith, none)) | inr high ↦ c.pages.invariant.rest k high ])
           others (erase_partly page mid new cut));
       startable = λ before. erase_startable page mid new mid_formed now_in_range (inr cut) (c.pages.invariant.startable before);
-      power = ends_in_step (Erase page) result failed c.pages.invariant.power cut;
+      power = ends_in_step (Erase page) _ failed c.pages.invariant.power cut;
     }

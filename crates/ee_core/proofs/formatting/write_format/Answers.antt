@@ -56,15 +56,14 @@ returns g c =
 
 pub returns-in_err-erase_all : goal.returns-in_err-erase_all
 returns-in_err-erase_all g c =
-    let result = c.from_residual.result in
     let failed = c.from_residual.ensures.0 in
     record {
-      layout = IfOk-from_err result _ failed; first = IfOk-from_err result _ failed; marked = never_on_ok _ result failed; state = never_on_ok _ result failed;
-      first_set = never_on_ok _ result failed; second_set = never_on_ok _ result failed; wear = never_on_ok _ result failed;
-      begun = always_on_err result c.in_err-erase_all.ensures.begun;
-      words = always_on_err result (inl c.in_err-erase_all.ensures.partly);
-      starting = always_on_err result (λ on startable. inl (c.erase_all.ensures.startable startable));
-      power = ends_later result failed (goes_on_same (g.F.Flash.device c.args.flash.now)) c.in_err-erase_all.ensures.power;
+      layout = IfOk-from_err _ _ failed; first = IfOk-from_err _ _ failed; marked = never_on_ok _ _ failed; state = never_on_ok _ _ failed;
+      first_set = never_on_ok _ _ failed; second_set = never_on_ok _ _ failed; wear = never_on_ok _ _ failed;
+      begun = always_on_err _ c.in_err-erase_all.ensures.begun;
+      words = always_on_err _ (inl c.in_err-erase_all.ensures.partly);
+      starting = always_on_err c.from_residual.result (λ on startable. inl (c.erase_all.ensures.startable startable));
+      power = ends_later _ failed (goes_on_same (g.F.Flash.device c.args.flash.now)) c.in_err-erase_all.ensures.power;
     }
 
 pub returns-in_err-mark : goal.returns-in_err-mark
@@ -80,16 +79,15 @@ returns-in_err-mark g c =
     let cut = c.in_err-mark.ensures.cut in
     let taken = mark_step 0 (Receive 1) blank mid formed h proper_first unset (inr cut) in
     let same : mid.wear ≡ blank.wear = program_keeps_wear 0 0 _ blank mid (inr cut) in
-    let result = c.from_residual-in_err-mark.result in
     let failed = c.from_residual-in_err-mark.ensures.0 in
     record {
-      layout = IfOk-from_err result _ failed; first = IfOk-from_err result _ failed; marked = never_on_ok _ result failed; state = never_on_ok _ result failed;
-      first_set = never_on_ok _ result failed; second_set = never_on_ok _ result failed; wear = never_on_ok _ result failed;
-      begun = always_on_err result (front_all (not_blank_pages old) old mid (wears_still (not_blank_pages old) old blank mid erased same));
-      words = always_on_err result
+      layout = IfOk-from_err _ _ failed; first = IfOk-from_err _ _ failed; marked = never_on_ok _ _ failed; state = never_on_ok _ _ failed;
+      first_set = never_on_ok _ _ failed; second_set = never_on_ok _ _ failed; wear = never_on_ok _ _ failed;
+      begun = always_on_err _ (front_all (not_blank_pages old) old mid (wears_still (not_blank_pages old) old blank mid erased same));
+      words = always_on_err _
           (inr (format_cut blank mid formed (step_changes_one_page _ blank mid taken).same_size all (mark_partly 0 (Receive 1) blank mid formed h (λ set. (c.mark.ensures.present set).1) cut)));
-      starting = always_on_err result (λ on startable. inl (received_startable blank mid formed all taken));
-      power = ends_in_step (marking 0 (Receive 1)) result failed c.in_ok-erase_all.ensures.power.ok cut;
+      starting = always_on_err c.from_residual-in_err-mark.result (λ on startable. inl (received_startable blank mid formed all taken));
+      power = ends_in_step (marking 0 (Receive 1)) _ failed c.in_ok-erase_all.ensures.power.ok cut;
     }
 
 pub returns-in_err-mark-2 : goal.returns-in_err-mark-2
@@ -113,15 +111,14 @@ returns-in_err-mark-2 g c =
     let cut = c.in_err-mark-2.ensures.cut in
     let taken = mark_step 0 Active mid new mid_formed still proper_active next (inr cut) in
     let wear : new.wear ≡ blank.wear = program_keeps_wear 0 1 _ mid new (inr cut) ∙ ap (λ (device : Device). device.wear) whole in
-    let result = c.from_residual-in_err-mark-2.result in
     let failed = c.from_residual-in_err-mark-2.ensures.0 in
     record {
-      layout = IfOk-from_err result _ failed; first = IfOk-from_err result _ failed; marked = never_on_ok _ result failed; state = never_on_ok _ result failed;
-      first_set = never_on_ok _ result failed; second_set = never_on_ok _ result failed; wear = never_on_ok _ result failed;
-      begun = always_on_err result (front_all (not_blank_pages old) old new (wears_still (not_blank_pages old) old blank new erased wear));
-      words = always_on_err result
+      layout = IfOk-from_err _ _ failed; first = IfOk-from_err _ _ failed; marked = never_on_ok _ _ failed; state = never_on_ok _ _ failed;
+      first_set = never_on_ok _ _ failed; second_set = never_on_ok _ _ failed; wear = never_on_ok _ _ failed;
+      begun = always_on_err _ (front_all (not_blank_pages old) old new (wears_still (not_blank_pages old) old blank new erased wear));
+      words = always_on_err _
           (inr (format_cut_then blank mid new formed mid_formed (ap (λ (device : Device). device.size) whole) (step_changes_one_page _ mid new taken).same_size all sets
           (mark_partly 0 Active mid new mid_formed still (λ set. (c.mark-2.ensures.present set).1) cut)));
-      starting = always_on_err result (λ _ startable. active_starting blank mid new formed all on whole taken (received_startable blank mid formed all (receiving blank mid formed all on whole)));
-      power = ends_in_step (marking 0 Active) result failed on_still cut;
+      starting = always_on_err c.from_residual-in_err-mark-2.result (λ _ startable. active_starting blank mid new formed all on whole taken (received_startable blank mid formed all (receiving blank mid formed all on whole)));
+      power = ends_in_step (marking 0 Active) _ failed on_still cut;
     }

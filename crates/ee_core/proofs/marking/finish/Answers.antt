@@ -50,11 +50,11 @@ returns-in_err-mark_live_set g c =
     let failed = c.from_residual.ensures.0 in
     record {
       stays = c.mark_live_set.ensures.stays;
-      finished = never_on_ok _ c.from_residual.result failed; shows = never_on_ok _ c.from_residual.result failed;
-      begun = always_on_err c.from_residual.result
+      finished = never_on_ok _ _ failed; shows = never_on_ok _ _ failed;
+      begun = always_on_err _
           (cut_live c.args.layout.now.side old new c.mark_live_set.ensures.stays.keeps.same_size c.in_err-mark_live_set.ensures.begun c.in_err-mark_live_set.ensures.old_pages_stay);
       no_step = λ marked. absurd (not_ok (c.mark_live_set.ensures.no_step marked.live).0 c.in_err-mark_live_set.was);
-      power = ends_later c.from_residual.result failed (goes_on_same old) c.in_err-mark_live_set.ensures.power;
+      power = ends_later _ failed (goes_on_same old) c.in_err-mark_live_set.ensures.power;
     }
 
 pub returns-in_err-mark_old_set : goal.returns-in_err-mark_old_set
@@ -63,16 +63,15 @@ returns-in_err-mark_old_set g c =
     let mid = g.F.Flash.device c.mark_live_set.new.flash in
     let new = g.F.Flash.device c.mark_old_set.new.flash in
     let side = c.args.layout.now.side in
-    let result = c.from_residual-in_err-mark_old_set.result in
     let failed = c.from_residual-in_err-mark_old_set.ensures.0 in
     record {
       stays = stays_both _ _ _ _ _ c.mark_live_set.ensures.stays c.mark_old_set.ensures.stays;
-      finished = never_on_ok _ result failed; shows = never_on_ok _ result failed;
-      begun = always_on_err result
+      finished = never_on_ok _ _ failed; shows = never_on_ok _ _ failed;
+      begun = always_on_err _
           (cut_old side old mid new c.mark_live_set.ensures.stays.keeps.same_size c.mark_old_set.ensures.stays.keeps.same_size
           c.in_ok-mark_live_set.ensures.live_pages c.in_ok-mark_live_set.ensures.old_pages c.in_err-mark_old_set.ensures.live_pages_stay c.in_err-mark_old_set.ensures.begun);
       no_step = λ marked.
           let none = c.mark_old_set.ensures.no_step (old_marks_kept (other side) old mid (c.mark_live_set.ensures.no_step marked.live).1 marked.old) in
           absurd (not_ok none.0 c.in_err-mark_old_set.was);
-      power = ends_later result failed c.in_ok-mark_live_set.ensures.power.ok c.in_err-mark_old_set.ensures.power;
+      power = ends_later _ failed c.in_ok-mark_live_set.ensures.power.ok c.in_err-mark_old_set.ensures.power;
     }

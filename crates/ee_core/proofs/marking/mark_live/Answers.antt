@@ -17,16 +17,15 @@ returns-in_err-mark g c =
     let h : c.args.page < page_count old.size = page_in_device old layout.side c.args.page c.requires.from c.requires.behind.in_range in
     let proper = proper_live c.args.kind c.requires.behind.active_or_valid in
     let left = marks c.args.page c.args.kind old new c.mark.result formed h proper c.mark.ensures.present c.mark.ensures.on c.mark.ensures.done c.mark.ensures.cut in
-    let result = c.from_residual.result in
     let failed = c.from_residual.ensures.0 in
     record {
       stays = live_mark_stays c.args.page c.args.kind old new layout.side layout.generation c.requires.layout.live c.requires.from c.requires.behind left;
       others = same_but c.args.page c.args.kind old new left;
       marks = mark_keeps_marks c.args.page c.args.kind old new left;
-      marked = never_on_ok _ result failed; sets = never_on_ok _ result failed;
-      begun = always_on_err result (mark_partly c.args.page c.args.kind old new formed h (λ set. (c.mark.ensures.present set).1) c.in_err-mark.ensures.cut);
+      marked = never_on_ok _ _ failed; sets = never_on_ok _ _ failed;
+      begun = always_on_err _ (mark_partly c.args.page c.args.kind old new formed h (λ set. (c.mark.ensures.present set).1) c.in_err-mark.ensures.cut);
       no_step = λ set. absurd (not_ok (c.mark.ensures.present set).0 c.in_err-mark.was);
-      power = ends_in_step (marking c.args.page c.args.kind) result failed (goes_on_same old) c.in_err-mark.ensures.cut;
+      power = ends_in_step (marking c.args.page c.args.kind) _ failed (goes_on_same old) c.in_err-mark.ensures.cut;
     }
 
 pub returns : goal.returns

@@ -123,19 +123,18 @@ returns-in_err-mark_live g c =
     let inside : k < mid.size.pages = omega (arith, before, last_in_range layout old c.requires, counted) in
     record {
       stays = stays_both _ _ _ _ _ c.pages.invariant.stays c.mark_live.ensures.stays;
-      marked = never_on_ok _ c.from_residual.result failed; live_pages = never_on_ok _ c.from_residual.result failed;
-      old_pages = never_on_ok _ c.from_residual.result failed;
-      begun = always_on_err c.from_residual.result
+      marked = never_on_ok _ _ failed; live_pages = never_on_ok _ _ failed; old_pages = never_on_ok _ _ failed;
+      begun = always_on_err _
           (valid_partly layout.side mid new k (last_used old layout.side) (picture_of layout.side old) (g.met.F.Flash.formed c.pages.flash) c.mark_live.ensures.stays.keeps.same_size inside before
           (subst (λ n. SetsPartly n Valid mid new) at c.in_err-mark_live.ensures.begun) c.pages.invariant.drawn);
-      old_pages_stay = always_on_err c.from_residual.result
+      old_pages_stay = always_on_err _
           (other_stays layout.side old c.first_page-first.result c.first_page-first.ensures mid new c.pages.page (g.met.F.Flash.formed c.pages.flash) (g.met.F.Flash.formed c.mark_live.new.flash)
           sizes c.mark_live.ensures.stays.keeps.same_size c.pages.auto.page inside c.mark_live.ensures.others c.pages.invariant.other);
       no_step = λ marked.
           let set : is_marked old c.pages.page Valid ≡ true = valid_already layout old c.pages.page c.requires marked from c.pages-test.true in
           let none = c.mark_live.ensures.no_step (ap (λ device. is_marked device c.pages.page Valid) (c.pages.invariant.no_step marked) ∙ set) in
           absurd (not_ok none.0 c.in_err-mark_live.was);
-      power = ends_later c.from_residual.result failed c.pages.invariant.power c.in_err-mark_live.ensures.power;
+      power = ends_later _ failed c.pages.invariant.power c.in_err-mark_live.ensures.power;
     }
 
 pub returns-in_err-mark_live-2 : goal.returns-in_err-mark_live-2
@@ -144,7 +143,6 @@ returns-in_err-mark_live-2 g c =
     let mid = g.F.Flash.device c.pages.flash in
     let new = g.F.Flash.device c.mark_live-2.new.flash in
     let layout = c.args.layout.now in
-    let result = c.from_residual-in_err-mark_live-2.result in
     let failed = c.from_residual-in_err-mark_live-2.ensures.0 in
     let sizes = c.pages.invariant.stays.keeps.same_size in
     let last = last_is layout old c.requires in
@@ -156,11 +154,11 @@ returns-in_err-mark_live-2 g c =
     let at : layout.current ≡ first_page mid.size layout.side + last_used old layout.side = omega (arith, last, ap (λ (size : Size). first_page size layout.side) sizes) in
     record {
       stays = stays_both _ _ _ _ _ c.pages.invariant.stays c.mark_live-2.ensures.stays;
-      marked = never_on_ok _ result failed; live_pages = never_on_ok _ result failed; old_pages = never_on_ok _ result failed;
-      begun = always_on_err result
+      marked = never_on_ok _ _ failed; live_pages = never_on_ok _ _ failed; old_pages = never_on_ok _ _ failed;
+      begun = always_on_err _
           (active_partly layout.side mid new (last_used old layout.side) (picture_of layout.side old) (g.met.F.Flash.formed c.pages.flash) c.mark_live-2.ensures.stays.keeps.same_size below
           (subst (λ n. SetsPartly n Active mid new) at c.in_err-mark_live-2.ensures.begun) drawn);
-      old_pages_stay = always_on_err result
+      old_pages_stay = always_on_err _
           (other_stays layout.side old c.first_page-first.result c.first_page-first.ensures mid new layout.current (g.met.F.Flash.formed c.pages.flash) (g.met.F.Flash.formed c.mark_live-2.new.flash)
           sizes c.mark_live-2.ensures.stays.keeps.same_size from behind c.mark_live-2.ensures.others c.pages.invariant.other);
       no_step = λ marked.
@@ -168,5 +166,5 @@ returns-in_err-mark_live-2 g c =
           let set : is_marked old layout.current Active ≡ true = ap (λ n. is_marked old n Active) last ∙ marked.active in
           let none = c.mark_live-2.ensures.no_step (ap (λ device. is_marked device layout.current Active) same ∙ set) in
           absurd (not_ok none.0 c.in_err-mark_live-2.was);
-      power = ends_later result failed c.pages.invariant.power c.in_err-mark_live-2.ensures.power;
+      power = ends_later _ failed c.pages.invariant.power c.in_err-mark_live-2.ensures.power;
     }

@@ -141,15 +141,14 @@ returns-in_err-mark_old g c =
     record {
       stays = stays_both _ _ _ _ _ c.pages.invariant.stays c.mark_old.ensures.stays;
       marks = λ page mark was. c.mark_old.ensures.marks page mark (c.pages.invariant.marks page mark was);
-      marked = never_on_ok _ c.from_residual.result failed; live_pages = never_on_ok _ c.from_residual.result failed;
-      old_pages = never_on_ok _ c.from_residual.result failed;
-      begun = always_on_err c.from_residual.result
+      marked = never_on_ok _ _ failed; live_pages = never_on_ok _ _ failed; old_pages = never_on_ok _ _ failed;
+      begun = always_on_err _
           (retired_partly side old mid new k (g.met.F.Flash.formed c.pages.flash) c.mark_old.ensures.stays.keeps.same_size (omega (arith, there, counted, below)) (ap not was)
           (subst (λ n. SetsPartly n Erasing mid new) at c.in_err-mark_old.ensures.begun) c.pages.invariant.drawn);
-      live_pages_stay = always_on_err c.from_residual.result
+      live_pages_stay = always_on_err _
           (live_stays c.args.layout.now.side old mid new c.pages.page (g.met.F.Flash.formed c.pages.flash) (g.met.F.Flash.formed c.mark_old.new.flash) c.mark_old.ensures.stays.keeps.same_size of c.mark_old.ensures.others c.pages.invariant.live);
       no_step = λ marked.
           let now : IsPageDone mid c.pages.page = subst (λ device. IsPageDone device c.pages.page) (sym (c.pages.invariant.no_step marked)) (done_already old side c.pages.page marked from below) in
           absurd (not_ok (c.mark_old.ensures.no_step (marked_from mid c.pages.page written now)).0 c.in_err-mark_old.was);
-      power = ends_later c.from_residual.result failed c.pages.invariant.power c.in_err-mark_old.ensures.power;
+      power = ends_later _ failed c.pages.invariant.power c.in_err-mark_old.ensures.power;
     }

@@ -115,18 +115,17 @@ returns-in_err-erase_other g c =
     let same : get_or (set_of set old) k [] ≡ page_at mid page = page_there set old formed _ first page c.pages.auto.page below ∙ sym (c.pages.invariant.rest page (inr (omega arith))) in
     let written : is_blank (page_at mid page) ≡ false = sym c.is_blank.ensures ∙ c.if-not-is_blank.true in
     let cut = c.in_err-erase_other.ensures in
-    let result = c.from_residual.result in
     let failed = c.from_residual.ensures.0 in
     let begun : WearsFront (not_blank_from c.first_page-first.result (set_of set old)) old new =
     front_wears (set_of set old) _ k page old mid new at within same c.pages.invariant.wear written (front_begun (page ∷ []) mid new cut.begun cut.power.off) in
     record {
       keeps = keeps_both _ _ _ _ _ c.pages.invariant.keeps cut.keeps;
-      blank = never_on_ok _ result failed; live_pages = never_on_ok _ result failed; wear = never_on_ok _ result failed;
-      begun = always_on_err result (subst (λ n. WearsFront (not_blank_from n (set_of set old)) old new) first begun);
-      partly = always_on_err result
+      blank = never_on_ok _ _ failed; live_pages = never_on_ok _ _ failed; wear = never_on_ok _ _ failed;
+      begun = always_on_err _ (subst (λ n. WearsFront (not_blank_from n (set_of set old)) old new) first begun);
+      partly = always_on_err _
           (erases_partly (first_page old.size set) (first_page old.size set + old.size.pages) page old mid new (omega (arith, first, c.pages.auto.page)) (omega (arith, first, below)) written
           (λ k low high. c.pages.invariant.blank k (omega (arith, first, low)) high)
           (λ k either. c.pages.invariant.rest k (elim either [ inl low ↦ inl (omega (arith, first, low)) | inr high ↦ inr high ]))
           c.erase_other.ensures.others cut.partly);
-      power = ends_later result failed c.pages.invariant.goes cut.power;
+      power = ends_later _ failed c.pages.invariant.goes cut.power;
     }

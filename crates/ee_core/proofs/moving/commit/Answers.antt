@@ -42,14 +42,13 @@ returns-in_err-mark g c =
     let commits = active_commits old _ c.args.layout.now.side c.args.layout.now.generation _ c.requires.layout.live c.requires.generation c.requires.filling.1 _ page (inr cut) in
     let sets : SetsPartly (first_page old.size side) Active old new =
     mark_partly_at _ (first_page old.size side) Active old new formed (page_of_device old.size side (first_page old.size side) (first_in_set side old formed)) page (λ set. (c.mark.ensures.present set).1) cut in
-    let result = c.from_residual.result in
     let failed = c.from_residual.ensures.0 in
     record {
-      committed = never_on_ok _ result failed; sets = never_on_ok _ result failed;
-      cut = always_on_err result commits.1;
+      committed = never_on_ok _ _ failed; sets = never_on_ok _ _ failed;
+      cut = always_on_err _ commits.1;
       same_set = commits.0;
-      begun = always_on_err result (λ words holds. commit_partly side old new (c.args.layout.now.generation + 1) words formed (cut_size _ _ _ cut) sets holds);
+      begun = always_on_err c.from_residual.result (λ words holds. commit_partly side old new (c.args.layout.now.generation + 1) words formed (cut_size _ _ _ cut) sets holds);
       same_size = cut_size _ _ _ cut;
       wear = program_keeps_wear _ _ _ old new (inr cut);
-      power = ends_in_step _ result failed (goes_on_same old) cut;
+      power = ends_in_step _ _ failed (goes_on_same old) cut;
     }

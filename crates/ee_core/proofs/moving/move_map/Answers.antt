@@ -79,9 +79,9 @@ returns-in_err-clear g c =
     let cut = c.in_err-clear.ensures in
     record {
       moves = rw failed.1 (record { begun = cut.begun; words = inl cut.partly; cut = inl cut.keeps });
-      each_once = IfOk-from_err c.from_residual.result _ c.from_residual.ensures.0; new_pages = never_on_ok _ c.from_residual.result c.from_residual.ensures.0;
-      live_pages = never_on_ok _ c.from_residual.result c.from_residual.ensures.0;
-      power = ends_later c.from_residual.result c.from_residual.ensures.0 (goes_on_same (g.F.Flash.device c.args.flash.now)) c.in_err-clear.ensures.power;
+      each_once = IfOk-from_err _ _ c.from_residual.ensures.0; new_pages = never_on_ok _ _ c.from_residual.ensures.0;
+      live_pages = never_on_ok _ _ c.from_residual.ensures.0;
+      power = ends_later _ c.from_residual.ensures.0 (goes_on_same (g.F.Flash.device c.args.flash.now)) c.in_err-clear.ensures.power;
     }
 
 pub returns-in_err-open_set : goal.returns-in_err-open_set
@@ -107,10 +107,9 @@ returns-in_err-open_set g c =
         });
         cut = inl keeps;
       });
-      each_once = IfOk-from_err c.from_residual-in_err-open_set.result _ c.from_residual-in_err-open_set.ensures.0;
-      new_pages = never_on_ok _ c.from_residual-in_err-open_set.result c.from_residual-in_err-open_set.ensures.0;
-      live_pages = never_on_ok _ c.from_residual-in_err-open_set.result c.from_residual-in_err-open_set.ensures.0;
-      power = ends_later c.from_residual-in_err-open_set.result c.from_residual-in_err-open_set.ensures.0 clears.power.ok c.in_err-open_set.ensures.power;
+      each_once = IfOk-from_err _ _ c.from_residual-in_err-open_set.ensures.0; new_pages = never_on_ok _ _ c.from_residual-in_err-open_set.ensures.0;
+      live_pages = never_on_ok _ _ c.from_residual-in_err-open_set.ensures.0;
+      power = ends_later _ c.from_residual-in_err-open_set.ensures.0 clears.power.ok c.in_err-open_set.ensures.power;
     }
 
 pub returns-in_err-count : goal.returns-in_err-count
@@ -143,10 +142,9 @@ returns-in_err-count g c =
         });
         cut = inl keeps;
       });
-      each_once = IfOk-from_err c.from_residual-in_err-count.result _ c.from_residual-in_err-count.ensures.0;
-      new_pages = never_on_ok _ c.from_residual-in_err-count.result c.from_residual-in_err-count.ensures.0;
-      live_pages = never_on_ok _ c.from_residual-in_err-count.result c.from_residual-in_err-count.ensures.0;
-      power = ends_later c.from_residual-in_err-count.result c.from_residual-in_err-count.ensures.0 (goes_on_both old cleared opened clears.power.ok opens.power.ok) c.in_err-count.ensures.power;
+      each_once = IfOk-from_err _ _ c.from_residual-in_err-count.ensures.0; new_pages = never_on_ok _ _ c.from_residual-in_err-count.ensures.0;
+      live_pages = never_on_ok _ _ c.from_residual-in_err-count.ensures.0;
+      power = ends_later _ c.from_residual-in_err-count.ensures.0 (goes_on_both old cleared opened clears.power.ok opens.power.ok) c.in_err-count.ensures.power;
     }
 
 pub returns-in_err-commit : goal.returns-in_err-commit
@@ -188,8 +186,7 @@ returns-in_err-commit g c =
           | inr committed ↦ inr (has_moved old opened filling new side generation c.in_ok-count.count changes before fills.keeps as_used fills.filling fills.map_is c.in_ok-count.ensures.each_once cut.same_set committed)
         ];
       });
-      each_once = IfOk-from_err c.from_residual-in_err-commit.result _ c.from_residual-in_err-commit.ensures.0;
-      new_pages = never_on_ok _ c.from_residual-in_err-commit.result c.from_residual-in_err-commit.ensures.0;
-      live_pages = never_on_ok _ c.from_residual-in_err-commit.result c.from_residual-in_err-commit.ensures.0;
-      power = ends_later c.from_residual-in_err-commit.result c.from_residual-in_err-commit.ensures.0 (goes_on_both old opened filling (goes_on_both old cleared opened clears.power.ok opens.power.ok) c.in_ok-count.ensures.power.ok) c.in_err-commit.ensures.power;
+      each_once = IfOk-from_err _ _ c.from_residual-in_err-commit.ensures.0; new_pages = never_on_ok _ _ c.from_residual-in_err-commit.ensures.0;
+      live_pages = never_on_ok _ _ c.from_residual-in_err-commit.ensures.0;
+      power = ends_later _ c.from_residual-in_err-commit.ensures.0 (goes_on_both old opened filling (goes_on_both old cleared opened clears.power.ok opens.power.ok) c.in_ok-count.ensures.power.ok) c.in_err-commit.ensures.power;
     }

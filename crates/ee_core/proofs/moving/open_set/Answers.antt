@@ -62,13 +62,12 @@ returns-in_err-mark g c =
     let sets : SetsPartly (first_page old.size side) (Receive (layout.generation + 1)) old new =
     mark_partly_at _ (first_page old.size side) (Receive (layout.generation + 1)) old new formed
     (page_of_device old.size side (first_page old.size side) (first_in_set side old formed)) page (λ set. (c.mark.ensures.present set).1) cut in
-    let result = c.from_residual.result in
     let failed = c.from_residual.ensures.0 in
     record {
       keeps = keeps;
-      opened = never_on_ok _ result failed; holds = never_on_ok _ result failed;
+      opened = never_on_ok _ _ failed; holds = never_on_ok _ _ failed;
       live_pages = put_apart_partly layout.side old new (first_page old.size side) _ _ keeps.same_size (first_in_set side old formed) sets;
-      begun = always_on_err result (λ words. open_partly side old new (layout.generation + 1) words formed keeps.same_size (blank_drawn side old formed c.requires.blank) sets);
+      begun = always_on_err c.from_residual.result (λ words. open_partly side old new (layout.generation + 1) words formed keeps.same_size (blank_drawn side old formed c.requires.blank) sets);
       wear = program_keeps_wear _ _ _ old new (inr cut);
-      power = ends_in_step _ result failed (goes_on_same old) cut;
+      power = ends_in_step _ _ failed (goes_on_same old) cut;
     }

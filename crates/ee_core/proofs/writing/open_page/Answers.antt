@@ -49,18 +49,17 @@ returns-in_err-mark_live g c =
     let last = last_is old layout c.requires.layout c.requires.free _ words in
     let here : layout.current ≡ first_page old.size layout.side + k = c.requires.layout.current in
     let first = c.mark_live.ensures in
-    let result = c.from_residual.result in
     let failed = c.from_residual.ensures.0 in
     record {
       stays = first.stays;
       other = first_other old layout c.requires.layout c.requires.free _ words _ first.stays first.others;
-      ready = never_on_ok _ result failed; drawn = never_on_ok _ result failed;
-      begun = always_on_err result
+      ready = never_on_ok _ _ failed; drawn = never_on_ok _ _ failed;
+      begun = always_on_err _
           (subst (λ n. IsDrawnPartly layout.side new (picture_of layout.side old) (marked_to n (picture_of layout.side old))) (sym next)
           (opens_partly layout.side old new k c.requires.layout.live.formed first.stays.keeps.same_size (omega (arith, next, page_in_range old layout.fill c.requires.free))
           (λ page below. c.requires.marked.live.valid page (subst (λ n. page < n) last below))
           (subst (λ n. SetsPartly n Valid old new) here c.in_err-mark_live.ensures.begun)));
-      power = ends_later result failed (goes_on_same old) c.in_err-mark_live.ensures.power;
+      power = ends_later _ failed (goes_on_same old) c.in_err-mark_live.ensures.power;
     }
 
 pub returns-in_err-mark_live-2 : goal.returns-in_err-mark_live-2
@@ -79,20 +78,19 @@ returns-in_err-mark_live-2 g c =
     let first = c.mark_live.ensures in
     let second = c.mark_live-2.ensures in
     let same = first_other old layout c.requires.layout c.requires.free _ words _ first.stays first.others in
-    let result = c.from_residual-in_err-mark_live-2.result in
     let failed = c.from_residual-in_err-mark_live-2.ensures.0 in
     record {
       stays = stays_both _ _ _ _ _ first.stays second.stays;
       other = second_other old layout c.requires.layout c.requires.free _ words some c.if-layout-slots-ne0.false _ _ second.stays.keeps.live.formed first.stays second.stays.keeps.same_size same second.others;
-      ready = never_on_ok _ result failed; drawn = never_on_ok _ result failed;
-      begun = always_on_err result
+      ready = never_on_ok _ _ failed; drawn = never_on_ok _ _ failed;
+      begun = always_on_err _
           (subst (λ n. IsDrawnPartly layout.side new (picture_of layout.side old) (marked_to n (picture_of layout.side old))) (sym next)
           (opens_partly_then layout.side old mid new k c.requires.layout.live.formed first.stays.keeps.live.formed first.stays.keeps.same_size second.stays.keeps.same_size
           (omega (arith, next, page_in_range old layout.fill c.requires.free))
           (λ page below. c.requires.marked.live.valid page (subst (λ n. page < n) last below))
           (subst (λ n. SetsMark n Valid old mid) here c.in_ok-mark_live.ensures.sets)
           (subst (λ n. SetsPartly n Active mid new) there c.in_err-mark_live-2.ensures.begun)));
-      power = ends_later result failed c.in_ok-mark_live.ensures.power.ok c.in_err-mark_live-2.ensures.power;
+      power = ends_later _ failed c.in_ok-mark_live.ensures.power.ok c.in_err-mark_live-2.ensures.power;
     }
 
 pub returns : goal.returns

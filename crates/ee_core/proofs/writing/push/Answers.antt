@@ -59,18 +59,17 @@ returns-in_err-program g c =
     let side = c.args.layout.now.side in
     let fill = c.args.layout.now.fill in
     let cut = c.in_err-program.ensures.cut in
-    let result = c.from_residual.result in
     let failed = c.from_residual.ensures.0 in
     let puts = cut_push_partly side c.args.layout.now.generation fill _ _ old found.live found.fill c.requires.free c.first_page.ensures words new (meant c.args.change) _ c.word.ensures.spells c.word.ensures.below_all_ones cut in
     record {
-      page = IfOk-from_err result _ failed; takes = never_on_ok _ result failed;
-      cut = on_err _ result (cut_push_leaves side c.args.layout.now.generation fill _ _ _ found.live found.fill c.requires.free c.first_page.ensures words _ (meant c.args.change) _ c.word.ensures.spells c.word.ensures.below_all_ones cut);
-      spells = never_on_ok _ result failed;
+      page = IfOk-from_err _ _ failed; takes = never_on_ok _ _ failed;
+      cut = on_err _ _ (cut_push_leaves side c.args.layout.now.generation fill _ _ _ found.live found.fill c.requires.free c.first_page.ensures words _ (meant c.args.change) _ c.word.ensures.spells c.word.ensures.below_all_ones cut);
+      spells = never_on_ok _ _ failed;
       marks = cut_push_marks side c.args.layout.now.generation fill _ _ _ found.live found.fill c.requires.free c.first_page.ensures words _ (meant c.args.change) _ c.word.ensures.spells c.word.ensures.below_all_ones cut;
-      puts = never_on_ok _ result failed;
-      begun = always_on_err result
+      puts = never_on_ok _ _ failed;
+      begun = always_on_err _
           (subst (λ n. PutsPartly (first_page old.size side + page_of_slot old.size fill) (place_of_slot old.size fill) (Held n) old new) c.word.ensures.number puts);
       other = cut_push_other side c.args.layout.now.generation fill _ _ _ found.live found.fill c.requires.free c.first_page.ensures words _ (meant c.args.change) _ c.word.ensures.spells c.word.ensures.below_all_ones cut;
       wear = program_keeps_wear _ _ _ old new (inr cut);
-      power = ends_in_step _ result failed (goes_on_same old) cut;
+      power = ends_in_step _ _ failed (goes_on_same old) cut;
     }
