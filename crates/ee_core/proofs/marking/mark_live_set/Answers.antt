@@ -59,15 +59,6 @@ mark_live-requires-clause-layout g c = layout_stays c.args.layout.now (g.F.Flash
 pub mark_live-requires-2-clause-layout : goal.mark_live-requires-2-clause-layout
 mark_live-requires-2-clause-layout g c = layout_stays c.args.layout.now (g.F.Flash.device c.args.flash.now) (g.F.Flash.device c.pages.flash) c.requires c.pages.invariant.stays
 
-pub returns-clause-marked : goal.returns-clause-marked
-returns-clause-marked g c =
-    let old = g.F.Flash.device c.args.flash.now in
-    let mid = g.F.Flash.device c.pages.flash in
-    let new = g.F.Flash.device c.mark_live-2.new.flash in
-    let layout = c.args.layout.now in
-    let all = stays_both old mid new layout.side layout.generation c.pages.invariant.stays c.mark_live-2.ensures.stays in
-    live_marked layout old mid new c.requires all (λ k below. c.pages.invariant.valid k (omega (arith, c.pages-test.false, below))) c.mark_live-2.ensures.marks c.in_ok-mark_live-2.ensures.marked
-
 pub pages-init : goal.pages-init
 pages-init g c =
     let old = g.F.Flash.device c.args.flash.now in
@@ -80,31 +71,6 @@ pages-init g c =
       other = refl;
       power = goes_on_same old;
     }
-
-pub returns-clause-live_pages : goal.returns-clause-live_pages
-returns-clause-live_pages g c =
-    let old = g.F.Flash.device c.args.flash.now in
-    let mid = g.F.Flash.device c.pages.flash in
-    let new = g.F.Flash.device c.mark_live-2.new.flash in
-    let layout = c.args.layout.now in
-    let last = last_is layout old c.requires in
-    let reached : c.pages.page - c.first_page-first.result ≡ last_used old layout.side = omega (arith, last, c.first_page-first.ensures, c.pages-test.false, c.pages.auto.page-end) in
-    let below : last_used old layout.side < mid.size.pages = omega (arith, last_in_range layout old c.requires, ap (λ (size : Size). size.pages) c.pages.invariant.stays.keeps.same_size) in
-    let drawn = subst (λ n. IsDrawn layout.side mid (valid_to n (picture_of layout.side old))) reached c.pages.invariant.drawn in
-    active_then layout.side old c.first_page-first.result c.first_page-first.ensures mid new layout.current (last_used old layout.side)
-    (g.met.F.Flash.formed c.pages.flash) c.pages.invariant.stays.keeps.same_size c.mark_live-2.ensures.stays.keeps.same_size (omega (arith, last, c.first_page-first.ensures)) below c.in_ok-mark_live-2.ensures.sets drawn
-
-pub returns-clause-old_pages : goal.returns-clause-old_pages
-returns-clause-old_pages g c =
-    let old = g.F.Flash.device c.args.flash.now in
-    let mid = g.F.Flash.device c.pages.flash in
-    let new = g.F.Flash.device c.mark_live-2.new.flash in
-    let layout = c.args.layout.now in
-    let last = last_is layout old c.requires in
-    let below : layout.current - c.first_page-first.result < mid.size.pages =
-    omega (arith, last, c.first_page-first.ensures, last_in_range layout old c.requires, ap (λ (size : Size). size.pages) c.pages.invariant.stays.keeps.same_size) in
-    other_stays layout.side old c.first_page-first.result c.first_page-first.ensures mid new layout.current
-    (g.met.F.Flash.formed c.pages.flash) (g.met.F.Flash.formed c.mark_live-2.new.flash) c.pages.invariant.stays.keeps.same_size c.mark_live-2.ensures.stays.keeps.same_size (omega (arith, last, c.first_page-first.ensures)) below c.mark_live-2.ensures.others c.pages.invariant.other
 
 pub returns-in_err-mark_live : goal.returns-in_err-mark_live
 returns-in_err-mark_live g c =
@@ -167,4 +133,35 @@ returns-in_err-mark_live-2 g c =
           let none = c.mark_live-2.ensures.no_step (ap (λ device. is_marked device layout.current Active) same ∙ set) in
           absurd (not_ok none.0 c.in_err-mark_live-2.was);
       power = ends_later _ failed c.pages.invariant.power c.in_err-mark_live-2.ensures.power;
+    }
+
+pub returns : goal.returns
+returns g c =
+    let old = g.F.Flash.device c.args.flash.now in
+    let mid = g.F.Flash.device c.pages.flash in
+    let new = g.F.Flash.device c.mark_live-2.new.flash in
+    let layout = c.args.layout.now in
+    let done = c.in_ok-mark_live-2.ensures in
+    let sizes = c.pages.invariant.stays.keeps.same_size in
+    let formed = g.met.F.Flash.formed c.pages.flash in
+    let last = last_is layout old c.requires in
+    let from : c.first_page-first.result ≤ layout.current = omega (arith, last, c.first_page-first.ensures) in
+    let reached : c.pages.page - c.first_page-first.result ≡ last_used old layout.side = omega (arith, last, c.first_page-first.ensures, c.pages-test.false, c.pages.auto.page-end) in
+    let below : last_used old layout.side < mid.size.pages = omega (arith, last_in_range layout old c.requires, ap (λ (size : Size). size.pages) sizes) in
+    let behind : layout.current - c.first_page-first.result < mid.size.pages = omega (arith, below, last, c.first_page-first.ensures) in
+    let drawn = subst (λ n. IsDrawn layout.side mid (valid_to n (picture_of layout.side old))) reached c.pages.invariant.drawn in
+    let stays = stays_both old mid new layout.side layout.generation c.pages.invariant.stays done.stays in
+    record {
+      stays = stays;
+      marked = live_marked layout old mid new c.requires stays (λ k below. c.pages.invariant.valid k (omega (arith, c.pages-test.false, below))) done.marks done.marked;
+      live_pages = active_then layout.side old c.first_page-first.result c.first_page-first.ensures mid new layout.current (last_used old layout.side) formed sizes done.stays.keeps.same_size
+          (omega (arith, last, c.first_page-first.ensures)) below done.sets drawn;
+      old_pages = other_stays layout.side old c.first_page-first.result c.first_page-first.ensures mid new layout.current formed (g.met.F.Flash.formed c.mark_live-2.new.flash)
+          sizes done.stays.keeps.same_size from behind done.others c.pages.invariant.other;
+      begun = tt; old_pages_stay = tt;
+      no_step = λ marked.
+          let same = c.pages.invariant.no_step marked in
+          let set : is_marked old layout.current Active ≡ true = ap (λ n. is_marked old n Active) last ∙ marked.active in
+          (refl, (done.no_step (ap (λ device. is_marked device layout.current Active) same ∙ set)).1 ∙ same);
+      power = record { ok = goes_on_both old mid new c.pages.invariant.power done.power.ok; cut = tt; off = tt };
     }

@@ -1,6 +1,6 @@
-use Rattle.std.proofs.Common.{◌≡◌, ◌+◌, inl, inr}
+use Rattle.std.proofs.Common.{◌≡◌, ◌+◌, ap, inl, inr, rules}
 use Rattle.ee_pages.specs.Sets.{first_page, other as other_of}
-use Rattle.ee_core.proofs.AfterCalls.{ends_in_step, goes_on_same, never_on_ok}
+use Rattle.ee_core.proofs.AfterCalls.{ends_in_step, goes_on_marked, goes_on_same, never_on_ok}
 use Rattle.ee_core.proofs.Marks.{program_keeps_wear}
 use Rattle.ee_core.proofs.OtherSteps.{active_commits, active_done, active_unmarked}
 use Rattle.ee_core.proofs.Cuts.{cut_size, mark_partly_at}
@@ -11,25 +11,6 @@ use Rattle.ee_pages.specs.declared.state.Mark.TheVariants.{Active}
 use Rattle.ee_pages.proofs.Public.{first_in_set}
 use Rattle.ee_core.specs.Cuts.{SetsPartly}
 use Rattle.ee_core.proofs.moving.commit.Goals as goal
-
-pub returns-clause-committed : goal.returns-clause-committed
-returns-clause-committed g c =
-    let device = g.F.Flash.device c.args.flash.now in
-    let page : c.first_page-first.result ≡ first_page device.size (other_of c.args.layout.now.side) = cc (c.first_page-first.ensures, c.other.ensures) in
-    let unmarked = active_unmarked device device c.args.layout.now.side c.args.layout.now.generation _ c.requires.layout.live c.requires.generation c.requires.filling.1 _ page in
-    active_done device _ c.args.layout.now.side c.args.layout.now.generation _ c.requires.layout.live c.requires.generation c.requires.filling.1 _ page
-    (c.in_ok-mark.ensures.on unmarked) (c.in_ok-mark.ensures.done unmarked)
-
-pub returns-clause-same_set : goal.returns-clause-same_set
-returns-clause-same_set g c =
-    let device = g.F.Flash.device c.args.flash.now in
-    let page : c.first_page-first.result ≡ first_page device.size (other_of c.args.layout.now.side) = cc (c.first_page-first.ensures, c.other.ensures) in
-    let unmarked = active_unmarked device device c.args.layout.now.side c.args.layout.now.generation _ c.requires.layout.live c.requires.generation c.requires.filling.1 _ page in
-    (active_commits device _ c.args.layout.now.side c.args.layout.now.generation _ c.requires.layout.live c.requires.generation c.requires.filling.1 _ page
-    (inl (record { was_on = c.in_ok-mark.ensures.on unmarked; done = c.in_ok-mark.ensures.done unmarked }))).0
-
-pub returns-clause-same_size : goal.returns-clause-same_size
-returns-clause-same_size g c = (returns-clause-committed g c).same_size
 
 pub returns-in_err-mark : goal.returns-in_err-mark
 returns-in_err-mark g c =
@@ -51,4 +32,23 @@ returns-in_err-mark g c =
       same_size = cut_size _ _ _ cut;
       wear = program_keeps_wear _ _ _ old new (inr cut);
       power = ends_in_step _ _ failed (goes_on_same old) cut;
+    }
+
+pub returns : goal.returns
+returns g c =
+    let old = g.F.Flash.device c.args.flash.now in
+    let layout = c.args.layout.now in
+    let page : c.first_page-first.result ≡ first_page old.size (other_of layout.side) = cc (c.first_page-first.ensures, c.other.ensures) in
+    let unmarked = active_unmarked old old layout.side layout.generation _ c.requires.layout.live c.requires.generation c.requires.filling.1 _ page in
+    let on = c.in_ok-mark.ensures.on unmarked in
+    let done = c.in_ok-mark.ensures.done unmarked in
+    let committed = active_done old _ layout.side layout.generation _ c.requires.layout.live c.requires.generation c.requires.filling.1 _ page on done in
+    record {
+      committed = committed;
+      cut = tt; begun = tt;
+      same_set = (active_commits old _ layout.side layout.generation _ c.requires.layout.live c.requires.generation c.requires.filling.1 _ page (inl (record { was_on = on; done = done }))).0;
+      sets = search rules;
+      same_size = committed.same_size;
+      wear = ap (λ device. device.wear) done;
+      power = record { ok = goes_on_marked _ Active old on done; cut = tt; off = tt };
     }

@@ -2,7 +2,7 @@ use Rattle.std.proofs.Common.{◌≡◌, ◌+◌, [], ap, arith, inl, inr, lengt
 use Rattle.std.proofs.Math.Path.{fun_ext}
 use Rattle.std.proofs.lemmas.Result.{IfOk-from_err, err_from_is_err_and}
 use Rattle.ee_core.proofs.AfterCalls.{ends_later, goes_on_both, goes_on_same, never_on_ok}
-use Rattle.ee_pages.specs.Meaning.{Map}
+use Rattle.ee_pages.specs.Meaning.{Map, changed_by, live_in}
 use Rattle.ee_pages.specs.Sets.{other as other_of, pending_of, set_of}
 use Rattle.ee_core.specs.Picture.{blank, filled_set, moved_words}
 use Rattle.ee_core.proofs.Drawings.{drawn_both, same_drawn}
@@ -16,62 +16,6 @@ use Rattle.ee_core.proofs.Wears.{front_all, wears_still}
 use Rattle.ee_core.specs.State.{not_blank_in}
 use Rattle.ee_core.specs.Cuts.{AddsPartly, IsDrawnPartly}
 use Rattle.ee_core.proofs.moving.move_map.Goals as goal
-
-pub returns-clause-moves : goal.returns-clause-moves
-returns-clause-moves g c =
-    let old = g.F.Flash.device c.args.flash.now in
-    let cleared = g.F.Flash.device c.clear.new.flash in
-    let opened = g.F.Flash.device c.open_set.new.flash in
-    let filling = g.F.Flash.device c.fill_set.new.flash in
-    let new = g.F.Flash.device c.commit.new.flash in
-    let side = c.args.layout.now.side in
-    let generation = c.args.layout.now.generation in
-    let changes = carried c.args.puts.now c.args.forgets in
-    let fills = c.in_ok-count.ensures.fills in
-    let keeps = keeps_both old cleared opened side generation c.in_ok-clear.ensures.keeps c.in_ok-open_set.ensures.keeps in
-    let same : map_in side opened ≡ map_in side old = fun_ext keeps.same_map in
-    let drawn = drawn_both side old opened filling keeps.same_size fills.keeps.same_size
-    (drawn_both side old cleared opened c.in_ok-clear.ensures.keeps.same_size c.in_ok-open_set.ensures.keeps.same_size (same_drawn side old cleared c.in_ok-clear.ensures.keeps.same_size c.in_ok-clear.ensures.live_pages) c.open_set.ensures.live_pages)
-    fills.adds.live_pages in
-    let as_used : pending_of (set_of side filling) ≡ pending_of (set_of side old) =
-    ap pending_of (same_set_drawn side old filling c.requires.layout.live.formed fills.keeps.live.formed (fills.keeps.same_size ∙ keeps.same_size) drawn) in
-    record {
-      moved = has_moved old opened filling new side generation c.in_ok-count.count changes keeps fills.keeps as_used fills.filling fills.map_is c.in_ok-count.ensures.each_once c.in_ok-commit.ensures.same_set c.in_ok-commit.ensures.committed;
-      as_many = omega (arith, fills.as_many, ap (λ (map : Map). length (moved_words changes map)) same);
-      wear = wears_still (not_blank_in (other_of side) old) old cleared new c.in_ok-clear.ensures.wear (c.commit.ensures.wear ∙ fills.wear ∙ c.open_set.ensures.wear);
-    }
-
-pub returns-clause-new_pages : goal.returns-clause-new_pages
-returns-clause-new_pages g c =
-    let old = g.F.Flash.device c.args.flash.now in
-    let opened = g.F.Flash.device c.open_set.new.flash in
-    let filled = g.F.Flash.device c.fill_set.new.flash in
-    let new = g.F.Flash.device c.commit.new.flash in
-    let side = c.args.layout.now.side in
-    let generation = c.args.layout.now.generation + 1 in
-    let keeps = keeps_both old (g.F.Flash.device c.clear.new.flash) opened side c.args.layout.now.generation c.in_ok-clear.ensures.keeps c.in_ok-open_set.ensures.keeps in
-    let same : map_in side opened ≡ map_in side old = fun_ext keeps.same_map in
-    let holds = c.in_ok-count.ensures.fills.adds.new_pages [] refl c.in_ok-open_set.ensures.holds in
-    let held = commits (other_of side) filled new generation (moved_words (carried c.args.puts.now c.args.forgets) (map_in side opened)) c.in_ok-count.ensures.fills.keeps.live.formed c.in_ok-commit.ensures.committed.same_size c.in_ok-commit.ensures.sets holds in
-    subst (λ (map : Map). IsCommittedWith new (other_of side) generation (moved_words (carried c.args.puts.now c.args.forgets) map)) same held
-
-pub returns-clause-live_pages : goal.returns-clause-live_pages
-returns-clause-live_pages g c =
-    let old = g.F.Flash.device c.args.flash.now in
-    let cleared = g.F.Flash.device c.clear.new.flash in
-    let opened = g.F.Flash.device c.open_set.new.flash in
-    let filled = g.F.Flash.device c.fill_set.new.flash in
-    let new = g.F.Flash.device c.commit.new.flash in
-    let side = c.args.layout.now.side in
-    let first = c.in_ok-clear.ensures.keeps.same_size in
-    let second = c.in_ok-open_set.ensures.keeps.same_size in
-    let third = c.in_ok-count.ensures.fills.keeps.same_size in
-    let last = c.in_ok-commit.ensures.committed.same_size in
-    drawn_both side old filled new (third ∙ second ∙ first) last
-    (drawn_both side old opened filled (second ∙ first) third
-    (drawn_both side old cleared opened first second (same_drawn side old cleared first c.in_ok-clear.ensures.live_pages) c.open_set.ensures.live_pages)
-    c.in_ok-count.ensures.fills.adds.live_pages)
-    (same_drawn side filled new last c.in_ok-commit.ensures.same_set)
 
 pub returns-in_err-clear : goal.returns-in_err-clear
 returns-in_err-clear g c =
@@ -189,4 +133,39 @@ returns-in_err-commit g c =
       each_once = IfOk-from_err _ _ c.from_residual-in_err-commit.ensures.0; new_pages = never_on_ok _ _ c.from_residual-in_err-commit.ensures.0;
       live_pages = never_on_ok _ _ c.from_residual-in_err-commit.ensures.0;
       power = ends_later _ c.from_residual-in_err-commit.ensures.0 (goes_on_both old opened filling (goes_on_both old cleared opened clears.power.ok opens.power.ok) c.in_ok-count.ensures.power.ok) c.in_err-commit.ensures.power;
+    }
+
+pub returns : goal.returns
+returns g c =
+    let old = g.F.Flash.device c.args.flash.now in
+    let cleared = g.F.Flash.device c.clear.new.flash in
+    let opened = g.F.Flash.device c.open_set.new.flash in
+    let filling = g.F.Flash.device c.fill_set.new.flash in
+    let new = g.F.Flash.device c.commit.new.flash in
+    let side = c.args.layout.now.side in
+    let generation = c.args.layout.now.generation in
+    let changes = carried c.args.puts.now c.args.forgets in
+    let clears = c.in_ok-clear.ensures in
+    let opens = c.in_ok-open_set.ensures in
+    let fills = c.in_ok-count.ensures.fills in
+    let done = c.in_ok-commit.ensures in
+    let before = keeps_both old cleared opened side generation clears.keeps opens.keeps in
+    let filled = keeps_both old opened filling side generation before fills.keeps in
+    let same : map_in side opened ≡ map_in side old = fun_ext before.same_map in
+    let drawn = drawn_both side old opened filling before.same_size fills.keeps.same_size
+    (drawn_both side old cleared opened clears.keeps.same_size opens.keeps.same_size (same_drawn side old cleared clears.keeps.same_size clears.live_pages) opens.live_pages)
+    fills.adds.live_pages in
+    let as_used : pending_of (set_of side filling) ≡ pending_of (set_of side old) =
+    ap pending_of (same_set_drawn side old filling c.requires.layout.live.formed fills.keeps.live.formed filled.same_size drawn) in
+    let held = commits (other_of side) filling new (generation + 1) (moved_words changes (map_in side opened)) fills.keeps.live.formed done.committed.same_size done.sets (fills.adds.new_pages [] refl opens.holds) in
+    record {
+      moves = record {
+        moved = has_moved old opened filling new side generation c.in_ok-count.count changes before fills.keeps as_used fills.filling fills.map_is c.in_ok-count.ensures.each_once done.same_set done.committed;
+        as_many = omega (arith, fills.as_many, ap (λ (map : Map). length (moved_words changes map)) same);
+        wear = wears_still (not_blank_in (other_of side) old) old cleared new clears.wear (done.wear ∙ fills.wear ∙ opens.wear);
+      };
+      each_once = c.in_ok-count.ensures.each_once ∙ ap (λ (map : Map). live_in (changed_by changes map)) same;
+      new_pages = subst (λ (map : Map). IsCommittedWith new (other_of side) (generation + 1) (moved_words changes map)) same held;
+      live_pages = drawn_both side old filling new filled.same_size done.same_size drawn (same_drawn side filling new done.same_size done.same_set);
+      power = record { ok = goes_on_both old filling new (goes_on_both old opened filling (goes_on_both old cleared opened clears.power.ok opens.power.ok) c.in_ok-count.ensures.power.ok) done.power.ok; cut = tt; off = tt };
     }

@@ -1,4 +1,4 @@
-use Rattle.std.proofs.Common.{◌≡◌, ◌+◌, ◌-◌, ap, inl, inr, length, sym, subst, ◌∙◌}
+use Rattle.std.proofs.Common.{◌≡◌, ◌+◌, ◌-◌, ap, inl, inr, length, rules, sym, subst, ◌∙◌}
 use Rattle.std.proofs.lemmas.Result.{err_from_is_err_and}
 use Rattle.ee_flash.specs.Size.{Size}
 use Rattle.ee_pages.specs.declared.side.Side.{Side}
@@ -17,50 +17,6 @@ use Rattle.ee_core.proofs.CutMoves.{marked_partly, retires_partly}
 use Rattle.ee_core.specs.Cuts.{IsDrawnPartly}
 use Rattle.ee_core.specs.Finished.{last_used}
 use Rattle.ee_core.proofs.moving.transfer.Goals as goal
-
-pub returns-clause-moves : goal.returns-clause-moves
-returns-clause-moves g c =
-    let old = g.F.Flash.device c.args.flash.now in
-    let mid = g.F.Flash.device c.move_map.new.flash in
-    let new = g.F.Flash.device c.finish.new.flash in
-    let moves = c.in_ok-count.ensures.moves in
-    let stays = rw c.other.ensures at c.in_ok-finish.ensures.stays in
-    record {
-      moved = moved_stays old mid new c.args.layout.now.side c.args.layout.now.generation (carried c.args.puts.now c.args.forgets) moves.moved stays;
-      as_many = moves.as_many;
-      wear = wears_still (not_blank_in (other_of c.args.layout.now.side) old) old mid new moves.wear stays.same_wear;
-    }
-
-pub returns-clause-new_pages : goal.returns-clause-new_pages
-returns-clause-new_pages g c =
-    let old = g.F.Flash.device c.args.flash.now in
-    let mid = g.F.Flash.device c.move_map.new.flash in
-    let new = g.F.Flash.device c.finish.new.flash in
-    let side = c.args.layout.now.side in
-    let words = moved_words (carried c.args.puts.now c.args.forgets) (map_in side old) in
-    let moved = c.in_ok-count.ensures.moves.moved in
-    let stays = rw c.other.ensures at c.in_ok-finish.ensures.stays in
-    let shows = rw c.other.ensures at c.in_ok-finish.ensures.shows in
-    let fill : fill_of (slots_of (set_of (other_of side) mid)) ≡ length words = moved.fill_is ∙ sym c.in_ok-count.ensures.each_once ∙ c.in_ok-count.ensures.moves.as_many in
-    subst (λ (size : Size). IsDrawn (other_of side) new (filled_set size (c.args.layout.now.generation + 1) words)) moved.same_size
-    (filled_up (other_of side) mid new (c.args.layout.now.generation + 1) words stays.keeps.same_size c.in_ok-count.ensures.new_pages fill shows.live_pages)
-
-pub returns-clause-old_pages : goal.returns-clause-old_pages
-returns-clause-old_pages g c =
-    let old = g.F.Flash.device c.args.flash.now in
-    let mid = g.F.Flash.device c.move_map.new.flash in
-    let new = g.F.Flash.device c.finish.new.flash in
-    let side = c.args.layout.now.side in
-    let moved = c.in_ok-count.ensures.moves.moved in
-    let stays = rw c.other.ensures at c.in_ok-finish.ensures.stays in
-    let shows = rw c.other.ensures at c.in_ok-finish.ensures.shows in
-    let drawn : IsDrawn side new (retired_pages (is_used side mid) (picture_of side mid)) =
-    subst (λ (set : Side). IsDrawn set new (retired_pages (is_used set mid) (picture_of set mid))) (other_twice side) shows.old_pages in
-    all_retired side old mid new c.requires.layout.live.formed moved.live.formed moved.same_size stays.keeps.same_size
-    c.in_ok-count.ensures.live_pages drawn
-
-pub returns-clause-power : goal.returns-clause-power
-returns-clause-power g c = record { ok = goes_on_both _ _ _ c.in_ok-count.ensures.power.ok c.in_ok-finish.ensures.power.ok; cut = tt; off = tt }
 
 pub returns-in_err-count : goal.returns-in_err-count
 returns-in_err-count g c =
@@ -115,4 +71,34 @@ returns-in_err-finish g c =
       marked = never_on_ok _ _ c.from_residual-in_err-finish.ensures.0; new_pages = never_on_ok _ _ c.from_residual-in_err-finish.ensures.0;
       old_pages = never_on_ok _ _ c.from_residual-in_err-finish.ensures.0;
       power = ends_later _ c.from_residual-in_err-finish.ensures.0 c.in_ok-count.ensures.power.ok c.in_err-finish.ensures.power;
+    }
+
+pub returns : goal.returns
+returns g c =
+    let old = g.F.Flash.device c.args.flash.now in
+    let mid = g.F.Flash.device c.move_map.new.flash in
+    let new = g.F.Flash.device c.finish.new.flash in
+    let side = c.args.layout.now.side in
+    let changes = carried c.args.puts.now c.args.forgets in
+    let words = moved_words changes (map_in side old) in
+    let done = c.in_ok-count.ensures in
+    let moves = done.moves in
+    let stays = rw c.other.ensures at c.in_ok-finish.ensures.stays in
+    let shows = rw c.other.ensures at c.in_ok-finish.ensures.shows in
+    let fill : fill_of (slots_of (set_of (other_of side) mid)) ≡ length words = moves.moved.fill_is ∙ sym done.each_once ∙ moves.as_many in
+    let drawn : IsDrawn side new (retired_pages (is_used side mid) (picture_of side mid)) =
+    subst (λ (set : Side). IsDrawn set new (retired_pages (is_used set mid) (picture_of set mid))) (other_twice side) shows.old_pages in
+    record {
+      moves = record {
+        moved = moved_stays old mid new side c.args.layout.now.generation changes moves.moved stays;
+        as_many = moves.as_many;
+        wear = wears_still (not_blank_in (other_of side) old) old mid new moves.wear stays.same_wear;
+      };
+      layout = search rules;
+      other_set = c.other.ensures;
+      marked = rw c.other.ensures at c.in_ok-finish.ensures.finished;
+      new_pages = subst (λ (size : Size). IsDrawn (other_of side) new (filled_set size (c.args.layout.now.generation + 1) words)) moves.moved.same_size
+          (filled_up (other_of side) mid new (c.args.layout.now.generation + 1) words stays.keeps.same_size done.new_pages fill shows.live_pages);
+      old_pages = all_retired side old mid new c.requires.layout.live.formed moves.moved.live.formed moves.moved.same_size stays.keeps.same_size done.live_pages drawn;
+      power = record { ok = goes_on_both old mid new done.power.ok c.in_ok-finish.ensures.power.ok; cut = tt; off = tt };
     }

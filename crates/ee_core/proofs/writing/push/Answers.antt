@@ -1,4 +1,4 @@
-use Rattle.std.proofs.Common.{◌+◌, ap, inr, subst, ◌∙◌}
+use Rattle.std.proofs.Common.{◌+◌, ap, inr, rules, subst, ◌∙◌}
 use Rattle.std.proofs.lemmas.Result.{IfOk-from_err}
 use Rattle.ee_flash.specs.Size.{Size}
 use Rattle.ee_pages.specs.Sets.{first_page, page_of_slot, place_of_slot}
@@ -19,36 +19,6 @@ program-requires-clause-erased g c =
     let words = c.words-slots.ensures.value ∙ ap (λ (size : Size). size.words) c.shape.ensures in
     let found = c.requires.layout in
     cc (free_slot_erased c.args.layout.now.side c.args.layout.now.generation c.args.layout.now.fill _ _ _ found.live found.fill c.requires.free c.first_page.ensures words)
-
-pub returns-clause-takes : goal.returns-clause-takes
-returns-clause-takes g c =
-    let words = c.words-slots.ensures.value ∙ ap (λ (size : Size). size.words) c.shape.ensures in
-    let found = c.requires.layout in
-    push_is_taken c.args.layout.now.side c.args.layout.now.generation c.args.layout.now.fill _ _ _ found.live found.fill c.requires.free c.first_page.ensures words _ (meant c.args.change) _ c.word.ensures.spells c.word.ensures.below_all_ones c.in_ok-program.ensures.on c.in_ok-program.ensures.done
-
-pub returns-clause-marks : goal.returns-clause-marks
-returns-clause-marks g c =
-    let words = c.words-slots.ensures.value ∙ ap (λ (size : Size). size.words) c.shape.ensures in
-    let found = c.requires.layout in
-    push_marks c.args.layout.now.side c.args.layout.now.generation c.args.layout.now.fill _ _ _ found.live found.fill c.requires.free c.first_page.ensures words _ (meant c.args.change) _ c.word.ensures.spells c.word.ensures.below_all_ones c.in_ok-program.ensures.on c.in_ok-program.ensures.done
-
-pub returns-clause-other : goal.returns-clause-other
-returns-clause-other g c =
-    let words = c.words-slots.ensures.value ∙ ap (λ (size : Size). size.words) c.shape.ensures in
-    let found = c.requires.layout in
-    push_other c.args.layout.now.side c.args.layout.now.generation c.args.layout.now.fill _ _ _ found.live found.fill c.requires.free c.first_page.ensures words _ (meant c.args.change) _ c.word.ensures.spells c.word.ensures.below_all_ones c.in_ok-program.ensures.on c.in_ok-program.ensures.done
-
-pub returns-clause-puts : goal.returns-clause-puts
-returns-clause-puts g c =
-    let old = g.F.Flash.device c.args.flash.now in
-    let new = g.F.Flash.device c.program.new.self in
-    let words = c.words-slots.ensures.value ∙ ap (λ (size : Size). size.words) c.shape.ensures in
-    let side = c.args.layout.now.side in
-    let fill = c.args.layout.now.fill in
-    let formed = c.requires.layout.live.formed in
-    put_there _ _ _ old new (first_page old.size side + page_of_slot old.size fill) (place_of_slot old.size fill) _ formed
-    (page_in_device old.size side (page_of_slot old.size fill) (page_in_range old fill c.requires.free)) (place_in_range old fill formed)
-    (cc (c.first_page.ensures, words)) (cc (words)) c.word.ensures.number c.in_ok-program.ensures.done
 
 pub returns-in_err-program : goal.returns-in_err-program
 returns-in_err-program g c =
@@ -72,4 +42,30 @@ returns-in_err-program g c =
       other = cut_push_other side c.args.layout.now.generation fill _ _ _ found.live found.fill c.requires.free c.first_page.ensures words _ (meant c.args.change) _ c.word.ensures.spells c.word.ensures.below_all_ones cut;
       wear = program_keeps_wear _ _ _ old new (inr cut);
       power = ends_in_step _ _ failed (goes_on_same old) cut;
+    }
+
+pub returns : goal.returns
+returns g c =
+    let old = g.F.Flash.device c.args.flash.now in
+    let new = g.F.Flash.device c.program.new.self in
+    let words = c.words-slots.ensures.value ∙ ap (λ (size : Size). size.words) c.shape.ensures in
+    let found = c.requires.layout in
+    let side = c.args.layout.now.side in
+    let fill = c.args.layout.now.fill in
+    let formed = found.live.formed in
+    let on = c.in_ok-program.ensures.on in
+    let done = c.in_ok-program.ensures.done in
+    record {
+      page = cc (c.first_page.ensures, words);
+      takes = push_is_taken side c.args.layout.now.generation fill _ _ _ found.live found.fill c.requires.free c.first_page.ensures words _ (meant c.args.change) _ c.word.ensures.spells c.word.ensures.below_all_ones on done;
+      cut = tt;
+      spells = search rules;
+      marks = push_marks side c.args.layout.now.generation fill _ _ _ found.live found.fill c.requires.free c.first_page.ensures words _ (meant c.args.change) _ c.word.ensures.spells c.word.ensures.below_all_ones on done;
+      puts = put_there _ _ _ old new (first_page old.size side + page_of_slot old.size fill) (place_of_slot old.size fill) _ formed
+          (page_in_device old.size side (page_of_slot old.size fill) (page_in_range old fill c.requires.free)) (place_in_range old fill formed)
+          (cc (c.first_page.ensures, words)) (cc (words)) c.word.ensures.number done;
+      begun = tt;
+      other = push_other side c.args.layout.now.generation fill _ _ _ found.live found.fill c.requires.free c.first_page.ensures words _ (meant c.args.change) _ c.word.ensures.spells c.word.ensures.below_all_ones on done;
+      wear = ap (λ device. device.wear) done;
+      power = search rules;
     }
