@@ -93,29 +93,8 @@ pages-init g c =
       power = goes_on_same old;
     }
 
-pub returns-clause-old_pages : goal.returns-clause-old_pages
-returns-clause-old_pages g c =
-    let old = g.F.Flash.device c.args.flash.now in
-    let new = g.F.Flash.device c.pages.flash in
-    let side = other c.args.layout.now.side in
-    let first : c.first_page-first.result ≡ first_page old.size side = c.first_page-first.ensures ∙ ap (λ (set : Side). first_page old.size set) c.other.ensures in
-    let pages = ap (λ (size : Size). size.pages) c.shape.ensures in
-    retired_end side old c.first_page-first.result first new c.pages.page c.pages.invariant.stays.keeps.same_size
-    (search (arith, c.pages-2.ensures.value, pages, c.pages-test.false, c.pages.auto.page-end)) c.pages.invariant.drawn
-
 pub mark_old-requires-clause-layout : goal.mark_old-requires-clause-layout
 mark_old-requires-clause-layout g c = layout_stays _ _ _ c.requires c.pages.invariant.stays
-
-pub returns-clause-marked : goal.returns-clause-marked
-returns-clause-marked g c = λ k below.
-    let old = g.F.Flash.device c.args.flash.now in
-    let new = g.F.Flash.device c.pages.flash in
-    let side = other c.args.layout.now.side in
-    let pages = ap (λ (size : Size). size.pages) c.shape.ensures in
-    let sizes = c.pages.invariant.stays.keeps.same_size in
-    let first : c.first_page-first.result ≡ first_page old.size side = c.first_page-first.ensures ∙ ap (λ (set : Side). first_page old.size set) c.other.ensures in
-    let within : k < c.pages.page - first_page old.size side = omega (arith, below, ap (λ (size : Size). size.pages) sizes, first, pages, c.pages-2.ensures.value, c.pages-test.false) in
-    subst (λ (size : Size). IsPageDone new (first_page size side + k)) (sym sizes) (c.pages.invariant.done k within)
 
 pub returns-in_err-mark_old : goal.returns-in_err-mark_old
 returns-in_err-mark_old g c =
@@ -151,4 +130,23 @@ returns-in_err-mark_old g c =
           let now : IsPageDone mid c.pages.page = subst (λ device. IsPageDone device c.pages.page) (sym (c.pages.invariant.no_step marked)) (done_already old side c.pages.page marked from below) in
           absurd (not_ok (c.mark_old.ensures.no_step (marked_from mid c.pages.page written now)).0 c.in_err-mark_old.was);
       power = ends_later _ failed c.pages.invariant.power c.in_err-mark_old.ensures.power;
+    }
+
+pub returns : goal.returns
+returns g c =
+    let old = g.F.Flash.device c.args.flash.now in
+    let new = g.F.Flash.device c.pages.flash in
+    let side = other c.args.layout.now.side in
+    let sizes = c.pages.invariant.stays.keeps.same_size in
+    let pages = ap (λ (size : Size). size.pages) c.shape.ensures in
+    let first : c.first_page-first.result ≡ first_page old.size side = c.first_page-first.ensures ∙ ap (λ (set : Side). first_page old.size set) c.other.ensures in
+    record {
+      stays = c.pages.invariant.stays; marks = c.pages.invariant.marks; live_pages = c.pages.invariant.live;
+      marked = λ k below.
+          let within : k < c.pages.page - first_page old.size side = omega (arith, below, ap (λ (size : Size). size.pages) sizes, first, pages, c.pages-2.ensures.value, c.pages-test.false) in
+          subst (λ (size : Size). IsPageDone new (first_page size side + k)) (sym sizes) (c.pages.invariant.done k within);
+      old_pages = retired_end side old c.first_page-first.result first new c.pages.page sizes (omega (arith, c.pages-2.ensures.value, pages, c.pages-test.false, c.pages.auto.page-end)) c.pages.invariant.drawn;
+      begun = tt; live_pages_stay = tt;
+      no_step = λ marked. (refl, c.pages.invariant.no_step marked);
+      power = record { ok = c.pages.invariant.power; cut = tt; off = tt };
     }

@@ -7,14 +7,6 @@ use Rattle.ee_index.specs.Index.{IsKept, slot_for}
 use Rattle.ee_index.proofs.IndexedRooms.{needs_one, no_room, room_made}
 use Rattle.ee_index.proofs.indexed.IndexedStoreVariables.write.Goals as goal
 
-pub append_indexed-requires-clause-marked : goal.append_indexed-requires-clause-marked
-append_indexed-requires-clause-marked g c =
-    let device = g.F.Flash.device c.self.inside.flash in
-    let layout = c.self.inside.layout in
-    let on = sym (c.if-not-is_on.ensures) in
-    let marked = store_marked device layout.side layout.generation c.self.invariant.0 on (c.self.invariant.1 on).found.live in
-    search (rules, marked)
-
 pub move_indexed-requires-clause-needed : goal.move_indexed-requires-clause-needed
 move_indexed-requires-clause-needed g c =
     let device = g.F.Flash.device c.self.inside.flash in
@@ -53,3 +45,8 @@ invariant_of-self-then-layout-slots g c = (c.append_indexed.ensures.store, λ on
 
 pub invariant_of-self-2 : goal.invariant_of-self-2
 invariant_of-self-2 g c = (c.move_indexed.ensures.store, λ on. record { found = c.move_indexed.ensures.layout on; indexes = c.move_indexed.ensures.index on })
+
+pub append_indexed-requires-clause-marked : goal.append_indexed-requires-clause-marked
+append_indexed-requires-clause-marked g c =
+    let on = sym (c.if-not-is_on.ensures) in
+    store_marked (g.F.Flash.device c.self.inside.flash) c.self.inside.layout.side c.self.inside.layout.generation c.self.invariant.0 on (c.self.invariant.1 on).found.live
