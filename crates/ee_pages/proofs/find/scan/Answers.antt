@@ -1,6 +1,6 @@
-use Rattle.std.proofs.Common.{rules, ap, ◌≡◌, ◌+◌, ◌-◌, ◌/◌}
+use Rattle.std.proofs.Common.{rules, ap, arith, ◌≡◌, ◌+◌, ◌-◌, ◌/◌}
 use Rattle.ee_pages.specs.Sets.{first_page, page_of_slot}
-use Rattle.ee_pages.proofs.Scans.{current_below, foreign_fault, layout_found}
+use Rattle.ee_pages.proofs.Scans.{current_below, first_below, foreign_fault, layout_found}
 use Rattle.ee_pages.proofs.find.scan.Goals as goal
 
 pub overflow_add-result-in-None : goal.overflow_add-result-in-None
@@ -17,3 +17,9 @@ returns-in-None-clause-layout g c =
     let same : c.first_page-start.result + c.saturating_sub.result / (c.words.result - 4) ≡ first_page device.size c.in_ok-side.side + page_of_slot device.size (c.count_front-written.result - 1) =
     cc (words, c.first_page-start.ensures, c.saturating_sub.ensures, c.words.ensures.value) in
     layout_found device c.in_ok-side.side c.in_ok-side.generation c.count_front-written.result (c.first_page-start.result + c.saturating_sub.result / (c.words.result - 4)) (g.met.F.Flash.formed c.args.flash.now) c.in_ok-side.ensures.live c.count_front-written.ensures.front c.in-None.ensures.none same
+
+pub returns-in-None-clause-legal : goal.returns-in-None-clause-legal
+returns-in-None-clause-legal g c = (λ _. (c.in_ok-side.side, (c.in_ok-side.generation, (returns-in-None-clause-layout g c).live)), λ _. search)
+
+pub overflow_add-result : goal.overflow_add-result
+overflow_add-result g c = omega (arith, first_below (g.F.Flash.device c.args.flash.now) c.in_ok-side.side, c.in-Some.ensures.found.page_in_range, c.first_page-start.ensures, (g.met.F.Flash.formed c.args.flash.now).within_limits.few_pages)

@@ -14,10 +14,9 @@ live-preserved g c =
     let found = c.next_batch.new.batch.found.items in
     let above = above_of c.live.after in
     let batch = subst (λ (through : Option ℕ). AreLiveThrough map above found through) c.in-Some.is c.next_batch.ensures.live in
-    let counted = counted_through map found above c.live.count c.live.invariant.count c.in-Some.through batch in
     record {
       few = omega (arith, last_rises map found above batch.next, batch.rest.0, c.live.invariant.few);
-      count = search (arith, counted);
+      count = search (arith, counted_through map found above c.live.count c.live.invariant.count c.in-Some.through batch);
     }
 
 pub returns-in_default : goal.returns-in_default
@@ -26,5 +25,4 @@ returns-in_default g c =
     let found = c.next_batch.new.batch.found.items in
     let above = above_of c.live.after in
     let batch = subst (λ (through : Option ℕ). AreLiveThrough map above found through) c.in_default.is c.next_batch.ensures.live in
-    let counted = counted_all map found above c.live.count c.live.invariant.count c.next_batch.ensures.from c.next_batch.ensures.proper batch in
-    search (arith, counted)
+    search (arith, counted_all map found above c.live.count c.live.invariant.count c.next_batch.ensures.from c.next_batch.ensures.proper batch)

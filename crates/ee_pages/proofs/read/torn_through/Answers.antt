@@ -43,9 +43,7 @@ overflow_add-torn g c =
     let few : c.loop-slot.slot < device.size.words - 4 = omega (arith, c.loop-slot-test.true, c.words-slot-end.ensures.value, ap (λ (size : Size). size.words) c.shape.ensures) in
     let all = length-slots c.args.side device formed in
     let within : place < length slots = omega (arith, all, in_set c.args.page device.size.pages (device.size.words - 4) c.loop-slot.slot c.requires.page_in_range few) in
-    let torn = length-filter is_torn (take place slots) in
-    let some = count_by-le-length is_torn (take place slots) in
     let front : length (take place slots) ≡ place = length-take-le place slots (omega (arith, within)) in
     let row : device.size.words - 4 ≤ 508 = omega (arith, formed.within_limits.few_words) in
     let rows : device.size.pages * (device.size.words - 4) ≤ device.size.pages * 508 = mul-le-mul_left device.size.pages row in
-    omega (arith, torn, some, front, within, all, rows, formed.within_limits.few_pages, c.loop-slot.invariant)
+    omega (arith, length-filter is_torn (take place slots), count_by-le-length is_torn (take place slots), front, within, all, rows, formed.within_limits.few_pages, c.loop-slot.invariant)

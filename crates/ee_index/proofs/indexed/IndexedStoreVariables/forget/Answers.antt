@@ -16,14 +16,10 @@ move_indexed-requires-clause-needed g c =
     needs_one device layout c.self.inside.index.entries kept (record { address = c.args.address; value = c.in-Some.value }) true all
 
 pub move_indexed-requires-clause-room : goal.move_indexed-requires-clause-room
-move_indexed-requires-clause-room g c =
-    let kept = c.self.invariant.1 (sym (c.if-not-is_on.ensures)) in
-    room_as_it_is (g.F.Flash.device c.self.inside.flash) c.self.inside.layout c.self.inside.index.entries kept
+move_indexed-requires-clause-room g c = room_as_it_is (g.F.Flash.device c.self.inside.flash) c.self.inside.layout c.self.inside.index.entries (c.self.invariant.1 (sym (c.if-not-is_on.ensures)))
 
 pub append_indexed-requires-clause-ready : goal.append_indexed-requires-clause-ready
-append_indexed-requires-clause-ready g c =
-    let kept = c.self.invariant.1 (sym (c.if-not-is_on.ensures)) in
-    (slot_for c.self.inside.index.entries, kept.indexes, λ address. refl)
+append_indexed-requires-clause-ready g c = (slot_for c.self.inside.index.entries, (c.self.invariant.1 (sym (c.if-not-is_on.ensures))).indexes, λ address. refl)
 
 pub append_indexed-requires-clause-free : goal.append_indexed-requires-clause-free
 append_indexed-requires-clause-free g c = subst (λ n. c.self.inside.layout.fill < n) (c.slots.ensures.value ∙ ap slot_count c.shape.ensures) c.if-layout-slots.true

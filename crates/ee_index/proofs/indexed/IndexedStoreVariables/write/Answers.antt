@@ -37,8 +37,7 @@ append_indexed-requires-clause-free g c = subst (λ n. c.self.inside.layout.fill
 
 pub invariant_of-self : goal.invariant_of-self
 invariant_of-self g c =
-    let kept = c.self.invariant.1 (sym (c.if-not-is_on.ensures)) in
-    (c.self.invariant.0, λ on. subst (λ entries. IsKept (g.F.Flash.device c.self.inside.flash) c.self.inside.layout entries) (sym c.in_default.ensures.err) kept)
+    (c.self.invariant.0, λ on. subst (λ entries. IsKept (g.F.Flash.device c.self.inside.flash) c.self.inside.layout entries) (sym c.in_default.ensures.err) (c.self.invariant.1 (sym (c.if-not-is_on.ensures))))
 
 pub invariant_of-self-then-layout-slots : goal.invariant_of-self-then-layout-slots
 invariant_of-self-then-layout-slots g c = (c.append_indexed.ensures.store, λ on. record { found = c.append_indexed.ensures.layout on; indexes = c.append_indexed.ensures.index on })
