@@ -19,7 +19,7 @@ returns-in-None-clause-layout g c =
     layout_found device c.in_ok-side.side c.in_ok-side.generation c.count_front-written.result (c.first_page-start.result + c.saturating_sub.result / (c.words.result - 4)) (g.met.F.Flash.formed c.args.flash.now) c.in_ok-side.ensures.live c.count_front-written.ensures.front c.in-None.ensures.none same
 
 pub returns-in-None-clause-legal : goal.returns-in-None-clause-legal
-returns-in-None-clause-legal g c = (λ _. (c.in_ok-side.side, (c.in_ok-side.generation, (returns-in-None-clause-layout g c).live)), λ _. search)
+returns-in-None-clause-legal g c = (λ _. (c.in_ok-side.side, c.in_ok-side.generation, (returns-in-None-clause-layout g c).live), λ _. search)
 
 pub overflow_add-result : goal.overflow_add-result
 overflow_add-result g c = omega (arith, first_below (g.F.Flash.device c.args.flash.now) c.in_ok-side.side, c.in-Some.ensures.found.page_in_range, c.first_page-start.ensures, (g.met.F.Flash.formed c.args.flash.now).within_limits.few_pages)
