@@ -1,5 +1,4 @@
-use Rattle.std.proofs.Common.{arith, subst}
-use Rattle.std.proofs.lemmas.Grind.{common_steps}
+use Rattle.std.proofs.Common.{subst}
 use Rattle.ee_pages.specs.Layout.{IsScanFault}
 use Rattle.ee_core.proofs.Startable.{foreign_stays, two_live_stays}
 use Rattle.ee_core.proofs.first_start.is_startable.Goals as goal
@@ -13,6 +12,3 @@ pub returns-in-Foreign-clause-no : goal.returns-in-Foreign-clause-no
 returns-in-Foreign-clause-no g c = λ _.
     let device = g.F.Flash.device c.args.flash.now in
     foreign_stays device c.in-Foreign.page c.in-Foreign.at (subst (IsScanFault device) c.in-Foreign.is c.requires)
-
-pub returns-in-Unformatted-clause-yes : goal.returns-in-Unformatted-clause-yes
-returns-in-Unformatted-clause-yes g c = grind (arith, common_steps)
