@@ -1,4 +1,5 @@
 use Rattle.std.proofs.Common.{◌⊎◌, ◌≡◌, inl, arith}
+use Rattle.std.proofs.lemmas.Grind.{common_steps}
 use Rattle.ee_text.proofs.Public.{passed_on}
 use Rattle.ee_check.specs.declared.certificate.Stretch.{Stretch}
 use Rattle.ee_check.specs.declared.checking.CheckFault.TheVariants.{Memory}
@@ -28,3 +29,6 @@ loop-stretch-preserved g c =
       so_far = one_further c.args.start.now c.args.trace.now c.args.stretches.now l.stretch-index no_stretch l.walk c.pass.new.self
           c.loop-stretch-test.true l.invariant.so_far c.in_ok-judge.ensures c.in_ok-pass.ensures.live c.in_ok-pass.ensures.place;
     }
+
+pub returns-clause-ok : goal.returns-clause-ok
+returns-clause-ok g c = grind (arith, common_steps)

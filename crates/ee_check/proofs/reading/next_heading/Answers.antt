@@ -1,5 +1,12 @@
+use Rattle.ee_text.proofs.Public.{no_line}
+use Rattle.ee_check.specs.Text.{heading}
 use Rattle.ee_check.proofs.Lines.{other_heading}
 use Rattle.ee_check.proofs.reading.next_heading.Goals as goal
+
+pub returns-in_err-line-clause-none : goal.returns-in_err-line-clause-none
+returns-in_err-line-clause-none c =
+    rw c.from_residual.ensures
+    (λ claim more proper e. no_line c.args.text.now (heading claim.slots claim.fill claim.live claim.writes) more c.in_err-line.ensures.none e)
 
 pub returns-in_err-read_heading-clause-none : goal.returns-in_err-read_heading-clause-none
 returns-in_err-read_heading-clause-none c =
