@@ -14,8 +14,7 @@ use Rattle.ee_planner.proofs.Demanded.{fewest, keeps_by_counts, first_not_fittin
 
 -- no change at all
 pub demand_of_nothing : (slots runs : ℕ) (trace : List Change) → length trace ≡ 0 → IsDemand (fresh slots) (repeated_trace runs trace) (Transfers 0)
-demand_of_nothing slots runs trace empty =
-    subst (λ changes. IsDemand (fresh slots) changes (Transfers 0)) (sym (repeated_nothing runs trace empty)) (tt, nothing_takes_none slots)
+demand_of_nothing slots runs trace empty = subst (λ changes. IsDemand (fresh slots) changes (Transfers 0)) (sym (repeated_nothing runs trace empty)) (tt, nothing_takes_none slots)
 
 -- a change after which too many addresses are live
 pub demand_over : {A : Type 0} (counts : Counts A) (slots runs last n : ℕ) (trace : List Change) → AreRoundCounts trace counts → 0 < length trace

@@ -60,11 +60,7 @@ fewest count slots trace k counts fits within beyond =
     let claim : Claim = record { slots = slots; fill = 0; live = 0; writes = length trace; stretches = way.stretches } in
     let a = counts p within in let b = fits p within in let c = place_next count slots k in
     let after = ap (λ l. l.after) way.last in let used = ap (λ l. l.used) way.last in
-    let tight : IsTight start trace claim = record {
-      header = record { slots = refl; fill = refl; live = refl; writes = refl };
-      stretches = way.each;
-      fits = omega arith;
-    } in
+    let tight : IsTight start trace claim = record { header = record { slots = refl; fill = refl; live = refl; writes = refl }; stretches = way.each; fits = omega arith } in
     let met = tight_is_met_lem start trace claim proper tight in
     let bound = certificates_bound_schedules_lem start trace claim in
     record {

@@ -42,10 +42,7 @@ carried start trace n change old h made is fits used =
     let stretch : Stretch = record { to = n + 1; from = old.from } in
     let live_is = one_made start.live old.now.live (live_after_one old.now.live change) trace n change h made.live is refl in
     let a = made.behind in let b = made.fill in let c = made.fits in let d = made.slots in let f = made.from in
-    let tight : IsTightStretch start trace place stretch = record {
-      forced = record { rising = omega arith; within = omega arith; from_is = f; forced = omega arith };
-      tight = omega arith;
-    } in
+    let tight : IsTightStretch start trace place stretch = record { forced = record { rising = omega arith; within = omega arith; from_is = f; forced = omega arith }; tight = omega arith } in
     let e : last_place start trace (first_place start) (old.stretches ++ stretch ∷ []) ≡ place_at start trace (n + 1) =
     last_place-append start trace (first_place start) old.stretches stretch in
     let after : (last_place start trace (first_place start) (old.stretches ++ stretch ∷ [])).after ≡ n + 1 = ap (λ p. p.after) e in

@@ -57,10 +57,8 @@ has_remove (x ∷ xs) k q sorted = elim (cases_eq k x) [
 one_list : (xs ys : List ℕ) → IsStrictlySortedBy nat_cmp xs → IsStrictlySortedBy nat_cmp ys → ((q : ℕ) → has xs q ≡ has ys q) → xs ≡ ys
 unfolding IsStrictlySortedBy
 one_list [] [] sorted sort alike = refl
-one_list [] (y ∷ ys) sorted sort alike =
-    let e : false ≡ true = alike y ∙ rw (here_it_is y y refl) refl in absurd (cc)
-one_list (x ∷ xs) [] sorted sort alike =
-    let e : false ≡ true = sym (alike x) ∙ rw (here_it_is x x refl) refl in absurd (cc)
+one_list [] (y ∷ ys) sorted sort alike = let e : false ≡ true = alike y ∙ rw (here_it_is y y refl) refl in absurd (cc)
+one_list (x ∷ xs) [] sorted sort alike = let e : false ≡ true = sym (alike x) ∙ rw (here_it_is x x refl) refl in absurd (cc)
 one_list (x ∷ xs) (y ∷ ys) sorted sort alike = elim (cases_lt x y) [
   | inl before ↦
       let there : has (x ∷ xs) x ≡ true = rw (here_it_is x x refl) refl in
