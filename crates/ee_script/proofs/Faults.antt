@@ -56,5 +56,4 @@ judged_all step old mid new piece rest judged went = search (rules, goes_on)
 
 pub fault_at_last : {S : Type 0} (step : S → Command → Answer → S → Type 0) (old mid : Progress S) (piece rest : List ℕ) (fault : ScriptFault)
     → HasJudged step old piece rest mid → IsFault mid rest fault → IsFault old piece fault
-fault_at_last step old mid piece rest fault judged met =
-    subst (λ text. IsFault old text fault) (sym judged.piece_is) (fault_later step old mid judged.front rest fault judged.went met)
+fault_at_last step old mid piece rest fault judged met = subst (λ text. IsFault old text fault) (sym judged.piece_is) (fault_later step old mid judged.front rest fault judged.went met)

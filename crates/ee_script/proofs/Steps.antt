@@ -30,22 +30,13 @@ no_line_when_long text lacks long more command after proper e =
 
 -- what no line feed ends is no good line
 pub no_line_at_end : (text : List ℕ) → Lacks 10 text → NoLine text
-no_line_at_end text lacks command after proper e =
-    no_place 10 text (command_text command) after lacks (e ∙ append_assoc (command_text command) (10 ∷ []) after)
+no_line_at_end text lacks command after proper e = no_place 10 text (command_text command) after lacks (e ∙ append_assoc (command_text command) (10 ∷ []) after)
 
 -- ---- a line, or a part of one
 
 -- nothing came
 pub goes_nowhere : {S : Type 0} (step : S → Command → Answer → S → Type 0) (old : Progress S) → Goes step old [] old
-goes_nowhere step old = record {
-  commands = [];
-  answers = [];
-  proper = tt;
-  text_is = append-nil old.unfinished;
-  report_is = sym (append-nil old.report);
-  run = refl;
-  lines_are = omega arith;
-}
+goes_nowhere step old = record { commands = []; answers = []; proper = tt; text_is = append-nil old.unfinished; report_is = sym (append-nil old.report); run = refl; lines_are = omega arith }
 
 -- bytes of an unfinished line
 pub goes_keeping : {S : Type 0} (step : S → Command → Answer → S → Type 0) (old new : Progress S) (bytes : List ℕ)

@@ -59,10 +59,7 @@ pub answered : {S : Type 0} (step : S → Command → Answer → S → Type 0) (
 answered {S} step server text last new reported went ended = record {
   commands = went.commands;
   answers = went.answers;
-  is_script = record {
-    proper = went.proper;
-    text_is = went.text_is ∙ ap (λ rest. script went.commands ++ rest) ended.nothing_left ∙ append-nil (script went.commands);
-  };
+  is_script = record { proper = went.proper; text_is = went.text_is ∙ ap (λ rest. script went.commands ++ rest) ended.nothing_left ∙ append-nil (script went.commands) };
   run = subst (λ (s : S). Run step server went.commands went.answers s) (sym ended.server_is) went.run;
   report_is = ended.report_is ∙ went.report_is;
 }
