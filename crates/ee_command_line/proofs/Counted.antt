@@ -1,7 +1,8 @@
 -- Lists of words of a known length.
-use Rattle.std.proofs.Common.{◌≡◌, [], ◌∷◌, ℕ, zero, suc, ◌≤◌, ◌<◌, List, length, get_or, refl, subst, ap, arith, ◌∙◌}
+use Rattle.std.proofs.Common.{◌≡◌, [], ◌∷◌, ℕ, zero, suc, ◌≤◌, ◌<◌, List, length, get_or, refl, subst, ap, arith, ◌∙◌, Option}
 use Rattle.std.specs.Borrow.{Bor}
-use Rattle.ee_command_line.specs.Job.{texts_of}
+use Rattle.ee_command_line.specs.declared.jobs.Job.{Job}
+use Rattle.ee_command_line.specs.Job.{IsFound, IsSaid, texts_of}
 
 -- so many texts, from one on
 abbrev pub texts_from : List (Bor (List ℕ)) → Bor (List ℕ) → ℕ → ℕ → List (List ℕ)
@@ -17,12 +18,11 @@ listed : (words : List (Bor (List ℕ))) (other : Bor (List ℕ)) (count : ℕ) 
 listed [] other zero is = refl
 listed [] other (suc count) is = absurd (omega arith)
 listed (word ∷ words) other zero is = absurd (omega arith)
-listed (word ∷ words) other (suc count) is =
-    ap (λ texts. word.now ∷ texts) (shifted word words other 0 count ∙ listed words other count (omega arith))
+listed (word ∷ words) other (suc count) is = ap (λ texts. word.now ∷ texts) (shifted word words other 0 count ∙ listed words other count (omega arith))
 
--- what is said of the words one by one is said of their list
-pub counted : (P : List (List ℕ) → Type 0) (words : List (Bor (List ℕ))) (other : Bor (List ℕ)) (count : ℕ) → count ≤ length words → length words < suc count
-    → P (texts_from words other 0 count) → P (texts_of words)
-counted P words other count low high holds =
+-- what is said of the words one by one, and of what is given for them, is said of their list
+pub all : (given : Option Job) (words : List (Bor (List ℕ))) (other : Bor (List ℕ)) (count : ℕ) → count ≤ length words → length words < suc count
+    → IsSaid (texts_from words other 0 count) given × IsFound (texts_from words other 0 count) given → IsSaid (texts_of words) given × IsFound (texts_of words) given
+all given words other count low high holds =
     let is : texts_from words other 0 count ≡ texts_of words = listed words other count (omega arith) in
-    subst P is holds
+    subst (λ texts. IsSaid texts given × IsFound texts given) is holds

@@ -14,8 +14,7 @@ front_grows bytes written count =
 
 pub wrote_more : (first mid last : Option (List ℕ)) (bytes : List ℕ) (written count : ℕ) → Appends first mid (take written bytes)
     → Appends mid last (take count (take (length bytes - written) (drop written bytes))) → Appends first last (take (written + count) bytes)
-wrote_more first mid last bytes written count front more =
-    subst (Appends first last) (front_grows bytes written count) (Appends-trans first mid last _ _ front more)
+wrote_more first mid last bytes written count front more = subst (Appends first last) (front_grows bytes written count) (Appends-trans first mid last _ _ front more)
 
 -- the end came: what was read is all there was
 pub read_all : (first mid last : Option (List ℕ)) (bytes nothing : List ℕ) → Consumes first mid bytes → Consumes mid last nothing → nothing ≡ [] → IsAtEnd last
@@ -32,8 +31,7 @@ longer (Some all) (Some rest) bytes n taken h = omega (arith, ap length taken, l
 -- more was read than n bytes
 pub read_too_long : (first mid last : Option (List ℕ)) (bytes more : List ℕ) (n : ℕ) → Consumes first mid bytes → Consumes mid last more → n < length bytes + length more
     → IfSome first (λ all. n < length all)
-read_too_long first mid last bytes more n taken again h =
-    longer first last (bytes ++ more) n (Consumes-trans first mid last bytes more taken again) (omega (arith, length-append bytes more))
+read_too_long first mid last bytes more n taken again h = longer first last (bytes ++ more) n (Consumes-trans first mid last bytes more taken again) (omega (arith, length-append bytes more))
 
 pub took_more : (first mid last : Option (List ℕ)) (old more new : List ℕ) → Consumes first mid old → Consumes mid last more → new ≡ old ++ more → Consumes first last new
 took_more first mid last old more new taken again is = subst (Consumes first last) (sym is) (Consumes-trans first mid last old more taken again)
