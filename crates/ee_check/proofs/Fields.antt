@@ -18,8 +18,7 @@ pub number_field : (text field : List ℕ) (tail : Option (Bor (List ℕ))) (n :
     → IfNone tail (text ≡ field) → IfSome tail (λ t. text ≡ field ++ 32 ∷ t.now) → n < 2 ^ 64 → text ≡ decimal n ++ 32 ∷ rest
     → (field ≡ decimal n) × MatchOption tail ⊥ (λ t. t.now ≡ rest)
 number_field text field None n rest in_field last more fits e = absurd (no_place 32 field (decimal n) rest in_field (sym last ∙ e))
-number_field text field (Some t) n rest in_field last more fits e =
-    first_place 32 field (decimal n) t.now rest in_field (Lacks-decimal 32 n (inl (omega arith)) fits) (sym more ∙ e)
+number_field text field (Some t) n rest in_field last more fits e = first_place 32 field (decimal n) t.now rest in_field (Lacks-decimal 32 n (inl (omega arith)) fits) (sym more ∙ e)
 
 -- a count that was found to be another
 pub other_count : (r : Option ℕ) (n : ℕ) → true ≡ not (option_eq eqb r (Some n)) → r ≢ Some n

@@ -37,5 +37,4 @@ other_stretch text line rest parts is_line other stretch more proper e =
 -- a first line that isn't the last one of a certificate
 pub other_ending : (text line rest : List ℕ) (count : ℕ) → text ≡ line_of line ++ rest → IsLine line → IsNumber count → line ≢ ending count
     → (more : List ℕ) → text ≢ line_of (ending count) ++ more
-other_ending text line rest count parts is_line fits other more e =
-    other (feeds.first_line line (ending count) rest more is_line (ending_is_line count fits) (sym parts ∙ e)).0
+other_ending text line rest count parts is_line fits other more e = other (feeds.first_line line (ending count) rest more is_line (ending_is_line count fits) (sym parts ∙ e)).0

@@ -103,8 +103,7 @@ front_of_more text n more = search (rules, text_and_more, last_is_no_stretch)
 -- ---- texts and bad lines
 
 pub one_text_lem : (text : List ℕ) (claim other : Claim) → IsText text claim → IsText text other → claim ≡ other
-one_text_lem text claim other is too =
-    (one_front text claim other (last_line claim.stretches) (last_line other.stretches) (front_of_text text claim is) (front_of_text text other too)).0
+one_text_lem text claim other is too = (one_front text claim other (last_line claim.stretches) (last_line other.stretches) (front_of_text text claim is) (front_of_text text other too)).0
 
 pub texts_are_good_lem : (text : List ℕ) (claim : Claim) (n : ℕ) → IsText text claim → IsFirstBadCertificateLine text n → ⊥
 texts_are_good_lem text claim n is (inl none) = front_has_first text claim (last_line claim.stretches) (front_of_text text claim is) none.0

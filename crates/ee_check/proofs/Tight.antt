@@ -35,11 +35,7 @@ pub late_carry : (start : Situation) (trace : List Change) (s : Situation) (n to
     → IsLateAt start trace s n (change ∷ changes) place → IsLateAt start trace (after_move s (Carry change)) (n + 1) changes (place_at start trace to)
 late_carry start trace s n to change changes place e late =
     let here : IsAt start trace (after_move s (Carry change)) (n + 1) changes = at_next start trace s n (length (live_after_one s.live change)) change changes late.at (omega arith) in
-    record {
-      at = here;
-      behind = omega arith;
-      fill = let c = count_now start trace (after_move s (Carry change)) (n + 1) to changes here (sym e) in omega arith;
-    }
+    record { at = here; behind = omega arith; fill = let c = count_now start trace (after_move s (Carry change)) (n + 1) to changes here (sym e) in omega arith }
 
 -- what is live after a change has room, where the trace keeps within the slots
 pub change_fits : (s : Situation) (change : Change) (changes : List Change) → length s.live ≤ s.slots → KeepsWithin s.slots s.live (change ∷ changes)
@@ -60,10 +56,7 @@ tight_from start trace (change ∷ changes) s n place late fits keeps =
           let here = late_carry start trace s n (n + 1) change changes place refl late in
           let more = tight_from start trace changes (after_move s (Carry change)) (n + 1) (place_at start trace (n + 1)) here next.0 next.1 in
           let a = late.fill in let b = late.at.slots in let c = late.behind in let d = late.at.rest in
-          let tight : IsTightStretch start trace place stretch = record {
-            forced = record { rising = omega arith; within = omega arith; from_is = refl; forced = omega arith };
-            tight = omega arith;
-          } in
+          let tight : IsTightStretch start trace place stretch = record { forced = record { rising = omega arith; within = omega arith; from_is = refl; forced = omega arith }; tight = omega arith } in
           (stretch ∷ more.0, (tight, more.1), more.2)
     ]
 

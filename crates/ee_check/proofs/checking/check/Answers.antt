@@ -11,8 +11,7 @@ answers g c = answers_for c.args.start.now c.args.trace.now (claim_of c.args.cer
     c.deref.ensures.value c.check_stretches.ensures.ok c.check_stretches.ensures.err
 
 pub returns-clause-bound : goal.returns-clause-bound
-returns-clause-bound g c =
-    bound_answered c.args.start.now c.args.trace.now (claim_of c.args.certificate.now) c.check_stretches.result c.has_header.ensures.start.proper (header g c) (answers g c)
+returns-clause-bound g c = bound_answered c.args.start.now c.args.trace.now (claim_of c.args.certificate.now) c.check_stretches.result c.has_header.ensures.start.proper (header g c) (answers g c)
 
 pub returns-clause-accepts : goal.returns-clause-accepts
 returns-clause-accepts g c = certificate_answered c.args.start.now c.args.trace.now (claim_of c.args.certificate.now) c.check_stretches.result (answers g c)

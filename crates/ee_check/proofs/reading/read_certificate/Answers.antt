@@ -10,13 +10,7 @@ use Rattle.ee_check.proofs.reading.read_certificate.Goals as goal
 
 -- what was read, where the ending is wrong
 refused : (g : Given.Over) (c : goal.After-drop-stretches g) → Claim
-refused g c = record {
-  slots = c.in-Some.heading.slots;
-  fill = c.in-Some.heading.fill;
-  live = c.in-Some.heading.live;
-  writes = c.in-Some.heading.writes;
-  stretches = c.in_ok-stretches.stretches.items;
-}
+refused g c = record { slots = c.in-Some.heading.slots; fill = c.in-Some.heading.fill; live = c.in-Some.heading.live; writes = c.in-Some.heading.writes; stretches = c.in_ok-stretches.stretches.items }
 
 wrong : (g : Given.Over) (c : goal.After-drop-stretches g) → IsCertificateTextFault c.args.text.now c.in_err-check_ending.field-0.0
 unfolding refused
@@ -49,13 +43,7 @@ returns-in_err-check_ending-clause-bad g c = λ n bad.
 
 -- what was read
 read : (g : Given.Over) (c : goal.In_ok-check_ending g) → Claim
-read g c = record {
-  slots = c.in-Some.heading.slots;
-  fill = c.in-Some.heading.fill;
-  live = c.in-Some.heading.live;
-  writes = c.in-Some.heading.writes;
-  stretches = c.in_ok-stretches.stretches.items;
-}
+read g c = record { slots = c.in-Some.heading.slots; fill = c.in-Some.heading.fill; live = c.in-Some.heading.live; writes = c.in-Some.heading.writes; stretches = c.in_ok-stretches.stretches.items }
 
 right : (g : Given.Over) (c : goal.In_ok-check_ending g) → IsText c.args.text.now (read g c)
 unfolding read

@@ -11,8 +11,5 @@ returns-in_err-push_number_behind-3-clause-err g c = grind (arith, common_steps)
 pub returns-in_err-push_number_behind-4-clause-err : goal.returns-in_err-push_number_behind-4-clause-err
 returns-in_err-push_number_behind-4-clause-err g c = grind (arith, common_steps)
 
-pub returns-clause-ok : goal.returns-clause-ok
-returns-clause-ok g c = grind (arith, common_steps)
-
-pub returns-clause-err : goal.returns-clause-err
-returns-clause-err g c = grind (arith, common_steps)
+pub returns : goal.returns
+returns g c = record { ok = grind (arith, common_steps); err = grind (arith, common_steps) }

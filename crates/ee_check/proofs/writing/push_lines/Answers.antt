@@ -8,8 +8,5 @@ returns-in_err-push_stretches-clause-err g c = grind (arith, common_steps)
 pub returns-in_err-push_number_behind-clause-err : goal.returns-in_err-push_number_behind-clause-err
 returns-in_err-push_number_behind-clause-err g c = grind (arith, common_steps)
 
-pub returns-clause-ok : goal.returns-clause-ok
-returns-clause-ok g c = grind (arith, common_steps)
-
-pub returns-clause-err : goal.returns-clause-err
-returns-clause-err g c = grind (arith, common_steps)
+pub returns : goal.returns
+returns g c = record { ok = grind (arith, common_steps); err = grind (arith, common_steps) }
