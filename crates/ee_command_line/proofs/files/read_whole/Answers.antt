@@ -1,6 +1,5 @@
 use Rattle.std.proofs.Common.{◌≡◌, [], ap, arith, take, length-take}
 use Rattle.std.proofs.lemmas.Grind.{common_steps}
-use Rattle.std.proofs.lemmas.Result.{err_from_is_err_and}
 use Rattle.ee_command_line.proofs.Streams.{read_all, read_too_long, took_more, took_none}
 use Rattle.ee_command_line.proofs.files.read_whole.Goals as goal
 use Rattle.ee_command_line.proofs.files.read_whole.Goals.{in-Ok-2+in_ok-extend_from_slice-in-Ok-2, in-Err}
@@ -17,11 +16,6 @@ returns-in-Ok-clause-too_long g c = λ _.
     read_too_long (g.R.Read.remaining c.args.reader.now) (g.R.Read.remaining c.reading.reader) (g.R.Read.remaining c.read.new.self) c.reading.bytes.items
     (take c.in-Ok.count c.read.new.buf) 16777216 c.reading.invariant.taken c.in-Ok.ensures.bytes.0
     (omega (arith, length-take c.in-Ok.count c.read.new.buf, c.in-Ok.ensures.bound, c.len.ensures, c.if-count-len.true, c.reading.bytes.ok.0, c.reading.invariant.few))
-
-pub returns-in_err-extend_from_slice-in-Ok-2 : goal.returns-in_err-extend_from_slice-in-Ok-2
-returns-in_err-extend_from_slice-in-Ok-2 g c =
-    let p = err_from_is_err_and c.from_residual.result c.from_residual.ensures.1 in
-    rw (p.1, p.2) record { whole = tt; end = tt; short = tt; too_long = λ same. absurd cc; failed = λ same. absurd cc }
 
 pub reading-preserved : goal.reading-preserved
 reading-preserved g c = elim c.match-read.branch [
