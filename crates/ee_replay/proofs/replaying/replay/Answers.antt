@@ -22,4 +22,8 @@ pub returns-in-Err : goal.returns-in-Err
 returns-in-Err g c =
     let opened = c.in_ok-store.ensures.opened in
     let met : IsReplayFault c.args.image.now c.args.script.now c.in-Err.fault = inr ((opened.device, opened.old), c.in-Err.ensures.fault) in
-    record { replayed = tt; fault = met; names = λ cause some applies. one_replay_fault c.args.image.now c.args.script.now cause c.in-Err.fault some applies met }
+    record {
+      replayed = tt;
+      fault = met;
+      names = λ cause some applies. one_replay_fault c.args.image.now c.args.script.now cause c.in-Err.fault some applies met;
+    }
