@@ -3,6 +3,3 @@ use Rattle.ee_command_line.proofs.words.job_of_three.Goals as goal
 
 pub returns-in-stale-clause-only : goal.returns-in-stale-clause-only
 returns-in-stale-clause-only g c = search rules
-
-pub returns-in_err-shape_of-in-try-clause-only : goal.returns-in_err-shape_of-in-try-clause-only
-returns-in_err-shape_of-in-try-clause-only c row = search rules
