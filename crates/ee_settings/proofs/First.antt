@@ -7,7 +7,7 @@ use Rattle.std.specs.List.Sorted.{IsStrictlySortedBy}
 use Rattle.toml.specs.Data.{Members}
 use Rattle.ee_settings.proofs.Names.{names_as_entries}
 use Rattle.ee_settings.proofs.Once.{breaks_none, entries_once, fields_once, split_settings}
-use Rattle.ee_settings.specs.File.{Address, AreEntriesOf, BreaksFirst, Entry, Field, GivesSchema, HaveRisingKeys, IsFirstFault, Name, Range, Rule, entries_of}
+use Rattle.ee_settings.specs.File.{AreEntriesOf, BreaksFirst, Entry, GivesSchema, HaveRisingKeys, IsFirstFault, Rule, entries_of}
 use Rattle.ee_settings.specs.Setting.{HaveOwnAddresses, HaveRisingNames, Setting}
 use Rattle.ee_settings.specs.declared.fault.SchemaFault.{SchemaFault}
 use Rattle.ee_settings.specs.declared.fault.SchemaFault.TheVariants as fault
@@ -79,21 +79,4 @@ never_names : (r q : Rule) → r ≢ q → (entries : List Entry) (n m : ℕ) �
 never_names r q apart entries n m rising h k = apart (first_once entries n m r q rising h k).1
 
 pub one_fault : (members : Members) → HaveRisingKeys (entries_of members) → (one other : SchemaFault) → one ≢ fault.Memory → other ≢ fault.Memory → GivesSchema members (Err one) → GivesSchema members (Err other) → one ≡ other
-one_fault ms up (fault.BadName n) (fault.BadName m) a b h k = ap (λ i. fault.BadName i) (first_once (entries_of ms) n m Name Name up h k).0
-one_fault ms up (fault.BadName n) (fault.BadField m) a b h k = absurd (never_names Name Field (λ e. cc) (entries_of ms) n m up h k)
-one_fault ms up (fault.BadName n) (fault.BadRange m) a b h k = absurd (never_names Name Range (λ e. cc) (entries_of ms) n m up h k)
-one_fault ms up (fault.BadName n) (fault.SameAddress m) a b h k = absurd (never_names Name Address (λ e. cc) (entries_of ms) n m up h k)
-one_fault ms up (fault.BadField n) (fault.BadName m) a b h k = absurd (never_names Field Name (λ e. cc) (entries_of ms) n m up h k)
-one_fault ms up (fault.BadField n) (fault.BadField m) a b h k = ap (λ i. fault.BadField i) (first_once (entries_of ms) n m Field Field up h k).0
-one_fault ms up (fault.BadField n) (fault.BadRange m) a b h k = absurd (never_names Field Range (λ e. cc) (entries_of ms) n m up h k)
-one_fault ms up (fault.BadField n) (fault.SameAddress m) a b h k = absurd (never_names Field Address (λ e. cc) (entries_of ms) n m up h k)
-one_fault ms up (fault.BadRange n) (fault.BadName m) a b h k = absurd (never_names Range Name (λ e. cc) (entries_of ms) n m up h k)
-one_fault ms up (fault.BadRange n) (fault.BadField m) a b h k = absurd (never_names Range Field (λ e. cc) (entries_of ms) n m up h k)
-one_fault ms up (fault.BadRange n) (fault.BadRange m) a b h k = ap (λ i. fault.BadRange i) (first_once (entries_of ms) n m Range Range up h k).0
-one_fault ms up (fault.BadRange n) (fault.SameAddress m) a b h k = absurd (never_names Range Address (λ e. cc) (entries_of ms) n m up h k)
-one_fault ms up (fault.SameAddress n) (fault.BadName m) a b h k = absurd (never_names Address Name (λ e. cc) (entries_of ms) n m up h k)
-one_fault ms up (fault.SameAddress n) (fault.BadField m) a b h k = absurd (never_names Address Field (λ e. cc) (entries_of ms) n m up h k)
-one_fault ms up (fault.SameAddress n) (fault.BadRange m) a b h k = absurd (never_names Address Range (λ e. cc) (entries_of ms) n m up h k)
-one_fault ms up (fault.SameAddress n) (fault.SameAddress m) a b h k = ap (λ i. fault.SameAddress i) (first_once (entries_of ms) n m Address Address up h k).0
-one_fault ms up fault.Memory other a b h k = absurd (a refl)
-one_fault ms up one fault.Memory a b h k = absurd (b refl)
+one_fault ms up one other h1 h2 h3 h4 = search (rules, first_once, never_names)

@@ -5,7 +5,7 @@ use Rattle.std.proofs.Math.Seq.{get_or-append_seam}
 use Rattle.std.proofs.lemmas.List.{length-append}
 use Rattle.toml.specs.Data.{Data, Members}
 use Rattle.ee_settings.proofs.Names.{later_differs}
-use Rattle.ee_settings.specs.File.{Address, AreEntriesOf, BreaksFirst, Entry, Field, GivesSchema, IsEntryOf, IsFirstFault, IsSchemaOf, IsTableOf, IsTaken, Name, Range, Rule, entries_of, fields_of_numbers}
+use Rattle.ee_settings.specs.File.{Address, AreEntriesOf, BreaksFirst, Entry, Field, GivesSchema, IsEntryOf, IsFirstFault, IsSchemaOf, IsTableOf, IsTaken, Name, Range, Rule, fields_of_numbers}
 use Rattle.ee_settings.specs.Setting.{HaveOwnAddresses, HaveRisingNames, IsName, Setting}
 use Rattle.ee_settings.specs.declared.fault.SchemaFault.{SchemaFault}
 use Rattle.ee_settings.specs.declared.fault.SchemaFault.TheVariants as fault
@@ -88,8 +88,4 @@ no_first_fault entries settings number rule schema rising h =
     (subst (λ (ss : List Setting). BreaksFirst rule ss h.entry) before h.bad)
 
 pub never_refused : (members : Members) (settings : List Setting) (why : SchemaFault) → why ≢ fault.Memory → GivesSchema members (Ok settings) → ¬ GivesSchema members (Err why)
-never_refused members settings (fault.BadName n) some h k = no_first_fault (entries_of members) settings n Name h.0 h.1 k
-never_refused members settings (fault.BadField n) some h k = no_first_fault (entries_of members) settings n Field h.0 h.1 k
-never_refused members settings (fault.BadRange n) some h k = no_first_fault (entries_of members) settings n Range h.0 h.1 k
-never_refused members settings (fault.SameAddress n) some h k = no_first_fault (entries_of members) settings n Address h.0 h.1 k
-never_refused members settings fault.Memory some h k = some refl
+never_refused members settings why some h k = search (rules, no_first_fault)

@@ -14,7 +14,6 @@ use Rattle.ee_core.specs.Runs.{Call, Forgot, IsWholeRun, changes_of_call, is_cut
 use Rattle.ee_core.specs.State.{state_of}
 use Rattle.ee_core.specs.declared.variables.ForgetFault.TheVariants as forget
 use Rattle.ee_core.specs.declared.variables.Written.{Written}
-use Rattle.ee_core.specs.declared.variables.Written.TheVariants.{Appended, Moved}
 use Rattle.ee_core.specs.Changes.{IsSpent}
 use Rattle.ee_settings.proofs.Addresses.{found_taken}
 use Rattle.ee_settings.proofs.Forgetting.{map_without}
@@ -172,12 +171,10 @@ state_after : (old new : Device) (address : ℕ) (written : Written) → Forgets
 state_after old new address written h1 = search (rules, ne_eqb, eq-eqb)
 
 same_size : (old new : Device) (address : ℕ) (written : Written) → Forgets old address (Ok written) new → new.size ≡ old.size
-same_size old new address Appended done = done.goes_on.same_size
-same_size old new address Moved done = done.goes_on.same_size
+same_size old new address written done = search rules
 
 not_spent : (old new : Device) (address : ℕ) (written : Written) → Forgets old address (Ok written) new → ¬ IsSpent (slot_count old.size) (state_of old)
-not_spent old new address Appended done = done.proceeds.accepted.not_spent
-not_spent old new address Moved done = done.proceeds.accepted.not_spent
+not_spent old new address written done = search rules
 
 states_after : (addresses : List ℕ) (old new : Device) → ForgetsEach addresses old new → state_of new ≡ after_forgettings old.size addresses (state_of old)
 states_after [] old new done = ap state_of done

@@ -1,8 +1,7 @@
 //! The entries of a table of settings, read by rising name up to the first one with a fault.
 ghost use Rattle.std.specs.Prelude.{IfOk, IfErr};
 ghost use Rattle.toml.specs.View.{table_view, view};
-ghost use Rattle.ee_settings.specs.File.{GivesSetting, HaveRisingKeys, IsSchemaFault, IsSchemaOf};
-ghost use Rattle.ee_settings.specs.File.{entries_of};
+ghost use Rattle.ee_settings.specs.File.{GivesSetting, HaveRisingKeys, IsSchemaFault, IsSchemaOf, entries_of};
 ghost use Rattle.ee_settings.specs.Setting.{HaveRisingNames};
 
 use crate::fault::SchemaFault;

@@ -1,8 +1,5 @@
 //! What holds of every schema and every store. Each function does nothing: its contract is the law.
-ghost use Rattle.ee_settings.specs.Laws.{SetIsRead, CutKeepsOthers, RefusalsChangeNothing};
-ghost use Rattle.ee_settings.specs.Laws.{EachTableIsJudged, ListedIsExact, NamesAreApart, TablesHaveOneFault, TablesSpellOnce};
-ghost use Rattle.ee_settings.specs.Laws.{SchemasAreAccepted, StaleIsExact, TidyIsARun, TidyIsSpent, TidyKeepsReadings};
-ghost use Rattle.ee_settings.specs.Laws.{TidyLeavesTheNamed, TidyLeavesThisState, TidyTakesTheUnnamed};
+ghost use Rattle.ee_settings.specs.Laws.{CutKeepsOthers, EachTableIsJudged, ListedIsExact, NamesAreApart, RefusalsChangeNothing, SchemasAreAccepted, SetIsRead, StaleIsExact, TablesHaveOneFault, TablesSpellOnce, TidyIsARun, TidyIsSpent, TidyKeepsReadings, TidyLeavesTheNamed, TidyLeavesThisState, TidyTakesTheUnnamed};
 
 /// A setting that was set reads as the value that was set, and each setting of another name reads
 /// as before, also where the store moved its map to the other set.

@@ -46,11 +46,10 @@ impl<A: Allocator> Schema<A> {
         ensures fault { IfErr result (IsStaleFault (V.device store.now)) }
     {
         let values = self.stale_values(alloc, store)?;
-        let mut entries = Vec::new(alloc);
-        for stale in &values {
-            entries.push(stale.entry).map_err(|_| StaleFault::Memory)?;
+        match entry_numbers(alloc, values.as_slice()) {
+            Ok(entries) => Ok(entries),
+            Err(_) => Err(StaleFault::Memory),
         }
-        Ok(entries)
     }
 
     /// The same entries, each with its stored value.
@@ -88,6 +87,17 @@ impl<A: Allocator> Schema<A> {
         }
         Ok(stale)
     }
+}
+
+/// The numbers of the entries of these.
+fn entry_numbers<A: Allocator + Copy>(alloc: A, values: &[Stale]) -> Result<Vec<u64, A>, AllocError>
+    ensures { IfOk result (λ entries. entries.items ≡ map (λ stale. stale.entry) values.now) }
+{
+    let mut entries = Vec::new(alloc);
+    for stale in values {
+        entries.push(stale.entry)?;
+    }
+    Ok(entries)
 }
 
 /// Puts an entry behind others, if its stored value isn't in its range.

@@ -1,4 +1,5 @@
-use Rattle.std.proofs.Common.{rules}
+use Rattle.std.proofs.Common.{arith, rules}
+use Rattle.std.proofs.lemmas.Grind.{common_steps}
 use Rattle.std.proofs.lemmas.Result.{err_from_is_err_and}
 use Rattle.ee_settings.proofs.Tidied.{batch_further, batch_stops, one_lives}
 use Rattle.ee_settings.proofs.tidying.forget_unnamed.Goals as goal
@@ -21,3 +22,9 @@ loop-address-preserved g c =
     let counted = c.in_ok-forgotten.ensures.count in
     let made = c.in_ok-forgotten.ensures.forgotten in
     search (rules, further, counted, made)
+
+pub returns-clause-count : goal.returns-clause-count
+returns-clause-count g c = grind (arith, common_steps)
+
+pub returns-clause-forgotten : goal.returns-clause-forgotten
+returns-clause-forgotten g c = grind (arith, common_steps)

@@ -1,4 +1,5 @@
-use Rattle.std.proofs.Common.{◌≡◌, ◌∙◌, ap, rules}
+use Rattle.std.proofs.Common.{◌≡◌, ◌∙◌, ap, arith, rules}
+use Rattle.std.proofs.lemmas.Grind.{common_steps}
 use Rattle.ee_pages.specs.Meaning.{Map}
 use Rattle.ee_core.specs.State.{state_of}
 use Rattle.ee_settings.proofs.Outdated.{one_further}
@@ -16,3 +17,6 @@ loop-index-preserved g c =
     let pushed = c.in-Ok-push_stale.ensures in
     let so_far = c.loop-index.invariant in
     search (rules, further, pushed, so_far)
+
+pub returns-clause-stale : goal.returns-clause-stale
+returns-clause-stale g c = grind (arith, common_steps)
