@@ -283,13 +283,7 @@ module _ (old mid : Device) (call : Call) (calls : List Call) where
 
 -- a call that made a change asked for it
 asked_first : (call : Call) (calls : List Call) (change : meaning.Change) → writes_list call ≡ false → changes_of_call call ≡ change ∷ [] → asked_by_calls (call ∷ calls) ≡ traced change ∷ asked_by_calls calls
-asked_first (Wrote address value (Ok written)) calls change unlisted made = let is : Put address value ≡ change = cc in ap (λ one. traced one ∷ asked_by_calls calls) is
-asked_first (Wrote address value (Err fault)) calls change unlisted made = absurd cc
-asked_first (WroteAll puts answer) calls change unlisted made = absurd (cc unlisted)
-asked_first (Forgot address (Ok written)) calls change unlisted made = let is : meaning.Forget address ≡ change = cc in ap (λ one. traced one ∷ asked_by_calls calls) is
-asked_first (Forgot address (Err fault)) calls change unlisted made = absurd cc
-asked_first (Cleaned answer) calls change unlisted made = absurd cc
-asked_first (DidRead address answer) calls change unlisted made = absurd cc
+asked_first call calls change h1 h2 = search rules
 
 -- a call that left the device as it was, and what follows
 unwritten : (call : Call) (calls : List Call) (old mid new : Device) → IsPlain call → Follows call old mid → IsRun calls mid new → ArePlain calls

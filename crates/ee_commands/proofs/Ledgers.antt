@@ -44,13 +44,7 @@ one_page before now page other first second = search (rules, cases_order)
 one_since_fault : (before now : List ℕ) (cause fault : SinceFault) → cause ≢ since.Memory → IsSinceFault before now cause
     → IsSinceFault before now fault
     → (fault ≡ cause) ⊎ (fault ≡ since.Memory)
-one_since_fault before now since.Memory fault some h i = absurd (some refl)
-one_since_fault before now cause since.Memory some h i = inr refl
-one_since_fault before now since.OtherShape since.OtherShape some h i = inl refl
-one_since_fault before now since.OtherShape (since.Backwards page) some h i = absurd (h i.0)
-one_since_fault before now (since.Backwards page) since.OtherShape some h i = absurd (i h.0)
-one_since_fault before now (since.Backwards page) (since.Backwards other) some h i =
-    inl (ap since.Backwards (one_page before now page other h.1 i.1))
+one_since_fault before now cause fault h1 h2 h3 = search (rules, one_page)
 
 none_fell_is_good : (before now : List ℕ) (cause : SinceFault) → NoneFell before now → cause ≢ since.Memory
     → IsSinceFault before now cause → ⊥

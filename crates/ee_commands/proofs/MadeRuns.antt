@@ -1,5 +1,5 @@
 -- Calls of a store move the map as the store does that transfers exactly when each slot is used.
-use Rattle.std.proofs.Common.{◌≡◌, ◌∙◌, ℕ, zero, suc, ◌+◌, ◌<◌, ◌≤◌, Bool, true, false, cond, Ok, Err, List, [], ◌∷◌, ◌++◌, length, map, refl, sym, subst, ap, arith, rules}
+use Rattle.std.proofs.Common.{◌≡◌, ◌∙◌, ℕ, zero, suc, ◌+◌, ◌<◌, ◌≤◌, Bool, true, false, cond, Ok, List, [], ◌∷◌, ◌++◌, length, map, refl, sym, subst, ap, arith, rules}
 use Rattle.std.proofs.lemmas.Grind.{common_steps}
 use Rattle.std.proofs.lemmas.List.Elements.{All-tail}
 use Rattle.std.proofs.lemmas.List.Sums.{sum_by-cons}
@@ -12,7 +12,7 @@ use Rattle.ee_pages.specs.Meaning as meaning
 use Rattle.ee_core.proofs.Public.{by_effect}
 use Rattle.ee_core.specs.Calls.{ErasesOne}
 use Rattle.ee_core.specs.Changes.{Appends, HasNoPlace, Moves}
-use Rattle.ee_core.specs.Runs.{Call, Wrote, WroteAll, Forgot, Cleaned, DidRead, IsRun, changes_of_call, is_cut, is_transfer, transfers}
+use Rattle.ee_core.specs.Runs.{Call, Cleaned, IsRun, changes_of_call, is_cut, is_transfer, transfers}
 use Rattle.ee_core.specs.Runs as core
 use Rattle.ee_core.specs.State.{State, state_of}
 use Rattle.ee_check.proofs.Public.{changed-le}
@@ -151,13 +151,7 @@ plain_behind call calls whole = All-tail IsPlain call calls whole
 
 -- it made one change at the most
 one_made : (call : Call) → writes_list call ≡ false → length (changes_of_call call) ≤ 1
-one_made (Wrote address value (Ok written)) unlisted = omega arith
-one_made (Wrote address value (Err fault)) unlisted = omega arith
-one_made (WroteAll puts answer) unlisted = absurd (cc unlisted)
-one_made (Forgot address (Ok written)) unlisted = omega arith
-one_made (Forgot address (Err fault)) unlisted = omega arith
-one_made (Cleaned answer) unlisted = omega arith
-one_made (DidRead address answer) unlisted = omega arith
+one_made call h1 = search (rules, arith)
 
 one_moved : (holds : Bool → List meaning.Change → Type 0) (old new : Device) (moved : List meaning.Change) → length moved ≤ 1 → Moves old moved new
     → ((change : meaning.Change) → Moves old (change ∷ []) new → holds true (change ∷ [])) → holds true moved
@@ -181,13 +175,7 @@ traced (meaning.Forget address) = changes.Forget address
 
 -- what a call made comes before what the calls behind it made
 made_first : (call : Call) (calls : List Call) → writes_list call ≡ false → made_by_calls (call ∷ calls) ≡ map traced (changes_of_call call) ++ made_by_calls calls
-made_first (Wrote address value (Ok written)) calls unlisted = refl
-made_first (Wrote address value (Err fault)) calls unlisted = refl
-made_first (WroteAll puts answer) calls unlisted = absurd (cc unlisted)
-made_first (Forgot address (Ok written)) calls unlisted = refl
-made_first (Forgot address (Err fault)) calls unlisted = refl
-made_first (Cleaned answer) calls unlisted = refl
-made_first (DidRead address answer) calls unlisted = refl
+made_first call calls h1 = search rules
 
 pub behind_proper : (change : Change) (trace : List Change) → AreProper (change ∷ trace) → AreProper trace
 behind_proper (changes.Write address) trace are = are.1

@@ -29,13 +29,12 @@ use Rattle.ee_plan.specs.Start.{AreLive, IsStartOf}
 use Rattle.ee_planner.specs.declared.planned.PlanFault.{PlanFault}
 use Rattle.ee_planner.specs.declared.planned.PlanFault.TheVariants as plan
 use Rattle.ee_faults.specs.Fault.{fault_of_certificate, fault_of_check, fault_of_replay, fault_of_script}
-use Rattle.ee_commands.specs.Planning.{fault_of_plan}
 use Rattle.ee_faults.specs.declared.fault.Fault.{Fault}
 use Rattle.ee_faults.specs.declared.fault.Fault.TheVariants.{Memory, NotFitting}
 use Rattle.ee_faults.specs.declared.replay_fault.ReplayFault.{ReplayFault}
 use Rattle.ee_faults.specs.declared.replay_fault.ReplayFault.TheVariants as replay
 use Rattle.ee_image_store.specs.Opening.{IsOpenFault, IsOpened, IsStoreText}
-use Rattle.ee_commands.specs.Planning.{IsCertificateFault, IsCheckingFault, IsImageStart, IsPlanningFault, IsRefusal, IsTask, IsTaskFault, IsTrace, IsTraceFault}
+use Rattle.ee_commands.specs.Planning.{fault_of_plan, IsCertificateFault, IsCheckingFault, IsImageStart, IsPlanningFault, IsRefusal, IsTask, IsTaskFault, IsTrace, IsTraceFault}
 use Rattle.ee_image_store.proofs.Public.{one_open_fault, store_is_good, memory_or_not, same_at_rest, same_state}
 use Rattle.ee_commands.proofs.Traces.{one_first_bad_line, traces_are_good}
 

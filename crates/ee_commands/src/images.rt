@@ -128,8 +128,7 @@ fn push_cleaned<A: Allocator>(out: &mut Vec<u8, A>, pages: usize) -> Result<(), 
 {
     out.extend_from_slice(b"cleaned ")?;
     push_number(out, pages as u64)?;
-    out.extend_from_slice(b"\n")?;
-    Ok(())
+    out.extend_from_slice(b"\n")
 }
 
 /// Writes the lines of the pages' states. After an error there may be a part of them.
@@ -155,8 +154,7 @@ fn push_state<A: Allocator>(
     push_number(out, page as u64)?;
     out.extend_from_slice(b" ")?;
     out.extend_from_slice(name_of(state))?;
-    out.extend_from_slice(b"\n")?;
-    Ok(())
+    out.extend_from_slice(b"\n")
 }
 
 /// The name of a page's state.

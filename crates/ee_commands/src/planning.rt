@@ -88,7 +88,6 @@ fn fault_of(fault: PlanFault) -> Fault
 }
 
 /// The start that the image of a text gives, and the trace of a script.
-#[tactic(auto, using(crate::proofs::OneTask::is_task))]
 fn read_task<A: Allocator + Copy>(
     alloc: A,
     image: &[u8],
@@ -156,6 +155,5 @@ fn push_proved<A: Allocator>(out: &mut Vec<u8, A>, transfers: u64) -> Result<(),
 {
     out.extend_from_slice(b"proved ")?;
     push_number(out, transfers)?;
-    out.extend_from_slice(b"\n")?;
-    Ok(())
+    out.extend_from_slice(b"\n")
 }

@@ -85,7 +85,6 @@ fn rounds_of<A: Allocator + Copy>(
 }
 
 /// What the rounds demand of sets of 1 to 64 pages.
-#[tactic(auto, using(crate::proofs::SizeWears::each_wears))]
 fn demands_of<A: Allocator + Copy>(
     alloc: A,
     rounds: &Rounds<A>,

@@ -112,8 +112,7 @@ fn push_count<A: Allocator>(out: &mut Vec<u8, A>, page: usize, count: u64) -> Re
     push_number(out, page as u64)?;
     out.extend_from_slice(b" wear ")?;
     push_number(out, count)?;
-    out.extend_from_slice(b"\n")?;
-    Ok(())
+    out.extend_from_slice(b"\n")
 }
 
 /// Writes the last line, of all pages together.

@@ -1,10 +1,14 @@
 use Rattle.ee_text.proofs.Public.{passed_on}
 use Rattle.ee_faults.specs.Fault.{fault_of_script}
 use Rattle.ee_commands.specs.Planning.{IsTaskFault}
-use Rattle.ee_commands.proofs.OneTask.{no_trace}
+use Rattle.ee_commands.proofs.OneTask.{is_task, no_trace}
 use Rattle.ee_commands.proofs.planning.read_task.Goals as goal
 
 pub returns-in_err-trace-clause-fault : goal.returns-in_err-trace-clause-fault
 returns-in_err-trace-clause-fault g c =
     passed_on c.from_residual-in_err-trace.result (fault_of_script c.in_err-trace.field-0.0) (IsTaskFault c.args.image.now c.args.script.now) c.from_residual-in_err-trace.ensures.1
     (no_trace c.args.image.now c.args.script.now c.in_ok-store.store c.in_err-trace.field-0.0 c.in_ok-store.ensures.opened c.in_err-trace.ensures.fault)
+
+pub returns-clause-task : goal.returns-clause-task
+returns-clause-task g c =
+    is_task c.args.image.now c.args.script.now c.in_ok-store.store c.in_ok-start.start c.in_ok-trace.trace.items c.in_ok-store.ensures.opened c.in_ok-start.ensures.start c.in_ok-trace.ensures.trace

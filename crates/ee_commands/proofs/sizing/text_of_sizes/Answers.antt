@@ -1,4 +1,5 @@
 use Rattle.std.proofs.Common.{arith}
+use Rattle.std.proofs.lemmas.Grind.{common_steps}
 use Rattle.ee_commands.proofs.Sizes.{sizes_grow}
 use Rattle.ee_commands.proofs.sizing.text_of_sizes.Goals as goal
 
@@ -10,3 +11,6 @@ loop-demand-preserved g c =
       so_far = sizes_grow c.args.words c.args.cycles c.args.changes l.pages l.demand-index c.args.demands.now _ l.text.items c.push_size.new.out.items
           c.loop-demand-test.true l.invariant.counted l.invariant.so_far c.in_ok-push_size.ensures;
     }
+
+pub returns : goal.returns
+returns g c = grind (arith, common_steps)

@@ -1,6 +1,10 @@
-use Rattle.std.proofs.Common.{rules}
+use Rattle.std.proofs.Common.{arith, rules}
+use Rattle.std.proofs.lemmas.Grind.{common_steps}
 use Rattle.ee_commands.proofs.Ledgers.{counts_grow}
 use Rattle.ee_commands.proofs.wear.push_counts.Goals as goal
 
 pub pages-preserved : goal.pages-preserved
 pages-preserved g c = search (rules, counts_grow)
+
+pub returns : goal.returns
+returns g c = grind (arith, common_steps)
