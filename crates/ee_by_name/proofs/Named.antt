@@ -160,16 +160,10 @@ is_refused_in image text name value store settings fault opened spelled refused 
 -- ---- the causes for which nothing is set
 
 one_write : (size : Size) (state : State) (address : ℕ) (fault cause : Fault) → IsWriteRefusal size state address fault → IsWriteRefusal size state address cause → fault ≡ cause
-one_write size state address fault cause (inl h) (inl k) = h.1 ∙ sym k.1
-one_write size state address fault cause (inl h) (inr k) = absurd (k.0 h.0)
-one_write size state address fault cause (inr h) (inl k) = absurd (h.0 k.0)
-one_write size state address fault cause (inr h) (inr k) = h.2 ∙ sym k.2
+one_write size state address fault cause h1 h2 = search rules
 
 one_value : (setting : Setting) (size : Size) (state : State) (value : ℕ) (fault cause : Fault) → IsValueRefusal setting size state value fault → IsValueRefusal setting size state value cause → fault ≡ cause
-one_value setting size state value fault cause (inl h) (inl k) = h.1 ∙ sym k.1
-one_value setting size state value fault cause (inl h) (inr k) = absurd (h.0 k.0)
-one_value setting size state value fault cause (inr h) (inl k) = absurd (k.0 h.0)
-one_value setting size state value fault cause (inr h) (inr k) = one_write size state setting.numbers.address fault cause h.1 k.1
+one_value setting size state value fault cause h1 h2 = search (rules, one_write)
 
 pub one_named : (settings : List Setting) (name : List ℕ) (one other : Setting) → HaveRisingNames settings → IsNamed settings name one → IsNamed settings name other → one ≡ other
 one_named settings name one other rising h k = names_apart settings rising one other h.0 k.0 (h.1 ∙ sym k.1)

@@ -129,17 +129,11 @@ refused_or_taken settings old new number entry count fault rising refused (inr h
     (by_write settings old.size (state_of old) number entry fault write.setting h.0.value rising write.named h.0.number write.in_range refused).1
 
 one_write : (size : Size) (state : State) (number address : ℕ) (fault cause : Fault) → IsWriteRefusalAt size state number address fault → IsWriteRefusalAt size state number address cause → fault ≡ cause
-one_write size state number address fault cause (inl h) (inl k) = h.1 ∙ sym k.1
-one_write size state number address fault cause (inl h) (inr k) = absurd (k.0 h.0)
-one_write size state number address fault cause (inr h) (inl k) = absurd (h.0 k.0)
-one_write size state number address fault cause (inr h) (inr k) = h.2 ∙ sym k.2
+one_write size state number address fault cause h1 h2 = search rules
 
 one_number_refusal : (setting : Setting) (size : Size) (state : State) (entry : ℕ) (number : ℤ) (fault cause : Fault) → IsNumberRefusal setting size state entry number fault → IsNumberRefusal setting size state entry number cause
     → fault ≡ cause
-one_number_refusal setting size state entry number fault cause (inl h) (inl k) = h.1 ∙ sym k.1
-one_number_refusal setting size state entry number fault cause (inl h) (inr k) = absurd (h.0 k.0 k.2 k.1)
-one_number_refusal setting size state entry number fault cause (inr h) (inl k) = absurd (k.0 h.0 h.2 h.1)
-one_number_refusal setting size state entry number fault cause (inr h) (inr k) = one_write size state entry setting.numbers.address fault cause h.4 k.4
+one_number_refusal setting size state entry number fault cause h1 h2 = search (rules, one_write)
 
 one_refusal : (settings : List Setting) (size : Size) (state : State) (number : ℕ) (entry : Entry) (fault cause : Fault) → HaveRisingNames settings → IsEntryRefusal settings size state number entry fault
     → IsEntryRefusal settings size state number entry cause → fault ≡ cause

@@ -77,8 +77,7 @@ fn push_constants<A: Allocator + Copy>(
     push_constant(out, name, "ADDRESS", "u16", address, language)?;
     push_constant(out, name, "LEAST", "u32", numbers.min, language)?;
     push_constant(out, name, "MOST", "u32", numbers.max, language)?;
-    push_constant(out, name, "DEFAULT", "u32", numbers.default, language)?;
-    Ok(())
+    push_constant(out, name, "DEFAULT", "u32", numbers.default, language)
 }
 
 /// Writes a constant; `rust_type` is its type in Rust. After an error there may be a part of it.

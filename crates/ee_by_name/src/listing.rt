@@ -159,8 +159,7 @@ fn push_name<A: Allocator>(
     let Some(name) = schema.name(entry) else {
         return Ok(());
     };
-    out.extend_from_slice(name.as_bytes())?;
-    Ok(())
+    out.extend_from_slice(name.as_bytes())
 }
 
 /// Writes what an address holds, behind its number. After an error there may be a part of that.
@@ -174,6 +173,5 @@ fn push_held<A: Allocator>(out: &mut Vec<u8, A>, held: Held) -> Result<(), Alloc
     };
     out.extend_from_slice(before)?;
     push_number(out, u64::from(value))?;
-    out.extend_from_slice(after)?;
-    Ok(())
+    out.extend_from_slice(after)
 }

@@ -172,8 +172,7 @@ fn push_line<A: Allocator>(
     out.extend_from_slice(name.as_bytes())?;
     out.extend_from_slice(b" ")?;
     push_number(out, stale.value as u64)?;
-    out.extend_from_slice(b"\n")?;
-    Ok(())
+    out.extend_from_slice(b"\n")
 }
 
 /// The line that says how many addresses were forgotten.
@@ -191,6 +190,5 @@ fn push_tidied<A: Allocator>(out: &mut Vec<u8, A>, count: u64) -> Result<(), All
 {
     out.extend_from_slice(b"tidied ")?;
     push_number(out, count)?;
-    out.extend_from_slice(b"\n")?;
-    Ok(())
+    out.extend_from_slice(b"\n")
 }

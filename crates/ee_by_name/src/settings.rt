@@ -159,6 +159,5 @@ fn push_reading<A: Allocator>(out: &mut Vec<u8, A>, reading: Reading) -> Result<
         Reading::Default(value) => (value, b" default\n".as_slice()),
     };
     push_number(out, value as u64)?;
-    out.extend_from_slice(origin)?;
-    Ok(())
+    out.extend_from_slice(origin)
 }

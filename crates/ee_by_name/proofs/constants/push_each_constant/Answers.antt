@@ -1,4 +1,5 @@
-use Rattle.std.proofs.Common.{string_bytes}
+use Rattle.std.proofs.Common.{arith, string_bytes}
+use Rattle.std.proofs.lemmas.Grind.{common_steps}
 use Rattle.ee_by_name.proofs.Writing.{one_more}
 use Rattle.ee_by_name.specs.Header.{constants_in}
 use Rattle.ee_by_name.proofs.constants.push_each_constant.Goals as goal
@@ -7,3 +8,6 @@ pub loop-setting-preserved : goal.loop-setting-preserved
 loop-setting-preserved g c =
     one_more (constants_in c.args.language) c.args.settings.now c.loop-setting.setting-index c.setting-item.result (string_bytes c.args.out.now) (string_bytes c.loop-setting.out) (string_bytes c.push_constants.new.out) c.setting-item.is
     c.loop-setting-test.true c.loop-setting.invariant c.in_ok-push_constants.ensures
+
+pub returns : goal.returns
+returns g c = grind (arith, common_steps)
