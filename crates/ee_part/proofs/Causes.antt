@@ -79,12 +79,7 @@ one_low Pairs size bytes page at other place has also = one_low_fault size bytes
 
 one_dump_fault : (form : Form) (size : Size) (bytes : List ℕ) (cause fault : DumpFault) → IsDumpFault form size bytes cause → IsDumpFault form size bytes fault
     → (fault ≡ cause) ⊎ (fault ≡ dump.Memory) ⊎ (cause ≡ dump.Memory)
-one_dump_fault form size bytes cause dump.Memory h i = inr (inl refl)
-one_dump_fault form size bytes dump.Memory fault h i = inr (inr refl)
-one_dump_fault form size bytes dump.Length dump.Length h i = inl refl
-one_dump_fault form size bytes dump.Length (dump.LowPair page at) h i = absurd (h (low_long form size bytes page at i))
-one_dump_fault form size bytes (dump.LowPair page at) dump.Length h i = absurd (i (low_long form size bytes page at h))
-one_dump_fault form size bytes (dump.LowPair page at) (dump.LowPair other place) h i = inl (one_low form size bytes page at other place h i)
+one_dump_fault form size bytes cause fault h1 h2 = search (rules, low_long, one_low)
 
 pub one_import_fault : (form : Form) (size : Size) (bytes : List ℕ) (cause fault : Fault) → cause ≢ Memory → IsImportFault form size bytes cause → IsImportFault form size bytes fault → IsNamed fault cause
 one_import_fault form size bytes cause fault some h i = search (rules, one_dump_fault)
@@ -94,9 +89,7 @@ abbrev pub IsADump : Form → Size → List ℕ → Type 0
 IsADump form size bytes = (length bytes ≡ dump_length form size) × ((page at : ℕ) → HasLowPair form size bytes page at → ⊥)
 
 dump_has_no_cause : (form : Form) (size : Size) (bytes : List ℕ) (cause : DumpFault) → IsADump form size bytes → IsDumpFault form size bytes cause → cause ≡ dump.Memory
-dump_has_no_cause form size bytes dump.Length is other = absurd (other is.0)
-dump_has_no_cause form size bytes (dump.LowPair page at) is low = absurd (is.1 page at low)
-dump_has_no_cause form size bytes dump.Memory is lack = refl
+dump_has_no_cause form size bytes cause h1 h2 = search rules
 
 -- where there is one, nothing but memory was wanting
 pub import_lacks : (form : Form) (size : Size) (bytes : List ℕ) (fault : Fault) → IsADump form size bytes → IsImportFault form size bytes fault → fault ≡ Memory

@@ -5,7 +5,7 @@ use Rattle.std.specs.List.{list_any}
 use Rattle.std.proofs.lemmas.Bool.{and_from, and_parts, both_ways, cases_Bool, lt-ltb, ltb-true, or_from, or_parts, or_right, true_from_ne_false}
 use Rattle.std.proofs.lemmas.List.{length-append}
 use Rattle.ee_flash.specs.declared.word.Word.{Word}
-use Rattle.ee_flash.specs.declared.word.Word.TheVariants.{Erased, Held, Torn}
+use Rattle.ee_flash.specs.declared.word.Word.TheVariants.{Torn}
 use Rattle.ee_pages.specs.Meaning.{later, latest_in, says}
 use Rattle.ee_pages.specs.Page.{is_torn}
 use Rattle.ee_part.specs.Inspecting.{speaks_of, up_to_last}
@@ -93,9 +93,7 @@ last_within such slots = elim (cases_Bool (list_any such slots)) [
 ]
 
 torn_is : (word : Word) → is_torn word ≡ true → word ≡ Torn
-torn_is Torn is = refl
-torn_is Erased is = absurd (cc is)
-torn_is (Held number) is = absurd (cc is)
+torn_is word h1 = search rules
 
 -- ---- both ways
 

@@ -71,8 +71,7 @@ fn push_live<A: Allocator + Copy, F: Flash>(
     out.extend_from_slice(b"scan ok\n")?;
     push_set(usage_of(flash, layout, spoken.as_slice()), out)?;
     push_torn(flash, Some(layout.side), out)?;
-    push_doubts(flash, layout, spoken.as_slice(), out)?;
-    Ok(())
+    push_doubts(flash, layout, spoken.as_slice(), out)
 }
 
 /// Writes what there is to say of a device without one. After an error there may be a part of it.
@@ -85,8 +84,7 @@ fn push_fault<A: Allocator, F: Flash>(
         (out.new.items ≡ out.old.items ++ found_lines (F.device flash.now) (Err fault)) }
 {
     push_scan_fault(fault, out)?;
-    push_torn(flash, None, out)?;
-    Ok(())
+    push_torn(flash, None, out)
 }
 
 /// Writes the line of a scan that finds no live set. After an error there may be a part of it.
@@ -220,8 +218,7 @@ fn push_slots<A: Allocator>(usage: Usage, out: &mut Vec<u8, A>) -> Result<(), Al
     push_number_behind(out, b"set ", usage.set)?;
     push_number_behind(out, b" generation ", usage.generation as u64)?;
     push_number_behind(out, b" fill ", usage.fill as u64)?;
-    push_number_behind(out, b" room ", usage.room as u64)?;
-    Ok(())
+    push_number_behind(out, b" room ", usage.room as u64)
 }
 
 /// Writes what its slots are used for. After an error there may be a part of it.
@@ -231,8 +228,7 @@ fn push_parts<A: Allocator>(usage: Usage, out: &mut Vec<u8, A>) -> Result<(), Al
     push_number_behind(out, b"live ", usage.live as u64)?;
     push_number_behind(out, b" pending ", usage.pending as u64)?;
     push_number_behind(out, b" superseded ", usage.superseded as u64)?;
-    push_number_behind(out, b" torn ", usage.torn as u64)?;
-    Ok(())
+    push_number_behind(out, b" torn ", usage.torn as u64)
 }
 
 /// Writes the lines of the torn words. After an error there may be a part of them.
@@ -287,8 +283,7 @@ fn push_if_torn<A: Allocator, F: Flash>(
     push_number_behind(out, b" ", at as u64)?;
     out.extend_from_slice(b" ")?;
     out.extend_from_slice(name_of(flash, live, page, at))?;
-    out.extend_from_slice(b"\n")?;
-    Ok(())
+    out.extend_from_slice(b"\n")
 }
 
 /// What a word is to the live set, if there is one.
@@ -323,8 +318,7 @@ fn push_doubts<A: Allocator, F: Flash>(
     ensures { OnOk result (out.new.items
         ≡ out.old.items ++ doubt_lines (live_slots (F.device flash.now) layout.now)) }
 {
-    push_doubted(spoken, last_torn(flash, layout), out)?;
-    Ok(())
+    push_doubted(spoken, last_torn(flash, layout), out)
 }
 
 /// How many slots there are up to the last torn one, and with it.
@@ -432,6 +426,5 @@ fn push_if_doubted<A: Allocator>(
         return Ok(());
     }
     push_number_behind(out, b"doubt ", address as u64)?;
-    out.extend_from_slice(b"\n")?;
-    Ok(())
+    out.extend_from_slice(b"\n")
 }
