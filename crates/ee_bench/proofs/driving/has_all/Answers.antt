@@ -1,5 +1,4 @@
-use Rattle.std.proofs.Common.{arith, sym, ◌∙◌}
-use Rattle.std.proofs.lemmas.Grind.{common_steps}
+use Rattle.std.proofs.Common.{sym, ◌∙◌}
 use Rattle.ee_core.specs.State.{state_of}
 use Rattle.ee_bench.proofs.ListedValues.{has_at, has_one_more, other_value, same_value}
 use Rattle.ee_bench.proofs.driving.has_all.Goals as goal
@@ -17,6 +16,3 @@ entries-preserved g c =
     let map = (state_of (g.F.Flash.device c.args.flash.now)).map in
     has_one_more map c.args.puts.now c.entries.put-index c.put-item.result c.entries.invariant c.entries-test.true c.put-item.is
     (sym c.value_in.ensures ∙ same_value c.value_in.result c.put-item.result.value c.if-ne.ensures)
-
-pub returns : goal.returns
-returns g c = grind (arith, common_steps)

@@ -13,8 +13,12 @@ returns-in_err-append g c =
     let cut = c.in_err-append.ensures.power.cut c.requires.proceeds.on in
     let failed = c.from_residual.ensures.0 in
     record {
-      appended = never_on_ok _ _ failed; takes = never_on_ok _ _ failed; spells = never_on_ok _ _ failed; drawn = never_on_ok _ _ failed;
-      found = never_on_ok _ _ failed; same_set = never_on_ok _ _ failed;
+      appended = never_on_ok _ _ failed;
+      takes = never_on_ok _ _ failed;
+      spells = never_on_ok _ _ failed;
+      drawn = never_on_ok _ _ failed;
+      found = never_on_ok _ _ failed;
+      same_set = never_on_ok _ _ failed;
       cut = always_on_err _
           (cut_in_append old new layout.side layout.generation c.requires.layout.live (meant c.args.change) c.requires.proceeds cut
           (omega (arith, c.requires.free, c.requires.layout.fill)) c.append.ensures.other c.in_err-append.ensures.cut c.append.ensures.wear
@@ -35,7 +39,12 @@ returns g c =
           (omega (arith, c.requires.free, c.requires.layout.fill)) done.takes done.other done.wear
           (shows_appended old new layout.side layout.generation c.requires.layout.live (meant c.args.change) layout.fill (number_written c.args.change) c.requires.layout.fill
           (number_is c.args.change (state_of old).map c.requires.forgets) done.power.ok.same_size done.drawn done.other);
-      takes = done.takes; spells = done.spells; drawn = done.drawn; found = done.layout; same_set = done.same_set; cut = tt;
+      takes = done.takes;
+      spells = done.spells;
+      drawn = done.drawn;
+      found = done.layout;
+      same_set = done.same_set;
+      cut = tt;
       store = marked_store new layout.side layout.generation done.takes.live done.marked;
       layout = λ on. done.layout;
     }

@@ -26,9 +26,11 @@ pub returns-in_err-append_change : goal.returns-in_err-append_change
 returns-in_err-append_change g c =
     let failed = err_from_is_err_and c.from_residual.result c.from_residual.ensures.1 in
     record {
-      appended = λ is. absurd (not_ok is failed.1); moved = λ is. absurd (not_ok is failed.1);
+      appended = λ is. absurd (not_ok is failed.1);
+      moved = λ is. absurd (not_ok is failed.1);
       cut = always_on_err _ c.in_err-append_change.ensures.cut;
-      store = c.append_change.ensures.store; layout = c.append_change.ensures.layout;
+      store = c.append_change.ensures.store;
+      layout = c.append_change.ensures.layout;
     }
 
 pub returns-in_ok-append_change : goal.returns-in_ok-append_change
@@ -39,14 +41,19 @@ pub returns-in_err-move_unindexed : goal.returns-in_err-move_unindexed
 returns-in_err-move_unindexed g c =
     let failed = err_from_is_err_and c.from_residual-in_err-move_unindexed.result c.from_residual-in_err-move_unindexed.ensures.1 in
     record {
-      appended = λ is. absurd (not_ok is failed.1); moved = λ is. absurd (not_ok is failed.1);
+      appended = λ is. absurd (not_ok is failed.1);
+      moved = λ is. absurd (not_ok is failed.1);
       cut = always_on_err _ (subst (λ changes. IsCutMaking (g.F.Flash.device c.args.flash.now) changes (g.F.Flash.device c.move_unindexed.new.flash)) c.entry-put.ensures c.in_err-move_unindexed.ensures.cut);
-      store = c.move_unindexed.ensures.store; layout = c.move_unindexed.ensures.layout;
+      store = c.move_unindexed.ensures.store;
+      layout = c.move_unindexed.ensures.layout;
     }
 
 pub returns-in_ok-move_unindexed : goal.returns-in_ok-move_unindexed
 returns-in_ok-move_unindexed g c =
     record {
-      appended = λ is. absurd (appended_not_moved _ is refl); moved = λ is. subst (λ changes. Moves (g.F.Flash.device c.args.flash.now) changes (g.F.Flash.device c.move_unindexed.new.flash)) c.entry-put.ensures c.in_ok-move_unindexed.ensures.moved;
-      cut = tt; store = c.move_unindexed.ensures.store; layout = c.move_unindexed.ensures.layout;
+      appended = λ is. absurd (appended_not_moved _ is refl);
+      moved = λ is. subst (λ changes. Moves (g.F.Flash.device c.args.flash.now) changes (g.F.Flash.device c.move_unindexed.new.flash)) c.entry-put.ensures c.in_ok-move_unindexed.ensures.moved;
+      cut = tt;
+      store = c.move_unindexed.ensures.store;
+      layout = c.move_unindexed.ensures.layout;
     }

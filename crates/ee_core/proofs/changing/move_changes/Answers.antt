@@ -28,8 +28,12 @@ returns-in_err-transfer g c =
     let few = few_pending new (other layout.side) (g.met.F.Flash.formed c.transfer.new.flash) in
     let failed = c.from_residual.ensures.0 in
     record {
-      moved = never_on_ok _ _ failed; has_moved = never_on_ok _ _ failed; found = never_on_ok _ _ failed; other_set = never_on_ok _ _ failed;
-      as_many = never_on_ok _ _ failed; new_pages = never_on_ok _ _ failed;
+      moved = never_on_ok _ _ failed;
+      has_moved = never_on_ok _ _ failed;
+      found = never_on_ok _ _ failed;
+      other_set = never_on_ok _ _ failed;
+      as_many = never_on_ok _ _ failed;
+      new_pages = never_on_ok _ _ failed;
       cut = always_on_err _
           (cut_in_move old new layout.side layout.generation c.requires.layout.live cut (omega (arith, few, ap (λ size. size.pages) cut.same_size)) left.begun
           changes c.requires.proceeds c.requires.needed left.cut (shows_cut_move old new layout.side layout.generation c.requires.layout.live changes left.words));
@@ -47,7 +51,12 @@ returns g c =
     record {
       moved = moves old new layout.side layout.generation c.requires.layout.live changes c.requires.proceeds done.power.ok c.requires.needed done.moves.moved done.moves.wear
           (shows_moved old new layout.side layout.generation c.requires.layout.live changes c.requires.needed done.power.ok.same_size done.new_pages done.old_pages);
-      has_moved = done.moves.moved; found = done.layout; other_set = done.other_set; as_many = done.moves.as_many; new_pages = done.new_pages; cut = tt;
+      has_moved = done.moves.moved;
+      found = done.layout;
+      other_set = done.other_set;
+      as_many = done.moves.as_many;
+      new_pages = done.new_pages;
+      cut = tt;
       store = marked_store new (other layout.side) (layout.generation + 1) done.moves.moved.live done.marked;
       layout = λ on. done.layout;
     }

@@ -95,7 +95,8 @@ returns-in_err-erase g c =
     let others : IsSameBut page mid new = λ k apart. step_keeps_other_pages (Erase page) mid new k (record { formed = mid_formed; may = now_in_range; follows = inr cut }) apart in
     let failed = c.from_residual.ensures.0 in
     record {
-      blank = never_on_ok _ _ failed; wear = never_on_ok _ _ failed;
+      blank = never_on_ok _ _ failed;
+      wear = never_on_ok _ _ failed;
       begun = always_on_err _ (front_wears old.image 0 page page old mid new at within (sym (c.pages.invariant.rest page (omega arith))) c.pages.invariant.wear written one);
       partly = always_on_err _
           (erases_partly 0 (page_count old.size) page old mid new (omega arith) in_range written (λ k low high. c.pages.invariant.blank k high)

@@ -50,7 +50,9 @@ returns g c =
       first_set = formats_first blank mid new formed mid_formed size size_then all sets sets_then;
       second_set = formats_second blank mid new formed mid_formed size size_then all sets sets_then;
       wear = wears_still (not_blank_pages old) old blank new erased wear;
-      begun = tt; words = tt; starting = tt;
+      begun = tt;
+      words = tt;
+      starting = tt;
       power = record { ok = goes_on_both old mid new on_still (goes_on_marked 0 Active mid on_then done); cut = tt; off = tt };
     }
 
@@ -58,8 +60,13 @@ pub returns-in_err-erase_all : goal.returns-in_err-erase_all
 returns-in_err-erase_all g c =
     let failed = c.from_residual.ensures.0 in
     record {
-      layout = IfOk-from_err _ _ failed; first = IfOk-from_err _ _ failed; marked = never_on_ok _ _ failed; state = never_on_ok _ _ failed;
-      first_set = never_on_ok _ _ failed; second_set = never_on_ok _ _ failed; wear = never_on_ok _ _ failed;
+      layout = IfOk-from_err _ _ failed;
+      first = IfOk-from_err _ _ failed;
+      marked = never_on_ok _ _ failed;
+      state = never_on_ok _ _ failed;
+      first_set = never_on_ok _ _ failed;
+      second_set = never_on_ok _ _ failed;
+      wear = never_on_ok _ _ failed;
       begun = always_on_err _ c.in_err-erase_all.ensures.begun;
       words = always_on_err _ (inl c.in_err-erase_all.ensures.partly);
       starting = always_on_err c.from_residual.result (λ on startable. inl (c.erase_all.ensures.startable startable));
@@ -81,8 +88,13 @@ returns-in_err-mark g c =
     let same : mid.wear ≡ blank.wear = program_keeps_wear 0 0 _ blank mid (inr cut) in
     let failed = c.from_residual-in_err-mark.ensures.0 in
     record {
-      layout = IfOk-from_err _ _ failed; first = IfOk-from_err _ _ failed; marked = never_on_ok _ _ failed; state = never_on_ok _ _ failed;
-      first_set = never_on_ok _ _ failed; second_set = never_on_ok _ _ failed; wear = never_on_ok _ _ failed;
+      layout = IfOk-from_err _ _ failed;
+      first = IfOk-from_err _ _ failed;
+      marked = never_on_ok _ _ failed;
+      state = never_on_ok _ _ failed;
+      first_set = never_on_ok _ _ failed;
+      second_set = never_on_ok _ _ failed;
+      wear = never_on_ok _ _ failed;
       begun = always_on_err _ (front_all (not_blank_pages old) old mid (wears_still (not_blank_pages old) old blank mid erased same));
       words = always_on_err _
           (inr (format_cut blank mid formed (step_changes_one_page _ blank mid taken).same_size all (mark_partly 0 (Receive 1) blank mid formed h (λ set. (c.mark.ensures.present set).1) cut)));
@@ -113,8 +125,13 @@ returns-in_err-mark-2 g c =
     let wear : new.wear ≡ blank.wear = program_keeps_wear 0 1 _ mid new (inr cut) ∙ ap (λ (device : Device). device.wear) whole in
     let failed = c.from_residual-in_err-mark-2.ensures.0 in
     record {
-      layout = IfOk-from_err _ _ failed; first = IfOk-from_err _ _ failed; marked = never_on_ok _ _ failed; state = never_on_ok _ _ failed;
-      first_set = never_on_ok _ _ failed; second_set = never_on_ok _ _ failed; wear = never_on_ok _ _ failed;
+      layout = IfOk-from_err _ _ failed;
+      first = IfOk-from_err _ _ failed;
+      marked = never_on_ok _ _ failed;
+      state = never_on_ok _ _ failed;
+      first_set = never_on_ok _ _ failed;
+      second_set = never_on_ok _ _ failed;
+      wear = never_on_ok _ _ failed;
       begun = always_on_err _ (front_all (not_blank_pages old) old new (wears_still (not_blank_pages old) old blank new erased wear));
       words = always_on_err _
           (inr (format_cut_then blank mid new formed mid_formed (ap (λ (device : Device). device.size) whole) (step_changes_one_page _ mid new taken).same_size all sets

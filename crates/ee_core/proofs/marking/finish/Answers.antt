@@ -18,7 +18,8 @@ returns-in_err-mark_live_set g c =
     let failed = c.from_residual.ensures.0 in
     record {
       stays = c.mark_live_set.ensures.stays;
-      finished = never_on_ok _ _ failed; shows = never_on_ok _ _ failed;
+      finished = never_on_ok _ _ failed;
+      shows = never_on_ok _ _ failed;
       begun = always_on_err _
           (cut_live c.args.layout.now.side old new c.mark_live_set.ensures.stays.keeps.same_size c.in_err-mark_live_set.ensures.begun c.in_err-mark_live_set.ensures.old_pages_stay);
       no_step = λ marked. absurd (not_ok (c.mark_live_set.ensures.no_step marked.live).0 c.in_err-mark_live_set.was);
@@ -34,7 +35,8 @@ returns-in_err-mark_old_set g c =
     let failed = c.from_residual-in_err-mark_old_set.ensures.0 in
     record {
       stays = stays_both _ _ _ _ _ c.mark_live_set.ensures.stays c.mark_old_set.ensures.stays;
-      finished = never_on_ok _ _ failed; shows = never_on_ok _ _ failed;
+      finished = never_on_ok _ _ failed;
+      shows = never_on_ok _ _ failed;
       begun = always_on_err _
           (cut_old side old mid new c.mark_live_set.ensures.stays.keeps.same_size c.mark_old_set.ensures.stays.keeps.same_size
           c.in_ok-mark_live_set.ensures.live_pages c.in_ok-mark_live_set.ensures.old_pages c.in_err-mark_old_set.ensures.live_pages_stay c.in_err-mark_old_set.ensures.begun);

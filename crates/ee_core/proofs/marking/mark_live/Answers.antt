@@ -22,7 +22,8 @@ returns-in_err-mark g c =
       stays = live_mark_stays c.args.page c.args.kind old new layout.side layout.generation c.requires.layout.live c.requires.from c.requires.behind left;
       others = same_but c.args.page c.args.kind old new left;
       marks = mark_keeps_marks c.args.page c.args.kind old new left;
-      marked = never_on_ok _ _ failed; sets = never_on_ok _ _ failed;
+      marked = never_on_ok _ _ failed;
+      sets = never_on_ok _ _ failed;
       begun = always_on_err _ (mark_partly c.args.page c.args.kind old new formed h (λ set. (c.mark.ensures.present set).1) c.in_err-mark.ensures.cut);
       no_step = λ set. absurd (not_ok (c.mark.ensures.present set).0 c.in_err-mark.was);
       power = ends_in_step (marking c.args.page c.args.kind) _ failed (goes_on_same old) c.in_err-mark.ensures.cut;

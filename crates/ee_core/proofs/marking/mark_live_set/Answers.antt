@@ -89,7 +89,9 @@ returns-in_err-mark_live g c =
     let inside : k < mid.size.pages = omega (arith, before, last_in_range layout old c.requires, counted) in
     record {
       stays = stays_both _ _ _ _ _ c.pages.invariant.stays c.mark_live.ensures.stays;
-      marked = never_on_ok _ _ failed; live_pages = never_on_ok _ _ failed; old_pages = never_on_ok _ _ failed;
+      marked = never_on_ok _ _ failed;
+      live_pages = never_on_ok _ _ failed;
+      old_pages = never_on_ok _ _ failed;
       begun = always_on_err _
           (valid_partly layout.side mid new k (last_used old layout.side) (picture_of layout.side old) (g.met.F.Flash.formed c.pages.flash) c.mark_live.ensures.stays.keeps.same_size inside before
           (subst (λ n. SetsPartly n Valid mid new) at c.in_err-mark_live.ensures.begun) c.pages.invariant.drawn);
@@ -120,7 +122,9 @@ returns-in_err-mark_live-2 g c =
     let at : layout.current ≡ first_page mid.size layout.side + last_used old layout.side = omega (arith, last, ap (λ (size : Size). first_page size layout.side) sizes) in
     record {
       stays = stays_both _ _ _ _ _ c.pages.invariant.stays c.mark_live-2.ensures.stays;
-      marked = never_on_ok _ _ failed; live_pages = never_on_ok _ _ failed; old_pages = never_on_ok _ _ failed;
+      marked = never_on_ok _ _ failed;
+      live_pages = never_on_ok _ _ failed;
+      old_pages = never_on_ok _ _ failed;
       begun = always_on_err _
           (active_partly layout.side mid new (last_used old layout.side) (picture_of layout.side old) (g.met.F.Flash.formed c.pages.flash) c.mark_live-2.ensures.stays.keeps.same_size below
           (subst (λ n. SetsPartly n Active mid new) at c.in_err-mark_live-2.ensures.begun) drawn);
@@ -158,7 +162,8 @@ returns g c =
           (omega (arith, last, c.first_page-first.ensures)) below done.sets drawn;
       old_pages = other_stays layout.side old c.first_page-first.result c.first_page-first.ensures mid new layout.current formed (g.met.F.Flash.formed c.mark_live-2.new.flash)
           sizes done.stays.keeps.same_size from behind done.others c.pages.invariant.other;
-      begun = tt; old_pages_stay = tt;
+      begun = tt;
+      old_pages_stay = tt;
       no_step = λ marked.
           let same = c.pages.invariant.no_step marked in
           let set : is_marked old layout.current Active ≡ true = ap (λ n. is_marked old n Active) last ∙ marked.active in

@@ -120,7 +120,9 @@ returns-in_err-mark_old g c =
     record {
       stays = stays_both _ _ _ _ _ c.pages.invariant.stays c.mark_old.ensures.stays;
       marks = λ page mark was. c.mark_old.ensures.marks page mark (c.pages.invariant.marks page mark was);
-      marked = never_on_ok _ _ failed; live_pages = never_on_ok _ _ failed; old_pages = never_on_ok _ _ failed;
+      marked = never_on_ok _ _ failed;
+      live_pages = never_on_ok _ _ failed;
+      old_pages = never_on_ok _ _ failed;
       begun = always_on_err _
           (retired_partly side old mid new k (g.met.F.Flash.formed c.pages.flash) c.mark_old.ensures.stays.keeps.same_size (omega (arith, there, counted, below)) (ap not was)
           (subst (λ n. SetsPartly n Erasing mid new) at c.in_err-mark_old.ensures.begun) c.pages.invariant.drawn);
@@ -141,12 +143,15 @@ returns g c =
     let pages = ap (λ (size : Size). size.pages) c.shape.ensures in
     let first : c.first_page-first.result ≡ first_page old.size side = c.first_page-first.ensures ∙ ap (λ (set : Side). first_page old.size set) c.other.ensures in
     record {
-      stays = c.pages.invariant.stays; marks = c.pages.invariant.marks; live_pages = c.pages.invariant.live;
+      stays = c.pages.invariant.stays;
+      marks = c.pages.invariant.marks;
+      live_pages = c.pages.invariant.live;
       marked = λ k below.
           let within : k < c.pages.page - first_page old.size side = omega (arith, below, ap (λ (size : Size). size.pages) sizes, first, pages, c.pages-2.ensures.value, c.pages-test.false) in
           subst (λ (size : Size). IsPageDone new (first_page size side + k)) (sym sizes) (c.pages.invariant.done k within);
       old_pages = retired_end side old c.first_page-first.result first new c.pages.page sizes (omega (arith, c.pages-2.ensures.value, pages, c.pages-test.false, c.pages.auto.page-end)) c.pages.invariant.drawn;
-      begun = tt; live_pages_stay = tt;
+      begun = tt;
+      live_pages_stay = tt;
       no_step = λ marked. (refl, c.pages.invariant.no_step marked);
       power = record { ok = c.pages.invariant.power; cut = tt; off = tt };
     }

@@ -120,7 +120,9 @@ returns-in_err-erase_other g c =
     front_wears (set_of set old) _ k page old mid new at within same c.pages.invariant.wear written (front_begun (page ∷ []) mid new cut.begun cut.power.off) in
     record {
       keeps = keeps_both _ _ _ _ _ c.pages.invariant.keeps cut.keeps;
-      blank = never_on_ok _ _ failed; live_pages = never_on_ok _ _ failed; wear = never_on_ok _ _ failed;
+      blank = never_on_ok _ _ failed;
+      live_pages = never_on_ok _ _ failed;
+      wear = never_on_ok _ _ failed;
       begun = always_on_err _ (subst (λ n. WearsFront (not_blank_from n (set_of set old)) old new) first begun);
       partly = always_on_err _
           (erases_partly (first_page old.size set) (first_page old.size set + old.size.pages) page old mid new (omega (arith, first, c.pages.auto.page)) (omega (arith, first, below)) written

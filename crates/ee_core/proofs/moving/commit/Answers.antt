@@ -25,7 +25,8 @@ returns-in_err-mark g c =
     mark_partly_at _ (first_page old.size side) Active old new formed (page_of_device old.size side (first_page old.size side) (first_in_set side old formed)) page (λ set. (c.mark.ensures.present set).1) cut in
     let failed = c.from_residual.ensures.0 in
     record {
-      committed = never_on_ok _ _ failed; sets = never_on_ok _ _ failed;
+      committed = never_on_ok _ _ failed;
+      sets = never_on_ok _ _ failed;
       cut = always_on_err _ commits.1;
       same_set = commits.0;
       begun = always_on_err c.from_residual.result (λ words holds. commit_partly side old new (c.args.layout.now.generation + 1) words formed (cut_size _ _ _ cut) sets holds);
@@ -45,7 +46,8 @@ returns g c =
     let committed = active_done old _ layout.side layout.generation _ c.requires.layout.live c.requires.generation c.requires.filling.1 _ page on done in
     record {
       committed = committed;
-      cut = tt; begun = tt;
+      cut = tt;
+      begun = tt;
       same_set = (active_commits old _ layout.side layout.generation _ c.requires.layout.live c.requires.generation c.requires.filling.1 _ page (inl (record { was_on = on; done = done }))).0;
       sets = search rules;
       same_size = committed.same_size;

@@ -23,7 +23,8 @@ returns-in_err-clear g c =
     let cut = c.in_err-clear.ensures in
     record {
       moves = rw failed.1 (record { begun = cut.begun; words = inl cut.partly; cut = inl cut.keeps });
-      each_once = IfOk-from_err _ _ c.from_residual.ensures.0; new_pages = never_on_ok _ _ c.from_residual.ensures.0;
+      each_once = IfOk-from_err _ _ c.from_residual.ensures.0;
+      new_pages = never_on_ok _ _ c.from_residual.ensures.0;
       live_pages = never_on_ok _ _ c.from_residual.ensures.0;
       power = ends_later _ c.from_residual.ensures.0 (goes_on_same (g.F.Flash.device c.args.flash.now)) c.in_err-clear.ensures.power;
     }
@@ -51,7 +52,8 @@ returns-in_err-open_set g c =
         });
         cut = inl keeps;
       });
-      each_once = IfOk-from_err _ _ c.from_residual-in_err-open_set.ensures.0; new_pages = never_on_ok _ _ c.from_residual-in_err-open_set.ensures.0;
+      each_once = IfOk-from_err _ _ c.from_residual-in_err-open_set.ensures.0;
+      new_pages = never_on_ok _ _ c.from_residual-in_err-open_set.ensures.0;
       live_pages = never_on_ok _ _ c.from_residual-in_err-open_set.ensures.0;
       power = ends_later _ c.from_residual-in_err-open_set.ensures.0 clears.power.ok c.in_err-open_set.ensures.power;
     }
@@ -86,7 +88,8 @@ returns-in_err-count g c =
         });
         cut = inl keeps;
       });
-      each_once = IfOk-from_err _ _ c.from_residual-in_err-count.ensures.0; new_pages = never_on_ok _ _ c.from_residual-in_err-count.ensures.0;
+      each_once = IfOk-from_err _ _ c.from_residual-in_err-count.ensures.0;
+      new_pages = never_on_ok _ _ c.from_residual-in_err-count.ensures.0;
       live_pages = never_on_ok _ _ c.from_residual-in_err-count.ensures.0;
       power = ends_later _ c.from_residual-in_err-count.ensures.0 (goes_on_both old cleared opened clears.power.ok opens.power.ok) c.in_err-count.ensures.power;
     }
@@ -130,7 +133,8 @@ returns-in_err-commit g c =
           | inr committed ↦ inr (has_moved old opened filling new side generation c.in_ok-count.count changes before fills.keeps as_used fills.filling fills.map_is c.in_ok-count.ensures.each_once cut.same_set committed)
         ];
       });
-      each_once = IfOk-from_err _ _ c.from_residual-in_err-commit.ensures.0; new_pages = never_on_ok _ _ c.from_residual-in_err-commit.ensures.0;
+      each_once = IfOk-from_err _ _ c.from_residual-in_err-commit.ensures.0;
+      new_pages = never_on_ok _ _ c.from_residual-in_err-commit.ensures.0;
       live_pages = never_on_ok _ _ c.from_residual-in_err-commit.ensures.0;
       power = ends_later _ c.from_residual-in_err-commit.ensures.0 (goes_on_both old opened filling (goes_on_both old cleared opened clears.power.ok opens.power.ok) c.in_ok-count.ensures.power.ok) c.in_err-commit.ensures.power;
     }

@@ -31,7 +31,8 @@ returns-in_err-mark g c =
     let failed = c.from_residual.ensures.0 in
     record {
       keeps = keeps;
-      opened = never_on_ok _ _ failed; holds = never_on_ok _ _ failed;
+      opened = never_on_ok _ _ failed;
+      holds = never_on_ok _ _ failed;
       live_pages = put_apart_partly layout.side old new (first_page old.size side) _ _ keeps.same_size (first_in_set side old formed) sets;
       begun = always_on_err c.from_residual.result (λ words. open_partly side old new (layout.generation + 1) words formed keeps.same_size (blank_drawn side old formed c.requires.blank) sets);
       wear = program_keeps_wear _ _ _ old new (inr cut);

@@ -34,8 +34,10 @@ returns-in_err-count g c =
         ];
         cut = partly.cut;
       });
-      layout = never_on_ok _ _ c.from_residual.ensures.0; other_set = never_on_ok _ _ c.from_residual.ensures.0;
-      marked = never_on_ok _ _ c.from_residual.ensures.0; new_pages = never_on_ok _ _ c.from_residual.ensures.0;
+      layout = never_on_ok _ _ c.from_residual.ensures.0;
+      other_set = never_on_ok _ _ c.from_residual.ensures.0;
+      marked = never_on_ok _ _ c.from_residual.ensures.0;
+      new_pages = never_on_ok _ _ c.from_residual.ensures.0;
       old_pages = never_on_ok _ _ c.from_residual.ensures.0;
       power = ends_later _ c.from_residual.ensures.0 (goes_on_same old) c.in_err-count.ensures.power;
     }
@@ -67,8 +69,10 @@ returns-in_err-finish g c =
         });
         cut = inr (moved_stays old mid new side c.args.layout.now.generation (carried c.args.puts.now c.args.forgets) moves.moved stays);
       });
-      layout = never_on_ok _ _ c.from_residual-in_err-finish.ensures.0; other_set = never_on_ok _ _ c.from_residual-in_err-finish.ensures.0;
-      marked = never_on_ok _ _ c.from_residual-in_err-finish.ensures.0; new_pages = never_on_ok _ _ c.from_residual-in_err-finish.ensures.0;
+      layout = never_on_ok _ _ c.from_residual-in_err-finish.ensures.0;
+      other_set = never_on_ok _ _ c.from_residual-in_err-finish.ensures.0;
+      marked = never_on_ok _ _ c.from_residual-in_err-finish.ensures.0;
+      new_pages = never_on_ok _ _ c.from_residual-in_err-finish.ensures.0;
       old_pages = never_on_ok _ _ c.from_residual-in_err-finish.ensures.0;
       power = ends_later _ c.from_residual-in_err-finish.ensures.0 c.in_ok-count.ensures.power.ok c.in_err-finish.ensures.power;
     }

@@ -41,9 +41,13 @@ returns-in_err-open_page g c =
     let layout = c.args.layout.now in
     let failed = c.from_residual.ensures.0 in
     record {
-      takes = never_on_ok _ _ failed; layout = never_on_ok _ _ failed; same_set = never_on_ok _ _ failed; marked = never_on_ok _ _ failed;
+      takes = never_on_ok _ _ failed;
+      layout = never_on_ok _ _ failed;
+      same_set = never_on_ok _ _ failed;
+      marked = never_on_ok _ _ failed;
       cut = always_on_err _ (inl c.open_page.ensures.stays.keeps);
-      spells = never_on_ok _ _ failed; drawn = never_on_ok _ _ failed;
+      spells = never_on_ok _ _ failed;
+      drawn = never_on_ok _ _ failed;
       begun = always_on_err _
           (cut_marks layout.side (g.F.Flash.device c.args.flash.now) (g.F.Flash.device c.open_page.new.flash) layout.fill (number_written c.args.change) c.in_err-open_page.ensures.begun);
       other = c.open_page.ensures.other;
@@ -63,13 +67,17 @@ returns-in_err-page g c =
     let same : map_in side mid ≡ map_in side old = fun_ext keeps.same_map in
     let failed = c.from_residual-in_err-page.ensures.0 in
     record {
-      takes = never_on_ok _ _ failed; layout = never_on_ok _ _ failed; same_set = never_on_ok _ _ failed; marked = never_on_ok _ _ failed;
+      takes = never_on_ok _ _ failed;
+      layout = never_on_ok _ _ failed;
+      same_set = never_on_ok _ _ failed;
+      marked = never_on_ok _ _ failed;
       cut = always_on_err _ (elim c.in_err-page.ensures.cut [
         | inl kept ↦ inl (keeps_both old mid new side generation keeps kept)
         | inr (inl torn) ↦ inr (inl (taken_after old mid new side generation (map_in side mid) (map_in side old) keeps same torn))
         | inr (inr whole) ↦ inr (inr (taken_after old mid new side generation (map_after (meant c.args.change) (map_in side mid)) (map_after (meant c.args.change) (map_in side old)) keeps (ap (map_after (meant c.args.change)) same) whole))
       ]);
-      spells = never_on_ok _ _ failed; drawn = never_on_ok _ _ failed;
+      spells = never_on_ok _ _ failed;
+      drawn = never_on_ok _ _ failed;
       begun = always_on_err _
           (cut_word side old mid new layout.fill (number_written c.args.change) keeps.same_size (search rules)
           (page_in_range old layout.fill c.requires.free) (place_in_range old layout.fill c.requires.layout.live.formed) c.in_ok-open_page.ensures.drawn c.in_err-page.ensures.begun);

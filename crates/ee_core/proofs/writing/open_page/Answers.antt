@@ -53,7 +53,8 @@ returns-in_err-mark_live g c =
     record {
       stays = first.stays;
       other = first_other old layout c.requires.layout c.requires.free _ words _ first.stays first.others;
-      ready = never_on_ok _ _ failed; drawn = never_on_ok _ _ failed;
+      ready = never_on_ok _ _ failed;
+      drawn = never_on_ok _ _ failed;
       begun = always_on_err _
           (subst (λ n. IsDrawnPartly layout.side new (picture_of layout.side old) (marked_to n (picture_of layout.side old))) (sym next)
           (opens_partly layout.side old new k c.requires.layout.live.formed first.stays.keeps.same_size (omega (arith, next, page_in_range old layout.fill c.requires.free))
@@ -82,7 +83,8 @@ returns-in_err-mark_live-2 g c =
     record {
       stays = stays_both _ _ _ _ _ first.stays second.stays;
       other = second_other old layout c.requires.layout c.requires.free _ words some c.if-layout-slots-ne0.false _ _ second.stays.keeps.live.formed first.stays second.stays.keeps.same_size same second.others;
-      ready = never_on_ok _ _ failed; drawn = never_on_ok _ _ failed;
+      ready = never_on_ok _ _ failed;
+      drawn = never_on_ok _ _ failed;
       begun = always_on_err _
           (subst (λ n. IsDrawnPartly layout.side new (picture_of layout.side old) (marked_to n (picture_of layout.side old))) (sym next)
           (opens_partly_then layout.side old mid new k c.requires.layout.live.formed first.stays.keeps.live.formed first.stays.keeps.same_size second.stays.keeps.same_size

@@ -32,7 +32,8 @@ returns-in_err-program g c =
     let failed = c.from_residual.ensures.0 in
     let puts = cut_push_partly side c.args.layout.now.generation fill _ _ old found.live found.fill c.requires.free c.first_page.ensures words new (meant c.args.change) _ c.word.ensures.spells c.word.ensures.below_all_ones cut in
     record {
-      page = IfOk-from_err _ _ failed; takes = never_on_ok _ _ failed;
+      page = IfOk-from_err _ _ failed;
+      takes = never_on_ok _ _ failed;
       cut = on_err _ _ (cut_push_leaves side c.args.layout.now.generation fill _ _ _ found.live found.fill c.requires.free c.first_page.ensures words _ (meant c.args.change) _ c.word.ensures.spells c.word.ensures.below_all_ones cut);
       spells = never_on_ok _ _ failed;
       marks = cut_push_marks side c.args.layout.now.generation fill _ _ _ found.live found.fill c.requires.free c.first_page.ensures words _ (meant c.args.change) _ c.word.ensures.spells c.word.ensures.below_all_ones cut;
