@@ -1,16 +1,20 @@
 //! The jobs of the program: files are read whole, then the work is done, and what it gives is written.
 ghost use Rattle.std.specs.Prelude.{◌≡◌};
 
+use ee_by_name::{
+    Language, apply_values, get_setting, header_text, list_text, set_setting, stale_text,
+    tidy_image,
+};
 use ee_command_line::{HELP, Job, VERSION, job, read_whole, write_whole};
+use ee_commands::{
+    check_script, clean_image, format_image, plan_script, size_parts, states_text, wear_text,
+};
 use ee_faults::{Fault, File, fault_line, status_of};
 use ee_files::{FileLocks, save};
 use ee_flash::Shape;
-use ee_shell::{
-    Form, ImageAndText, Language, apply_values, check_script, clean_image, export_hex,
-    export_image, format_image, get_setting, header_text, import_hex, import_image, inspect_text,
-    list_text, plan_script, replay, replay_indexed, set_setting, size_parts, stale_text,
-    states_text, tidy_image, try_script, wear_text,
-};
+use ee_image_store::ImageAndText;
+use ee_part::{Form, export_hex, export_image, import_hex, import_image, inspect_text};
+use ee_replay::{replay, replay_indexed, try_script};
 use std::alloc::Global;
 use std::rt::Files;
 use std::{fs, io};

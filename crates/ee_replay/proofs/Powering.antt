@@ -1,20 +1,26 @@
 -- What a device's image says stays as power comes on and a cut is armed.
-use Rattle.std.proofs.Common.{◌≡◌, ◌∙◌, ◌≤◌, ℕ, Some, ap, refl, subst, sym, rules}
+use Rattle.std.proofs.Common.{◌≡◌, ◌∙◌, ◌≤◌, ℕ, Bool, Some, ap, refl, subst, sym, rules}
 use Rattle.ee_flash.specs.Device.{Device, all_ones}
+use Rattle.ee_pages.proofs.Public.{legal_is_good}
 use Rattle.ee_pages.specs.Layout.{IsLayout}
 use Rattle.ee_pages.specs.Legal.{IsLegal}
 use Rattle.ee_pages.specs.Sets.{fill_of, live_of, set_of, slots_of}
 use Rattle.ee_pages.specs.declared.find.Layout.{Layout}
+use Rattle.ee_pages.specs.declared.find.ScanFault.{ScanFault}
 use Rattle.ee_pages.specs.declared.side.Side.{Side}
 use Rattle.ee_pages.specs.declared.side.Side.TheVariants.{First, Second}
-use Rattle.ee_core.proofs.Public.{legal_powered, live_powered, state_in_on, state_in_powered}
+use Rattle.ee_core.proofs.Public.{legal_on, legal_powered, live_powered, state_in_on, state_in_powered}
 use Rattle.ee_core.specs.Points.{Point, with_power_on, open_point}
 use Rattle.ee_core.specs.Finished.{IsMarked, IsStore}
 use Rattle.ee_core.specs.State.{state_of}
 use Rattle.ee_flash.specs.declared.fuse.Fuse.{Fuse}
+use Rattle.ee_index.specs.Index.{IndexedOpenFails}
 use Rattle.ee_index.specs.Kept.{IsKeptBeside}
+use Rattle.ee_index.specs.declared.indexed.IndexedFault.{IndexedFault}
+use Rattle.ee_index.specs.declared.indexed.IndexedFault.TheVariants.{Scan}
 use Rattle.ee_index.specs.declared.indexed.Kept.{Kept}
-use Rattle.ee_replay.specs.Serving.{ArmsDevice, ArmsItsFuse, IsSound, with_cut_to_come}
+use Rattle.ee_replay.specs.Desk.{SaysTheSame}
+use Rattle.ee_replay.specs.Serving.{ArmsDevice, ArmsItsFuse, IsArmed, IsSound, with_cut_to_come}
 
 pub state_armed : (device : Device) → state_of (with_cut_to_come device) ≡ state_of device
 state_armed device = state_in_powered device.cuts (Some 1) device.on device (live_of device)
@@ -70,9 +76,33 @@ kept_with_fuse kept old new fuse armed is = subst (λ device. IsKeptBeside devic
 pub now_armed : (old new : Point) (fuse : Fuse) → ArmsItsFuse old fuse new → new ≡ record old { device = with_cut_to_come old.device }
 now_armed old new fuse line = line.new_is ∙ ap (λ (d : Device). record old { device = d }) line.arms.device_is
 
+-- a desk on which a cut was armed, with a store open on it or without
+pub arms_point : (old new : Point) (found : Device) (fuse : Fuse) → found ≡ old.device → new.serving ≡ old.serving → ArmsDevice found fuse new.device → ArmsItsFuse old fuse new
+arms_point old new found fuse is serving armed = record {
+  kept = armed.kept;
+  arms = subst (λ (device : Device). IsArmed device fuse armed.kept) is armed.arms;
+  new_is =
+      ap (λ (serves : Bool). record { serving = serves; device = new.device }) serving ∙ ap (λ (device : Device). record { serving = old.serving; device = device }) armed.new_is;
+}
+
+pub arms_open : (old : Point) (found new : Device) (fuse : Fuse) → open_point found ≡ old → ArmsDevice found fuse new → ArmsItsFuse old fuse (open_point new)
+arms_open old found new fuse is armed =
+    arms_point old (open_point new) found fuse (ap (λ (point : Point). point.device) is)
+    (ap (λ (device : Device). device.on) (armed_is found new fuse armed) ∙ ap (λ (point : Point). point.serving) is) armed
+
+pub armed_same : (old found new : Device) (fuse : Fuse) → found ≡ old → ArmsDevice found fuse new → SaysTheSame old new
+armed_same old found new fuse is armed =
+    let now = armed_is found new fuse armed in
+    subst (λ (device : Device). SaysTheSame device new) is (record { same_size = ap (λ (device : Device). device.size) now; state_is = ap state_of now ∙ state_armed found })
+
 pub arm_legal : (old new : Device) → new ≡ with_cut_to_come old → IsLegal old → IsLegal new
 arm_legal old new is legal = subst IsLegal (sym is) (legal_armed old legal)
 
 -- an open store is on, and no mark is left to set
 pub store_sound : (device : Device) → IsStore device → IsSound (open_point device)
 store_sound device store = record { legal = store.legal; on = λ on. on; store = λ on. store }
+
+-- the image of a device whose power came on is still legal, so opening it finds no fault
+pub opens_well : (device old new : Device) (why : IndexedFault) (fault : ScanFault) → old ≡ with_power_on device → IsLegal device → why ≡ Scan fault → IndexedOpenFails old why new → ⊥
+opens_well device old new why fault on legal told fails =
+    legal_is_good old fault (subst IsLegal (sym on) (legal_on device legal)) (subst (λ (w : IndexedFault). IndexedOpenFails old w new) told fails).0
