@@ -75,15 +75,7 @@ pub never_unknown : (text name : List ℕ) (settings : List Setting) (state : St
 never_unknown text name settings state reading spelled read h = subst (λ (ss : List Setting). IsUnknown ss name) (spelled_once text h.settings settings h.spelled spelled) h.unknown read.0 read.1
 
 pub is_got : (image text name line : List ℕ) (store : Device) (settings : List Setting) → IsOpened image store → SpellsSettings text settings → IsReadingLine settings (state_of store) name line → IsGot image text name line
-is_got image text name line store settings opened spelled read = record {
-  device = opened.device;
-  old = opened.old;
-  settings = settings;
-  spelled = spelled;
-  reading = read.0;
-  read = subst (λ (state : State). IsSettingRead settings state name read.0) opened.state_is read.1;
-  line_is = read.2;
-}
+is_got image text name line store settings opened spelled read = search rules
 
 -- why nothing is read: the name is unknown, or memory ran out
 pub is_get_fault : (image text name : List ℕ) (store : Device) (settings : List Setting) (fault : Fault) → IsOpened image store → SpellsSettings text settings → (IsUnknown settings name × (fault ≡ UnknownName)) ⊎ (fault ≡ Memory)

@@ -1,6 +1,6 @@
 //! What the program `ee` does, apart from its `main`: its jobs over files and standard streams, and the exit
 //! status, on any runtime. What its words ask for is `ee_command_line`, how its faults are told `ee_faults`,
-//! what it does over bytes `ee_shell`, how a file is replaced `ee_files`.
+//! what it does over bytes the crates behind the door `ee_shell`, how a file is replaced `ee_files`.
 //!
 //! `run` is the program over its words. Beyond the statuses of what it says itself, it is proved here that
 //! nothing goes wrong by itself and that each call ends.

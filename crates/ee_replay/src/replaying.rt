@@ -60,12 +60,10 @@ pub fn replay<A: Allocator + Copy>(
     // No cause is passed over.
     ensures names { NamesEach ReplayFault.Memory (IsReplayFault image.now script.now) result }
 {
-    let store = open_as::<A, EitherStore<MemFlash<A>, A>>(alloc, image)?;
-    match run_on(alloc, store, script) {
-        Ok(replayed) => Ok(replayed),
+    match replay_as::<A, EitherStore<MemFlash<A>, A>>(alloc, image, script) {
         // What memory an index took may be what the report wanted.
         Err(ReplayFault::Memory) => replay_as::<A, Store<MemFlash<A>>>(alloc, image, script),
-        Err(fault) => Err(fault),
+        replayed => replayed,
     }
 }
 
