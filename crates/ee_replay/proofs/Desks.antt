@@ -4,7 +4,8 @@ use Rattle.ee_flash.specs.Device.{Device}
 use Rattle.ee_flash.specs.Power.{GoesOn, IsCut}
 use Rattle.ee_flash.specs.Size.{Size}
 use Rattle.ee_flash.specs.declared.fuse.Fuse.{Fuse}
-use Rattle.ee_pages.specs.Meaning.{Change}
+use Rattle.ee_pages.specs.Meaning.{Change, Put}
+use Rattle.ee_pages.specs.Meaning as meaning
 use Rattle.ee_core.proofs.Public.{runs_go_on_lem}
 use Rattle.ee_core.specs.Changes.{IsCutChange}
 use Rattle.ee_core.specs.Points.{Point}
@@ -18,7 +19,7 @@ use Rattle.ee_script.specs.declared.command.Command.TheVariants.{Write, Read, Fo
 use Rattle.ee_script.specs.declared.answer.Answer.{Answer}
 use Rattle.ee_script.specs.declared.answer.Answer.TheVariants.{Appended, Moved, Full, Spent, Cleaned, Idle, Value, NoValue, Absent, Cut, Off, Opened}
 use Rattle.ee_script.specs.Run.{Run}
-use Rattle.ee_image_store.specs.Machine.{CallStep, CutsChange, DeskStep, is_cut_answer}
+use Rattle.ee_image_store.specs.Machine.{CallStep, CutStep, CutsChange, DeskStep, is_cut_answer}
 use Rattle.ee_replay.specs.Serving.{Asks, Attends, Powers, Serves, desk_of, is_armed}
 use Rattle.ee_replay.proofs.Powering.{now_armed, state_armed, state_powered}
 use Rattle.ee_replay.proofs.Runs.{machine_step}
@@ -74,6 +75,12 @@ record IsCutHere (old : Device) (new : Point) : Type 0 where
 cut_here : (old : Device) (new : Point) → IsCut old new.device → new.serving ≡ false → AtMostOne old → IsCutHere old new
 cut_here old new cut off most = search (rules, taken)
 
+cut_made : (old : Device) (command : Command) (new : Point) → CutStep old.size (state_of old) command (state_of new.device) → IsCut old new.device → new.serving ≡ false
+    → AtMostOne old → IsCallMade true old command Cut new
+cut_made old command new step cut off most =
+    let here = cut_here old new cut off most in
+    record { step = (refl, here.armed, step, here.desk); same_size = cut.same_size; at_most = here.at_most }
+
 -- of these no store is asked
 no_arming : (old : Device) (fuse : Fuse) (answer : Answer) (new : Point) → Asks true old (Arm fuse) answer new → ⊥
 no_arming old fuse Cut new asks = asks
@@ -88,17 +95,17 @@ asked_on old (Write address value) Appended new most asks = whole old (Write add
 asked_on old (Write address value) Moved new most asks = whole old (Write address value) Moved new (Wrote address value (Ok written.Moved)) asks.0 asks.0 refl refl asks.1 most
 asked_on old (Write address value) Full new most asks = whole old (Write address value) Full new (Wrote address value (Err fault.Full)) asks.0 asks.0 refl refl asks.1 most
 asked_on old (Write address value) Spent new most asks = whole old (Write address value) Spent new (Wrote address value (Err fault.Spent)) asks.0 asks.0 refl refl asks.1 most
-asked_on old (Write address value) Cut new most asks = search (rules, cut_change, cut_here)
+asked_on old (Write address value) Cut new most asks = cut_made old (Write address value) new (cut_change old (Put address value) new.device asks.0) asks.0.cut asks.1 most
 asked_on old (Forget address) Appended new most asks = whole old (Forget address) Appended new (Forgot address (Ok written.Appended)) asks.0 asks.0 refl refl asks.1 most
 asked_on old (Forget address) Moved new most asks = whole old (Forget address) Moved new (Forgot address (Ok written.Moved)) asks.0 asks.0 refl refl asks.1 most
 asked_on old (Forget address) Absent new most asks = whole old (Forget address) Absent new (Forgot address (Err forgetting.Absent)) asks.0 asks.0 refl refl asks.1 most
 asked_on old (Forget address) Spent new most asks = whole old (Forget address) Spent new (Forgot address (Err forgetting.Spent)) asks.0 asks.0 refl refl asks.1 most
-asked_on old (Forget address) Cut new most asks = search (rules, cut_change, cut_here)
+asked_on old (Forget address) Cut new most asks = cut_made old (Forget address) new (cut_change old (meaning.Forget address) new.device asks.0) asks.0.cut asks.1 most
 asked_on old (Read address) (Value value) new most asks = whole old (Read address) (Value value) new (DidRead address (Ok (Some value))) asks.0 asks.0 refl refl asks.1 most
 asked_on old (Read address) NoValue new most asks = whole old (Read address) NoValue new (DidRead address (Ok None)) asks.0 asks.0 refl refl asks.1 most
 asked_on old Clean Cleaned new most asks = whole old Clean Cleaned new (DidClean (Ok true)) asks.0 asks.0 refl refl asks.1 most
 asked_on old Clean Idle new most asks = whole old Clean Idle new (DidClean (Ok false)) asks.0 asks.0 refl refl asks.1 most
-asked_on old Clean Cut new most asks = search (rules, cut_here)
+asked_on old Clean Cut new most asks = cut_made old Clean new (asks.0.some, asks.0.state_is) asks.0.cut asks.1 most
 asked_on old (Arm fuse) answer new most asks = absurd (no_arming old fuse answer new asks)
 asked_on old PowerOn answer new most asks = absurd (no_power old answer new asks)
 asked_on old command answer new most asks = absurd asks
@@ -128,10 +135,10 @@ power_made serving old answer new most powers = absurd powers
 pub line_made : (old : Point) (command : Command) (answer : Answer) (new : Point) → AtMostOne old.device → Attends old command answer new → IsLineMade old command answer new
 line_made old (Arm fuse) answer new most attends = search (rules, now_armed, state_armed)
 line_made old PowerOn answer new most attends = power_made old.serving old.device answer new most attends
-line_made old (Write address value) answer new most attends = search (rules, asked)
-line_made old (Forget address) answer new most attends = search (rules, asked)
-line_made old (Read address) answer new most attends = search (rules, asked)
-line_made old Clean answer new most attends = search (rules, asked)
+line_made old (Write address value) answer new most attends = let made = asked old.serving old.device (Write address value) answer new most attends in record { step = made.step; same_size = made.same_size; at_most = made.at_most }
+line_made old (Forget address) answer new most attends = let made = asked old.serving old.device (Forget address) answer new most attends in record { step = made.step; same_size = made.same_size; at_most = made.at_most }
+line_made old (Read address) answer new most attends = let made = asked old.serving old.device (Read address) answer new most attends in record { step = made.step; same_size = made.same_size; at_most = made.at_most }
+line_made old Clean answer new most attends = let made = asked old.serving old.device Clean answer new most attends in record { step = made.step; same_size = made.same_size; at_most = made.at_most }
 
 -- ---- a run
 
