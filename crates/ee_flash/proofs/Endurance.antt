@@ -1,13 +1,12 @@
 -- Programs need erased words, and only erases give back such words.
-use Rattle.std.proofs.Common.{◌≡◌, ◌⊎◌, inl, inr, ℕ, zero, suc, ◌+◌, ◌*◌, ◌-◌, ◌<◌, ◌≤◌, cond, eqb, List, [], ◌∷◌, length, get_or, set, replicate, refl, subst, ap, arith}
-use Rattle.std.specs.List.{All, count_by}
+use Rattle.std.proofs.Common.{◌≡◌, ◌⊎◌, inl, inr, ℕ, zero, suc, ◌+◌, ◌*◌, ◌-◌, ◌<◌, ◌≤◌, cond, eqb, List, [], ◌∷◌, length, get_or, set, replicate, refl, subst, ap, arith, rules}
+use Rattle.std.specs.List.{count_by}
 use Rattle.std.proofs.lemmas.Bool.{cases_eq, cases_lt, eq-eqb}
 use Rattle.std.proofs.lemmas.List.{length-replicate}
-use Rattle.std.proofs.lemmas.List.Elements.{All-from_get_or, All-get_or}
 use Rattle.std.proofs.lemmas.List.Sums.{count_by-le-length, sum_by-cons, sum_by-le, sum_by-set}
 use Rattle.std.proofs.Math.Nat.{div-mul-le_self, mul-le-mul_left, zero-div}
 use Rattle.ee_flash.specs.Size.{page_count}
-use Rattle.ee_flash.specs.Device.{Device, IsFormed, IsOn, page_at, word_at}
+use Rattle.ee_flash.specs.Device.{Device, IsFormed, IsOn, word_at}
 use Rattle.ee_flash.specs.Step.{Step, Program, Erase, device_after}
 use Rattle.ee_flash.specs.Laws.{CanTake}
 use Rattle.ee_flash.specs.Endurance.{AreTaken, erased_words, erases, erases_of, is_erase, is_erase_of, is_erased, is_program, least_wear, programs, word_count}
@@ -27,11 +26,7 @@ still_on (Program page at value) device on = on
 still_on (Erase page) device on = on
 
 pub behind : (step : Step) (steps : List Step) (device : Device) → AreTaken (step ∷ steps) device → AreTaken steps (device_after step device)
-behind step steps device taken = record {
-  formed = still_formed step device taken.formed taken.on taken.can.0;
-  on = still_on step device taken.on;
-  can = taken.can.1;
-}
+behind step steps device taken = search (rules, still_formed, still_on)
 
 -- an erased word is one less
 word_less : (page : List Word) (at value : ℕ) → at < length page → get_or page at Erased ≡ Erased → count_by is_erased (set page at (Held value)) + 1 ≡ count_by is_erased page
@@ -41,11 +36,7 @@ word_less page at value h erased =
 
 after_program : (page at value : ℕ) (device : Device) → IsFormed device → page < page_count device.size → at < device.size.words → word_at device page at ≡ Erased
     → erased_words (device_after (Program page at value) device) + 1 ≡ erased_words device
-after_program page at value device formed in_device in_page erased =
-    let here : page < length device.image = omega (arith, in_device, formed.image_length) in
-    let long : length (page_at device page) ≡ device.size.words = All-get_or (λ (words : List Word). length words ≡ device.size.words) device.image page [] here formed.page_lengths in
-    let less = word_less (page_at device page) at value (omega (arith, in_page, long)) erased in
-    omega (arith, less, sum_by-set (λ (words : List Word). count_by is_erased words) device.image page (set (page_at device page) at (Held value)) [] here)
+after_program page at value device formed in_device in_page erased = search (rules, arith, sum_by-set, word_less)
 
 after_erase : (page : ℕ) (device : Device) → IsFormed device → page < page_count device.size
     → erased_words (device_after (Erase page) device) ≤ erased_words device + device.size.words
@@ -145,13 +136,7 @@ some_or_few count least (suc n) = elim (some_or_few count least n) [
 ]
 
 few_erased : (device : Device) → IsFormed device → erased_words device ≤ word_count device.size
-few_erased device formed =
-    let each : All (λ (page : List Word). count_by is_erased page ≤ device.size.words) device.image =
-    All-from_get_or (λ (page : List Word). count_by is_erased page ≤ device.size.words) device.image [] (λ k h.
-    let long : length (get_or device.image k []) ≡ device.size.words = All-get_or (λ (words : List Word). length words ≡ device.size.words) device.image k [] h formed.page_lengths in
-    omega (arith, long, count_by-le-length is_erased (get_or device.image k []))) in
-    let all = sum_by-le (λ (page : List Word). count_by is_erased page) device.size.words device.image each in
-    subst (λ n. erased_words device ≤ n * device.size.words) formed.image_length all
+few_erased device formed = search (rules, arith, count_by-le-length, sum_by-le)
 
 -- so many programs with so few erases there are not
 too_few : (changes programmed erased worn pages words least : ℕ) → changes ≤ programmed → programmed ≤ pages * words + words * worn → worn ≤ erased

@@ -1,5 +1,5 @@
 -- What a fuse does over many steps.
-use Rattle.std.proofs.Common.{◌≡◌, ℕ, zero, suc, ◌-◌, ◌<◌, Bool, cond, List, [], ◌∷◌, Option, Some, None, refl, ap, ◌∙◌, arith, length, ◌≤◌}
+use Rattle.std.proofs.Common.{◌≡◌, ℕ, zero, suc, ◌-◌, ◌<◌, Bool, cond, List, [], ◌∷◌, Option, Some, None, refl, ap, ◌∙◌, arith, length, ◌≤◌, rules}
 use Rattle.std.proofs.Math.Dec.{eqb-suc-zero}
 use Rattle.ee_flash.specs.Device.{Device, IsOn}
 use Rattle.ee_flash.specs.Fuse.{next_fuse, next_tear}
@@ -11,11 +11,7 @@ use Rattle.ee_flash.specs.declared.fuse.Tear.{Tear}
 
 -- a step that begins on a device that is on
 begun_step : (step : Step) (memory : Memory) (tear : Option Tear) (fuse : Option Fuse) → IsOn memory.device → next_tear memory.fuse ≡ tear → next_fuse memory.fuse ≡ fuse → after_step step memory ≡ record { device = device_after_tear step tear memory.device; steps = one_more memory.steps; fuse = fuse }
-begun_step step memory tear fuse on is_tear is_fuse =
-    let made : Option Tear → Option Fuse → Memory = λ t f. record { device = device_after_tear step t memory.device; steps = one_more memory.steps; fuse = f } in
-    ap (λ (b : Bool). cond b (made (next_tear memory.fuse) (next_fuse memory.fuse)) memory) on
-    ∙ ap (λ (t : Option Tear). made t (next_fuse memory.fuse)) is_tear
-    ∙ ap (made tear) is_fuse
+begun_step step memory tear fuse on is_tear is_fuse = search rules
 
 pub completed_on : (step : Step) (device : Device) → (device_after step device).on ≡ device.on
 completed_on (Program page at value) device = refl

@@ -1,5 +1,5 @@
 -- Words cut into pages, and joined again.
-use Rattle.std.proofs.Common.{◌≡◌, ℕ, zero, suc, ◌+◌, ◌*◌, ◌<◌, List, [], ◌∷◌, ◌++◌, length, take, drop, get_or, map, sym, ap, ◌∙◌, arith}
+use Rattle.std.proofs.Common.{◌≡◌, ℕ, zero, suc, ◌+◌, ◌*◌, ◌<◌, List, [], ◌∷◌, ◌++◌, length, take, drop, get_or, map, sym, ap, ◌∙◌, arith, rules}
 use Rattle.std.specs.List.{All, flat_map, range_with_len}
 use Rattle.std.proofs.Math.Nat.{suc-mul}
 use Rattle.std.proofs.Math.Seq.{take-add}
@@ -28,11 +28,7 @@ joined_pages_from size cells from (suc count) =
 
 pub pages_join : (size : Size) (cells : List Word) → length cells ≡ page_count size * size.words → flat_map (λ page. page) (pages_of size cells) ≡ cells
 unfolding pages_of
-pages_join size cells filled =
-    let none : 0 * size.words ≡ 0 = omega arith in
-    joined_pages_from size cells 0 (page_count size)
-    ∙ ap (λ (n : ℕ). take (page_count size * size.words) (drop n cells)) none
-    ∙ take_all (page_count size * size.words) cells (omega arith)
+pages_join size cells filled = search (rules, arith, joined_pages_from, take_all)
 
 page_of_joined : (size : Size) (pages : List (List Word)) (k : ℕ) (none : List Word) → All (λ page. length page ≡ size.words) pages → k < length pages → page_words size (joined pages) k ≡ get_or pages k none
 page_of_joined size [] k none each h = absurd (omega arith)

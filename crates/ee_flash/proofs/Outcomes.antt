@@ -1,5 +1,5 @@
 -- What every outcome of a step keeps.
-use Rattle.std.proofs.Common.{◌≡◌, ◌⊎◌, inl, inr, ℕ, ◌+◌, ◌<◌, ◌≤◌, List, [], Option, Some, None, option_map, length, get_or, set, replicate, refl, sym, ap, ◌∙◌, arith}
+use Rattle.std.proofs.Common.{◌≡◌, ◌⊎◌, inl, inr, ℕ, ◌+◌, ◌<◌, ◌≤◌, List, [], Option, Some, None, option_map, length, get_or, set, replicate, refl, sym, ap, ◌∙◌, arith, rules}
 use Rattle.std.specs.List.{All}
 use Rattle.std.proofs.lemmas.Bool.{cases_lt, true≢false}
 use Rattle.std.proofs.lemmas.Option.{same_Some}
@@ -7,7 +7,7 @@ use Rattle.std.proofs.lemmas.List.{get_or-replicate, get_or-set_same, length-set
 use Rattle.std.proofs.lemmas.List.Elements.{All-from_get_or, All-get_or, All-set}
 use Rattle.ee_flash.specs.Device.{Device, IsBelowAllOnes, IsFormed, IsOn, all_ones, page_at, wear_at}
 use Rattle.ee_flash.specs.Size.{page_count}
-use Rattle.ee_flash.specs.Step.{Step, Program, Erase, IsPartlyErased, MayFollow, MayLeave, device_after, one_more, with_page_erased}
+use Rattle.ee_flash.specs.Step.{Step, Program, Erase, IsPartlyErased, MayFollow, MayLeave, device_after}
 use Rattle.ee_flash.specs.Power.{GoesOn, IsCut}
 use Rattle.ee_flash.specs.Laws.{CanTake, page_of, IsStep, DiffersInPage}
 use Rattle.ee_flash.specs.declared.word.Word.{Word}
@@ -76,11 +76,7 @@ same_size step old new (inr (inl cut)) = cut.same_size
 same_size step old new (inr (inr untouched)) = ap (λ (device : Device). device.size) untouched.same
 
 pub step_changes_one_page : (step : Step) (old new : Device) → IsStep step old new → DiffersInPage (page_of step) old new
-step_changes_one_page step old new taken = record {
-  same_size = same_size step old new taken.follows;
-  image = one_page step old new taken.formed taken.may (step_leaves_pages step old new taken);
-  wear = one_wear step old new taken.formed taken.may (wear_is step old new taken.follows);
-}
+step_changes_one_page step old new taken = search (rules, one_page, one_wear, same_size, step_leaves_pages, wear_is)
 
 -- what the page of a step holds after it
 element_there : {X : Type 0} (old new : List X) (i : ℕ) (x d : X) → i < length old → new ≡ set old i x → get_or new i d ≡ x
@@ -181,22 +177,7 @@ step_ends step old new (inr (inl cut)) = inr (record { was_on = cut.was_on; is_o
 step_ends step old new (inr (inr untouched)) = inl (rw untouched.same (record { same_size = refl; same_power = refl; same_cuts = refl; same_cuts_left = refl; same_while_off = λ off. refl }))
 
 pub calls_compose : (first second third : Device) → GoesOn first second → (GoesOn second third → GoesOn first third) × (IsCut second third → IsCut first third)
-calls_compose first second third on = (
-  λ next. record {
-    same_size = next.same_size ∙ on.same_size;
-    same_power = next.same_power ∙ on.same_power;
-    same_cuts = next.same_cuts ∙ on.same_cuts;
-    same_cuts_left = next.same_cuts_left ∙ on.same_cuts_left;
-    same_while_off = λ off. next.same_while_off (on.same_power ∙ off) ∙ on.same_while_off off;
-  },
-  λ cut. record {
-    was_on = sym on.same_power ∙ cut.was_on;
-    is_off = cut.is_off;
-    same_size = cut.same_size ∙ on.same_size;
-    one_more_cut = cut.one_more_cut ∙ ap one_more on.same_cuts;
-    one_less_left = sym on.same_cuts_left ∙ cut.one_less_left;
-  },
-)
+calls_compose first second third on = search (rules, same_size)
 
 some_more : (left : Option ℕ) → Some 0 ≡ option_map (λ n. n + 1) left → ⊥
 some_more None e = cc

@@ -1,5 +1,5 @@
 -- Digits read from the front, and the numbers that they write.
-use Rattle.std.proofs.Common.{◌≡◌, ℕ, ◌+◌, ◌-◌, ◌*◌, ◌^◌, ◌<◌, ◌≤◌, List, [], ◌∷◌, length, get_or, drop, refl, sym, ◌∙◌, ap, subst, arith, add-one, drop-cons, inl, inr, Some, None}
+use Rattle.std.proofs.Common.{◌≡◌, ℕ, ◌+◌, ◌-◌, ◌*◌, ◌^◌, ◌<◌, ◌≤◌, List, [], ◌∷◌, length, get_or, drop, sym, ◌∙◌, ap, subst, arith, add-one, drop-cons, Some, None, rules}
 use Rattle.std.specs.Prelude.{Option, IfSome}
 use Rattle.std.specs.Option.{SomeIff}
 use Rattle.std.specs.Char.{digit_value}
@@ -29,14 +29,7 @@ digits_value_after-ge n [] = omega arith
 digits_value_after-ge n (c ∷ cs) = omega (arith, digits_value_after-ge (n * 10 + digit_value c) cs)
 
 step_cons : (all : List ℕ) (b : ℕ) (bs : List ℕ) (value : ℕ) → 48 ≤ b → b ≤ 57 → IsReadUpTo all (b ∷ bs) value → IsReadUpTo all bs (value * 10 + (b - 48))
-step_cons all b bs value low high read =
-    let worth : digit_value b ≡ b - 48 = digit_value_is b low high in
-    let digit : digit_value b < 10 = omega arith in
-    record {
-      same = rw (← worth) read.same;
-      front = λ h. read.front (digit, h);
-      back = λ h. (read.back h).1;
-    }
+step_cons all b bs value low high read = search (rules, arith, digit_value_is)
 
 -- one digit more
 step : (all : List ℕ) (i value : ℕ) → i < length all → 48 ≤ get_or all i 0 → get_or all i 0 ≤ 57 → IsReadUpTo all (drop i all) value
@@ -55,17 +48,11 @@ too_large all i value h low high read large p =
 
 -- where nothing is left, the whole is read
 pub whole : (all : List ℕ) (i value : ℕ) → length all ≤ i → IsReadUpTo all (drop i all) value → AllDigits 10 all × (value ≡ digits_value 10 all)
-whole all i value h read =
-    let none : drop i all ≡ [] = drop_all i all h in
-    let done : IsReadUpTo all [] value = subst (λ l. IsReadUpTo all l value) none read in
-    (done.front tt, done.same)
+whole all i value h read = search (rules, drop_all)
 
 -- a number of two digits or more has no zero in front
 pub zero_alone : (n : ℕ) → n < 2 ^ 64 → get_or (decimal n) 0 0 ≡ 48 → length (decimal n) ≡ 1
-zero_alone n fits h = elim (cases_lt 0 n) [
-  | inl some ↦ absurd (omega (arith, first_decimal n some fits))
-  | inr none ↦ let e : n ≡ 0 = omega arith in rw (e, decimal_digit 0 (omega arith)) refl
-]
+zero_alone n fits h = search (rules, arith, cases_lt, decimal_digit, first_decimal)
 
 -- no number is written by nothing
 pub not_empty : (field : List ℕ) → length field ≡ 0 → (n : ℕ) → n < 2 ^ 64 → ¬ (field ≡ decimal n)

@@ -1,5 +1,5 @@
 -- Eight digits in the bytes of one word.
-use Rattle.std.proofs.Common.{◌≡◌, ℕ, zero, suc, ◌+◌, ◌-◌, ◌*◌, ◌/◌, ◌%◌, ◌^◌, ◌<◌, ◌≤◌, Bool, ltb, not, List, [], ◌∷◌, length, get_or, take, drop, map, inl, inr, refl, sym, ◌∙◌, ap, ap₂, arith, bit_and, one-add, w64}
+use Rattle.std.proofs.Common.{◌≡◌, ℕ, zero, suc, ◌+◌, ◌-◌, ◌*◌, ◌/◌, ◌%◌, ◌^◌, ◌<◌, ◌≤◌, Bool, ltb, not, List, [], ◌∷◌, length, get_or, take, drop, map, inl, inr, refl, sym, ◌∙◌, ap, ap₂, arith, bit_and, one-add, w64, rules}
 use Rattle.std.specs.Char.{digit_value}
 use Rattle.std.specs.Int.{from_be_bytes}
 use Rattle.std.specs.Int.Digits.{AllBelowBase, number_from_digits}
@@ -132,23 +132,10 @@ pub record IsFront (bytes : List ℕ) (count : ℕ) : Type 0 where
   pub all : StartsWithNoDigit (drop count bytes)
 
 front_cons : (byte : ℕ) (bytes : List ℕ) (count : ℕ) → byte < 256 → as_digit byte ≤ 9 → IsFront bytes count → IsFront (byte ∷ bytes) (suc count)
-front_cons byte bytes count fits digit front =
-    let worth : digit_value byte ≡ byte - 48 = digit_value_is byte (omega (arith, digit)) (omega (arith, digit)) in
-    let same : digit_value byte ≡ as_digit byte = omega (arith, worth, digit) in
-    record {
-      within = omega (arith, front.within);
-      digits = (omega (arith, worth, digit), front.digits);
-      values = ap₂ (λ d ds. d ∷ ds) same front.values;
-      all = front.all;
-    }
+front_cons byte bytes count fits digit front = search (rules, arith, ap₂, digit_value_is)
 
 front_ends : (byte : ℕ) (bytes : List ℕ) → byte < 256 → 9 < as_digit byte → IsFront (byte ∷ bytes) 0
-front_ends byte bytes fits other = record {
-  within = omega arith;
-  digits = tt;
-  values = refl;
-  all = elim (cases_lt byte 48) [ inl low ↦ inl low | inr high ↦ inr (omega (arith, other)) ];
-}
+front_ends byte bytes fits other = search (rules, arith, cases_lt)
 
 pub front_is_digits : (bytes : List ℕ) → ((k : ℕ) → get_or bytes k 0 < 256) → IsFront bytes (prefix_len is_digit (map as_digit bytes))
 front_is_digits [] below = record { within = omega arith; digits = tt; values = refl; all = tt }

@@ -1,5 +1,5 @@
 -- Numbers that stand at the front of a text.
-use Rattle.std.proofs.Common.{◌≡◌, ◌⊎◌, ◌∙◌, ℕ, zero, suc, ◌+◌, ◌-◌, ◌*◌, ◌^◌, ◌<◌, ◌≤◌, ◌++◌, List, [], ◌∷◌, length, get_or, min, take, drop, inl, inr, refl, sym, ap, subst, arith, decimal, length-drop, take-append-drop}
+use Rattle.std.proofs.Common.{◌≡◌, ◌⊎◌, ◌∙◌, ℕ, zero, suc, ◌+◌, ◌-◌, ◌*◌, ◌^◌, ◌<◌, ◌≤◌, ◌++◌, List, [], ◌∷◌, length, get_or, min, take, drop, inl, inr, refl, sym, ap, subst, arith, decimal, length-drop, take-append-drop, rules}
 use Rattle.std.specs.Char.{digit_value}
 use Rattle.std.specs.Str.Parse.{AllDigits, digits_value}
 use Rattle.std.proofs.lemmas.Fmt.{decimal-digits_value, decimal_is_IsNumeral, decimal_nonempty, length-decimal-le}
@@ -74,14 +74,7 @@ room_for_one text count value worth few =
 
 -- digits at the front of a front
 pub worth_in_front : (text : List ℕ) (most count value : ℕ) → IsWorth (take most text) count value → IsWorth text count value
-worth_in_front text most count value worth =
-    let short : count ≤ most = omega (arith, worth.within, length-take most text) in
-    let same : take count (take most text) ≡ take count text = take-take count most text short in
-    record {
-      within = omega (arith, worth.within, length-take most text);
-      digits = subst (AllDigits 10) same worth.digits;
-      value_is = worth.value_is ∙ ap (digits_value 10) same;
-    }
+worth_in_front text most count value worth = search (rules, arith, length-take, take-take)
 
 starts_so : (n : ℕ) (ys : List ℕ) → 0 < n → StartsWithNoDigit (take n ys) → StartsWithNoDigit ys
 starts_so zero ys some ends = absurd (omega arith)
@@ -98,22 +91,12 @@ ends_in_front text most count few ends =
 
 -- the front that is looked at
 pub front_is : (text : List ℕ) (bound : ℕ) → bound ≡ min (length text) 19 → take bound text ≡ take 19 text
-front_is text bound e = elim (cases_lt (length text) 19) [
-  | inl short ↦
-      let all : bound ≡ length text = omega (arith, e) in
-      rw all (take_all (length text) text (omega arith) ∙ sym (take_all 19 text (omega arith)))
-  | inr long ↦
-      let all : bound ≡ 19 = omega (arith, e) in
-      rw all refl
-]
+front_is text bound e = search (rules, arith, cases_lt, take_all)
 
 -- the number at the front is what the digits there are worth
 pub one_number : (text behind : List ℕ) (count value n : ℕ) → IsWorth text count value → StartsWithNoDigit (drop count text) → n < 2 ^ 64 → StartsWithNoDigit behind → text ≡ decimal n ++ behind
     → (value ≡ n) × (drop count text ≡ behind) × (take count text ≡ decimal n)
-one_number text behind count value n worth stop fits ends e =
-    let numeral = decimal_is_IsNumeral n fits in
-    let same = same_front (take count text) (drop count text) (decimal n) behind worth.digits stop numeral.0.1 ends (take-append-drop count text ∙ e) in
-    (worth.value_is ∙ ap (digits_value 10) same.0 ∙ numeral.1, same.1, same.0)
+one_number text behind count value n worth stop fits ends e = search (rules, decimal, decimal_is_IsNumeral, same_front, take-append-drop)
 
 -- digits with no zero in front of others are a number, the one that they are worth
 pub spelled : (text : List ℕ) (count value : ℕ) → IsWorth text count value → value < 2 ^ 64 → 0 < length (take count text)
