@@ -1,4 +1,4 @@
-use Rattle.std.proofs.Common.{rules, inl, inr}
+use Rattle.std.proofs.Common.{inl, inr}
 use Rattle.std.proofs.lemmas.Result.{err_from_is_err_and}
 use Rattle.ee_replay.proofs.Given.{given_is_good, named_of_stream, only_memory}
 use Rattle.ee_image_store.proofs.Public.{one_open_fault, store_is_good}
@@ -28,7 +28,7 @@ returns-in_err-replayed-clause-bad g c = λ script n known store bad.
 pub returns-clause-replayed : goal.returns-clause-replayed
 returns-clause-replayed g c =
     let run = c.in_ok-replayed.ensures.run in
-    (run.0, run.1, search (rules, is_replayed, run.2))
+    (run.0, run.1, is_replayed _ _ _ _ c.in_ok-store.store c.in_ok-store.ensures.opened run.2)
 
 pub returns-clause-names : goal.returns-clause-names
 returns-clause-names g c = λ cause some applies.
