@@ -3,46 +3,58 @@ use ee_program::FileLocks;
 use std::alloc::{Allocator, Global};
 use std::cell::RefCell;
 use std::fmt::Display;
-use std::fs::{Metadata, OpenOptions, Permissions, TryLockError};
+use std::fs::{File, Metadata, OpenOptions, Permissions, TryLockError};
 use std::io::{self, BufRead, ErrorKind, Lines};
 use std::path::PathBuf;
 use std::rt::Files;
 
 /// A runtime whose standard streams are in memory.
 #[derive(Drop)]
-pub struct Desk<'a, R> {
-    rt: &'a R,
+pub struct Desk<'a> {
+    rt: &'a HostRuntime,
     input: &'a [u8],
-    printed: RefCell<String>,
-    told: RefCell<String>,
+    // Standard output and standard error, as a terminal shows them.
+    shown: RefCell<String>,
 }
 
-impl<'a, R: AllocGlobal> Desk<'a, R> {
+impl<'a> Desk<'a> {
     /// A desk whose standard input has these bytes.
-    pub fn new(rt: &'a R, input: &'a [u8]) -> Desk<'a, R> {
+    pub fn new(rt: &'a HostRuntime, input: &'a [u8]) -> Desk<'a> {
         Desk {
             rt,
             input,
-            printed: RefCell::new(String::new(rt.alloc())),
-            told: RefCell::new(String::new(rt.alloc())),
+            shown: RefCell::new(String::new(rt.alloc())),
         }
     }
 
-    /// What was written to standard output, and to standard error.
-    pub fn written(self) -> (String, String) {
-        (self.printed.into_inner(), self.told.into_inner())
+    /// What was written to standard output and to standard error.
+    pub fn shown(self) -> String {
+        self.shown.into_inner()
+    }
+
+    /// Writes a status in brackets.
+    pub fn show_status(&self, status: u8) -> io::Result<()> {
+        self.keep("[")?;
+        self.keep_value(status)?;
+        self.keep("]\n")
+    }
+
+    /// Keeps what is written.
+    fn keep(&self, text: &str) -> io::Result<()> {
+        match self.shown.try_borrow_mut() {
+            Ok(mut shown) => Ok(shown.push_str(text)?),
+            Err(_) => Err(io::Error::from(ErrorKind::Other)),
+        }
+    }
+
+    /// Keeps a value as it is displayed.
+    fn keep_value<D: Display + Drop>(&self, value: D) -> io::Result<()> {
+        let text = value.to_string(self.rt.alloc())?;
+        self.keep(text.as_str())
     }
 }
 
-/// Keeps what is written.
-fn keep(kept: &RefCell<String>, text: &str) -> io::Result<()> {
-    match kept.try_borrow_mut() {
-        Ok(mut kept) => Ok(kept.push_str(text)?),
-        Err(_) => Err(io::Error::from(ErrorKind::Other)),
-    }
-}
-
-impl<R: AllocGlobal> Alloc for Desk<'_, R> {
+impl Alloc for Desk<'_> {
     type A = Global;
 
     fn alloc(&self) -> Global {
@@ -50,38 +62,35 @@ impl<R: AllocGlobal> Alloc for Desk<'_, R> {
     }
 }
 
-impl<R: AllocGlobal> Print for Desk<'_, R> {
+impl Print for Desk<'_> {
     fn print<D: Display + Drop>(&self, value: D) -> io::Result<()> {
-        let text = format!(in self.rt.alloc(); "{value}")?;
-        keep(&self.printed, text.as_str())
+        self.keep_value(value)
     }
 
     fn println<D: Display + Drop>(&self, value: D) -> io::Result<()> {
-        let text = format!(in self.rt.alloc(); "{value}\n")?;
-        keep(&self.printed, text.as_str())
+        self.keep_value(value)?;
+        self.keep("\n")
     }
 
     fn write_all(&self, bytes: &[u8]) -> io::Result<()> {
         match str::from_utf8(bytes) {
-            Ok(text) => keep(&self.printed, text),
+            Ok(text) => self.keep(text),
             Err(_) => Err(io::Error::from(ErrorKind::InvalidData)),
         }
     }
 }
 
-impl<R: AllocGlobal> Eprint for Desk<'_, R> {
+impl Eprint for Desk<'_> {
     fn eprint<D: Display + Drop>(&self, value: D) -> io::Result<()> {
-        let text = format!(in self.rt.alloc(); "{value}")?;
-        keep(&self.told, text.as_str())
+        self.keep_value(value)
     }
 
     fn eprintln<D: Display + Drop>(&self, value: D) -> io::Result<()> {
-        let text = format!(in self.rt.alloc(); "{value}\n")?;
-        keep(&self.told, text.as_str())
+        self.println(value)
     }
 }
 
-impl<'a, R> Input for Desk<'a, R> {
+impl<'a> Input for Desk<'a> {
     type Reader = &'a [u8];
 
     // Nothing reads lines without a reader.
@@ -98,16 +107,16 @@ impl<'a, R> Input for Desk<'a, R> {
     }
 }
 
-impl<R: Files> Files for Desk<'_, R> {
-    type File = R::File;
+impl Files for Desk<'_> {
+    type File = File;
 
-    type Dir = R::Dir;
+    type Dir = <HostRuntime as Files>::Dir;
 
-    fn open_file(&self, how: &OpenOptions, path: &str) -> io::Result<R::File> {
+    fn open_file(&self, how: &OpenOptions, path: &str) -> io::Result<File> {
         self.rt.open_file(how, path)
     }
 
-    fn open_dir(&self, path: &str) -> io::Result<R::Dir> {
+    fn open_dir(&self, path: &str) -> io::Result<<HostRuntime as Files>::Dir> {
         self.rt.open_dir(path)
     }
 
@@ -152,8 +161,8 @@ impl<R: Files> Files for Desk<'_, R> {
     }
 }
 
-impl<R: FileLocks> FileLocks for Desk<'_, R> {
-    fn try_lock(&self, file: &R::File) -> Result<(), TryLockError> {
+impl FileLocks for Desk<'_> {
+    fn try_lock(&self, file: &File) -> Result<(), TryLockError> {
         self.rt.try_lock(file)
     }
 }

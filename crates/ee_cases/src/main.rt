@@ -24,83 +24,105 @@ mod desk;
 mod typing;
 mod workloads;
 
-use ee_program::FileLocks;
 use std::process::ExitCode;
 use std::rt::Env;
 use std::{env, fs, io};
 use typing::typed;
 use workloads::{read_words, show, show_each};
 
-/// How many examples went as their transcripts say, and how many didn't.
-#[derive(Clone, Copy)]
-struct Count {
-    passed: u64,
-    failed: u64,
-}
-
 /// Types an example, and prints the first line in which it differs from its transcript. Gives whether
 /// none does.
-fn try_example<R: FileLocks + Env + Print + AllocGlobal>(rt: &R, name: &str) -> io::Result<bool> {
+fn try_example(rt: &HostRuntime, name: &str) -> io::Result<bool> {
     env::set_current_dir(rt, name)?;
     let wanted = fs::read_to_string(rt, "transcript")?;
-    let found = typed(rt, wanted.as_str())?;
+    let passed = goes_as_wanted(rt, name, wanted.as_str())?;
     env::set_current_dir(rt, "..")?;
-    is_as_wanted(rt, name, found.as_str(), wanted.as_str())
+    Ok(passed)
 }
 
-/// Whether an example went as it was to go. Where it didn't, the first line that differs is printed.
-fn is_as_wanted<R: Print>(rt: &R, name: &str, found: &str, wanted: &str) -> io::Result<bool> {
+/// Whether an example goes as it is to go. Where it doesn't, the first line that differs is printed.
+fn goes_as_wanted(rt: &HostRuntime, name: &str, wanted: &str) -> io::Result<bool> {
+    let found = typed(rt, wanted)?;
     if found.as_bytes() == wanted.as_bytes() {
         return Ok(true);
     }
-    let same = found
-        .lines()
-        .zip(wanted.lines())
-        .take_while(|(one, other)| one == other)
-        .count();
-    let line = found.lines().nth(same).unwrap_or("nothing");
-    let other = wanted.lines().nth(same).unwrap_or("nothing");
-    println!(rt; "{name}, behind line {same}:\n  found  {line}\n  wanted {other}")?;
+    tell_first(rt, name, found.as_str(), wanted)?;
     Ok(false)
 }
 
-/// Types each example that standard input names.
-fn try_all<R: FileLocks + Env + Input + Print + AllocGlobal>(rt: &R) -> io::Result<Count> {
-    let mut count = Count {
-        passed: 0,
-        failed: 0,
-    };
-    for name in rt.lines(rt.alloc()) {
-        if try_example(rt, name?.as_str())? {
-            count.passed = count.passed.saturating_add(1);
-        } else {
-            count.failed = count.failed.saturating_add(1);
+/// Prints the first line in which two texts differ.
+fn tell_first(rt: &HostRuntime, name: &str, found: &str, wanted: &str) -> io::Result<()> {
+    let mut same: u64 = 0;
+    let mut others = wanted.lines();
+    for line in found.lines() {
+        let other = others.next().unwrap_or("nothing");
+        if line != other {
+            return tell(rt, name, same, line, other);
         }
+        same = same.saturating_add(1);
     }
-    Ok(count)
+    tell(
+        rt,
+        name,
+        same,
+        "nothing",
+        others.next().unwrap_or("nothing"),
+    )
 }
 
-/// Types each example and does a round of each workload, and tells how many examples went as they were to go.
-fn try_each<R: FileLocks + Env + Input + Print + AllocGlobal>(rt: &R) -> io::Result<u8> {
-    let Count { passed, failed } = try_all(rt)?;
+/// Prints a line that was found and the one that was wanted.
+fn tell(rt: &HostRuntime, name: &str, same: u64, line: &str, other: &str) -> io::Result<()> {
+    println!(rt; "{name}, behind line {same}:\n  found  {line}\n  wanted {other}")
+}
+
+/// Types each example that is named, and gives how many went as their transcripts say, and how many
+/// didn't.
+fn try_all(rt: &HostRuntime, names: &str) -> io::Result<(u64, u64)> {
+    let mut passed: u64 = 0;
+    let mut failed: u64 = 0;
+    for name in names.lines() {
+        if try_example(rt, name)? {
+            passed = passed.saturating_add(1);
+        } else {
+            failed = failed.saturating_add(1);
+        }
+    }
+    Ok((passed, failed))
+}
+
+/// Types each example that standard input names, does a round of each workload, and tells how many examples
+/// went as they were to go.
+fn try_each(rt: &HostRuntime) -> io::Result<u8> {
+    let names = io::read_to_string(rt.alloc(), rt.reader())?;
+    let (passed, failed) = try_all(rt, names.as_str())?;
     show_each(rt)?;
     println!(rt; "{passed} passed, {failed} failed")?;
     Ok(if failed == 0 { 0 } else { 1 })
 }
 
 /// Does the workload that the words name.
-fn try_workload<R: Print + AllocGlobal>(rt: &R, words: &[String]) -> io::Result<u8> {
-    let Some(words) = read_words(words) else {
-        println!(rt; "ee_cases JOB SEED ROUNDS")?;
-        return Ok(2);
+fn try_workload(rt: &HostRuntime, words: &[String]) -> io::Result<u8> {
+    let [_, name, seed, rounds] = words else {
+        return ask_for_words(rt);
     };
-    show(rt, words)?;
-    Ok(0)
+    match read_words(name.as_str(), seed.as_str(), rounds.as_str()) {
+        Some(words) => {
+            show(rt, words)?;
+            Ok(0)
+        }
+        None => ask_for_words(rt),
+    }
+}
+
+/// Says what words there are to be.
+fn ask_for_words(rt: &HostRuntime) -> io::Result<u8> {
+    rt.println("ee_cases JOB SEED ROUNDS")?;
+    Ok(2)
 }
 
 fn main(rt: HostRuntime) -> io::Result<ExitCode> {
-    let words: Vec<String> = env::args(&rt)?.skip(1).collect(rt.alloc())?;
-    let status = if words.is_empty() {
+    let words: Vec<String> = env::args(&rt)?.collect(rt.alloc())?;
+    let status = if words.len() < 2 {
         try_each(&rt)?
     } else {
         try_workload(&rt, words.as_slice())?

@@ -10,14 +10,20 @@ mod dice;
 mod digest;
 mod job;
 mod naming;
-mod parts;
+mod part;
 mod planning;
 mod playing;
+mod reading_out;
 mod scripts;
 
-use digest::Digest;
 use ee_faults::Fault;
 use job::{JOBS, Job, job_of};
+use naming::settings;
+use part::Part;
+use planning::certify;
+use playing::{brown_outs, play};
+use reading_out::parts;
+use scripts::{CROWD, DAY};
 use std::alloc::Global;
 use std::io;
 
@@ -30,50 +36,53 @@ pub struct Words {
 }
 
 /// Reads the words of a run: a job, a seed, and how many rounds are done of it, each on inputs of its own.
-pub fn read_words(words: &[String]) -> Option<Words> {
-    let [name, seed, rounds] = words else {
-        return None;
-    };
+pub fn read_words(name: &str, seed: &str, rounds: &str) -> Option<Words> {
     Some(Words {
-        job: job_of(name.as_str())?,
+        job: job_of(name)?,
         seed: seed.parse().ok()?,
         rounds: rounds.parse().ok()?,
     })
 }
 
 /// Does a job, and prints its digest.
-pub fn show<R: Print + AllocGlobal>(rt: &R, words: Words) -> io::Result<()> {
-    let job = words.job;
+pub fn show(rt: &HostRuntime, words: Words) -> io::Result<()> {
+    let name = words.job.name();
     match do_job(rt.alloc(), words) {
-        Ok(digest) => println!(rt; "{} {digest}", job.name()),
-        Err(fault) => println!(rt; "{} failed: {fault}", job.name()),
+        Ok(digest) => println!(rt; "{name} {digest:016x}"),
+        Err(fault) => println!(rt; "{name} failed: {fault}"),
     }
 }
 
 /// Does a round of each job.
-pub fn show_each<R: Print + AllocGlobal>(rt: &R) -> io::Result<()> {
+pub fn show_each(rt: &HostRuntime) -> io::Result<()> {
     for job in JOBS {
-        show(
-            rt,
-            Words {
-                job,
-                seed: 1,
-                rounds: 1,
-            },
-        )?;
+        let words = Words {
+            job,
+            seed: 1,
+            rounds: 1,
+        };
+        show(rt, words)?;
     }
     Ok(())
 }
 
 /// Does a job, and gives the digest of all that it gave.
-fn do_job(alloc: Global, words: Words) -> Result<Digest, Fault> {
-    let Words { job, seed, rounds } = words;
+fn do_job(alloc: Global, words: Words) -> Result<u64, Fault> {
+    let mut part = Part::new(alloc, words.job, words.seed)?;
+    for _ in 0..words.rounds {
+        do_round(&mut part, words.job);
+    }
+    part.digest_of(words.job)
+}
+
+/// Does a round of a job.
+fn do_round(part: &mut Part, job: Job) {
     match job {
-        Job::Run => playing::run(alloc, seed, rounds),
-        Job::BrownOuts => playing::brown_outs(alloc, seed, rounds),
-        Job::Crowded => playing::crowded(alloc, seed, rounds),
-        Job::Certify => planning::certify(alloc, seed, rounds),
-        Job::Settings => naming::settings(alloc, seed, rounds),
-        Job::Parts => parts::parts(alloc, seed, rounds),
+        Job::Run => play(part, DAY),
+        Job::BrownOuts => brown_outs(part),
+        Job::Crowded => play(part, CROWD),
+        Job::Certify => certify(part),
+        Job::Settings => settings(part),
+        Job::Parts => parts(part),
     }
 }

@@ -1,10 +1,8 @@
 //! A sum of bytes, to compare two programs by.
-use std::fmt;
-
 /// A sum of bytes that tells most others apart (FNV-1a, of Fowler, Noll and Vo).
 #[derive(Clone, Copy)]
 pub struct Digest {
-    sum: u64,
+    pub sum: u64,
 }
 
 impl Digest {
@@ -21,11 +19,5 @@ impl Digest {
             sum = (sum ^ u64::from(*byte)).wrapping_mul(0x100000001b3);
         }
         self.sum = sum;
-    }
-}
-
-impl fmt::Display for Digest {
-    fn fmt<W: fmt::Write>(&self, f: &mut fmt::Formatter<W>) -> fmt::Result {
-        write!(f, "{:016x}", self.sum)
     }
 }

@@ -1,40 +1,30 @@
 //! Certificates made and checked, and a part's size chosen.
-use super::dice::Dice;
-use super::digest::Digest;
-use super::playing::used_part;
-use super::scripts::Mixture;
-use ee_faults::Fault;
+use super::part::Part;
+use super::scripts::WRITES;
 use ee_shell::{check_script, plan_script, size_parts};
-use std::alloc::Global;
 
-/// Plans the moves of scripts, checks the plans, and asks how large a part must be for them.
-pub fn certify(alloc: Global, seed: u32, rounds: u32) -> Result<Digest, Fault> {
-    let mut dice = Dice::new(seed);
-    let image = used_part(alloc, 4, 512, 500, &mut dice)?;
-    let mixture = Mixture {
-        live: 500,
-        lines: 40000,
-        reads: 0,
-        forgets: 0,
-        often: 70,
-    };
-    let mut digest = Digest::new();
-    for _ in 0..rounds {
-        let mut script = Vec::new(alloc);
-        mixture.write(&mut dice, &mut script)?;
-        let script = script.as_slice();
-        let certificate = plan_script(alloc, image.as_slice(), script)?;
-        digest.take(certificate.as_slice());
-        let proved = check_script(alloc, image.as_slice(), script, certificate.as_slice())?;
-        digest.take(proved.as_slice());
-        let sizes = size_parts(
-            alloc,
-            256,
-            script,
-            10000,
-            dice.below(10000).saturating_add(1),
-        )?;
-        digest.take(sizes.text.as_slice());
+/// Plans the moves of a script, checks the plan, and asks how large a part must be for it.
+pub fn certify(part: &mut Part) {
+    part.write(WRITES);
+    let (image, script) = (part.image.as_slice(), part.text.as_slice());
+    let certificate = plan_script(part.alloc, image, script);
+    part.note(certificate);
+    check(part);
+    choose_size(part);
+}
+
+/// Checks the plan that was told.
+fn check(part: &mut Part) {
+    let (image, script) = (part.image.as_slice(), part.text.as_slice());
+    let proved = check_script(part.alloc, image, script, part.told.as_slice());
+    part.note(proved);
+}
+
+/// Asks how large a part must be.
+fn choose_size(part: &mut Part) {
+    let runs = part.dice.below(10000).saturating_add(1);
+    match size_parts(part.alloc, 256, part.text.as_slice(), 10000, runs) {
+        Ok(sizes) => part.note(Ok(sizes.text)),
+        Err(fault) => part.note(Err(fault)),
     }
-    Ok(digest)
 }
