@@ -32,25 +32,18 @@ impl<'a> Desk<'a> {
         self.shown.into_inner()
     }
 
-    /// Writes a status in brackets.
-    pub fn show_status(&self, status: u8) -> io::Result<()> {
-        self.keep("[")?;
-        self.keep_value(status)?;
-        self.keep("]\n")
-    }
-
-    /// Keeps what is written.
-    fn keep(&self, text: &str) -> io::Result<()> {
-        match self.shown.try_borrow_mut() {
-            Ok(mut shown) => Ok(shown.push_str(text)?),
-            Err(_) => Err(io::Error::from(ErrorKind::Other)),
+    /// Keeps what is written. Where memory is refused it is missing.
+    fn keep(&self, text: &str) {
+        if let Ok(mut shown) = self.shown.try_borrow_mut() {
+            let _ = shown.push_str(text);
         }
     }
 
     /// Keeps a value as it is displayed.
     fn keep_value<D: Display + Drop>(&self, value: D) -> io::Result<()> {
         let text = value.to_string(self.rt.alloc())?;
-        self.keep(text.as_str())
+        self.keep(text.as_str());
+        Ok(())
     }
 }
 
@@ -69,12 +62,16 @@ impl Print for Desk<'_> {
 
     fn println<D: Display + Drop>(&self, value: D) -> io::Result<()> {
         self.keep_value(value)?;
-        self.keep("\n")
+        self.keep("\n");
+        Ok(())
     }
 
     fn write_all(&self, bytes: &[u8]) -> io::Result<()> {
         match str::from_utf8(bytes) {
-            Ok(text) => self.keep(text),
+            Ok(text) => {
+                self.keep(text);
+                Ok(())
+            }
             Err(_) => Err(io::Error::from(ErrorKind::InvalidData)),
         }
     }

@@ -25,33 +25,26 @@ mod typing;
 mod workloads;
 
 use std::process::ExitCode;
-use std::rt::Env;
 use std::{env, fs, io};
-use typing::typed;
-use workloads::{read_words, show, show_each};
+use typing::Typist;
+use workloads::{show_each, show_named};
 
-/// Types an example, and prints the first line in which it differs from its transcript. Gives whether
-/// none does.
-fn try_example(rt: &HostRuntime, name: &str) -> io::Result<bool> {
-    env::set_current_dir(rt, name)?;
+/// Types an example, and gives whether it goes as its transcript says.
+fn try_example(rt: &HostRuntime, typist: &mut Typist<'_>, name: &str) -> io::Result<bool> {
+    // Where a folder can't be entered, the next transcript can't be read.
+    let _ = env::set_current_dir(rt, name);
     let wanted = fs::read_to_string(rt, "transcript")?;
-    let passed = goes_as_wanted(rt, name, wanted.as_str())?;
-    env::set_current_dir(rt, "..")?;
-    Ok(passed)
+    let found = typist.typed(wanted.as_str());
+    let passed = is_as_wanted(rt, name, found, wanted.as_str());
+    let _ = env::set_current_dir(rt, "..");
+    passed
 }
 
-/// Whether an example goes as it is to go. Where it doesn't, the first line that differs is printed.
-fn goes_as_wanted(rt: &HostRuntime, name: &str, wanted: &str) -> io::Result<bool> {
-    let found = typed(rt, wanted)?;
+/// Whether an example went as it was to go. Where it didn't, the first line that differs is printed.
+fn is_as_wanted(rt: &HostRuntime, name: &str, found: &str, wanted: &str) -> io::Result<bool> {
     if found.as_bytes() == wanted.as_bytes() {
         return Ok(true);
     }
-    tell_first(rt, name, found.as_str(), wanted)?;
-    Ok(false)
-}
-
-/// Prints the first line in which two texts differ.
-fn tell_first(rt: &HostRuntime, name: &str, found: &str, wanted: &str) -> io::Result<()> {
     let mut same: u64 = 0;
     let mut others = wanted.lines();
     for line in found.lines() {
@@ -61,27 +54,21 @@ fn tell_first(rt: &HostRuntime, name: &str, found: &str, wanted: &str) -> io::Re
         }
         same = same.saturating_add(1);
     }
-    tell(
-        rt,
-        name,
-        same,
-        "nothing",
-        others.next().unwrap_or("nothing"),
-    )
+    let other = others.next().unwrap_or("nothing");
+    tell(rt, name, same, "nothing", other)
 }
 
-/// Prints a line that was found and the one that was wanted.
-fn tell(rt: &HostRuntime, name: &str, same: u64, line: &str, other: &str) -> io::Result<()> {
-    println!(rt; "{name}, behind line {same}:\n  found  {line}\n  wanted {other}")
+/// Prints a line that was found and the one that was wanted, and gives that they aren't the same.
+fn tell(rt: &HostRuntime, name: &str, same: u64, line: &str, other: &str) -> io::Result<bool> {
+    println!(rt; "{name}, behind line {same}:\n  found  {line}\n  wanted {other}")?;
+    Ok(false)
 }
 
-/// Types each example that is named, and gives how many went as their transcripts say, and how many
-/// didn't.
-fn try_all(rt: &HostRuntime, names: &str) -> io::Result<(u64, u64)> {
-    let mut passed: u64 = 0;
-    let mut failed: u64 = 0;
+/// Types each example that is named, and counts those that went as they were to go, and the others.
+fn try_all(rt: &HostRuntime, typist: &mut Typist<'_>, names: &str) -> io::Result<(u64, u64)> {
+    let (mut passed, mut failed): (u64, u64) = (0, 0);
     for name in names.lines() {
-        if try_example(rt, name)? {
+        if try_example(rt, typist, name)? {
             passed = passed.saturating_add(1);
         } else {
             failed = failed.saturating_add(1);
@@ -90,42 +77,38 @@ fn try_all(rt: &HostRuntime, names: &str) -> io::Result<(u64, u64)> {
     Ok((passed, failed))
 }
 
-/// Types each example that standard input names, does a round of each workload, and tells how many examples
-/// went as they were to go.
-fn try_each(rt: &HostRuntime) -> io::Result<u8> {
-    let names = io::read_to_string(rt.alloc(), rt.reader())?;
-    let (passed, failed) = try_all(rt, names.as_str())?;
+/// Types each example that is named, does a round of each workload, and tells how many examples went as
+/// they were to go.
+fn try_each(rt: &HostRuntime, names: &str) -> io::Result<u8> {
+    let (passed, failed) = try_all(rt, &mut Typist::new(rt), names)?;
     show_each(rt)?;
     println!(rt; "{passed} passed, {failed} failed")?;
     Ok(if failed == 0 { 0 } else { 1 })
 }
 
-/// Does the workload that the words name.
-fn try_workload(rt: &HostRuntime, words: &[String]) -> io::Result<u8> {
-    let [_, name, seed, rounds] = words else {
-        return ask_for_words(rt);
-    };
-    match read_words(name.as_str(), seed.as_str(), rounds.as_str()) {
-        Some(words) => {
-            show(rt, words)?;
-            Ok(0)
+/// Does what the words ask for, and gives the status.
+fn work(rt: &HostRuntime, words: &[String]) -> io::Result<u8> {
+    match words {
+        [] | [_] => {
+            let names = io::read_to_string(rt.alloc(), rt.reader())?;
+            try_each(rt, names.as_str())
         }
-        None => ask_for_words(rt),
+        [_, name, seed, rounds] => try_workload(rt, name.as_str(), seed.as_str(), rounds.as_str()),
+        _ => try_workload(rt, "", "", ""),
     }
 }
 
-/// Says what words there are to be.
-fn ask_for_words(rt: &HostRuntime) -> io::Result<u8> {
+/// Does the workload that the words name.
+fn try_workload(rt: &HostRuntime, name: &str, seed: &str, rounds: &str) -> io::Result<u8> {
+    if show_named(rt, name, seed, rounds)? {
+        return Ok(0);
+    }
     rt.println("ee_cases JOB SEED ROUNDS")?;
     Ok(2)
 }
 
 fn main(rt: HostRuntime) -> io::Result<ExitCode> {
     let words: Vec<String> = env::args(&rt)?.collect(rt.alloc())?;
-    let status = if words.len() < 2 {
-        try_each(&rt)?
-    } else {
-        try_workload(&rt, words.as_slice())?
-    };
+    let status = work(&rt, words.as_slice())?;
     Ok(ExitCode::from(status))
 }

@@ -21,66 +21,55 @@ use job::{JOBS, Job, job_of};
 use naming::settings;
 use part::Part;
 use planning::certify;
-use playing::{brown_outs, play};
+use playing::{brown_outs, crowded, run};
 use reading_out::parts;
-use scripts::{CROWD, DAY};
 use std::alloc::Global;
 use std::io;
 
-/// The words of a run.
-#[derive(Clone, Copy)]
-pub struct Words {
-    job: Job,
-    seed: u32,
-    rounds: u32,
-}
-
-/// Reads the words of a run: a job, a seed, and how many rounds are done of it, each on inputs of its own.
-pub fn read_words(name: &str, seed: &str, rounds: &str) -> Option<Words> {
-    Some(Words {
-        job: job_of(name)?,
-        seed: seed.parse().ok()?,
-        rounds: rounds.parse().ok()?,
-    })
-}
-
-/// Does a job, and prints its digest.
-pub fn show(rt: &HostRuntime, words: Words) -> io::Result<()> {
-    let name = words.job.name();
-    match do_job(rt.alloc(), words) {
-        Ok(digest) => println!(rt; "{name} {digest:016x}"),
-        Err(fault) => println!(rt; "{name} failed: {fault}"),
+/// Does the job that is named, and prints its digest: so many rounds, each on inputs of its own. Gives
+/// whether the words are those of a job.
+pub fn show_named(rt: &HostRuntime, name: &str, seed: &str, rounds: &str) -> io::Result<bool> {
+    match (job_of(name), seed.parse(), rounds.parse()) {
+        (Some(job), Ok(seed), Ok(rounds)) => {
+            show(rt, job, seed, rounds)?;
+            Ok(true)
+        }
+        _ => Ok(false),
     }
 }
 
 /// Does a round of each job.
 pub fn show_each(rt: &HostRuntime) -> io::Result<()> {
     for job in JOBS {
-        let words = Words {
-            job,
-            seed: 1,
-            rounds: 1,
-        };
-        show(rt, words)?;
+        show(rt, job, 1, 1)?;
     }
     Ok(())
 }
 
-/// Does a job, and gives the digest of all that it gave.
-fn do_job(alloc: Global, words: Words) -> Result<u64, Fault> {
-    let mut part = Part::new(alloc, words.job, words.seed)?;
-    for _ in 0..words.rounds {
-        do_round(&mut part, words.job);
+/// Does a job, and prints its digest.
+fn show(rt: &HostRuntime, job: Job, seed: u32, rounds: u32) -> io::Result<()> {
+    let name = job.facts().0;
+    match do_job(rt.alloc(), job, seed, rounds) {
+        Ok(digest) => println!(rt; "{name} {digest:016x}"),
+        Err(fault) => println!(rt; "{name} failed: {fault}"),
     }
-    part.digest_of(words.job)
+}
+
+/// Does a job, and gives the digest of all that it gave.
+fn do_job(alloc: Global, job: Job, seed: u32, rounds: u32) -> Result<u64, Fault> {
+    let mut part = Part::new(alloc, job, seed)?;
+    for _ in 0..rounds {
+        do_round(&mut part, job);
+    }
+    part.digest_of(job)
 }
 
 /// Does a round of a job.
 fn do_round(part: &mut Part, job: Job) {
     match job {
-        Job::Run => play(part, DAY),
+        Job::Run => run(part),
         Job::BrownOuts => brown_outs(part),
-        Job::Crowded => play(part, CROWD),
+        Job::Crowded => crowded(part),
         Job::Certify => certify(part),
         Job::Settings => settings(part),
         Job::Parts => parts(part),

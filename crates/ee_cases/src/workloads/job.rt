@@ -21,27 +21,16 @@ pub const JOBS: [Job; 6] = [
 ];
 
 impl Job {
-    /// Its name.
-    pub fn name(self) -> &'static str {
+    /// Its name, and its part: how many pages each set has, how many words a page, and how many variables have
+    /// a value.
+    pub fn facts(self) -> (&'static str, usize, usize, u32) {
         match self {
-            Job::Run => "run",
-            Job::BrownOuts => "brown-outs",
-            Job::Crowded => "crowded",
-            Job::Certify => "certify",
-            Job::Settings => "settings",
-            Job::Parts => "parts",
-        }
-    }
-
-    /// Its part: how many pages each set has, how many words a page, and how many variables have a value.
-    pub fn part(self) -> (usize, usize, u32) {
-        match self {
-            Job::Run => (8, 512, 1000),
-            Job::BrownOuts => (2, 256, 100),
-            Job::Crowded => (64, 512, 30000),
-            Job::Certify => (4, 512, 500),
-            Job::Settings => (4, 512, 300),
-            Job::Parts => (32, 512, 2000),
+            Job::Run => ("run", 8, 512, 1000),
+            Job::BrownOuts => ("brown-outs", 2, 256, 100),
+            Job::Crowded => ("crowded", 64, 512, 30000),
+            Job::Certify => ("certify", 4, 512, 500),
+            Job::Settings => ("settings", 4, 512, 300),
+            Job::Parts => ("parts", 32, 512, 2000),
         }
     }
 }
@@ -49,7 +38,7 @@ impl Job {
 /// The job of this name.
 pub fn job_of(name: &str) -> Option<Job> {
     for job in JOBS {
-        if job.name() == name {
+        if job.facts().0 == name {
             return Some(job);
         }
     }

@@ -16,6 +16,8 @@ use std::alloc::Global;
 pub struct Part {
     pub alloc: Global,
     pub shape: Shape,
+    /// How many variables there are, 1 to 65534.
+    pub live: u32,
     pub dice: Dice,
     pub image: Vec<u8>,
     /// The text that was written last, a script or values.
@@ -30,24 +32,24 @@ pub struct Part {
 impl Part {
     /// The part that a job begins with: each of its variables has a value.
     pub fn new(alloc: Global, job: Job, seed: u32) -> Result<Part, Fault> {
-        let (pages, words, live) = job.part();
+        let (_, pages, words, live) = job.facts();
         let Some(shape) = Shape::new(pages, words) else {
             return Err(Fault::Memory);
         };
-        let image = format_image(alloc, shape)?;
         let mut part = Part {
             alloc,
             shape,
+            live,
             dice: Dice::new(seed),
-            image,
+            image: format_image(alloc, shape)?,
             text: Vec::new(alloc),
             schema: Vec::new(alloc),
             told: Vec::new(alloc),
             digest: Digest::new(),
             fault: None,
         };
-        part.write_filling(live);
-        part.play();
+        part.write_filling();
+        part.answer(false);
         Ok(part)
     }
 
@@ -72,18 +74,15 @@ impl Part {
         }
     }
 
-    /// Answers the script that was written, and passes over the report.
-    pub fn play(&mut self) {
+    /// Answers the script that was written, and takes the report if it is told.
+    pub fn answer(&mut self, is_told: bool) {
         match replay(self.alloc, self.image.as_slice(), self.text.as_slice()) {
-            Ok(replayed) => self.image = replayed.image,
-            Err(fault) => self.fail(Fault::from(fault)),
-        }
-    }
-
-    /// Answers the script that was written.
-    pub fn answer(&mut self) {
-        match replay(self.alloc, self.image.as_slice(), self.text.as_slice()) {
-            Ok(replayed) => self.take(replayed.image, replayed.report),
+            Ok(replayed) => {
+                if is_told {
+                    self.digest.take(replayed.report.as_slice());
+                }
+                self.image = replayed.image;
+            }
             Err(fault) => self.fail(Fault::from(fault)),
         }
     }
@@ -91,15 +90,12 @@ impl Part {
     /// Takes the image that a command leaves, and what it tells.
     pub fn change(&mut self, changed: Result<ImageAndText, Fault>) {
         match changed {
-            Ok(changed) => self.take(changed.image, changed.text),
+            Ok(changed) => {
+                self.digest.take(changed.text.as_slice());
+                self.image = changed.image;
+            }
             Err(fault) => self.fail(fault),
         }
-    }
-
-    /// Takes an image, and what was told.
-    fn take(&mut self, image: Vec<u8>, told: Vec<u8>) {
-        self.digest.take(told.as_slice());
-        self.image = image;
     }
 
     /// Takes what a command tells.

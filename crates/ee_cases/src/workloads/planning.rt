@@ -1,11 +1,10 @@
 //! Certificates made and checked, and a part's size chosen.
 use super::part::Part;
-use super::scripts::WRITES;
 use ee_shell::{check_script, plan_script, size_parts};
 
 /// Plans the moves of a script, checks the plan, and asks how large a part must be for it.
 pub fn certify(part: &mut Part) {
-    part.write(WRITES);
+    part.write(40000, 0, 0, 70);
     let (image, script) = (part.image.as_slice(), part.text.as_slice());
     let certificate = plan_script(part.alloc, image, script);
     part.note(certificate);

@@ -1,30 +1,32 @@
 //! Jobs that answer scripts.
 use super::part::Part;
-use super::scripts::{FEW, Mixture};
 
-/// How often each script is answered, each time on the image that the time before left.
-const TIMES: u32 = 4;
-
-/// Answers a script so often.
-pub fn play(part: &mut Part, mixture: Mixture) {
-    part.write(mixture);
+/// A firmware's day: some of a thousand variables are written often.
+pub fn run(part: &mut Part) {
+    part.write(60000, 50, 2, 50);
     answer(part);
 }
 
-/// Answers the script that was written so often.
-fn answer(part: &mut Part) {
-    for _ in 0..TIMES {
-        part.answer();
-    }
+/// With hardly a slot to spare most writes in a row are soon a move.
+pub fn crowded(part: &mut Part) {
+    part.write(5000, 30, 1, 0);
+    answer(part);
 }
 
-/// Answers a script of many cuts that come among some changes or in a move, with power on behind each.
+/// Many cuts come among some changes or in a move, with power on behind each.
 pub fn brown_outs(part: &mut Part) {
     part.text.clear();
     for _ in 0..250 {
         part.write_cut(150);
-        part.write_lines(FEW);
+        part.write_lines(50, 30, 5, 20);
         part.end("p\nc\n");
     }
     answer(part);
+}
+
+/// Answers the script four times, each time on the image that the time before left.
+fn answer(part: &mut Part) {
+    for _ in 0..4 {
+        part.answer(true);
+    }
 }

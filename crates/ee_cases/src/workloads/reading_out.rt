@@ -1,6 +1,5 @@
 //! Images to a part's bytes and back.
 use super::part::Part;
-use super::scripts::CHANGES;
 use ee_shell::{
     Form, export_hex, export_image, import_hex, import_image, inspect_text, states_text, wear_text,
 };
@@ -10,8 +9,8 @@ const BASE: u32 = 0x08040000;
 
 /// A part in use is read out, looked at, and put into a further one.
 pub fn parts(part: &mut Part) {
-    part.write(CHANGES);
-    part.play();
+    part.write(1000, 0, 2, 30);
+    part.answer(false);
     through_hex(part);
     through_bytes(part);
 }
