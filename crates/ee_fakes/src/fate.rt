@@ -5,7 +5,7 @@ ghost use Rattle.ee_fakes.specs.Fate.{page_of_fates, word_of_fate};
 use ee_flash::Word;
 
 /// What becomes of a step.
-#[derive(Clone, Copy, Debug)]
+#[derive(Clone, Copy)]
 pub enum Fate<'a> {
     /// It is done.
     Done,
@@ -15,7 +15,7 @@ pub enum Fate<'a> {
 }
 
 /// What a cut leaves of a word.
-#[derive(Clone, Copy, Debug, PartialEq, Eq)]
+#[derive(Clone, Copy, PartialEq, Eq)]
 pub enum Left {
     /// The word as before the step.
     Before,
