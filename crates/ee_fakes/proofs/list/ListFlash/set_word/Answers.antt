@@ -1,4 +1,5 @@
-use Rattle.std.proofs.Common.{ℕ, ◌+◌, ◌≡◌, List, set, sym, ◌∙◌, ap}
+use Rattle.std.proofs.Common.{ℕ, ◌+◌, ◌≡◌, List, set, sym, ◌∙◌, ap, arith}
+use Rattle.std.proofs.lemmas.Grind.{common_steps}
 use Rattle.ee_flash.specs.Device.{Device}
 use Rattle.ee_flash.specs.Pages.{pages_of}
 use Rattle.ee_flash.specs.declared.word.Word.{Word}
@@ -14,3 +15,9 @@ returns g c =
     ap (λ place. pages_of flash.shape (set cells place c.args.word)) (ap (λ (start : ℕ). start + c.args.at) c.page_start-start.ensures.value)
     ∙ pages_of-set flash.shape cells c.args.page c.args.at c.args.word (sym flash.cells.ok.0 ∙ flash.cells_length) c.requires.page_in_range c.requires.place_in_range in
     ap (λ (pages : List (List Word)). let old : Listed = state_of_list flash in let device : Device = device_of_list flash in let now : Listed = record old { device = record device { image = pages } } in now) image
+
+pub overflow_add-start : goal.overflow_add-start
+overflow_add-start g c = grind (arith, common_steps)
+
+pub index_mut-requires : goal.index_mut-requires
+index_mut-requires g c = grind (arith, common_steps)
