@@ -28,11 +28,7 @@ never_on_ok X (Err error) is = tt
 -- an error that is passed on, behind steps that went on
 pub ends_later : {T E S F : Type 0} {error : F} {old mid new : Device} (result : Result T E) → IsErr result → GoesOn old mid → Ends {T = S} (Err error) mid new → Ends result old new
 ends_later (Ok value) is on ends = absurd (true≢false (sym is))
-ends_later {old = old} {mid = mid} {new = new} (Err error) is on ends = record {
-  ok = tt;
-  cut = λ was. (calls_compose old mid new on).1 (ends.cut (on.same_power ∙ was));
-  off = λ was. ends.off (on.same_power ∙ was) ∙ on.same_while_off was;
-}
+ends_later {old = old} {mid = mid} {new = new} (Err error) is on ends = record { ok = tt; cut = λ was. (calls_compose old mid new on).1 (ends.cut (on.same_power ∙ was)); off = λ was. ends.off (on.same_power ∙ was) ∙ on.same_while_off was }
 
 -- power cut in a step, behind steps that went on
 pub ends_in_step : {T E : Type 0} {old mid new : Device} (step : Step) (result : Result T E) → IsErr result → GoesOn old mid → IsCutIn step mid new ⊎ IsUntouched mid new → Ends result old new
@@ -42,11 +38,7 @@ ends_in_step {old = old} {mid = mid} {new = new} step (Err error) is on (inl cut
   cut = λ was. (calls_compose old mid new on).1 (record { was_on = cut.was_on; is_off = cut.is_off; same_size = cut.same_size; one_more_cut = cut.cuts; one_less_left = cut.cuts_left });
   off = λ was. absurd (not_both mid cut.was_on (on.same_power ∙ was));
 }
-ends_in_step {mid = mid} step (Err error) is on (inr none) = record {
-  ok = tt;
-  cut = λ was. absurd (not_both mid (on.same_power ∙ was) none.was_off);
-  off = λ was. none.same ∙ on.same_while_off was;
-}
+ends_in_step {mid = mid} step (Err error) is on (inr none) = record { ok = tt; cut = λ was. absurd (not_both mid (on.same_power ∙ was) none.was_off); off = λ was. none.same ∙ on.same_while_off was }
 
 -- a mark that was set
 pub goes_on_marked : {new : Device} (page : ℕ) (mark : Mark) (old : Device) → IsOn old → new ≡ device_after (marking page mark) old → GoesOn old new

@@ -46,11 +46,7 @@ module _ (map : Map) (from above : ℕ) (none : IsNoneLive map from (Some above)
   -- so does a batch
   pub live_behind : (found : List (ℕ × ℕ)) (through : Option ℕ) → AreLiveThrough map above found through → AreLiveThrough map from found through
   live_behind [] through live = record { next = tt; rest = none_behind through live.rest; further = further_behind through live.further }
-  live_behind (first ∷ more) through live = record {
-    next = (next_behind (Some first) live.next.0, live.next.1);
-    rest = live.rest;
-    further = further_behind through live.further;
-  }
+  live_behind (first ∷ more) through live = record { next = (next_behind (Some first) live.next.0, live.next.1); rest = live.rest; further = further_behind through live.further }
 
 -- the address taken last
 last_taken : (items : List (ℕ × ℕ)) (n above : ℕ) (d : ℕ × ℕ) → n < length items → last_of above (take (suc n) items) ≡ (get_or items n d).0
@@ -85,12 +81,7 @@ one_taken map above items listed through n found same h is over =
     let moved : last_of 0 (take (n + 1) items) ≡ found.0 = ap (λ m. last_of 0 (take m items)) e ∙ last_taken items n 0 found within ∙ ap (λ (one : ℕ × ℕ). one.0) (sym here) in
     let split : drop n items ≡ found ∷ drop (n + 1) items = drop_more items n found within ∙ ap (λ (one : ℕ × ℕ). one ∷ drop (n + 1) items) (sym here) in
     let all = first_ready map above found (drop (n + 1) items) (drop n items) through split over in
-    record {
-      next = all.0;
-      proper = all.1;
-      moved = moved;
-      over = subst (λ m. GoesOver map record { after = m; ready = drop (n + 1) items; through = through }) (sym moved) all.2;
-    }
+    record { next = all.0; proper = all.1; moved = moved; over = subst (λ m. GoesOver map record { after = m; ready = drop (n + 1) items; through = through }) (sym moved) all.2 }
 
 -- a further batch, where all of one was given
 pub further : (map : Map) (after : ℕ) (items more : List (ℕ × ℕ)) (through last : Option ℕ) (n to : ℕ) → length items ≤ n → through ≡ Some to

@@ -166,10 +166,7 @@ drawn_whole side device old whole drawn page at h within = inr (inl (drawn page 
 -- an erase that was cut
 pub erase_partly : (page : ℕ) (old new : Device) → IsCutIn (Erase page) old new ⊎ IsUntouched old new → IsPartlyErased (page_at old page) (page_at new page)
 erase_partly page old new (inl cut) = cut.image.0
-erase_partly page old new (inr untouched) = record {
-  as_long = ap (λ (device : Device). length (page_at device page)) untouched.same;
-  each = λ at. inl (ap (λ (device : Device). word_at device page at) untouched.same);
-}
+erase_partly page old new (inr untouched) = record { as_long = ap (λ (device : Device). length (page_at device page)) untouched.same; each = λ at. inl (ap (λ (device : Device). word_at device page at) untouched.same) }
 
 -- in a look over pages, where those before it are blank and the others as before
 pub erases_partly : (first last page : ℕ) (old mid new : Device) → first ≤ page → page < last → is_blank (page_at mid page) ≡ false → ((k : ℕ) → first ≤ k → k < page → is_blank (page_at mid k) ≡ true) → ((k : ℕ) → (k < first) ⊎ (page ≤ k) → page_at mid k ≡ page_at old k)

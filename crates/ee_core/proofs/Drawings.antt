@@ -128,10 +128,7 @@ sets_mark page mark old new formed h present done =
     elim (cases_Bool (is_marked old page mark)) [
       | inl written ↦
           let same = present written in
-          record {
-            there = ap (λ (device : Device). word_at device page at) same ∙ sym (marked-written mark (word_at old page at) written);
-            elsewhere = λ p k away. ap (λ (device : Device). word_at device p k) same;
-          }
+          record { there = ap (λ (device : Device). word_at device page at) same ∙ sym (marked-written mark (word_at old page at) written); elsewhere = λ p k away. ap (λ (device : Device). word_at device p k) same }
       | inr erased ↦
           let puts = program_puts page at (number_of_mark mark) old formed h (omega (arith, place_below mark, formed.within_limits.some_words)) in
           let whole = done erased in

@@ -8,8 +8,8 @@ use Rattle.ee_pages.specs.Legal.{IsLive}
 use Rattle.ee_pages.specs.Page.{is_blank}
 use Rattle.ee_pages.specs.Sets.{other, pending_of, set_of}
 use Rattle.ee_pages.specs.declared.side.Side.{Side}
-use Rattle.ee_pages.proofs.Public.{other_set_keeps_live, erase_lowers_pending, whole_erase_lowers_pending}
-use Rattle.ee_core.specs.Parts.{IsSameSet}
+use Rattle.ee_pages.proofs.Public.{other_set_keeps_live, erase_lowers_pending, step_keeps_other_pages, whole_erase_lowers_pending}
+use Rattle.ee_core.specs.Parts.{IsSameBut, IsSameSet}
 use Rattle.ee_core.specs.State.{Wears}
 use Rattle.ee_core.proofs.SetPages.{page_of_device}
 use Rattle.ee_core.proofs.Wears.{cut_page_wears, page_wears}
@@ -17,6 +17,9 @@ use Rattle.ee_core.proofs.Wears.{cut_page_wears, page_wears}
 module _ (page : ℕ) (old new : Device) (side : Side) (generation : ℕ) (live : IsLive old side generation) (at : IsPageOf old.size (other side) page) where
   erasing : MayFollow (Erase page) old new → IsStep (Erase page) old new
   erasing follows = record { formed = live.formed; may = page_of_device old.size (other side) page at; follows = follows }
+
+  pub others_stay : MayFollow (Erase page) old new → IsSameBut page old new
+  others_stay follows k apart = step_keeps_other_pages (Erase page) old new k (erasing follows) apart
 
   erase_leaves : MayFollow (Erase page) old new → KeepsLiveSet old new side generation × (set_of side new ≡ set_of side old)
   erase_leaves follows = other_set_keeps_live (Erase page) old new side generation live (erasing follows) at tt
@@ -55,6 +58,3 @@ module _ (page : ℕ) (old new : Device) (side : Side) (generation : ℕ) (live 
 
     pub done_lowers : is_blank (page_at old page) ≡ false → (pending_of (set_of (other side) new) + 1 ≡ pending_of (set_of (other side) old)) × (is_blank (page_at new page) ≡ true)
     done_lowers not_blank = whole_erase_lowers_pending page old new (other side) at not_blank (erasing whole) done
-
-    pub done_blank : is_blank (page_at old page) ≡ false → is_blank (page_at new page) ≡ true
-    done_blank not_blank = (done_lowers not_blank).1

@@ -27,12 +27,7 @@ pub record BlanksPage (mid new : Device) (page : ℕ) : Type 0 where
   pub power : GoesOn mid new
 
 pub blank_already : (device : Device) (page : ℕ) → is_blank (page_at device page) ≡ true → BlanksPage device device page
-blank_already device page blank = record {
-  others = λ k apart. refl;
-  blank = blank;
-  wear = blank_wears page (page_at device page) device blank;
-  power = goes_on_same device;
-}
+blank_already device page blank = record { others = λ k apart. refl; blank = blank; wear = blank_wears page (page_at device page) device blank; power = goes_on_same device }
 
 erase_goes_on : (page : ℕ) (old new : Device) → IsOn old → new ≡ with_page_erased page old → GoesOn old new
 erase_goes_on page old new on done = rw done (record { same_size = refl; same_power = refl; same_cuts = refl; same_cuts_left = refl; same_while_off = λ off. absurd (true≢false (sym on ∙ off)) })

@@ -168,13 +168,7 @@ module _ (old new : Device) (side : Side) (generation : ℕ) (live : IsLive old 
       no_wear = λ less. absurd (omega (arith, needed));
       wear = λ _. begun_pages;
     }
-    cut_in_move (first ∷ second ∷ more) proceeds needed left shows = record {
-      proceeds = proceeds;
-      cut = cut;
-      state_is = cut_move (first ∷ second ∷ more) needed few left;
-      wear = begun_pages;
-      words = (side, generation, live.live, shows);
-    }
+    cut_in_move (first ∷ second ∷ more) proceeds needed left shows = record { proceeds = proceeds; cut = cut; state_is = cut_move (first ∷ second ∷ more) needed few left; wear = begun_pages; words = (side, generation, live.live, shows) }
 
 -- the word of a change of a map, with the value that it forgets
 pub number_is : (change : declared.Change) (map : Map) → ForgetsHeld map change → number_written change ≡ number_of_change map (meant change)

@@ -147,15 +147,7 @@ sum_of_more false pages later_pages rest all first then same is one more = rw (i
 went : (calls : List Call) (old new : Device) → IsRun calls old new → All (λ call. is_cut call ≡ false) calls → Went calls old new
 went [] old new run whole =
     let done = nothing old new run in
-    record {
-      power = done.power;
-      more = done.more;
-      adds = done.adds;
-      few = omega (arith, done.few);
-      whole = λ singles. omega (arith, done.few);
-      map_is = done.map_is;
-      answers = tt;
-    }
+    record { power = done.power; more = done.more; adds = done.adds; few = omega (arith, done.few); whole = λ singles. omega (arith, done.few); map_is = done.map_is; answers = tt }
 went (call ∷ calls) old new run whole =
     let first = goes call old run.0 (whole 0 call (omega arith)) run.1 in
     let rest = went calls run.0 new run.2 (All-tail (λ (one : Call). is_cut one ≡ false) call calls whole) in

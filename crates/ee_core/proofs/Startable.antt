@@ -21,7 +21,7 @@ use Rattle.ee_pages.specs.Laws.{CannotCommit, IsPageOf}
 use Rattle.ee_pages.specs.Meaning.{meaning}
 use Rattle.ee_pages.specs.Page.{is_blank, marking, word_in}
 use Rattle.ee_pages.specs.Sets.{committed_generation, fill_of, first_page, live_of, other, set_of}
-use Rattle.ee_pages.specs.declared.find.ScanFault.TheVariants.{TwoLive, Foreign}
+use Rattle.ee_pages.specs.declared.find.ScanFault.TheVariants.{NoLiveSet, TwoLive, Foreign}
 use Rattle.ee_pages.specs.declared.side.Side.{Side}
 use Rattle.ee_pages.specs.declared.side.Side.TheVariants.{First, Second}
 use Rattle.ee_pages.specs.declared.state.Mark.TheVariants.{Active, Receive}
@@ -166,6 +166,10 @@ pub startable_not_live : (device : Device) (side : Side) (generation : ℕ) → 
 startable_not_live device side generation startable live =
     let none = none_live _ _ (startable.uncommitted First) (startable.uncommitted Second) in
     let e : None ≡ Some (side, generation) = sym none ∙ live in cc e
+
+pub none_committed : (device : Device) → IsScanFault device NoLiveSet → (side : Side) → committed_generation (set_of side device) ≡ None
+none_committed device fault First = fault.1
+none_committed device fault Second = fault.2
 
 pub two_live_stays : (device : Device) → IsScanFault device TwoLive → ¬ IsStartable device
 two_live_stays device fault startable = let e : None ≡ Some fault.1.0 = sym (startable.uncommitted First) ∙ fault.1.1 in cc e

@@ -25,13 +25,7 @@ move_unindexed-requires-clause-needed g c =
 pub returns-in_err-append_change : goal.returns-in_err-append_change
 returns-in_err-append_change g c =
     let failed = err_from_is_err_and c.from_residual.result c.from_residual.ensures.1 in
-    record {
-      appended = λ is. absurd (not_ok is failed.1);
-      moved = λ is. absurd (not_ok is failed.1);
-      cut = always_on_err _ c.in_err-append_change.ensures.cut;
-      store = c.append_change.ensures.store;
-      layout = c.append_change.ensures.layout;
-    }
+    record { appended = λ is. absurd (not_ok is failed.1); moved = λ is. absurd (not_ok is failed.1); cut = always_on_err _ c.in_err-append_change.ensures.cut; store = c.append_change.ensures.store; layout = c.append_change.ensures.layout }
 
 pub returns-in_ok-append_change : goal.returns-in_ok-append_change
 returns-in_ok-append_change g c =

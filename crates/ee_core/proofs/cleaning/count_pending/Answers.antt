@@ -6,10 +6,7 @@ use Rattle.ee_core.proofs.cleaning.count_pending.Goals.{then-not-is_blank, else-
 use Rattle.ee_core.proofs.cleaning.count_pending.Goals as goal
 
 pub pages-init : goal.pages-init
-pages-init g c = record {
-  few = omega arith;
-  count = sym (none_yet c.args.side (g.F.Flash.device c.args.flash.now) (g.met.F.Flash.formed c.args.flash.now) c.first_page-first.result c.first_page-first.ensures);
-}
+pages-init g c = record { few = omega arith; count = sym (none_yet c.args.side (g.F.Flash.device c.args.flash.now) (g.met.F.Flash.formed c.args.flash.now) c.first_page-first.result c.first_page-first.ensures) }
 
 pub overflow_add-count : goal.overflow_add-count
 overflow_add-count g c =

@@ -8,6 +8,7 @@ use Rattle.ee_core.specs.Picture.{elements_of}
 use Rattle.ee_core.specs.Puts.{carried}
 use Rattle.ee_core.proofs.Fillings.{carried_first, carried_names, carried_partly, carried_without, first_partly, only_these, others_carried, others_carried_partly, others_filled, others_fit, others_partly, puts_fit}
 use Rattle.ee_core.proofs.ShownStates.{moved_words_are_live_lem}
+use Rattle.ee_core.proofs.MovingFacts.{layout_kept}
 use Rattle.ee_core.proofs.copying.fill_set.Goals as goal
 
 pub put_all-requires-clause-fits : goal.put_all-requires-clause-fits
@@ -15,21 +16,22 @@ put_all-requires-clause-fits g c =
     let old = g.F.Flash.device c.args.flash.now in
     puts_fit c.args.puts.now c.args.forgets c.values_put.result.now (map_in c.args.layout.now.side old) (slot_count old.size) c.values_put.ensures c.requires.apart c.requires.fits
 
-pub copy_others-requires-clause-only : goal.copy_others-requires-clause-only
-copy_others-requires-clause-only g c address away =
+pub copy_others-requires : goal.copy_others-requires
+copy_others-requires g c =
     let old = g.F.Flash.device c.args.flash.now in
     let mid = g.F.Flash.device c.put_all.new.flash in
-    let first = carried_first old mid c.args.layout.now c.args.puts.now c.args.forgets c.values_put.result.now c.in_ok-first.first.slot c.values_put.ensures c.in_ok-first.ensures.fills in
-    only_these (carried c.args.puts.now c.args.forgets) old mid mid c.args.layout.now c.in_ok-first.first.slot first address (carried_names c.args.puts.now c.args.forgets address ∙ away)
-
-pub copy_others-requires-clause-fits : goal.copy_others-requires-clause-fits
-copy_others-requires-clause-fits g c =
-    let old = g.F.Flash.device c.args.flash.now in
-    let mid = g.F.Flash.device c.put_all.new.flash in
+    let layout = c.args.layout.now in
     let slot = c.in_ok-first.first.slot in
-    let first = carried_first old mid c.args.layout.now c.args.puts.now c.args.forgets c.values_put.result.now slot c.values_put.ensures c.in_ok-first.ensures.fills in
-    subst (λ (left : Map). slot + length (elements_of left) ≤ slot_count mid.size) (carried_without c.args.puts.now c.args.forgets (map_in c.args.layout.now.side mid))
-    (others_fit (carried c.args.puts.now c.args.forgets) old mid mid c.args.layout.now slot first c.requires.apart c.requires.fits)
+    let fills = c.in_ok-first.ensures.fills in
+    let first = carried_first old mid layout c.args.puts.now c.args.forgets c.values_put.result.now slot c.values_put.ensures fills in
+    record {
+      at = record { found = layout_kept old mid layout c.requires.opened.found fills.keeps; generation = c.requires.opened.generation; filling = fills.filling; stands = c.in_ok-first.ensures.stands };
+      first = c.requires.first;
+      over = rw fills.keeps.same_slots c.requires.over;
+      only = λ address away. only_these (carried c.args.puts.now c.args.forgets) old mid mid layout slot first address (carried_names c.args.puts.now c.args.forgets address ∙ away);
+      fits = subst (λ (left : Map). slot + length (elements_of left) ≤ slot_count mid.size) (carried_without c.args.puts.now c.args.forgets (map_in layout.side mid))
+          (others_fit (carried c.args.puts.now c.args.forgets) old mid mid layout slot first c.requires.apart c.requires.fits);
+    }
 
 pub returns-clause-fills : goal.returns-clause-fills
 returns-clause-fills g c =

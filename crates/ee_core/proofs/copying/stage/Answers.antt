@@ -1,4 +1,4 @@
-use Rattle.std.proofs.Common.{◌+◌, ◌<◌, ◌∙◌, List, ap, sym, subst, arith, rules}
+use Rattle.std.proofs.Common.{◌≡◌, ◌+◌, ◌<◌, ◌∙◌, List, refl, ap, sym, subst, arith, rules}
 use Rattle.std.proofs.lemmas.Result.{err_from_is_err_and}
 use Rattle.ee_flash.specs.Size.{slot_count}
 use Rattle.ee_flash.specs.declared.word.Word.TheVariants.{Held}
@@ -13,6 +13,7 @@ use Rattle.ee_core.proofs.CutMoves.{receive_partly, stage_partly}
 use Rattle.ee_core.proofs.Drawings.{page_of_its_set}
 use Rattle.ee_pages.proofs.Public.{page_in_range, place_in_range}
 use Rattle.ee_pages.specs.Sets.{other as other_of, page_of_slot}
+use Rattle.ee_core.proofs.MovingFacts.{layout_kept}
 use Rattle.ee_core.proofs.copying.stage.Goals as goal
 
 pub returns-clause-fills : goal.returns-clause-fills
@@ -77,3 +78,23 @@ returns-in_err-put_in-clause-fills g c =
 
 pub returns-clause-slot : goal.returns-clause-slot
 returns-clause-slot g c = search rules
+
+pub put_in-requires : goal.put_in-requires
+put_in-requires g c = elim c.if-place-eq-HEADER_WORDS.branch [
+  | then-place-eq-HEADER_WORDS+in_ok-receive w ↦ rw w.flash-is (record {
+    at = record { found = layout_kept _ _ c.args.layout.now c.requires.at.found w.receive.ensures.keeps; generation = c.requires.at.generation; filling = w.in_ok-receive.ensures.opens.filling; stands = rw w.receive.ensures.keeps.same_size c.requires.at.stands };
+    free = rw w.receive.ensures.keeps.same_size c.requires.free;
+  })
+  | else-place-eq-HEADER_WORDS w ↦ rw w.flash-is (record { at = c.requires.at; free = c.requires.free })
+]
+
+pub step-requires : goal.step-requires
+step-requires g c =
+    let old = g.F.Flash.device c.args.flash.now in
+    let mid = g.F.Flash.device c.if-place-eq-HEADER_WORDS.flash in
+    let sizes : mid.size ≡ old.size = elim c.if-place-eq-HEADER_WORDS.branch [
+      | then-place-eq-HEADER_WORDS+in_ok-receive w ↦ rw w.flash-is w.receive.ensures.keeps.same_size
+      | else-place-eq-HEADER_WORDS w ↦ rw w.flash-is refl
+    ] in
+    let same = c.put_in.ensures.keeps.same_size ∙ sizes in
+    record { free = rw same c.requires.free; stands = rw same c.requires.at.stands }

@@ -139,3 +139,11 @@ returns-in_err-mark-2 g c =
       starting = always_on_err c.from_residual-in_err-mark-2.result (λ _ startable. active_starting blank mid new formed all on whole taken (received_startable blank mid formed all (receiving blank mid formed all on whole)));
       power = ends_in_step (marking 0 Active) _ failed on_still cut;
     }
+
+pub mark-requires : goal.mark-requires
+mark-requires g c =
+    record { page_in_range = omega (arith, (g.met.F.Flash.formed c.erase_all.new.flash).within_limits.some_pages); generation = proper_first }
+
+pub mark-requires-2 : goal.mark-requires-2
+mark-requires-2 g c =
+    record { page_in_range = omega (arith, (g.met.F.Flash.formed c.mark.new.flash).within_limits.some_pages); generation = proper_active }

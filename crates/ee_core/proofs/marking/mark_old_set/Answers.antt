@@ -47,12 +47,7 @@ pages-preserved g c =
         passed = λ blank. absurd (true≢false (sym blank ∙ sym c.is_blank.ensures ∙ w.if-not-is_blank.true));
         others = w.mark_old.ensures.others;
       })
-      | else-not-is_blank w ↦ rw w.flash-is (record {
-        sizes = refl;
-        waiting = λ written. absurd (true≢false (sym w.if-not-is_blank.false ∙ c.is_blank.ensures ∙ written));
-        passed = λ blank. refl;
-        others = λ k apart. refl;
-      })
+      | else-not-is_blank w ↦ rw w.flash-is (record { sizes = refl; waiting = λ written. absurd (true≢false (sym w.if-not-is_blank.false ∙ c.is_blank.ensures ∙ written)); passed = λ blank. refl; others = λ k apart. refl })
     ] in
     let formed = g.met.F.Flash.formed c.pages.flash in
     let sizes = c.pages.invariant.stays.keeps.same_size in

@@ -35,7 +35,7 @@ pages-preserved g c =
     let mid = g.F.Flash.device c.pages.flash in
     let set = other_of c.args.layout.now.side in
     let formed = g.met.F.Flash.formed c.args.flash.now in
-    let first : c.first_page-first.result ≡ first_page old.size set = cc (c.first_page-first.ensures, c.other.ensures) in
+    let first : c.first_page-first.result ≡ first_page old.size set = c.first_page-first.ensures ∙ ap (first_page old.size) c.other.ensures in
     let pages : c.pages-2.result ≡ old.size.pages = c.pages-2.ensures.value ∙ ap (λ (size : Size). size.pages) c.shape.ensures in
     let from : c.first_page-first.result ≤ c.pages.page = c.pages.auto.page in
     let below : c.pages.page < c.first_page-first.result + old.size.pages = omega (arith, pages) in
@@ -85,7 +85,7 @@ returns-clause-blank g c =
     let same = ap (λ size. first_page size (other_of c.args.layout.now.side)) c.pages.invariant.keeps.same_size in
     let pages = ap (λ size. size.pages) c.pages.invariant.keeps.same_size in
     let shape = c.pages-2.ensures.value ∙ ap (λ size. size.pages) c.shape.ensures in
-    let start : c.first_page-first.result ≡ first_page (g.F.Flash.device c.args.flash.now).size (other_of c.args.layout.now.side) = cc (c.first_page-first.ensures, c.other.ensures) in
+    let start : c.first_page-first.result ≡ first_page (g.F.Flash.device c.args.flash.now).size (other_of c.args.layout.now.side) = c.first_page-first.ensures ∙ ap (first_page (g.F.Flash.device c.args.flash.now).size) c.other.ensures in
     all_blank (other_of c.args.layout.now.side) (g.F.Flash.device c.pages.flash) (g.met.F.Flash.formed c.pages.flash) (λ page from below. c.pages.invariant.blank page (omega arith) (omega (arith, c.pages-test.false)))
 
 pub returns-clause-wear : goal.returns-clause-wear
@@ -93,7 +93,7 @@ returns-clause-wear g c =
     let old = g.F.Flash.device c.args.flash.now in
     let new = g.F.Flash.device c.pages.flash in
     let set = other_of c.args.layout.now.side in
-    let first : c.first_page-first.result ≡ first_page old.size set = cc (c.first_page-first.ensures, c.other.ensures) in
+    let first : c.first_page-first.result ≡ first_page old.size set = c.first_page-first.ensures ∙ ap (first_page old.size) c.other.ensures in
     let pages : c.pages-2.result ≡ old.size.pages = c.pages-2.ensures.value ∙ ap (λ (size : Size). size.pages) c.shape.ensures in
     let all : c.pages.page - c.first_page-first.result ≡ length (set_of set old) = omega (arith, pages, c.pages.auto.page-end, c.pages-test.false, length-set_of set old (g.met.F.Flash.formed c.args.flash.now)) in
     subst (λ n. Wears (not_blank_from n (set_of set old)) old new) first (all_wear (set_of set old) _ _ old new all c.pages.invariant.wear)
@@ -106,7 +106,7 @@ returns-in_err-erase_other g c =
     let set = other_of c.args.layout.now.side in
     let page = c.pages.page in
     let formed = g.met.F.Flash.formed c.args.flash.now in
-    let first : c.first_page-first.result ≡ first_page old.size set = cc (c.first_page-first.ensures, c.other.ensures) in
+    let first : c.first_page-first.result ≡ first_page old.size set = c.first_page-first.ensures ∙ ap (first_page old.size) c.other.ensures in
     let pages : c.pages-2.result ≡ old.size.pages = c.pages-2.ensures.value ∙ ap (λ (size : Size). size.pages) c.shape.ensures in
     let below : page < c.first_page-first.result + old.size.pages = omega (arith, pages) in
     let k = page - c.first_page-first.result in

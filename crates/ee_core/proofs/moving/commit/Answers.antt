@@ -1,4 +1,4 @@
-use Rattle.std.proofs.Common.{◌≡◌, ◌+◌, ap, inl, inr, rules}
+use Rattle.std.proofs.Common.{◌≡◌, ◌+◌, ◌∙◌, ap, inl, inr, rules}
 use Rattle.ee_pages.specs.Sets.{first_page, other as other_of}
 use Rattle.ee_core.proofs.AfterCalls.{ends_in_step, goes_on_marked, goes_on_same, never_on_ok}
 use Rattle.ee_core.proofs.Marks.{program_keeps_wear}
@@ -18,7 +18,7 @@ returns-in_err-mark g c =
     let new = g.F.Flash.device c.mark.new.flash in
     let side = other_of c.args.layout.now.side in
     let formed = c.requires.layout.live.formed in
-    let page : c.first_page-first.result ≡ first_page old.size side = cc (c.first_page-first.ensures, c.other.ensures) in
+    let page : c.first_page-first.result ≡ first_page old.size side = c.first_page-first.ensures ∙ ap (first_page old.size) c.other.ensures in
     let cut = c.in_err-mark.ensures.cut in
     let commits = active_commits old _ c.args.layout.now.side c.args.layout.now.generation _ c.requires.layout.live c.requires.generation c.requires.filling.1 _ page (inr cut) in
     let sets : SetsPartly (first_page old.size side) Active old new =
@@ -39,7 +39,7 @@ pub returns : goal.returns
 returns g c =
     let old = g.F.Flash.device c.args.flash.now in
     let layout = c.args.layout.now in
-    let page : c.first_page-first.result ≡ first_page old.size (other_of layout.side) = cc (c.first_page-first.ensures, c.other.ensures) in
+    let page : c.first_page-first.result ≡ first_page old.size (other_of layout.side) = c.first_page-first.ensures ∙ ap (first_page old.size) c.other.ensures in
     let unmarked = active_unmarked old old layout.side layout.generation _ c.requires.layout.live c.requires.generation c.requires.filling.1 _ page in
     let on = c.in_ok-mark.ensures.on unmarked in
     let done = c.in_ok-mark.ensures.done unmarked in

@@ -173,3 +173,12 @@ returns g c =
       live_pages = drawn_both side old filling new filled.same_size done.same_size drawn (same_drawn side filling new done.same_size done.same_set);
       power = record { ok = goes_on_both old filling new (goes_on_both old opened filling (goes_on_both old cleared opened clears.power.ok opens.power.ok) c.in_ok-count.ensures.power.ok) done.power.ok; cut = tt; off = tt };
     }
+
+pub fill_set-requires : goal.fill_set-requires
+fill_set-requires g c =
+    let old = g.F.Flash.device c.args.flash.now in
+    let opened = g.F.Flash.device c.open_set.new.flash in
+    let side = c.args.layout.now.side in
+    let before = keeps_both old (g.F.Flash.device c.clear.new.flash) opened side c.args.layout.now.generation c.clear.ensures.keeps c.open_set.ensures.keeps in
+    let same : map_in side opened ≡ map_in side old = fun_ext before.same_map in
+    record { opened = c.in_ok-open_set.ensures.opened; first = c.requires.first; over = rw before.same_slots c.requires.over; apart = c.requires.apart; fits = rw (same, before.same_size) c.requires.fits }

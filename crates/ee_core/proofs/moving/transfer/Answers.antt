@@ -93,11 +93,7 @@ returns g c =
     let drawn : IsDrawn side new (retired_pages (is_used side mid) (picture_of side mid)) =
     subst (λ (set : Side). IsDrawn set new (retired_pages (is_used set mid) (picture_of set mid))) (other_twice side) shows.old_pages in
     record {
-      moves = record {
-        moved = moved_stays old mid new side c.args.layout.now.generation changes moves.moved stays;
-        as_many = moves.as_many;
-        wear = wears_still (not_blank_in (other_of side) old) old mid new moves.wear stays.same_wear;
-      };
+      moves = record { moved = moved_stays old mid new side c.args.layout.now.generation changes moves.moved stays; as_many = moves.as_many; wear = wears_still (not_blank_in (other_of side) old) old mid new moves.wear stays.same_wear };
       layout = search rules;
       other_set = c.other.ensures;
       marked = rw c.other.ensures at c.in_ok-finish.ensures.finished;

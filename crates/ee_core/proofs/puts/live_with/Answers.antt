@@ -1,5 +1,6 @@
-use Rattle.std.proofs.Common.{◌≡◌, false, true, is_some, take, not, ap, sym, ◌∙◌, arith}
-use Rattle.ee_pages.specs.Meaning.{changed_by}
+use Rattle.std.proofs.Common.{◌≡◌, false, true, is_some, length, take, not, ap, sym, ◌∙◌, arith}
+use Rattle.std.proofs.Math.Seq.{take-length}
+use Rattle.ee_pages.specs.Meaning.{changed_by, live_in}
 use Rattle.ee_core.specs.Parts.{map_in}
 use Rattle.ee_core.specs.Puts.{puts_of}
 use Rattle.ee_core.proofs.Several.{live_few, one_counted}
@@ -25,3 +26,10 @@ entries-preserved g c =
           let same = rw some at more in
           omega (arith, w.count-is, c.entries.invariant, same)
     ]
+
+pub returns : goal.returns
+returns g c =
+    let map = map_in c.args.layout.now.side (g.F.Flash.device c.args.flash.now) in
+    let all : c.entries.put-index ≡ length c.args.puts.now = omega (arith, c.entries-test.false, c.entries.auto.put-index-end) in
+    let whole : take c.entries.put-index c.args.puts.now ≡ c.args.puts.now = rw all (take-length c.args.puts.now) in
+    c.entries.invariant ∙ ap (λ puts. live_in (changed_by (puts_of puts) map)) whole

@@ -1,7 +1,7 @@
-use Rattle.std.proofs.Common.{rules, ◌≡◌, ◌+◌, inl, inr, sym, ap, ◌∙◌}
+use Rattle.std.proofs.Common.{rules, ◌≡◌, ◌+◌, inl, inr, refl, sym, ap, ◌∙◌}
 use Rattle.std.proofs.Math.Path.{fun_ext}
 use Rattle.ee_pages.specs.Meaning.{Map, map_after}
-use Rattle.ee_core.proofs.AfterCalls.{ends_later, goes_on_same, never_on_ok}
+use Rattle.ee_core.proofs.AfterCalls.{ends_later, goes_on_both, goes_on_same, never_on_ok}
 use Rattle.ee_core.proofs.Appending.{taken_after}
 use Rattle.ee_core.proofs.MarkedSets.{appends_word}
 use Rattle.ee_core.proofs.MovingFacts.{keeps_both}
@@ -10,31 +10,37 @@ use Rattle.ee_core.proofs.KeptMarks.{appended_marked}
 use Rattle.ee_core.proofs.CutMarks.{cut_marks, cut_word}
 use Rattle.ee_core.proofs.Making.{always_on_err}
 use Rattle.ee_pages.proofs.Public.{page_in_range, place_in_range}
+use native.Mathlib.Numerals.{unary_clauses}
 use Rattle.ee_core.proofs.writing.append.Goals as goal
 
-pub returns-clause-marked : goal.returns-clause-marked
-returns-clause-marked g c =
-    let opened = c.open_page.ensures in
-    let pushed = c.in_ok-page.ensures in
-    let grown = pushed.takes.one_more ∙ ap (λ n. n + 1) (opened.stays.keeps.same_fill ∙ sym c.requires.layout.fill) in
-    appended_marked c.args.layout.now.side c.args.layout.now.fill (g.F.Flash.device c.args.flash.now) (g.F.Flash.device c.open_page.new.flash) (g.F.Flash.device c.push.new.flash) c.requires.layout.live.formed opened.stays.keeps.same_size pushed.takes.same_size grown c.in_ok-open_page.ensures.ready c.push.ensures.marks opened.other c.push.ensures.other c.requires.marked
-
-pub returns-clause-takes : goal.returns-clause-takes
-returns-clause-takes g c =
-    let keeps = c.open_page.ensures.stays.keeps in
-    let takes = c.in_ok-page.ensures.takes in
-    record {
-      live = takes.live;
-      same_size = takes.same_size ∙ keeps.same_size;
-      one_more = takes.one_more ∙ ap (λ n. n + 1) keeps.same_fill;
-      map_is = λ address. takes.map_is address ∙ ap (λ (map : Map). map_after (meant c.args.change) map address) (fun_ext keeps.same_map);
-    }
-
-pub returns-clause-drawn : goal.returns-clause-drawn
-returns-clause-drawn g c =
+pub returns : goal.returns
+returns g c =
+    let old = g.F.Flash.device c.args.flash.now in
+    let mid = g.F.Flash.device c.open_page.new.flash in
+    let new = g.F.Flash.device c.push.new.flash in
     let layout = c.args.layout.now in
-    appends_word layout.side (g.F.Flash.device c.args.flash.now) (g.F.Flash.device c.open_page.new.flash) (g.F.Flash.device c.push.new.flash) layout.fill (number_written c.args.change)
-    c.open_page.ensures.stays.keeps.same_size c.in_ok-page.ensures.takes.same_size c.in_ok-open_page.ensures.drawn c.in_ok-page.ensures.puts
+    let opened = c.open_page.ensures in
+    let keeps = opened.stays.keeps in
+    let takes = c.in_ok-page.ensures.takes in
+    let grown = takes.one_more ∙ ap (λ n. n + 1) (keeps.same_fill ∙ sym c.requires.layout.fill) in
+    record {
+      takes = record {
+        live = takes.live;
+        same_size = takes.same_size ∙ keeps.same_size;
+        one_more = takes.one_more ∙ ap (λ n. n + 1) keeps.same_fill;
+        map_is = λ address. takes.map_is address ∙ ap (λ (map : Map). map_after (meant c.args.change) map address) (fun_ext keeps.same_map);
+      };
+      layout = record { live = takes.live; fill = sym grown; current = rw takes.same_size (simp unary_clauses c.in_ok-page.ensures.page) };
+      same_set = refl;
+      marked = appended_marked layout.side layout.fill old mid new c.requires.layout.live.formed keeps.same_size takes.same_size grown c.in_ok-open_page.ensures.ready c.push.ensures.marks opened.other c.push.ensures.other c.requires.marked;
+      cut = tt;
+      spells = c.in_ok-page.ensures.spells;
+      drawn = appends_word layout.side old mid new layout.fill (number_written c.args.change) keeps.same_size takes.same_size c.in_ok-open_page.ensures.drawn c.in_ok-page.ensures.puts;
+      begun = tt;
+      other = c.push.ensures.other ∙ opened.other;
+      wear = c.push.ensures.wear ∙ opened.stays.same_wear;
+      power = record { ok = goes_on_both old mid new c.in_ok-open_page.ensures.power.ok c.in_ok-page.ensures.power.ok; cut = tt; off = tt };
+    }
 
 pub returns-in_err-open_page : goal.returns-in_err-open_page
 returns-in_err-open_page g c =

@@ -1,4 +1,4 @@
-use Rattle.std.proofs.Common.{◌≡◌, ◌+◌, ◌-◌, inl, inr, ap, ◌∙◌, ◌<◌, arith, sym, subst}
+use Rattle.std.proofs.Common.{◌≡◌, ◌+◌, ◌-◌, inl, inr, ap, ◌∙◌, ◌<◌, arith, refl, sym, subst}
 use Rattle.ee_flash.specs.Size.{Size}
 use Rattle.ee_pages.proofs.Public.{page_in_range}
 use Rattle.ee_pages.specs.Sets.{first_page, page_of_slot}
@@ -6,8 +6,9 @@ use Rattle.ee_pages.specs.declared.state.Mark.TheVariants.{Active, Valid}
 use Rattle.ee_core.proofs.AfterCalls.{ends_later, goes_on_both, goes_on_same, never_on_ok}
 use Rattle.ee_core.proofs.Drawings.{marks_drawn}
 use Rattle.ee_core.proofs.LiveMarks.{stays_both}
+use Rattle.ee_core.proofs.Marks.{same_stays}
 use Rattle.ee_core.proofs.MarkedSets.{opens_next}
-use Rattle.ee_core.specs.Parts.{SetsMark}
+use Rattle.ee_core.specs.Parts.{IsReady, SetsMark}
 use Rattle.ee_core.specs.Picture.{IsDrawn, marked_to, picture_of}
 use Rattle.ee_core.proofs.OpenedPages.{first_other, further, last_is, next_behind, ready_already, ready_now, second_other}
 use Rattle.ee_core.proofs.writing.open_page.Goals.{then-layout-eq0-via-then-layout-eq0, then-layout-eq0-via-else-layout-eq0+then-layout-slots-ne0}
@@ -16,26 +17,30 @@ use Rattle.ee_core.proofs.Making.{always_on_err}
 use Rattle.ee_core.specs.Cuts.{IsDrawnPartly, SetsPartly}
 use Rattle.ee_core.proofs.writing.open_page.Goals as goal
 
-pub returns-then-layout-eq0-clause-ready : goal.returns-then-layout-eq0-clause-ready
-returns-then-layout-eq0-clause-ready g c =
+pub returns-then-layout-eq0 : goal.returns-then-layout-eq0
+returns-then-layout-eq0 g c =
+    let old = g.F.Flash.device c.args.flash.now in
+    let layout = c.args.layout.now in
     let words = c.words-slots.ensures.value ∙ ap (λ (size : Size). size.words) c.shape.ensures in
     let marked = c.requires.marked.live in
-    elim c.then-layout-eq0.branch [
-      | then-layout-eq0-via-then-layout-eq0 w ↦ ready_already (g.F.Flash.device c.args.flash.now) c.args.layout.now c.requires.layout c.requires.free _ words (inl w.if-layout-eq0.true) marked
-      | then-layout-eq0-via-else-layout-eq0+then-layout-slots-ne0 w ↦ ready_already (g.F.Flash.device c.args.flash.now) c.args.layout.now c.requires.layout c.requires.free _ words (inr w.if-layout-slots-ne0.true) marked
-    ]
+    let ready : IsReady old layout.side layout.fill = elim c.then-layout-eq0.branch [
+      | then-layout-eq0-via-then-layout-eq0 w ↦ ready_already old layout c.requires.layout c.requires.free _ words (inl w.if-layout-eq0.true) marked
+      | then-layout-eq0-via-else-layout-eq0+then-layout-slots-ne0 w ↦ ready_already old layout c.requires.layout c.requires.free _ words (inr w.if-layout-slots-ne0.true) marked
+    ] in
+    record {
+      stays = same_stays old old layout.side layout.generation c.requires.layout.live refl;
+      other = refl;
+      ready = ready;
+      drawn = marks_drawn layout.side old (page_of_slot old.size layout.fill) ready.valid ready.active;
+      begun = tt;
+      power = record { ok = goes_on_same old; cut = tt; off = tt };
+    }
 
 pub mark_live-requires-2-clause-behind : goal.mark_live-requires-2-clause-behind
 mark_live-requires-2-clause-behind g c =
     let words = c.words-slots.ensures.value ∙ ap (λ (size : Size). size.words) c.shape.ensures in
     let some : 0 < c.args.layout.now.fill = omega (arith, c.if-layout-eq0.false) in
     next_behind (g.F.Flash.device c.args.flash.now) c.args.layout.now c.requires.layout c.requires.free _ words some c.if-layout-slots-ne0.false _ c.mark_live.ensures.stays
-
-pub returns-then-layout-eq0-clause-drawn : goal.returns-then-layout-eq0-clause-drawn
-returns-then-layout-eq0-clause-drawn g c =
-    let old = g.F.Flash.device c.args.flash.now in
-    let ready = returns-then-layout-eq0-clause-ready g c in
-    marks_drawn c.args.layout.now.side old (page_of_slot old.size c.args.layout.now.fill) ready.valid ready.active
 
 pub returns-in_err-mark_live : goal.returns-in_err-mark_live
 returns-in_err-mark_live g c =
