@@ -47,15 +47,7 @@ each_keeps (one ∷ addresses) old new address done others = search (rules, All-
 -- ---- where one stops
 
 pub stops_one : (settings : List Setting) (address : ℕ) (fault : ForgetFault) (old new : Device) → has_address settings address ≡ false → Forgets old address (Err fault) new → StopsForgetting (unnamed_of settings address) fault old new
-stops_one settings address fault old new free stopped = record {
-  front = [];
-  address = address;
-  rest = [];
-  addresses_are = rw free refl;
-  last = old;
-  forgotten = refl;
-  stopped = stopped;
-}
+stops_one settings address fault old new free stopped = record { front = []; address = address; rest = []; addresses_are = rw free refl; last = old; forgotten = refl; stopped = stopped }
 
 at_later : (front addresses rest : List ℕ) (fault : ForgetFault) (old mid new : Device) → ForgetsEach front old mid → StopsForgetting addresses fault mid new → StopsForgetting (front ++ (addresses ++ rest)) fault old new
 at_later front addresses rest fault old mid new done stops = grind (arith, common_steps, each_later)

@@ -153,10 +153,7 @@ each_as_run (address ∷ addresses) old new done =
     let rest = each_as_run addresses done.1 new done.3 in
     let call = Forgot address (Ok done.0) in (
       call ∷ rest.0,
-      record {
-        run = (done.1, done.2, rest.1.run);
-        without_cuts = All-cons (λ (one : Call). is_cut one ≡ false) call rest.0 refl rest.1.without_cuts;
-      },
+      record { run = (done.1, done.2, rest.1.run); without_cuts = All-cons (λ (one : Call). is_cut one ≡ false) call rest.0 refl rest.1.without_cuts },
       ap (λ l. Forget address ∷ l) rest.2,
       ap suc rest.3,
     )

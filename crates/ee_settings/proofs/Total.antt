@@ -149,16 +149,7 @@ told_entries all before (entry ∷ after) settings split good =
       | inr broken ↦ inr (
         length before + 1,
         broken.0,
-        record {
-          before = before;
-          entry = entry;
-          after = after;
-          settings = settings;
-          split = split;
-          number_is = refl;
-          good = good;
-          bad = broken.1;
-        },
+        record { before = before; entry = entry; after = after; settings = settings; split = split; number_is = refl; good = good; bad = broken.1 },
       )
     ]
 

@@ -1,10 +1,11 @@
 //! What a store holds, told by the settings: the two are gone over together, by rising address.
-ghost use Rattle.std.specs.Prelude.{◌≡◌, ◌++◌, IfOk, IfErr, OnOk};
+ghost use Rattle.std.specs.Prelude.{◌≡◌, ◌++◌, List, IfOk, IfErr, OnOk};
 ghost use Rattle.std.specs.BTreeMap.{get};
 ghost use Rattle.std.specs.Ordering.{nat_cmp};
 ghost use Rattle.ee_flash.specs.Device.{IsOn};
 ghost use Rattle.ee_core.specs.State.{state_of};
 ghost use Rattle.ee_settings.specs.Listing.{IsListFault, listed_in, listed_of, named_in};
+ghost use Rattle.ee_settings.specs.Setting.{Setting as AnySetting};
 
 use crate::fault::ListFault;
 use crate::numbers::Numbers;
@@ -65,7 +66,10 @@ impl<A: Allocator> Schema<A> {
         if !store.is_on() {
             return Err(ListFault::Off);
         }
-        list_on(alloc, store, self.settings().as_slice()).map_err(|_| ListFault::Memory)
+        match list_on(alloc, store, self.settings().as_slice()) {
+            Ok(listed) => Ok(listed),
+            Err(_) => Err(ListFault::Memory),
+        }
     }
 }
 
@@ -82,8 +86,21 @@ fn list_on<A: Allocator, B: Allocator + Copy, V: Variables>(
 {
     let stored = stored_values(alloc, store)?;
     let named = named_addresses(alloc, settings)?;
-    let mut values = Remaining::new(&stored);
-    let mut names = Remaining::new(&named);
+    list_both(alloc, &named, &stored)
+}
+
+/// What two maps say, address by address.
+fn list_both<B: Allocator + Copy>(
+    alloc: B,
+    named: &BTreeMap<Address, (u64, Numbers), B>,
+    stored: &BTreeMap<Address, u32, B>,
+) -> Result<Vec<Listed, B>, AllocError>
+    ensures { IfOk result (λ listed. (settings : List AnySetting)
+        → get nat_cmp named.now ≡ named_in settings
+        → listed.items ≡ listed_in settings (get nat_cmp stored.now)) }
+{
+    let mut values = Remaining::new(stored);
+    let mut names = Remaining::new(named);
     let mut listed = Vec::new(alloc);
     'listed: while let Some(address) = lower(names.address(), values.address()) {
         // No address is 0, below the first of which a list says something.

@@ -19,3 +19,7 @@ returns-then-has g c =
 
 pub returns : goal.returns
 returns g c = grind (arith, common_steps, entry_made, entry_is, none_taken)
+
+pub returns-in_default-checked : goal.returns-in_default-checked
+returns-in_default-checked g c =
+    (refl, (sym c.is_proper_name.ensures ∙ c.if-not-is_proper_name.false, c.in-Some.fields, c.in-Some.ensures.found, c.in_default-checked.ensures.none))

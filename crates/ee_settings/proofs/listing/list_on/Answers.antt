@@ -1,32 +1,7 @@
-use Rattle.std.proofs.Common.{◌≡◌, None, arith, rules, sym}
-use Rattle.ee_core.specs.State.{state_of}
-use Rattle.ee_settings.proofs.Listings.{all_listed, none_listed, one_listed}
-use Rattle.ee_settings.proofs.Merging.{IsLowest, left_first, lower_lowest}
-use Rattle.ee_settings.specs.Listing.{first_address, lower_of, named_in}
+use Rattle.std.proofs.Common.{ap, ◌∙◌}
+use Rattle.std.proofs.lemmas.Result.{IfOk-weaker}
+use Rattle.ee_settings.specs.Listing.{listed_in}
 use Rattle.ee_settings.proofs.listing.list_on.Goals as goal
 
-pub listed-init : goal.listed-init
-listed-init g c =
-    let settings = c.args.settings.now in
-    let map = (state_of (g.V.Variables.device c.args.store.now)).map in record {
-      from = 0;
-      within = omega arith;
-      so_far = rw c.new-listed.ensures.items (sym (none_listed settings map));
-      names_left = left_first (named_in settings) c.in_ok-named.named c.new-names.result c.new-names.ensures.all c.new-names.ensures.ordered c.in_ok-named.ensures;
-      values_left = left_first map c.in_ok-stored.stored c.new-values.result c.new-values.ensures.all c.new-values.ensures.ordered c.in_ok-stored.ensures;
-    }
-
-pub listed-smaller : goal.listed-smaller
-listed-smaller g c = search (rules, IsLowest, lower_lowest)
-
-pub listed-preserved : goal.listed-preserved
-listed-preserved g c =
-    let least : IsLowest c.in-Some.address c.listed.names c.listed.values = lower_lowest c.in-Some.address c.listed.names c.listed.values (search rules) in
-    rw (c.take-name.ensures.left, c.take-value.ensures.left)
-    (one_listed c.args.settings.now (state_of (g.V.Variables.device c.args.store.now)).map c.listed.listed.items c.listed.names c.listed.values c.listed.invariant c.in-Some.address c.push_listed.new.listed.items
-    least (omega arith) (omega arith) (rw (sym c.take-name.ensures.found, sym c.take-value.ensures.found) c.in_ok-push_listed.ensures))
-
 pub returns : goal.returns
-returns g c =
-    let none : lower_of (first_address c.listed.names) (first_address c.listed.values) ≡ None = search rules in
-    all_listed c.args.settings.now (state_of (g.V.Variables.device c.args.store.now)).map c.listed.listed.items c.listed.names c.listed.values c.listed.invariant none
+returns g c = IfOk-weaker c.list_both.result _ _ (λ listed each. each c.args.settings.now c.in_ok-named.ensures ∙ ap (listed_in c.args.settings.now) c.in_ok-stored.ensures) c.list_both.ensures
