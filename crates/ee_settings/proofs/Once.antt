@@ -78,7 +78,8 @@ pub breaks_none : (rule : Rule) (first last : List Setting) (setting : Setting) 
 breaks_none Name first last setting entry rising own here broken = broken (subst (λ name. IsName name) here.name here.proper.name)
 breaks_none Field first last setting entry rising own here broken = broken.1 (fields_of_numbers setting.numbers) here.numbers
 breaks_none Range first last setting entry rising own here broken = broken.3 setting.numbers here.proper.numbers (fields_once entry.1 broken.1 (fields_of_numbers setting.numbers) broken.2 here.numbers)
-breaks_none Address first last setting entry rising own here broken = search (rules, never_taken, entry_once)
+breaks_none Address first last setting entry rising own here broken =
+    never_taken first last setting rising own (subst (λ (s : Setting). IsTaken first s.numbers.address) (entry_once entry broken.0 setting broken.1 here) broken.2)
 
 pub no_first_fault : (entries : List Entry) (settings : List Setting) (number : ℕ) (rule : Rule) → IsSchemaOf entries settings → HaveRisingNames settings → ¬ IsFirstFault entries number rule
 no_first_fault entries settings number rule schema rising h =

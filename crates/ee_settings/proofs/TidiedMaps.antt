@@ -55,7 +55,10 @@ takes_none : (settings : List Setting) (old new : Map) → new ≡ old → Takes
 takes_none settings old new same address = inl (ap (λ (values : Map). values address) same)
 
 takes_one : (settings : List Setting) (old new : Map) (named : ℕ) → has_address settings named ≡ false → new ≡ map_after (Forget named) old → TakesUnnamed settings old new
-takes_one settings old new named free is address = search (rules, cases_eq, forget-at, forget-other)
+takes_one settings old new named free is address = elim (cases_eq named address) [
+  | inl same ↦ inr (subst (λ a. has_address settings a ≡ false) same free, ap (λ (values : Map). values address) is ∙ forget-at old named address (sym same))
+  | inr other ↦ inl (ap (λ (values : Map). values address) is ∙ forget-other old named address (λ e. other (sym e)))
+]
 
 each_takes : (settings : List Setting) (addresses : List ℕ) (old new : Device) → All (λ a. has_address settings a ≡ false) addresses → ForgetsEach addresses old new → TakesUnnamed settings (state_of old).map (state_of new).map
 each_takes settings [] old new free done = takes_none settings (state_of old).map (state_of new).map (ap (λ (device : Device). (state_of device).map) done)
@@ -84,7 +87,10 @@ cut_takes settings old new formed stops =
 
 pub takes_unnamed : (settings : List Setting) (old new : Device) (answer : Result ℕ TidyFault) → IsFormed old → Tidies settings old answer new → (address : ℕ)
     → ((state_of new).map address ≡ (state_of old).map address) ⊎ ((has_address settings address ≡ false) × ((state_of new).map address ≡ None))
-takes_unnamed settings old new answer h1 h2 = search (rules, each_takes, unnamed_free, takes_none, spent_takes, cut_takes)
+takes_unnamed settings old new (Ok count) formed done = each_takes settings (unnamed_in settings (state_of old).map) old new (unnamed_free settings (state_of old).map 65534) done.2
+takes_unnamed settings old new (Err tidy.Off) formed done = takes_none settings (state_of old).map (state_of new).map (ap (λ (device : Device). (state_of device).map) done.1)
+takes_unnamed settings old new (Err tidy.Spent) formed done = spent_takes settings old new formed done
+takes_unnamed settings old new (Err tidy.Cut) formed done = cut_takes settings old new formed done
 
 -- ---- readings
 

@@ -36,7 +36,7 @@ returns-in_default g c =
     let batch = subst (λ (through : Option ℕ). AreLiveThrough (state_of now).map (above_of c.forgetting.after) found through) c.in_default.is c.next_batch-batch.ensures.live in
     let counted = c.in_ok-forgotten.ensures.count ∙ ap length among in
     let made = subst (λ l. ForgetsEach l now (g.V.Variables.device c.forget_unnamed.new.store)) among c.in_ok-forgotten.ensures.forgotten in
-    search (rules, all, batch, counted, made)
+    all _ _ batch counted made
 
 pub forgetting-preserved : goal.forgetting-preserved
 forgetting-preserved g c =
@@ -49,4 +49,4 @@ forgetting-preserved g c =
     let batch = subst (λ (through : Option ℕ). AreLiveThrough (state_of now).map (above_of c.forgetting.after) found through) c.in-Some.is c.next_batch-batch.ensures.live in
     let counted = c.in_ok-forgotten.ensures.count ∙ ap length among in
     let made = subst (λ l. ForgetsEach l now (g.V.Variables.device c.forget_unnamed.new.store)) among c.in_ok-forgotten.ensures.forgotten in
-    search (rules, further, low, batch, counted, made)
+    further _ _ _ low batch counted made
