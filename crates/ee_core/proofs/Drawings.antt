@@ -132,10 +132,7 @@ sets_mark page mark old new formed h present done =
       | inr erased ↦
           let puts = program_puts page at (number_of_mark mark) old formed h (omega (arith, place_below mark, formed.within_limits.some_words)) in
           let whole = done erased in
-          record {
-            there = ap (λ (device : Device). word_at device page at) whole ∙ puts.there ∙ sym (marked-erased mark (word_at old page at) erased);
-            elsewhere = λ p k away. ap (λ (device : Device). word_at device p k) whole ∙ puts.elsewhere p k away;
-          }
+          record { there = ap (λ (device : Device). word_at device page at) whole ∙ puts.there ∙ sym (marked-erased mark (word_at old page at) erased); elsewhere = λ p k away. ap (λ (device : Device). word_at device p k) whole ∙ puts.elsewhere p k away }
     ]
 
 -- at another spelling of the page

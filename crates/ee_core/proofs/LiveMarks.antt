@@ -117,14 +117,7 @@ pub record MarksPage (mid new : Device) (side : Side) (generation page : ℕ) : 
   pub power : GoesOn mid new
 
 pub marks_none : (device : Device) (side : Side) (generation page : ℕ) → IsLive device side generation → is_blank (page_at device page) ≡ true → MarksPage device device side generation page
-marks_none device side generation page live blank = record {
-  stays = same_stays device device side generation live refl;
-  marks = λ p mark was. was;
-  others = λ p apart. refl;
-  done = inl blank;
-  no_step = λ done. refl;
-  power = goes_on_same device;
-}
+marks_none device side generation page live blank = record { stays = same_stays device device side generation live refl; marks = λ p mark was. was; others = λ p apart. refl; done = inl blank; no_step = λ done. refl; power = goes_on_same device }
 
 -- a page that is not blank is done only by its mark
 pub marked_from : (device : Device) (page : ℕ) → is_blank (page_at device page) ≡ false → IsPageDone device page → is_marked device page Erasing ≡ true

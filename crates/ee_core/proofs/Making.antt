@@ -193,10 +193,7 @@ module _ (device : Device) (side : Side) (generation : ℕ) (live : IsLive devic
   change_fits (Put address value) proper accepted =
       let map = meaning (slots_of (set_of side device)) in
       put_count (live_in map) _ (capacity device) (is_some (map address)) (change_counts (Put address value) map proper) held
-      (λ none all. accepted.has_place (record {
-        new_address = map_was device device side generation live address ∙ none_is (map address) none;
-        all_live = ap (λ (state : State). live_in state.map) (state_is device side generation live) ∙ all;
-      }))
+      (λ none all. accepted.has_place (record { new_address = map_was device device side generation live address ∙ none_is (map address) none; all_live = ap (λ (state : State). live_in state.map) (state_is device side generation live) ∙ all }))
   change_fits (Forget address) proper accepted =
       let counts = change_counts (Forget address) (meaning (slots_of (set_of side device))) proper in
       omega (arith, held)

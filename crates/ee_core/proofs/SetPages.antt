@@ -2,8 +2,6 @@
 use Rattle.std.proofs.Common.{rules, ◌≡◌, ◌≢◌, ℕ, ◌+◌, ◌<◌, ◌≤◌, inl, inr, [], length, get_or, set, sym, ap, ◌∙◌, arith}
 use Rattle.std.proofs.lemmas.Bool.{cases_eq}
 use Rattle.std.proofs.lemmas.List.{ext_get_or, get_or-drop, get_or-set_other, get_or-set_same, get_or-take, length-set}
-use mir.Syntax.{w64}
-use mir.Val.{Fits}
 use Rattle.ee_flash.specs.Device.{Device, IsFormed, page_at}
 use Rattle.ee_flash.specs.Size.{Size, page_count}
 use Rattle.ee_pages.specs.Laws.{IsPageOf}
@@ -29,13 +27,6 @@ page_of_device size side page at = omega (arith, first_below size side, at.below
 
 pub page_in_device : (size : Size) (side : Side) (k : ℕ) → k < size.pages → first_page size side + k < page_count size
 page_in_device size side k h = omega (arith, first_below size side)
-
--- neither its number nor that of a place in it is too large for a word
-pub page_fits : (device : Device) (page : ℕ) → IsFormed device → page < page_count device.size → Fits w64 page
-page_fits device page formed below = record { fits = omega (arith, formed.within_limits.few_pages) }
-
-pub place_fits : (device : Device) (at : ℕ) → IsFormed device → at < device.size.words → Fits w64 at
-place_fits device at formed below = record { fits = omega (arith, formed.within_limits.few_words) }
 
 -- a page of one set is none of the other
 pub apart : (size : Size) (side : Side) (page k : ℕ) → IsPageOf size (other side) page → k < size.pages → first_page size side + k ≢ page

@@ -109,10 +109,7 @@ cut_page_wears page old new h (inr untouched) on = absurd (true≢false (sym on 
 pub wears_both : (pages more : List ℕ) (old mid new : Device) → Wears pages old mid → Wears more mid new → Wears (pages ++ more) old new
 wears_both pages more old mid new first second =
     let long : length mid.wear ≡ length old.wear = ap length first.wear_is ∙ length-worn_by pages old.wear in
-    record {
-      there = All-append (λ page. page < length old.wear) pages more first.there (subst (λ n. All (λ page. page < n) more) long second.there);
-      wear_is = second.wear_is ∙ ap (worn_by more) first.wear_is ∙ sym (worn_by-append pages more old.wear);
-    }
+    record { there = All-append (λ page. page < length old.wear) pages more first.there (subst (λ n. All (λ page. page < n) more) long second.there); wear_is = second.wear_is ∙ ap (worn_by more) first.wear_is ∙ sym (worn_by-append pages more old.wear) }
 
 -- what wears nothing more
 pub wears_still : (pages : List ℕ) (old mid new : Device) → Wears pages old mid → new.wear ≡ mid.wear → Wears pages old new
@@ -154,11 +151,7 @@ pub no_wear : (old new : Device) → new.wear ≡ old.wear → WearRises 0 old n
 no_wear old new same = wears_rise [] 0 old new (wears_none old new same) refl
 
 pub wear_adds : (a b : ℕ) (old mid new : Device) → WearRises a old mid → WearRises b mid new → WearRises (a + b) old new
-wear_adds a b old mid new first second = record {
-  pages = first.pages ++ second.pages;
-  count = omega (arith, length-append first.pages second.pages, first.count, second.count);
-  wears = wears_both first.pages second.pages old mid new first.wears second.wears;
-}
+wear_adds a b old mid new first second = record { pages = first.pages ++ second.pages; count = omega (arith, length-append first.pages second.pages, first.count, second.count); wears = wears_both first.pages second.pages old mid new first.wears second.wears }
 
 -- In all, wear rose by as many as were erased, where no page of the device now was erased as often as can be counted.
 pub total_rises : (erases : ℕ) (old new : Device) → WearRises erases old new → CountsWear new → CountsWear old × (total_wear_of new ≡ total_wear_of old + erases)

@@ -180,11 +180,7 @@ pub stands_proper : (slots : List Word) (address number : ℕ) → Stands slots 
 stands_proper slots address number here = says_proper (get_or slots number Erased) address (Some here.value) here.says_so
 
 pub left_first : (slots : List Word) (shown : ℕ → Bool) (entries : List (ℕ × ℕ)) → IsStrictlySortedBy nat_cmp (keys_of entries) → ((address : ℕ) → is_some (slot_for entries address) ≡ true → IsAddress address) → IsIndex slots (shown_index shown (slot_for entries)) → IsLeft slots shown None entries
-left_first slots shown entries ordered proper indexes = record {
-  ordered = ordered;
-  behind = λ address held. (proper address held).0;
-  indexes = λ address high. indexes address;
-}
+left_first slots shown entries ordered proper indexes = record { ordered = ordered; behind = λ address held. (proper address held).0; indexes = λ address high. indexes address }
 
 -- ---- before the first behind an address
 

@@ -227,13 +227,7 @@ is_put_there (put ∷ puts) map more address each is = elim (cases_Bool (put.add
   | inr apart ↦
       let later = is_put_there puts (map_after (Put put.address put.value) map) more address each.2 (the_later (put.address == address) (is_put puts address) is apart) in
       let place : listed_place (put ∷ puts) address ≡ suc (listed_place puts address) = ap (λ (b : Bool). cond b 0 (listed_place puts address + 1)) apart ∙ (omega arith) in
-      record {
-        value = later.value;
-        held = later.held;
-        word = ap (λ n. get_or (put_words (puts_of (put ∷ puts)) ++ more) n Erased) place ∙ later.word;
-        within = omega (arith, place, later.within);
-        proper = later.proper;
-      }
+      record { value = later.value; held = later.held; word = ap (λ n. get_or (put_words (puts_of (put ∷ puts)) ++ more) n Erased) place ∙ later.word; within = omega (arith, place, later.within); proper = later.proper }
 ]
   where
     the_later : (x y : Bool) → (x || y) ≡ true → x ≡ false → y ≡ true

@@ -8,7 +8,7 @@ use Rattle.std.specs.List.{filter}
 use Rattle.std.specs.List.Sorted.{IsStrictlySortedBy}
 use Rattle.std.specs.Map.{keys_of}
 use Rattle.std.specs.Ordering.{nat_cmp}
-use Rattle.ee_flash.specs.Device.{Device}
+use Rattle.ee_flash.specs.Device.{Device, IsOn}
 use Rattle.ee_flash.specs.declared.word.Word.{Word}
 use Rattle.ee_flash.specs.declared.word.Word.TheVariants.{Erased, Held, Torn}
 use Rattle.ee_pages.specs.Meaning.{Change, Forget, Map, Put, changed_by, live_in, map_after, meaning, says}
@@ -16,7 +16,7 @@ use Rattle.ee_pages.specs.Page.{is_written}
 use Rattle.ee_pages.specs.Sets.{set_of, slots_of}
 use Rattle.ee_pages.specs.declared.find.Layout.{Layout}
 use Rattle.ee_pages.proofs.Public.{fill-front, slots_behind}
-use Rattle.ee_core.specs.Changes.{NeedsTransfer}
+use Rattle.ee_core.specs.Changes.{HasNoPlace, IsSpent, NeedsTransfer, Proceeds}
 use Rattle.ee_core.specs.Puts.{AreApart, HasNew, carried, forgets_of, puts_of}
 use Rattle.ee_core.specs.State.{capacity, state_of}
 use Rattle.ee_core.specs.declared.change.Put as listed
@@ -182,10 +182,7 @@ module _ (device : Device) (layout : Layout) (entries : List (ℕ × ℕ)) (kept
 
   -- there was none, and the index is as it was seen
   pub no_room : (new : List (ℕ × ℕ)) → ((address : ℕ) → slot_for new address ≡ shown_index (λ number. nat_lt number layout.fill) (slot_for entries) address) → IsKept device layout new
-  no_room new is = record {
-    found = kept.found;
-    indexes = λ address. ap (λ slot. said_at live_slots slot address) (is address ∙ all_shown address) ∙ kept.indexes address;
-  }
+  no_room new is = record { found = kept.found; indexes = λ address. ap (λ slot. said_at live_slots slot address) (is address ∙ all_shown address) ∙ kept.indexes address }
 
   pub new_in_map : (puts : List listed.Put) → HasNew puts (slot_for entries) → HasNew puts (state_of device).map
   new_in_map puts new = new_in puts (slot_for entries) (state_of device).map (λ address none. no_value device layout entries kept address (ap is_some none)) new
@@ -214,3 +211,10 @@ module _ (puts : List listed.Put) (place : ℕ) (put : listed.Put) (within : pla
       let one = one_counted map puts each place put within is in
       let there = ap (λ (b : Bool). live_in map + cond b 0 1) (sym (e ∙ same put.address)) in
       omega (arith, one, there, next_is, so_far map same each)
+
+-- a change goes through on a device that is on, where there is a place for it and the store is not spent
+pub one_proceeds : (device inside : Device) (change : Change) → inside ≡ device → IsOn inside → ¬ HasNoPlace (capacity device) (state_of device) change → ¬ IsSpent (capacity device) (state_of device) → Proceeds inside (change ∷ [])
+one_proceeds device inside change same on place unspent = rw same (record { on = rw same at on; accepted = record { has_place = place; not_spent = unspent } })
+
+pub held_place : (map : Map) (address value : ℕ) (found : Option ℕ) → found ≡ map address → found ≡ Some value → map address ≡ None → ⊥
+held_place map address value found same held none = cc (same, held, none)

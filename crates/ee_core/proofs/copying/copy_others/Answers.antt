@@ -14,13 +14,7 @@ use Rattle.ee_core.specs.Puts.{puts_of}
 pub live-init : goal.live-init
 live-init g c =
     let device = g.F.Flash.device c.args.flash.now in
-    rw c.requires.first (record {
-      at = c.requires.at;
-      filled = none_filled device c.args.layout.now c.args.place (puts_of c.args.puts.now) c.requires.at c.requires.only;
-      below = omega arith;
-      over = c.requires.over;
-      goes = goes_on_same device;
-    })
+    rw c.requires.first (record { at = c.requires.at; filled = none_filled device c.args.layout.now c.args.place (puts_of c.args.puts.now) c.requires.at c.requires.only; below = omega arith; over = c.requires.over; goes = goes_on_same device })
 
 pub copy_one-requires-clause-free : goal.copy_one-requires-clause-free
 copy_one-requires-clause-free g c apart =

@@ -19,12 +19,7 @@ puts-init g c =
 pub stage-requires-clause-at : goal.stage-requires-clause-at
 stage-requires-clause-at g c =
     let filled = c.puts.invariant.filled in
-    record {
-      found = layout_kept (g.F.Flash.device c.args.flash.now) (g.F.Flash.device c.puts.flash) c.args.layout.now c.requires.opened.found filled.keeps;
-      generation = c.requires.opened.generation;
-      filling = filled.filling;
-      stands = c.puts.invariant.stands;
-    }
+    record { found = layout_kept (g.F.Flash.device c.args.flash.now) (g.F.Flash.device c.puts.flash) c.args.layout.now c.requires.opened.found filled.keeps; generation = c.requires.opened.generation; filling = filled.filling; stands = c.puts.invariant.stands }
 
 pub stage-requires-clause-free : goal.stage-requires-clause-free
 stage-requires-clause-free g c =

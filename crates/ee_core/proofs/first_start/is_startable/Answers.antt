@@ -16,7 +16,4 @@ returns-in-Foreign-clause-no g c = λ _.
 pub returns-in-NoLiveSet : goal.returns-in-NoLiveSet
 returns-in-NoLiveSet g c =
     let device = g.F.Flash.device c.args.flash.now in
-    record {
-      yes = λ yes. record { uncommitted = none_committed device (subst (IsScanFault device) c.in-NoLiveSet.is c.requires); none_held = c.holds_none.ensures.yes yes };
-      no = λ no startable. c.holds_none.ensures.no no startable.none_held;
-    }
+    record { yes = λ yes. record { uncommitted = none_committed device (subst (IsScanFault device) c.in-NoLiveSet.is c.requires); none_held = c.holds_none.ensures.yes yes }; no = λ no startable. c.holds_none.ensures.no no startable.none_held }

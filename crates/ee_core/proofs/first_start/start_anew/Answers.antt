@@ -4,8 +4,4 @@ use Rattle.ee_core.proofs.first_start.start_anew.Goals as goal
 pub returns-in-Err : goal.returns-in-Err
 returns-in-Err g c =
     let failed = c.in-Err.ensures in
-    record {
-      formatted = tt;
-      fault = refl;
-      cut = record { was_startable = c.requires.startable; cut = record { cut = failed.power.cut c.requires.on; wear = failed.begun; words = failed.words }; starting = failed.starting c.requires.on c.requires.startable };
-    }
+    record { formatted = tt; fault = refl; cut = record { was_startable = c.requires.startable; cut = record { cut = failed.power.cut c.requires.on; wear = failed.begun; words = failed.words }; starting = failed.starting c.requires.on c.requires.startable } }

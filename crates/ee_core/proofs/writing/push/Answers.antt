@@ -6,7 +6,7 @@ use Rattle.ee_pages.proofs.Public.{page_in_range, place_in_range}
 use Rattle.ee_core.proofs.AfterCalls.{ends_in_step, goes_on_same, never_on_ok}
 use Rattle.ee_core.proofs.Drawings.{put_there}
 use Rattle.ee_core.proofs.Marks.{program_keeps_wear}
-use Rattle.ee_core.proofs.SetPages.{page_fits, page_in_device, place_fits}
+use Rattle.ee_core.proofs.SetPages.{page_in_device}
 use Rattle.ee_core.specs.Parts.{meant}
 use Rattle.ee_core.proofs.Appending.{cut_push_leaves, cut_push_marks, cut_push_other, cut_push_partly, free_slot_erased, on_err, push_is_taken, push_marks, push_other}
 use Rattle.ee_core.proofs.Making.{always_on_err}
@@ -70,16 +70,3 @@ returns g c =
       wear = ap (λ device. device.wear) done;
       power = search rules;
     }
-
-pub overflow_add-page : goal.overflow_add-page
-overflow_add-page g c =
-    let old = g.F.Flash.device c.args.flash.now in
-    let fill = c.args.layout.now.fill in
-    rw (c.first_page.ensures, c.words-slots.ensures.value ∙ ap (λ (size : Size). size.words) c.shape.ensures)
-    (page_fits old _ c.requires.layout.live.formed (page_in_device old.size c.args.layout.now.side (page_of_slot old.size fill) (page_in_range old fill c.requires.free)))
-
-pub overflow_add-layout : goal.overflow_add-layout
-overflow_add-layout g c =
-    let formed = c.requires.layout.live.formed in
-    rw (c.words-slots.ensures.value ∙ ap (λ (size : Size). size.words) c.shape.ensures)
-    (place_fits _ _ formed (place_in_range (g.F.Flash.device c.args.flash.now) c.args.layout.now.fill formed))

@@ -13,17 +13,11 @@ entries-preserved g c =
     elim c.if-not-contains_key.branch [
       | then-not-contains_key w ↦
           let none : held ≡ false = w.if-not-contains_key.true in
-          record {
-            adds = more (w.count-is ∙ ap (λ (b : Bool). c.entries.count + cond b 0 1) (sym none));
-            few = omega (arith, w.count-is, c.entries.invariant.few);
-          }
+          record { adds = more (w.count-is ∙ ap (λ (b : Bool). c.entries.count + cond b 0 1) (sym none)); few = omega (arith, w.count-is, c.entries.invariant.few) }
       | else-not-contains_key w ↦
           let some : held ≡ true = w.if-not-contains_key.false in
           let same : next ≡ c.entries.count + 0 = omega (arith, w.count-is) in
-          record {
-            adds = more (same ∙ ap (λ (b : Bool). c.entries.count + cond b 0 1) (sym some));
-            few = omega (arith, w.count-is, c.entries.invariant.few);
-          }
+          record { adds = more (same ∙ ap (λ (b : Bool). c.entries.count + cond b 0 1) (sym some)); few = omega (arith, w.count-is, c.entries.invariant.few) }
     ]
 
 pub returns-clause-adds : goal.returns-clause-adds
