@@ -150,12 +150,7 @@ each_size_moves_as_told_lem text told cycles runs some_enough calls blank old ne
     let late = late_calls calls old new (fresh slots) whole.run (both_plain calls whole.without_cuts unlisted) are (empty_start slots (state_of old) formats.state_is) (empty_proper slots) in
     let here = among words old.size.pages 1 trace sized.demands limits.some_pages (omega (arith, limits.few_pages, sized.each_size)) sized.demanded in
     let did = did_so (fresh slots) trace here.demand calls (empty_proper slots) late made here.demanded in
-    let line : IsDemandOf old.size.pages sized.demands (Transfers (transfers calls)) = record {
-      smaller = here.smaller;
-      larger = here.larger;
-      parts = here.parts ∙ ap (λ d. here.smaller ++ d ∷ here.larger) did;
-      place = here.place;
-    } in
+    let line : IsDemandOf old.size.pages sized.demands (Transfers (transfers calls)) = record { smaller = here.smaller; larger = here.larger; parts = here.parts ∙ ap (λ d. here.smaller ++ d ∷ here.larger) did; place = here.place } in
     (line, wears cycles (transfers calls) calls blank old new formats whole (omega arith))
 
 -- generations are left for so many transfers of a store that was just formatted

@@ -10,8 +10,4 @@ returns-in_err-ledger-clause-fault g c =
     (record { formed = formed_of c.in-Ok.flash; text_is = c.in-Ok.ensures.found })))
 
 pub returns-clause-counts : goal.returns-clause-counts
-returns-clause-counts g c = record {
-  device = device_of c.in-Ok.flash;
-  spelled = record { formed = formed_of c.in-Ok.flash; text_is = c.in-Ok.ensures.found };
-  counts_are = c.in_ok-ledger.ensures.wear;
-}
+returns-clause-counts g c = record { device = device_of c.in-Ok.flash; spelled = record { formed = formed_of c.in-Ok.flash; text_is = c.in-Ok.ensures.found }; counts_are = c.in_ok-ledger.ensures.wear }
