@@ -107,13 +107,16 @@ pub one_task_fault : (image text : List ℕ) (cause fault : Fault) → cause ≢
 one_task_fault image text cause fault some (inl h) (inl i) =
     one_name fault_of_replay cause fault h.cause i.cause replay.Memory h.fault_is i.fault_is refl
     (one_open_fault image h.cause i.cause (other_cause fault_of_replay cause h.cause replay.Memory some h.fault_is refl) h.applies i.applies)
-one_task_fault image text cause fault some (inl h) (inr i) = search (rules, store_is_good, other_cause)
-one_task_fault image text cause fault some (inr h) (inl i) = search (rules, opened_memory)
-one_task_fault image text cause fault some (inr h) (inr i) = search (rules, one_name, one_trace_fault, other_cause)
+one_task_fault image text cause fault some (inl h) (inr i) =
+    absurd (other_cause fault_of_replay cause h.cause replay.Memory some h.fault_is refl (opened_memory image i.0.0 h.cause i.0.1 h.applies))
+one_task_fault image text cause fault some (inr h) (inl i) = inr (i.fault_is ∙ ap fault_of_replay (opened_memory image h.0.0 i.cause h.0.1 i.applies))
+one_task_fault image text cause fault some (inr h) (inr i) =
+    one_name fault_of_script cause fault h.1.cause i.1.cause script.Memory h.1.fault_is i.1.fault_is refl
+    (one_trace_fault text h.1.cause i.1.cause (other_cause fault_of_script cause h.1.cause script.Memory some h.1.fault_is refl) h.1.applies i.1.applies)
 
 -- where a start and a trace are had it is want of memory
 pub only_memory : (image text : List ℕ) (start : Situation) (trace : List Change) (fault : Fault) → IsTask image text start trace → IsTaskFault image text fault → fault ≡ Memory
-only_memory image text start trace fault task (inl h) = search (rules, opened_memory)
+only_memory image text start trace fault task (inl h) = h.fault_is ∙ ap fault_of_replay (opened_memory image task.start_is.device h.cause task.start_is.store h.applies)
 only_memory image text start trace fault task (inr h) = h.1.fault_is ∙ ap fault_of_script (trace_memory text trace h.1.cause task.trace_is h.1.applies)
 
 -- ---- one fault of a plan
@@ -169,7 +172,10 @@ text_memory certificate claim cause h1 h2 = search (rules, texts_are_good_lem)
 
 pub text_of_check : (start : Situation) (trace : List Change) (certificate : List ℕ) (cause : Fault) (fault : TextFault) → cause ≢ Memory
     → IsCertificateFault start trace certificate cause → IsCertificateTextFault certificate fault → (fault_of_certificate fault ≡ cause) ⊎ (fault_of_certificate fault ≡ Memory)
-text_of_check start trace certificate cause fault h1 h2 h3 = search (rules, one_name, one_text_fault, other_cause, text_memory)
+text_of_check start trace certificate cause fault some (inl h) bad =
+    one_name fault_of_certificate cause (fault_of_certificate fault) h.cause fault spelled.Memory h.fault_is refl refl
+    (one_text_fault certificate h.cause fault (other_cause fault_of_certificate cause h.cause spelled.Memory some h.fault_is refl) h.applies bad)
+text_of_check start trace certificate cause fault some (inr h) bad = inr (ap fault_of_certificate (text_memory certificate h.0 fault h.1 bad))
 
 -- a fault but for want of memory has its cause in the claim
 pub record NamesCause (start : Situation) (trace : List Change) (claim : Claim) (fault : Fault) : Type 0 where

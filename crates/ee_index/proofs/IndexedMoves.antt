@@ -328,11 +328,7 @@ module _ (before : List Word) (puts : List listed.Put) (forgets : Bool) (held : 
         let others = map_without (carried puts forgets) (meaning before) in
         let moved = moved_to puts forgets (meaning before) slots each there now proper_now in
         let counted : length put ≡ length put + length (elements_to others 0) = omega (arith, ap length (no_words (meaning before) (carried puts forgets))) in
-        let all = numbered_behind put others slots moved 0 (length put) left counted record {
-          sorted = sorted;
-          behind = λ address some. (proper_now address (sym (left_addresses address) ∙ some)).0;
-          same = λ address high. left_addresses address;
-        } in
+        let all = numbered_behind put others slots moved 0 (length put) left counted record { sorted = sorted; behind = λ address some. (proper_now address (sym (left_addresses address) ∙ some)).0; same = λ address high. left_addresses address } in
         elim (cases_lt 0 address) [
           | inl high ↦ all address high
           | inr low ↦

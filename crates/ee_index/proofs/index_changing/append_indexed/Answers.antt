@@ -6,8 +6,8 @@ use Rattle.ee_index.specs.Index.{IsIndex, slot_for}
 use Rattle.ee_index.proofs.IndexedAppends.{appended_index, follows_change, other_slots, says_spelled, slot_filled, slot_was_free}
 use Rattle.ee_index.proofs.index_changing.append_indexed.Goals as goal
 
-pub returns-clause-index : goal.returns-clause-index
-returns-clause-index g c =
+pub returns : goal.returns
+returns g c =
     let old = g.F.Flash.device c.args.flash.now in
     let new = g.F.Flash.device c.append_change.new.flash in
     let layout = c.args.layout.now in
@@ -21,4 +21,7 @@ returns-clause-index g c =
     (other_slots layout.side old new layout.generation layout.fill (number_written c.args.change) live done.takes.live.formed done.takes.same_size c.requires.layout.fill c.requires.free done.drawn)
     c.requires.ready.1 (meant c.args.change) (says_spelled c.args.change _ filled done.spells) done.takes.map_is in
     let left = follows_change _ (meant c.args.change) layout.fill before (slot_for c.args.index.now.entries) after c.requires.ready.2 c.leave_forgotten.ensures indexes in
-    λ on. subst (λ (side : Side). IsIndex (slots_of (set_of side new)) after) (sym done.same_set) left
+    record { appended = done.appended; cut = tt; store = c.append_change.ensures.store; layout = c.append_change.ensures.layout; index = λ on. subst (λ (side : Side). IsIndex (slots_of (set_of side new)) after) (sym done.same_set) left }
+
+pub append_change-requires : goal.append_change-requires
+append_change-requires g c = record { layout = c.requires.layout; marked = c.requires.marked; proceeds = c.requires.proceeds; forgets = c.requires.forgets; free = c.requires.free }

@@ -17,8 +17,8 @@ move_changes-requires-clause-over g c =
     rw (c.new-cursor.ensures.entries, c.new-cursor.ensures.first) (left_first slots (is_filled slots) c.args.index.now.entries c.new-cursor.ensures.ordered
     (held_proper slots c.args.puts.now c.args.forgets c.args.index.now.entries c.requires.apart c.requires.room) c.requires.room.indexes)
 
-pub returns-clause-index : goal.returns-clause-index
-returns-clause-index g c =
+pub returns : goal.returns
+returns g c =
     let old = g.F.Flash.device c.args.flash.now in
     let new = g.F.Flash.device c.move_changes.new.flash in
     let layout = c.args.layout.now in
@@ -33,5 +33,11 @@ returns-clause-index g c =
     (slot_within new c.move_changes.new.layout done.found place (omega (arith, h, done.as_many))) done.new_pages in
     let numbered = c.follow.ensures in
     let indexes = moved_index before puts forgets c.args.index.now.entries c.requires.apart c.requires.room after numbered.left numbered.left_is done.has_moved.map_is numbered.ordered there in
-    λ on. subst (λ (side : Side). IsIndex (slots_of (set_of side new)) (slot_for c.follow.new.index.entries)) (sym done.other_set)
-    (subst (λ (entries : List (ℕ × ℕ)). IsIndex after (slot_for entries)) (sym numbered.numbered) indexes)
+    record {
+      moved = done.moved;
+      cut = tt;
+      store = c.move_changes.ensures.store;
+      layout = c.move_changes.ensures.layout;
+      index = λ on. subst (λ (side : Side). IsIndex (slots_of (set_of side new)) (slot_for c.follow.new.index.entries)) (sym done.other_set)
+          (subst (λ (entries : List (ℕ × ℕ)). IsIndex after (slot_for entries)) (sym numbered.numbered) indexes);
+    }
