@@ -90,7 +90,7 @@ fn list_on<A: Allocator, B: Allocator + Copy, V: Variables>(
 }
 
 /// What two maps say, address by address.
-fn list_both<B: Allocator + Copy>(
+fn list_both<B: Allocator>(
     alloc: B,
     named: &BTreeMap<Address, (u64, Numbers), B>,
     stored: &BTreeMap<Address, u32, B>,
