@@ -8,10 +8,11 @@ use crate::fate::erase_words;
 use crate::{Fate, Left};
 use ee_flash::{Cut, Flash, Shape, Word};
 use std::alloc::{AllocError, Allocator, Global};
+use std::cell::Cell;
 
 /// A flash device in memory whose steps are done or cut as a list says, each word of a cut step by itself.
 ///
-/// Any number of cuts may come. Once the list has ended, every step is done.
+/// Any number of cuts may come. Once the list has ended, every step is done. It counts how many words of it are read.
 #[derive(Drop)]
 pub struct ListFlash<'a, A: Allocator = Global> {
     shape: Shape,
@@ -21,6 +22,7 @@ pub struct ListFlash<'a, A: Allocator = Global> {
     cuts: u64,
     on: bool,
     fates: &'a [Fate<'a>],
+    reads: Cell<u64>,
     ghost within_limits: { IsWithinLimits shape },
     ghost cells_length: { vec_len cells ≡ page_count shape * shape.words },
     ghost below_all_ones: { All IsBelowAllOnes cells.items },
@@ -51,6 +53,7 @@ impl<'a, A: Allocator + Copy> ListFlash<'a, A> {
             cuts: 0,
             on: true,
             fates,
+            reads: Cell::new(0),
         })
     }
 }
@@ -65,6 +68,15 @@ impl<'a, A: Allocator> ListFlash<'a, A> {
         ensures { state_of_list self.new ≡ record (state_of_list self.old) { fates = fates.now } }
     {
         self.fates = fates;
+    }
+
+    /// How many words were read so far.
+    pub fn reads(&self) -> u64 {
+        self.reads.get()
+    }
+
+    fn count_read(&self) {
+        self.reads.set(self.reads.get().saturating_add(1));
     }
 
     // The place of a page's first word among the cells.
@@ -187,6 +199,7 @@ impl<A: Allocator> Flash for ListFlash<'_, A> {
     }
 
     fn word(&self, page: usize, at: usize) -> Word {
+        self.count_read();
         self.cells[self.page_start(page) + at]
     }
 

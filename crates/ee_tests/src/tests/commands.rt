@@ -1,8 +1,9 @@
 //! The table of commands, built with `clap`: it takes the lines that `job` takes.
+use crate::tests::same;
 use clap::{Arg, ArgAction, Command, value_parser};
 use ee_command_line::job;
 use std::alloc::Global;
-use std::test::Fail;
+use std::process::Abort;
 
 /// The commands with words. Flags and those in brackets may be left out.
 const ROWS: &str = "\
@@ -71,50 +72,59 @@ fn range_of(id: &str) -> Option<(i64, i64)> {
     }
 }
 
-/// A word of a row.
-fn word<'a>(alloc: Global, id: &'a str) -> Arg<'a> {
-    let word = Arg::new(alloc, id);
-    if let Some(name) = id.strip_prefix("--") {
-        return word.long(name).action(ArgAction::SetTrue);
-    }
-    let word = word.action(ArgAction::Set).required(!id.starts_with("["));
+/// A word of a row that is an operand.
+fn operand<'a>(alloc: Global, id: &'a str) -> Arg<'a> {
+    let word = Arg::new(alloc, id)
+        .action(ArgAction::Set)
+        .required(!id.starts_with("["));
     match range_of(id) {
         Some((least, most)) => word.value_parser(value_parser!(u64).range(least..=most)),
         None => word,
     }
 }
 
-/// The command of a row.
-fn command<'a>(alloc: Global, row: &'a str) -> Result<Command<'a>, Fail> {
-    let (name, operands) = row.split_once(" ").ok_or("no words")?;
-    let mut words = Vec::new(alloc);
-    for operand in operands.split(' ') {
-        words.push(word(alloc, operand))?;
+/// A word of a row.
+fn word<'a>(alloc: Global, id: &'a str) -> Arg<'a> {
+    match id.strip_prefix("--") {
+        Some(name) => Arg::new(alloc, id).long(name).action(ArgAction::SetTrue),
+        None => operand(alloc, id),
     }
-    Ok(Command::new(alloc, name).args(words)?)
+}
+
+/// The command of a row.
+fn command<'a>(rt: &impl Abort, memory: Global, row: &'a str) -> Command<'a> {
+    let (name, operands) = row.split_once(" ").expect(rt, "no words");
+    let mut command = Command::new(memory, name);
+    for id in operands.split_whitespace() {
+        command = command.arg(word(memory, id)).expect(rt, "no room");
+    }
+    command
 }
 
 /// The table of commands.
-fn table<'a>(alloc: Global) -> Result<Command<'a>, Fail> {
-    let mut commands = Vec::new(alloc);
-    for row in ROWS.split('\n') {
-        commands.push(command(alloc, row)?)?;
+fn table<'a>(rt: &impl Abort, memory: Global) -> Command<'a> {
+    let mut table = Command::new(memory, "ee");
+    for row in ROWS.lines() {
+        table = table
+            .subcommand(command(rt, memory, row))
+            .expect(rt, "no room");
     }
-    Ok(Command::new(alloc, "ee").subcommands(commands)?)
+    table
 }
 
 /// Whether `job` and `clap` both take these words of a line.
-fn is_taken(alloc: Global, words: &[&'static str]) -> Result<bool, Fail> {
-    let (_, operands) = words.split_first().ok_or("no words")?;
-    let found = table(alloc)?.try_get_matches_from(words)?;
-    Ok(job(operands).is_some() && found.subcommand().is_some())
+fn is_taken(rt: &impl Abort, memory: Global, words: &[&'static str]) -> bool {
+    let operands = words.get(1..).unwrap_or(&[]);
+    job(operands).is_some() && table(rt, memory).try_get_matches_from(words).is_ok()
 }
 
 #[test]
-fn clap_takes_the_same_lines(rt: HostRuntime) -> Result<(), Fail> {
-    for line in LINES.split('\n') {
-        let words: Vec<&'static str> = line.split(' ').collect(rt.alloc())?;
-        assert!(rt; is_taken(rt.alloc(), words.as_slice())?, "{line}");
+fn clap_takes_the_same_lines(rt: HostRuntime) {
+    for line in LINES.lines() {
+        let words: Vec<&'static str> = line
+            .split_whitespace()
+            .collect(rt.alloc())
+            .expect(&rt, "no room");
+        same(&rt, line, is_taken(&rt, rt.alloc(), words.as_slice()), true);
     }
-    Ok(())
 }

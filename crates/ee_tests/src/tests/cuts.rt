@@ -1,12 +1,11 @@
 //! Stores whose erases are cut in every mix of words, one cut after another: what no fuse makes.
-use crate::tests::{address, given, opened, same, same_at, shape};
+use crate::tests::{address, opened, same, shape};
 use ee_codec::Address;
 use ee_fakes::{Fate, Left, ListFlash};
 use ee_flash::Flash;
 use ee_store::{OpenFault, Variables, WriteFault, Written, format, open};
 use std::alloc::Global;
 use std::process::Abort;
-use std::test::Fail;
 
 const LEFTS: [Left; 3] = [Left::Before, Left::After, Left::Torn];
 
@@ -21,128 +20,129 @@ fn mix_of(number: usize) -> [Left; 5] {
     ]
 }
 
-// A device with so many pages a set and one slot a page. Address 1 was written with 1 in each slot and then with 2 in
-// each: the second set is live and full, and the pages of the first wait to be erased.
-fn moved_once<'a>(
+/// A device with so many pages a set and one slot a page. Address 1 was written with 1 in each slot and then with 2 in
+/// each: the second set is live and full, and the pages of the first wait to be erased.
+pub fn moved_once<'a>(
     rt: &impl Abort,
-    alloc: Global,
+    memory: Global,
     pages: usize,
     one: Address,
-) -> Result<ListFlash<'a>, Fail> {
-    let mut flash = ListFlash::blank(alloc, shape(pages, 5)?, &[])?;
+) -> ListFlash<'a> {
+    let mut flash = ListFlash::blank(memory, shape(rt, pages, 5), &[]).expect(rt, "no device");
     flash.power_on();
-    let mut store = given(format(flash))?;
-    fill(&mut store, pages, one, 1)?;
-    fill(&mut store, pages, one, 2)?;
-    same(rt, numbers_of(&store), Some((2, pages, pages)));
-    Ok(store.into_flash())
+    let mut store = format(flash).ok().expect(rt, "no store");
+    for slot in 0..pages.saturating_mul(2) {
+        let value = if slot < pages { 1 } else { 2 };
+        store.write(one, value).expect(rt, "no write");
+    }
+    store.into_flash()
 }
 
-// Writes a value so often.
-fn fill<V: Variables>(
-    store: &mut V,
-    slots: usize,
-    address: Address,
+// Whether a store has this value, and these numbers: its generation, its fill, and how many pages wait.
+fn has<V: Variables>(
+    store: &V,
+    one: Address,
     value: u32,
-) -> Result<(), Fail> {
-    for _ in 0..slots {
-        given(store.write(address, value))?;
-    }
-    Ok(())
-}
-
-// Generation, fill and the pages that wait, of a store whose device is on.
-fn numbers_of<V: Variables>(store: &V) -> Option<(u32, usize, usize)> {
-    if !store.is_on() {
-        return None;
-    }
-    Some((store.generation(), store.fill(), store.pending()))
+    (generation, fill, pending): (u32, usize, usize),
+) -> bool {
+    store.is_on()
+        && store.read(one) == Ok(Some(value))
+        && store.generation() == generation
+        && store.fill() == fill
+        && store.pending() == pending
 }
 
 // Whether a clean step is cut, or a write that transfers.
 fn is_cut<V: Variables>(store: &mut V, cleans: bool, one: Address) -> bool {
-    if cleans {
-        store.clean_step() == Err(WriteFault::Cut)
+    let fault = if cleans {
+        store.clean_step().err()
     } else {
-        store.write(one, 3) == Err(WriteFault::Cut)
-    }
+        store.write(one, 3).err()
+    };
+    fault == Some(WriteFault::Cut) && !store.is_on()
 }
 
-// Behind a cut of the erase of the first set's page, as the list says, the old value stands, and the page waits if it
-// isn't blank.
-fn stands<V: Variables>(rt: &impl Abort, store: &mut V, one: Address, list: &[Left; 5]) {
-    // The third word was erased before.
+// How many pages wait behind a cut of the erase of the first set's page, as the list says: the page, if it isn't blank. Its
+// third word was erased before.
+fn pending_behind(list: &[Left; 5]) -> usize {
     let [first, second, third, fourth, fifth] = *list;
     let is_blank = [first, second, fourth, fifth] == [Left::After; 4] && third != Left::Torn;
-    let pending = if is_blank { 0 } else { 1 };
-    let before = (store.read(one), numbers_of(store));
-    same_at(rt, *list, before, (Ok(Some(2)), Some((2, 1, pending))));
-    same_at(rt, *list, store.write(one, 3), Ok(Written::Moved));
-    let after = (store.read(one), numbers_of(store));
-    same_at(rt, *list, after, (Ok(Some(3)), Some((3, 1, 1))));
+    if is_blank { 0 } else { 1 }
+}
+
+// Whether the old value stands, and a write moves it.
+fn stands<V: Variables>(store: &mut V, one: Address, pending: usize) -> bool {
+    has(store, one, 2, (2, 1, pending))
+        && store.write(one, 3) == Ok(Written::Moved)
+        && has(store, one, 3, (3, 1, 1))
 }
 
 // Cuts the erase of the first set's page as the list says, in a clean step or in a write that transfers.
-fn cut_the_erase(
-    rt: &impl Abort,
-    alloc: Global,
-    cleans: bool,
-    list: &[Left; 5],
-) -> Result<(), Fail> {
-    let one = address(1)?;
+fn cut_the_erase(rt: &impl Abort, memory: Global, cleans: bool, one: Address, list: &[Left; 5]) {
     let fates = [Fate::Cut(list)];
-    let mut flash = moved_once(rt, alloc, 1, one)?;
+    let mut flash = moved_once(rt, memory, 1, one);
     flash.set_fates(&fates);
-    let mut store = opened(flash)?;
-    let is_cut = is_cut(&mut store, cleans, one);
-    same(rt, (is_cut, store.is_on()), (true, false));
-    let mut store = opened(store.into_flash())?;
-    stands(rt, &mut store, one, list);
-    Ok(())
+    let mut store = opened(rt, flash);
+    same(rt, cleans, is_cut(&mut store, cleans, one), true);
+    let mut store = opened(rt, store.into_flash());
+    same(
+        rt,
+        *list,
+        stands(&mut store, one, pending_behind(list)),
+        true,
+    );
 }
 
 #[test]
-fn each_mix_of_a_cut_erase(rt: HostRuntime) -> Result<(), Fail> {
+fn each_mix_of_a_cut_erase(rt: HostRuntime) {
+    let one = address(&rt, 1);
     for mix in 0..243usize {
-        cut_the_erase(&rt, rt.alloc(), true, &mix_of(mix))?;
-        cut_the_erase(&rt, rt.alloc(), false, &mix_of(mix))?;
+        for cleans in [true, false] {
+            cut_the_erase(&rt, rt.alloc(), cleans, one, &mix_of(mix));
+        }
     }
-    Ok(())
+}
+
+// Whether a write of 3 is done. Before it the store reads a value that is no less than `least`, which it becomes.
+fn is_written<V: Variables>(rt: &impl Abort, store: &mut V, one: Address, least: &mut u32) -> bool {
+    let value = store.read(one).ok().flatten().unwrap_or(0);
+    same(rt, value, *least <= value && value <= 3, true);
+    *least = value;
+    match store.write(one, 3) {
+        Ok(_) => {
+            same(rt, value, store.read(one) == Ok(Some(3)), true);
+            true
+        }
+        Err(fault) => {
+            same(rt, value, fault == WriteFault::Cut, true);
+            false
+        }
+    }
 }
 
 // Opens the store and writes 3 at the address, until a write is done or the tries are used up. Between two cuts the store
 // reads the old value, or the new one, and then no more the old one. Gives how many cuts there were.
-fn write_through<F: Flash + Drop>(
-    rt: &impl Abort,
-    flash: F,
-    one: Address,
-    tries: usize,
-) -> Result<u64, Fail> {
+fn write_through<F: Flash + Drop>(rt: &impl Abort, flash: F, one: Address, tries: usize) -> u64 {
     let mut flash = flash;
     let mut least = 2;
     for _ in 0..tries {
         flash.power_on();
-        let mut store = match open(flash) {
-            Ok(store) => store,
+        flash = match open(flash) {
+            Ok(mut store) => {
+                let is_done = is_written(rt, &mut store, one, &mut least);
+                let flash = store.into_flash();
+                if is_done {
+                    return flash.cuts();
+                }
+                flash
+            }
             Err((off, fault)) => {
-                same(rt, fault, OpenFault::Cut);
-                flash = off;
-                continue;
+                same(rt, least, fault == OpenFault::Cut, true);
+                off
             }
         };
-        let value = store.read(one).ok().flatten().unwrap_or(0);
-        same(rt, (least <= value, value <= 3), (true, true));
-        least = value;
-        match store.write(one, 3) {
-            Ok(_) => {
-                same(rt, store.read(one), Ok(Some(3)));
-                return Ok(store.into_flash().cuts());
-            }
-            Err(fault) => same(rt, fault, WriteFault::Cut),
-        }
-        flash = store.into_flash();
     }
-    Err(Fail::from("too many cuts"))
+    panic!(rt; "too many cuts")
 }
 
 // A transfer is cut in its erase, and what follows in one later step after another, each as one of three mixes says.
@@ -171,25 +171,25 @@ fn fates_of<'a>(mixes: &'a [[Left; 5]; 3]) -> [Fate<'a>; 17] {
 // Gives how many cuts there were until a write was done.
 fn cut_often(
     rt: &impl Abort,
-    alloc: Global,
+    memory: Global,
     pages: usize,
+    one: Address,
     mixes: &[[Left; 5]; 3],
-) -> Result<u64, Fail> {
-    let one = address(1)?;
+) -> u64 {
     let fates = fates_of(mixes);
-    let mut flash = moved_once(rt, alloc, pages, one)?;
+    let mut flash = moved_once(rt, memory, pages, one);
     flash.set_fates(&fates);
     write_through(rt, flash, one, 12)
 }
 
 #[test]
-fn cuts_one_after_another(rt: HostRuntime) -> Result<(), Fail> {
+fn cuts_one_after_another(rt: HostRuntime) {
+    let one = address(&rt, 1);
     for number in 0..81usize {
         let mixes = [mix_of(number), mix_of(number * 3), mix_of(242 - number)];
         for pages in [1, 2] {
-            let cuts = cut_often(&rt, rt.alloc(), pages, &mixes)?;
-            same_at(&rt, (number, pages), cuts >= 3, true);
+            let cuts = cut_often(&rt, rt.alloc(), pages, one, &mixes);
+            same(&rt, (number, pages), cuts >= 3, true);
         }
     }
-    Ok(())
 }

@@ -1,89 +1,64 @@
 //! Each call that allocates: its answer with ample memory, and want of memory wherever one of its requests is refused.
+//!
+//! A command passes its allocator on to each call of the libraries that it makes, and tells their want of memory. So of
+//! those here are the ones alone that no command makes.
+mod certificates;
 mod commands;
-mod plans;
+mod indexes;
 mod settings;
 mod stores;
-mod texts;
 
-use crate::tests::streams;
-use crate::tests::trial::with_each_refusal;
-use commands::{Change, Text};
-use ee_fakes::Refusing;
-use std::alloc::{Allocator, Global};
-pub use texts::LastValue;
+use crate::tests::same;
+use commands::{Change, Replay, Text};
+use ee_command_line::{ReadFault, read_whole};
+use ee_fakes::images::SCRIPT;
+use ee_fakes::{FailingReader, Refusing};
+use ee_faults::{Fault, File};
+use std::alloc::Global;
+use std::io::ErrorKind;
+use std::process::Abort;
 
 /// A call, on arguments of its own.
 #[derive(Clone, Copy)]
 enum Call {
-    BlankDevice,
     BlankList,
     Drive,
     OpenIndex,
     WriteIndexed,
     WriteAllIndexed,
-    AnswerScript,
-    FeedSession,
-    AnswerReader,
-    PushNumber,
-    PushNumberBehind,
-    PushAnswers,
-    ReadImage,
-    WriteImage,
-    ReadCertificate,
-    WriteCertificate,
-    Check,
     CheckThousand,
-    Plan,
-    Rounds,
-    StartOf,
-    MakeChange,
-    Ledger,
-    LedgerSince,
-    ReadSchema,
-    Stale,
-    StaleValues,
-    List,
+    Settings,
     ReadWhole,
     SizeParts,
-    FaultLines,
+    FaultLine(Fault, &'static [u8]),
     Text(Text),
     Change(Change),
+    Try,
+    Replay(Replay),
+    ReplayBlank(Replay),
 }
+
+const UNREAD: Fault = Fault::CannotRead(File::Script);
+
+const BAD_LINE: Fault = Fault::BadLine {
+    file: File::Certificate,
+    line: 12,
+};
 
 /// The calls, each with the least number of its requests.
 const CALLS: &[(Call, u64)] = &[
-    (Call::BlankDevice, 2),
     (Call::BlankList, 2),
     (Call::Drive, 2),
     (Call::OpenIndex, 2),
     (Call::WriteIndexed, 2),
     (Call::WriteAllIndexed, 2),
-    (Call::AnswerScript, 1),
-    (Call::FeedSession, 1),
-    (Call::AnswerReader, 1),
-    (Call::PushNumber, 2),
-    (Call::PushNumberBehind, 3),
-    (Call::PushAnswers, 4),
-    (Call::ReadImage, 2),
-    (Call::WriteImage, 3),
-    (Call::ReadCertificate, 1),
-    (Call::WriteCertificate, 2),
-    (Call::Check, 1),
     (Call::CheckThousand, 2),
-    (Call::Plan, 1),
-    (Call::Rounds, 3),
-    (Call::StartOf, 1),
-    (Call::MakeChange, 1),
-    (Call::Ledger, 1),
-    (Call::LedgerSince, 1),
-    (Call::ReadSchema, 3),
-    // The stored values, the entries with theirs, the entries.
-    (Call::Stale, 3),
-    (Call::StaleValues, 2),
-    (Call::List, 2),
+    (Call::Settings, 3),
     (Call::ReadWhole, 2),
     (Call::SizeParts, 6),
-    (Call::FaultLines, 3),
+    (Call::FaultLine(UNREAD, b"ee: cannot read script\n"), 1),
+    (Call::FaultLine(BAD_LINE, b"ee: certificate line 12\n"), 1),
+    (Call::FaultLine(Fault::Memory, b"ee: out of memory\n"), 1),
     (Call::Text(Text::Format), 3),
     (Call::Text(Text::States), 3),
     (Call::Text(Text::Wear), 4),
@@ -106,75 +81,108 @@ const CALLS: &[(Call, u64)] = &[
     (Call::Change(Change::Set), 5),
     (Call::Change(Change::Tidy), 6),
     (Call::Change(Change::Apply), 5),
-    (Call::Change(Change::Replay), 5),
-    (Call::Change(Change::ReplayIndexed), 5),
-    (Call::Change(Change::ReplayReader), 5),
-    (Call::Change(Change::Try), 5),
-    (Call::Change(Change::ReplayBlank), 1),
-    (Call::Change(Change::ReplayBlankIndexed), 1),
-    (Call::Change(Change::ReplayBlankReader), 1),
+    (Call::Try, 5),
+    (Call::Replay(Replay::Plain), 5),
+    (Call::Replay(Replay::Indexed), 5),
+    (Call::Replay(Replay::Reader), 5),
+    (Call::ReplayBlank(Replay::Plain), 1),
+    (Call::ReplayBlank(Replay::Indexed), 1),
+    (Call::ReplayBlank(Replay::Reader), 1),
 ];
 
-/// Whether a call gives its usual answer, or `None` for want of memory. What it works on is made in `memory`, which is
-/// ample.
-fn answer(call: Call, alloc: &Refusing<Global>, memory: Global) -> Option<bool> {
+/// Whether a call gives its usual answer, or `None` for want of memory.
+fn answer(rt: &impl Abort, memory: Global, call: Call, alloc: &Refusing<Global>) -> Option<bool> {
     match call {
-        Call::BlankDevice => stores::blank_device(alloc),
-        Call::BlankList => stores::blank_list(alloc),
-        Call::Drive => stores::events_driven(alloc, memory),
-        Call::OpenIndex => stores::index_opened(alloc, memory),
-        Call::WriteIndexed => stores::index_written(alloc, memory),
-        Call::WriteAllIndexed => stores::index_written_at_once(alloc, memory),
-        Call::AnswerScript => texts::script_answered(alloc),
-        Call::FeedSession => texts::session_fed(alloc),
-        Call::AnswerReader => texts::reader_answered(alloc),
-        Call::PushNumber => texts::number_pushed(alloc),
-        Call::PushNumberBehind => texts::number_pushed_behind(alloc),
-        Call::PushAnswers => texts::answers_pushed(alloc),
-        Call::ReadImage => texts::image_read(alloc),
-        Call::WriteImage => texts::image_written(alloc, memory),
-        Call::ReadCertificate => texts::certificate_read(alloc),
-        Call::WriteCertificate => texts::certificate_written(alloc, memory),
-        Call::Check => plans::trace_checked(alloc, memory),
-        Call::CheckThousand => plans::thousand_checked(alloc, memory),
-        Call::Plan => plans::trace_planned(alloc, memory),
-        Call::Rounds => plans::rounds_made(alloc),
-        Call::StartOf => plans::start_found(alloc, memory),
-        Call::MakeChange => plans::change_made(alloc, memory),
-        Call::Ledger => plans::ledger_made(alloc, memory),
-        Call::LedgerSince => plans::ledger_since(alloc, memory),
-        Call::ReadSchema => settings::schema_read(alloc, memory),
-        Call::Stale => settings::stale_found(alloc, memory),
-        Call::StaleValues => settings::stale_values_found(alloc, memory),
-        Call::List => settings::values_listed(alloc, memory),
-        Call::ReadWhole => streams::script_read(alloc),
+        Call::BlankList => stores::blank_list(alloc, rt),
+        Call::Drive => stores::events_driven(alloc, rt, memory),
+        Call::OpenIndex => stores::index_opened(alloc, rt, memory),
+        Call::WriteIndexed => stores::index_written(alloc, rt, memory),
+        Call::WriteAllIndexed => stores::index_written_at_once(alloc, rt, memory),
+        Call::CheckThousand => certificates::thousand_checked(alloc, rt, memory),
+        Call::Settings => settings::settings_kept(alloc, rt, memory),
+        Call::ReadWhole => script_read(alloc),
         Call::SizeParts => commands::sizes_given(alloc),
-        Call::FaultLines => commands::faults_told(alloc),
+        Call::FaultLine(fault, line) => commands::fault_told(alloc, fault, line),
         Call::Text(text) => commands::text_given(text, alloc, memory),
         Call::Change(change) => commands::change_given(change, alloc, memory),
+        Call::Try => commands::moves_tried(alloc),
+        Call::Replay(how) => commands::moves_made(how, alloc),
+        Call::ReplayBlank(how) => commands::unformatted(how, alloc),
     }
 }
 
-/// Whether these were given, or none for want of memory, which is told by this fault.
-fn gives<T: PartialEq + Drop, A: Allocator, E: PartialEq + Drop>(
-    given: Result<Vec<T, A>, E>,
-    wanted: &[T],
-    memory: E,
-) -> Option<bool> {
-    match given {
-        Ok(found) => Some(found.as_slice() == wanted),
-        Err(fault) if fault == memory => None,
+fn script_read(alloc: &Refusing<Global>) -> Option<bool> {
+    let mut reader = FailingReader {
+        rest: SCRIPT,
+        most: 7,
+        fails_at: 0,
+        failure: ErrorKind::Other,
+    };
+    match read_whole(alloc, &mut reader) {
+        Ok(bytes) => Some(bytes.as_slice() == SCRIPT),
+        Err(ReadFault::Memory) => None,
         Err(_) => Some(false),
     }
 }
 
+// What is wrong with a run, if something is: with its answer, with a request refused or none, and with enough of them made
+// or too few.
+fn complaint(answer: Option<bool>, is_refused: bool, are_enough: bool) -> Option<&'static str> {
+    match answer {
+        Some(false) => Some("another answer"),
+        None if !is_refused => Some("want of memory with nothing refused"),
+        _ if !is_refused && !are_enough => Some("an end too soon"),
+        _ => None,
+    }
+}
+
+#[test]
+fn each_complaint(rt: HostRuntime) {
+    for (answer, is_refused, are_enough, wanted) in [
+        (Some(false), true, true, Some("another answer")),
+        (
+            None,
+            false,
+            true,
+            Some("want of memory with nothing refused"),
+        ),
+        (Some(true), false, false, Some("an end too soon")),
+        (Some(true), true, false, None),
+        (None, true, false, None),
+        (Some(true), false, true, None),
+    ] {
+        same(
+            &rt,
+            answer,
+            complaint(answer, is_refused, are_enough),
+            wanted,
+        );
+    }
+}
+
+// Makes a call with its first request for memory refused, then with its second, and so on to a run in which none is, which
+// is to make `least` requests or more. A failure names the call by its place in the table, from 0, and the request.
+fn refuse_each(rt: &impl Abort, memory: Global, place: usize, call: Call, least: u64) {
+    for nth in 1..u64::MAX {
+        let alloc = Refusing::new(memory, nth);
+        let answer = answer(rt, memory, call, &alloc);
+        let is_refused = alloc.has_refused();
+        same(
+            rt,
+            (place, nth),
+            complaint(answer, is_refused, nth > least),
+            None,
+        );
+        if !is_refused {
+            return;
+        }
+    }
+    panic!(rt; "requests without end")
+}
+
 #[test]
 fn each_request_is_refused_in_turn(rt: HostRuntime) {
-    let memory = rt.alloc();
-    // A failure names the call by its place in the table, from 0.
     for (place, (call, least)) in CALLS.iter().copied().enumerate() {
-        with_each_refusal(&rt, memory, place, least, |alloc| {
-            answer(call, alloc, memory)
-        });
+        refuse_each(&rt, rt.alloc(), place, call, least);
     }
 }

@@ -1,171 +1,139 @@
 //! How an image's file is replaced: in which order, with each call failing, with another run at each call, and on a disk
 //! that is full. What a user sees of it `bench/files.py` tries: links, modes, locks, what broken runs left.
 use super::trail::Trail;
-use crate::tests::same_at;
+use crate::tests::same;
 use ee_fakes::images::{CLEANED, FORMATTED, ONE_MOVE, TWO_MOVES};
-use ee_files::{FileLocks, SaveFault};
-use std::fs;
-use std::process::Abort;
-use std::rt::Files;
-use std::test::Fail;
+use ee_files::SaveFault;
+use std::{fs, io};
 
 /// The calls by which a plain file is replaced.
 const REPLACING: &str =
-    "find resolve open lock examine find read read create examine mode write sync rename ";
+    "find resolve open lock examine find read read create examine mode write sync rename";
 
 /// The calls by which it is written in place, where none can be made beside it.
-const IN_PLACE: &str = "find resolve open lock examine find read read seek write length ";
+const IN_PLACE: &str = "find resolve open lock examine find read read seek write length";
+
+/// How many calls these are.
+const WAYS: [(bool, &'static str, u64); 2] = [(false, REPLACING, 14), (true, IN_PLACE, 11)];
 
 /// What saving answers.
 type Answer = Result<(), SaveFault>;
 
-// Compares the bytes of a file.
-fn holds<R: Files + AllocGlobal + Abort>(
-    rt: &R,
-    place: u64,
-    path: &str,
-    bytes: &[u8],
-) -> Result<(), Fail> {
-    same_at(rt, place, fs::read(rt, path)?.as_slice(), bytes);
-    Ok(())
-}
-
-#[test]
-fn the_calls_in_their_order(rt: HostRuntime) -> Result<(), Fail> {
-    for (is_bare, calls) in [(false, REPLACING), (true, IN_PLACE)] {
-        fs::write(&rt, "ordered", ONE_MOVE)?;
-        let mut trail = Trail::new(&rt, "ordered");
-        trail.is_bare = is_bare;
-        let answer = trail.save(Some(ONE_MOVE), CLEANED);
-        same_at(&rt, is_bare, answer, Ok(()));
-        holds(&rt, 0, "ordered", CLEANED)?;
-        same_at(&rt, is_bare, trail.asked().as_str(), calls);
+// Whether the image's file has these bytes.
+fn holds(rt: &HostRuntime, bytes: &[u8]) -> bool {
+    match fs::read(rt, "image") {
+        Ok(found) => found.as_slice() == bytes,
+        Err(_) => false,
     }
-    Ok(())
 }
 
-// Saves with one call failing.
-fn fails_at<R: FileLocks + AllocGlobal + Abort>(
-    rt: &R,
-    is_bare: bool,
-    call: u64,
-    wanted: Answer,
-) -> Result<(), Fail> {
-    fs::write(rt, "failing", ONE_MOVE)?;
-    let mut trail = Trail::new(rt, "failing");
+// Writes the old image, and gives the trail of a run that is to replace it.
+fn trail<'a>(rt: &'a HostRuntime, is_bare: bool, awaited: &'static str) -> io::Result<Trail<'a>> {
+    fs::write(rt, "image", ONE_MOVE)?;
+    let mut trail = Trail::new(rt, "image", awaited);
     trail.is_bare = is_bare;
-    trail.fails_at = call;
-    saves(rt, call, &trail, wanted)
+    Ok(trail)
 }
 
-// Saves over the old image: the new one stands or the old one, as is answered, and nothing beside it.
-fn saves<R: FileLocks + AllocGlobal + Abort>(
-    rt: &R,
-    place: u64,
-    trail: &Trail<'_, R>,
-    wanted: Answer,
-) -> Result<(), Fail> {
-    let answer = trail.save(Some(ONE_MOVE), CLEANED);
-    same_at(rt, place, answer, wanted);
-    let stands = if wanted.is_ok() { CLEANED } else { ONE_MOVE };
-    holds(rt, place, "failing", stands)?;
-    same_at(rt, place, fs::exists(rt, "failing.ee-saving-0")?, false);
-    Ok(())
-}
-
-/// Where the path isn't resolved, and no file is made beside it or given a mode, the image is written in place; where
-/// there are no locks it is replaced all the same. Each other call that fails keeps the old one.
 #[test]
-fn each_call_that_fails(rt: HostRuntime) -> Result<(), Fail> {
-    for (is_bare, calls, goes_on) in [
-        (false, REPLACING, [2, 4, 9, 10, 11].as_slice()),
-        (true, IN_PLACE, [2, 4].as_slice()),
-    ] {
-        for (at, _) in calls.split_whitespace().enumerate() {
-            let call = (at as u64).saturating_add(1);
-            let wanted = if goes_on.contains(&call) {
+fn the_calls_in_their_order(rt: HostRuntime) {
+    for (is_bare, awaited, calls) in WAYS {
+        let trail = trail(&rt, is_bare, awaited).expect(&rt, "no file");
+        same(&rt, calls, trail.save(Some(ONE_MOVE), CLEANED), Ok(()));
+        same(&rt, calls, trail.awaited.get(), "");
+        same(&rt, calls, trail.calls.get(), calls);
+        same(&rt, calls, holds(&rt, CLEANED), true);
+    }
+}
+
+// Whether a run over the old image is answered so, and the new one stands or the old one, as is answered, and nothing
+// beside it.
+fn saves(rt: &HostRuntime, trail: &Trail<'_>, wanted: Answer) -> bool {
+    let stands = if wanted.is_ok() { CLEANED } else { ONE_MOVE };
+    trail.save(Some(ONE_MOVE), CLEANED) == wanted
+        && holds(rt, stands)
+        && fs::metadata(rt, "image.ee-saving-0").is_err()
+}
+
+// Whether a call goes on that fails: where the path isn't resolved, and no file is made beside it or given a mode, the image
+// is written in place; where there are no locks it is replaced all the same.
+fn goes_on(is_bare: bool, call: u64) -> bool {
+    match call {
+        2 | 4 => true,
+        9..=11 => !is_bare,
+        _ => false,
+    }
+}
+
+/// Each call that fails and doesn't go on keeps the old image.
+#[test]
+fn each_call_that_fails(rt: HostRuntime) {
+    for (is_bare, awaited, calls) in WAYS {
+        for call in 1..calls + 1 {
+            let mut trail = trail(&rt, is_bare, awaited).expect(&rt, "no file");
+            trail.fails_at = call;
+            let wanted = if goes_on(is_bare, call) {
                 Ok(())
             } else {
                 Err(SaveFault::Failed)
             };
-            fails_at(&rt, is_bare, call, wanted)?;
+            same(&rt, call, saves(&rt, &trail, wanted), true);
         }
     }
-    Ok(())
 }
 
-// Saves on a disk that is full after so many bytes: the old image stands.
-fn fills_at<R: FileLocks + AllocGlobal + Abort>(
-    rt: &R,
-    is_bare: bool,
-    bytes: usize,
-) -> Result<(), Fail> {
-    let mut trail = Trail::new(rt, "failing");
-    trail.is_bare = is_bare;
-    trail.room.set(bytes);
-    saves(rt, bytes as u64, &trail, Err(SaveFault::Failed))
-}
-
+/// After so many bytes the disk is full: the old image stands.
 #[test]
-fn a_full_disk_leaves_the_old_image(rt: HostRuntime) -> Result<(), Fail> {
-    fs::write(&rt, "failing", ONE_MOVE)?;
-    for bytes in 0..CLEANED.len() {
-        fills_at(&rt, false, bytes)?;
-        fills_at(&rt, true, bytes)?;
+fn a_full_disk_leaves_the_old_image(rt: HostRuntime) {
+    for (is_bare, awaited, _) in WAYS {
+        for bytes in 0..CLEANED.len() {
+            let trail = trail(&rt, is_bare, awaited).expect(&rt, "no file");
+            trail.room.set(bytes);
+            let stands = saves(&rt, &trail, Err(SaveFault::Failed));
+            same(&rt, bytes, stands, true);
+        }
     }
-    Ok(())
 }
 
-// Saves while another run does, from the same text, before a call: one of the two images stands, and the run that has
-// the lock first is the one that is done.
-fn crosses_at<R: FileLocks + AllocGlobal + Abort>(
-    rt: &R,
-    is_bare: bool,
-    call: u64,
-) -> Result<(), Fail> {
-    fs::write(rt, "crossed", ONE_MOVE)?;
-    let mut trail = Trail::new(rt, "crossed");
-    trail.is_bare = is_bare;
-    trail.other_at = call;
-    let answer = trail.save(Some(ONE_MOVE), CLEANED);
+// Whether one of the two images stands behind two runs, and the run that has the lock first is the one that is done.
+fn is_crossed(rt: &HostRuntime, trail: &Trail<'_>, is_other_first: bool) -> bool {
     let changed = Err(SaveFault::Changed);
-    let (wanted, others, stands) = if call <= 4 {
+    let (wanted, others, stands) = if is_other_first {
         (changed, Ok(()), TWO_MOVES)
     } else {
         (Ok(()), changed, CLEANED)
     };
-    same_at(rt, call, answer, wanted);
-    same_at(rt, call, trail.other(), Some(others));
-    holds(rt, call, "crossed", stands)
+    trail.save(Some(ONE_MOVE), CLEANED) == wanted
+        && trail.other.get() == Some(others)
+        && holds(rt, stands)
 }
 
+/// Another run saves from the same text before a call; the fourth locks the file.
 #[test]
-fn another_run_before_each_call(rt: HostRuntime) -> Result<(), Fail> {
-    for (is_bare, calls) in [(false, REPLACING), (true, IN_PLACE)] {
-        for (at, _) in calls.split_whitespace().enumerate() {
-            crosses_at(&rt, is_bare, (at as u64).saturating_add(1))?;
+fn another_run_before_each_call(rt: HostRuntime) {
+    for (is_bare, awaited, calls) in WAYS {
+        for call in 1..calls + 1 {
+            let mut trail = trail(&rt, is_bare, awaited).expect(&rt, "no file");
+            trail.other_at = call;
+            same(&rt, call, is_crossed(&rt, &trail, call <= 4), true);
         }
     }
-    Ok(())
 }
 
 /// A file that wasn't there isn't there after a failure.
 #[test]
-fn a_first_image_that_fails(rt: HostRuntime) -> Result<(), Fail> {
-    for call in 1..4 {
-        let mut trail = Trail::new(&rt, "none");
+fn a_first_image_that_fails(rt: HostRuntime) {
+    let failed = Err(SaveFault::Failed);
+    for (call, wanted) in [(1, Ok(())), (2, failed), (3, failed)] {
+        let mut trail = Trail::new(&rt, "none", "");
         trail.fails_at = call;
-        let answer = trail.save(None, FORMATTED);
-        let wanted = if call == 1 {
-            Ok(())
-        } else {
-            Err(SaveFault::Failed)
-        };
-        same_at(&rt, call, answer, wanted);
-        same_at(&rt, call, fs::exists(&rt, "none")?, wanted.is_ok());
-        if wanted.is_ok() {
-            fs::remove_file(&rt, "none")?;
-        }
+        same(&rt, call, trail.save(None, FORMATTED), wanted);
+        // It is there to be removed.
+        same(
+            &rt,
+            call,
+            fs::remove_file(&rt, "none").is_ok(),
+            wanted.is_ok(),
+        );
     }
-    Ok(())
 }

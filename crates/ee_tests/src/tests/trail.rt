@@ -3,16 +3,16 @@
 use ee_fakes::images::{ONE_MOVE, TWO_MOVES};
 use ee_files::{FileLocks, SaveFault, save};
 use std::alloc::{Allocator, Global};
-use std::cell::{Cell, RefCell};
-use std::fs::{Metadata, OpenFile, OpenOptions, Permissions, TryLockError};
+use std::cell::Cell;
+use std::fs::{File, Metadata, OpenFile, OpenOptions, Permissions, TryLockError};
 use std::io::{self, ErrorKind, PipeReader, PipeWriter, Read, Seek, SeekFrom, Write};
 use std::path::PathBuf;
 use std::rt::Files;
 
 /// What is asked of the files, and what comes of it.
 #[derive(Drop)]
-pub struct Trail<'a, R> {
-    rt: &'a R,
+pub struct Trail<'a> {
+    rt: &'a HostRuntime,
     /// The image that both runs save.
     image: &'a str,
     /// Whether no path is resolved, as where no file can be made beside another.
@@ -23,14 +23,17 @@ pub struct Trail<'a, R> {
     pub other_at: u64,
     /// How many bytes the disk takes before it is full, once; behind that it takes all.
     pub room: Cell<usize>,
-    calls: Cell<u64>,
-    other: Cell<Option<Result<(), SaveFault>>>,
-    asked: RefCell<String>,
+    /// How many calls there were.
+    pub calls: Cell<u64>,
+    /// What the other run was answered, if it saved.
+    pub other: Cell<Option<Result<(), SaveFault>>>,
+    /// What is left of the calls that are awaited, a word for each, from the first on that didn't come in its turn.
+    pub awaited: Cell<&'static str>,
 }
 
-impl<'a, R: FileLocks + AllocGlobal> Trail<'a, R> {
+impl<'a> Trail<'a> {
     /// A trail of files of which no call fails, on a disk with room, and no other run saves.
-    pub fn new(rt: &'a R, image: &'a str) -> Trail<'a, R> {
+    pub fn new(rt: &'a HostRuntime, image: &'a str, awaited: &'static str) -> Trail<'a> {
         Trail {
             rt,
             image,
@@ -40,7 +43,7 @@ impl<'a, R: FileLocks + AllocGlobal> Trail<'a, R> {
             room: Cell::new(usize::MAX),
             calls: Cell::new(0),
             other: Cell::new(None),
-            asked: RefCell::new(String::new(rt.alloc())),
+            awaited: Cell::new(awaited),
         }
     }
 
@@ -49,26 +52,12 @@ impl<'a, R: FileLocks + AllocGlobal> Trail<'a, R> {
         save(&Tracked { trail: self }, self.image, old, new)
     }
 
-    /// What the other run was answered, if it saved.
-    pub fn other(&self) -> Option<Result<(), SaveFault>> {
-        self.other.get()
-    }
-
-    /// The calls in their order, a word for each.
-    pub fn asked(self) -> String {
-        self.asked.into_inner()
-    }
-
-    /// Notes a call, lets the other run go before it, or refuses it.
+    /// Counts a call and takes it from those that are awaited, lets the other run go before it, or refuses it.
     fn meet(&self, word: &str) -> io::Result<()> {
         let call = self.calls.get().saturating_add(1);
         self.calls.set(call);
-        match self.asked.try_borrow_mut() {
-            Ok(mut asked) => {
-                asked.push_str(word)?;
-                asked.push_str(" ")?;
-            }
-            Err(_) => return Err(io::Error::from(ErrorKind::Other)),
+        if let Some(rest) = self.awaited.get().strip_prefix(word) {
+            self.awaited.set(rest.trim_start());
         }
         if call == self.other_at {
             let answer = save(self.rt, self.image, Some(ONE_MOVE), TWO_MOVES);
@@ -83,11 +72,11 @@ impl<'a, R: FileLocks + AllocGlobal> Trail<'a, R> {
 
 /// A runtime whose files leave a trail.
 #[derive(Drop)]
-struct Tracked<'a, R> {
-    trail: &'a Trail<'a, R>,
+struct Tracked<'a> {
+    trail: &'a Trail<'a>,
 }
 
-impl<R: AllocGlobal> Alloc for Tracked<'_, R> {
+impl Alloc for Tracked<'_> {
     type A = Global;
 
     fn alloc(&self) -> Global {
@@ -97,19 +86,19 @@ impl<R: AllocGlobal> Alloc for Tracked<'_, R> {
 
 /// An open file of such a runtime.
 #[derive(Drop)]
-struct TrackedFile<'a, R, F> {
-    trail: &'a Trail<'a, R>,
-    file: F,
+struct TrackedFile<'a> {
+    trail: &'a Trail<'a>,
+    file: File,
 }
 
-impl<R: FileLocks + AllocGlobal, F: Read> Read for TrackedFile<'_, R, F> {
+impl Read for TrackedFile<'_> {
     fn read(&mut self, buf: &mut [u8]) -> io::Result<usize> {
         self.trail.meet("read")?;
         self.file.read(buf)
     }
 }
 
-impl<R: FileLocks + AllocGlobal, F: Write> Write for TrackedFile<'_, R, F> {
+impl Write for TrackedFile<'_> {
     fn write(&mut self, buf: &[u8]) -> io::Result<usize> {
         self.trail.meet("write")?;
         let room = &self.trail.room;
@@ -129,14 +118,14 @@ impl<R: FileLocks + AllocGlobal, F: Write> Write for TrackedFile<'_, R, F> {
     }
 }
 
-impl<R: FileLocks + AllocGlobal, F: Seek> Seek for TrackedFile<'_, R, F> {
+impl Seek for TrackedFile<'_> {
     fn seek(&mut self, to: SeekFrom) -> io::Result<u64> {
         self.trail.meet("seek")?;
         self.file.seek(to)
     }
 }
 
-impl<R: FileLocks + AllocGlobal, F: OpenFile> OpenFile for TrackedFile<'_, R, F> {
+impl OpenFile for TrackedFile<'_> {
     fn metadata(&self) -> io::Result<Metadata> {
         self.trail.meet("examine")?;
         self.file.metadata()
@@ -157,12 +146,12 @@ impl<R: FileLocks + AllocGlobal, F: OpenFile> OpenFile for TrackedFile<'_, R, F>
     }
 }
 
-impl<'a, R: FileLocks + AllocGlobal> Files for Tracked<'a, R> {
-    type File = TrackedFile<'a, R, R::File>;
+impl<'a> Files for Tracked<'a> {
+    type File = TrackedFile<'a>;
 
-    type Dir = R::Dir;
+    type Dir = <HostRuntime as Files>::Dir;
 
-    fn open_file(&self, how: &OpenOptions, path: &str) -> io::Result<TrackedFile<'a, R, R::File>> {
+    fn open_file(&self, how: &OpenOptions, path: &str) -> io::Result<TrackedFile<'a>> {
         let makes = how.asks_create() || how.asks_create_new();
         self.trail.meet(if makes { "create" } else { "open" })?;
         Ok(TrackedFile {
@@ -199,7 +188,7 @@ impl<'a, R: FileLocks + AllocGlobal> Files for Tracked<'a, R> {
         self.trail.rt.remove_file(path)
     }
 
-    fn open_dir(&self, path: &str) -> io::Result<R::Dir> {
+    fn open_dir(&self, path: &str) -> io::Result<<HostRuntime as Files>::Dir> {
         self.trail.rt.open_dir(path)
     }
 
@@ -253,7 +242,7 @@ impl<'a, R: FileLocks + AllocGlobal> Files for Tracked<'a, R> {
     }
 }
 
-impl<R: FileLocks + AllocGlobal> FileLocks for Tracked<'_, R> {
+impl FileLocks for Tracked<'_> {
     fn try_lock(&self, file: &Self::File) -> Result<(), TryLockError> {
         match self.trail.meet("lock") {
             Ok(()) => self.trail.rt.try_lock(&file.file),

@@ -1,16 +1,12 @@
-//! Schemas, and what they find on a store with an index.
-use super::gives;
-use crate::tests::same;
-use ee_codec::Address;
+//! A schema on a store with an index.
+use crate::tests::device;
 use ee_fakes::Refusing;
 use ee_fakes::images::TWO_MOVES;
 use ee_flash::{Flash, MemFlash};
-use ee_image::read_image;
-use ee_settings::{Held, ListFault, Listed, Reading, Schema, SchemaFault, Stale, StaleFault};
+use ee_settings::{Reading, Schema, StaleFault};
 use ee_store::{IndexedStore, Variables, Written};
 use std::alloc::{Allocator, Global};
 use std::process::Abort;
-use std::test::Fail;
 
 /// Two settings; the value that address 1 has after two moves is out of the range of the second.
 const BOTH: &[u8] = b"[volume]
@@ -26,86 +22,45 @@ max = 9
 default = 4
 ";
 
-// Whether a schema has the two.
-fn has_both<A: Allocator>(schema: &Schema<A>) -> bool {
-    let names = [schema.name(1), schema.name(2), schema.name(3)];
-    schema.entries() == 2 && names == [Some("tone"), Some("volume"), None]
+// The two settings.
+fn schema(rt: &impl Abort, memory: Global) -> Schema {
+    let table = toml::table_from_slice(memory, BOTH)
+        .ok()
+        .expect(rt, "no table");
+    Schema::from_table(memory, &table).expect(rt, "no schema")
 }
 
-pub fn schema_read(alloc: &Refusing<Global>, memory: Global) -> Option<bool> {
-    let table = toml::table_from_slice(memory, BOTH).ok()?;
-    match Schema::from_table(alloc, &table) {
-        Ok(schema) => Some(has_both(&schema)),
-        Err(SchemaFault::Memory) => None,
+// The store after two moves.
+fn store(rt: &impl Abort, memory: Global) -> IndexedStore<MemFlash> {
+    let mut flash = device(rt, memory, TWO_MOVES);
+    flash.power_on();
+    IndexedStore::open(memory, flash)
+        .ok()
+        .expect(rt, "no store")
+}
+
+// Whether the second entry alone is stale, or none was found for want of memory.
+fn is_second<A: Allocator>(found: Result<Vec<u64, A>, StaleFault>) -> Option<bool> {
+    match found {
+        Ok(entries) => Some(entries.as_slice() == [2].as_slice()),
+        Err(StaleFault::Memory) => None,
         Err(_) => Some(false),
     }
 }
 
-// The two settings.
-fn schema(memory: Global) -> Option<Schema> {
-    let table = toml::table_from_slice(memory, BOTH).ok()?;
-    Schema::from_table(memory, &table).ok()
+// Whether a setting is stale and is set, and all else is tidied away, or none was found stale for want of memory.
+fn is_set_and_tidied<V: Variables>(
+    alloc: &Refusing<Global>,
+    schema: &Schema,
+    store: &mut V,
+) -> Option<bool> {
+    let is_stale = is_second(schema.stale(alloc, store))?;
+    let is_set = schema.get(store, "volume") == Ok(Reading::Default(5))
+        && schema.set(store, "volume", 7) == Ok(Written::Moved)
+        && schema.get(store, "volume") == Ok(Reading::Stored(7));
+    Some(is_stale && is_set && schema.tidy(store) == Ok(1))
 }
 
-// The store after two moves.
-fn store(memory: Global) -> Option<IndexedStore<MemFlash>> {
-    let flash = read_image(memory, TWO_MOVES).ok()?;
-    if !flash.is_on() {
-        return None;
-    }
-    IndexedStore::open(memory, flash).ok()
-}
-
-pub fn stale_found(alloc: &Refusing<Global>, memory: Global) -> Option<bool> {
-    let store = store(memory)?;
-    let schema = schema(memory)?;
-    gives(schema.stale(alloc, &store), &[2], StaleFault::Memory)
-}
-
-pub fn stale_values_found(alloc: &Refusing<Global>, memory: Global) -> Option<bool> {
-    let wanted = [Stale {
-        entry: 2,
-        value: 13,
-    }];
-    let store = store(memory)?;
-    let schema = schema(memory)?;
-    gives(
-        schema.stale_values(alloc, &store),
-        &wanted,
-        StaleFault::Memory,
-    )
-}
-
-// A value without a setting.
-fn unnamed(number: u16, value: u32) -> Option<Listed> {
-    let address = Address::new(number)?;
-    Some(Listed {
-        address,
-        entry: None,
-        held: Held::Value(value),
-    })
-}
-
-pub fn values_listed(alloc: &Refusing<Global>, memory: Global) -> Option<bool> {
-    let wanted = [unnamed(1, 13)?, unnamed(2, 5)?];
-    let store = store(memory)?;
-    let schema = Schema::empty(alloc);
-    gives(schema.list(alloc, &store), &wanted, ListFault::Memory)
-}
-
-/// On a store with an index too a setting is set, and all else is tidied away.
-#[test]
-fn an_index_under_settings(rt: HostRuntime) -> Result<(), Fail> {
-    let schema = schema(rt.alloc()).ok_or("no schema")?;
-    let mut store = store(rt.alloc()).ok_or("no store")?;
-    is_set(&rt, &schema, &mut store);
-    same(&rt, schema.tidy(&mut store), Ok(1));
-    Ok(())
-}
-
-// Sets a setting, and reads it before and behind that.
-fn is_set<V: Variables>(rt: &impl Abort, schema: &Schema, store: &mut V) {
-    same(rt, schema.get(store, "volume"), Ok(Reading::Default(5)));
-    same(rt, schema.set(store, "volume", 7), Ok(Written::Moved));
-    same(rt, schema.get(store, "volume"), Ok(Reading::Stored(7)));
+pub fn settings_kept(alloc: &Refusing<Global>, rt: &impl Abort, memory: Global) -> Option<bool> {
+    is_set_and_tidied(alloc, &schema(rt, memory), &mut store(rt, memory))
 }

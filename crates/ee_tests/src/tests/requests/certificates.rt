@@ -1,0 +1,40 @@
+//! A check that is so long that the checker asks for memory in its midst.
+use crate::tests::address;
+use ee_check::{Certificate, Change, CheckFault, Start, Stretch, check};
+use ee_fakes::Refusing;
+use std::alloc::Global;
+use std::collections::BTreeSet;
+use std::process::Abort;
+
+// The certificate of 1101 writes on one slot, of which each but the first transfers.
+fn thousand(rt: &impl Abort, memory: Global) -> Certificate {
+    let mut stretches = Vec::new(memory);
+    let mut from = 0;
+    for to in 2..1102_u64 {
+        stretches.push(Stretch { to, from }).expect(rt, "no room");
+        from = 1;
+    }
+    Certificate {
+        slots: 1,
+        fill: 0,
+        live: 0,
+        writes: 1101,
+        stretches,
+    }
+}
+
+// Whether a check gave this count, or none for want of memory.
+fn counts(checked: Result<u64, CheckFault>, wanted: u64) -> Option<bool> {
+    match checked {
+        Ok(count) => Some(count == wanted),
+        Err(CheckFault::Memory) => None,
+        Err(_) => Some(false),
+    }
+}
+
+/// Behind a thousand changes the checker asks for memory once more, and goes on without where that is refused.
+pub fn thousand_checked(alloc: &Refusing<Global>, rt: &impl Abort, memory: Global) -> Option<bool> {
+    let start = Start::new(1, 0, BTreeSet::new(memory)).expect(rt, "no start");
+    let trace = vec![in memory; Change::Write(address(rt, 1)); 1101].expect(rt, "no trace");
+    counts(check(alloc, &start, &trace, &thousand(rt, memory)), 1100)
+}
