@@ -1,7 +1,7 @@
 //! The words behind the program's name, read.
-ghost use Rattle.std.specs.Prelude.{◌≡◌, [], ◌∷◌, ◌<◌, ◌^◌, ℕ, Some, IfSome, decimal};
+ghost use Rattle.std.specs.Prelude.{◌≡◌, [], ◌∷◌, ◌<◌, ◌^◌, ℕ, Some, IfSome, option_map, decimal};
 ghost use Rattle.ee_flash.specs.Size.{IsWithinLimits, Size};
-ghost use Rattle.ee_command_line.specs.Job.{ArePageWords, EndsWithin, HasBase, IsBase, IsCount, IsFound, IsSaid, texts_of};
+ghost use Rattle.ee_command_line.specs.Job.{ArePageWords, AreWordsOf, EndsWithin, HasBase, IsBase, IsCount, IsFound, IsRow, IsSaid, Row, row_of, texts_of};
 
 use super::jobs::Job;
 use ee_flash::Shape;
@@ -43,100 +43,106 @@ pub fn job<'a>(words: &[&'a str]) -> Option<Job<'a>>
 /// The job that a word alone asks for.
 fn job_of_one<'a>(command: &'a str) -> Option<Job<'a>>
     ensures found { IsSaid (command.now ∷ []) result }
-    ensures only { IsFound (command.now ∷ []) result }
+    ensures only { (row : Row) → IsRow row → AreWordsOf (command.now ∷ []) row
+        → option_map row_of result ≡ Some row }
 {
-    match command {
-        "--help" | "-h" | "help" => Some(Job::Help),
-        "--version" => Some(Job::Version),
-        _ => None,
-    }
+    let job = match command {
+        "--help" | "-h" | "help" => Job::Help,
+        "--version" => Job::Version,
+        _ => return None,
+    };
+    Some(job)
 }
 
 /// The job of a command on one text.
 fn job_of_two<'a>(command: &'a str, first: &'a str) -> Option<Job<'a>>
     ensures found { IsSaid (command.now ∷ first.now ∷ []) result }
-    ensures only { IsFound (command.now ∷ first.now ∷ []) result }
+    ensures only { (row : Row) → IsRow row → AreWordsOf (command.now ∷ first.now ∷ []) row
+        → option_map row_of result ≡ Some row }
 {
-    match command {
-        "list" => Some(Job::List {
+    let job = match command {
+        "list" => Job::List {
             image: first,
             settings: None,
-        }),
-        "wear" => Some(Job::Wear {
+        },
+        "wear" => Job::Wear {
             image: first,
             before: None,
-        }),
-        "states" => Some(Job::States { image: first }),
-        "inspect" => Some(Job::Inspect { image: first }),
-        "clean" => Some(Job::Clean { image: first }),
+        },
+        "states" => Job::States { image: first },
+        "inspect" => Job::Inspect { image: first },
+        "clean" => Job::Clean { image: first },
         "header" => match first {
             // This word says which constants, and names no settings.
-            "--rust" => None,
-            settings => Some(Job::Header {
+            "--rust" => return None,
+            settings => Job::Header {
                 rust: false,
                 settings,
-            }),
+            },
         },
-        _ => None,
-    }
+        _ => return None,
+    };
+    Some(job)
 }
 
 /// The job of a command on two texts.
 fn job_of_three<'a>(command: &'a str, first: &'a str, second: &'a str) -> Option<Job<'a>>
     ensures found { IsSaid (command.now ∷ first.now ∷ second.now ∷ []) result }
-    ensures only { IsFound (command.now ∷ first.now ∷ second.now ∷ []) result }
+    ensures only { (row : Row) → IsRow row → AreWordsOf (command.now ∷ first.now ∷ second.now ∷ []) row
+        → option_map row_of result ≡ Some row }
 {
-    match command {
-        "try" => Some(Job::Try {
+    let job = match command {
+        "try" => Job::Try {
             shape: shape_of(first, second)?,
-        }),
+        },
         "run" => match first {
             // This word says how to run, and names no image.
-            "--indexed" => None,
-            image => Some(Job::Run {
+            "--indexed" => return None,
+            image => Job::Run {
                 indexed: false,
                 image,
                 script: second,
-            }),
+            },
         },
         "export" => match first {
             // This word says what part it is, and names no image.
-            "--pairs" => None,
-            image => Some(Job::Export {
+            "--pairs" => return None,
+            image => Job::Export {
                 pairs: false,
                 image,
                 dump: second,
-            }),
+            },
         },
-        "plan" => Some(Job::Plan {
+        "plan" => Job::Plan {
             image: first,
             script: second,
-        }),
-        "list" => Some(Job::List {
+        },
+        "list" => Job::List {
             image: first,
             settings: Some(second),
-        }),
-        "wear" => Some(Job::Wear {
+        },
+        "wear" => Job::Wear {
             image: first,
             before: Some(second),
-        }),
-        "stale" => Some(Job::Stale {
+        },
+        "stale" => Job::Stale {
             image: first,
             settings: second,
-        }),
-        "tidy" => Some(Job::Tidy {
+        },
+        "tidy" => Job::Tidy {
             image: first,
             settings: second,
-        }),
+        },
         "header" if first == "--rust" => match second {
-            "--rust" => None,
-            settings => Some(Job::Header {
+            "--rust" => return None,
+            settings => Job::Header {
                 rust: true,
                 settings,
-            }),
+            },
         },
-        _ => None,
-    }
+        _ => return None,
+    };
+    Some(job)
 }
 
 /// The job of a command on three texts.
@@ -147,55 +153,57 @@ fn job_of_four<'a>(
     third: &'a str,
 ) -> Option<Job<'a>>
     ensures found { IsSaid (command.now ∷ first.now ∷ second.now ∷ third.now ∷ []) result }
-    ensures only { IsFound (command.now ∷ first.now ∷ second.now ∷ third.now ∷ []) result }
+    ensures only { (row : Row) → IsRow row → AreWordsOf (command.now ∷ first.now ∷ second.now ∷ third.now ∷ []) row
+        → option_map row_of result ≡ Some row }
 {
-    match command {
-        "format" => Some(Job::Format {
+    let job = match command {
+        "format" => Job::Format {
             shape: shape_of(first, second)?,
             image: third,
-        }),
+        },
         "run" if first == "--indexed" => match second {
-            "--indexed" => None,
-            image => Some(Job::Run {
+            "--indexed" => return None,
+            image => Job::Run {
                 indexed: true,
                 image,
                 script: third,
-            }),
+            },
         },
         "export" if first == "--pairs" => match second {
-            "--pairs" => None,
-            image => Some(Job::Export {
+            "--pairs" => return None,
+            image => Job::Export {
                 pairs: true,
                 image,
                 dump: third,
-            }),
+            },
         },
-        "get" => Some(Job::Get {
+        "get" => Job::Get {
             image: first,
             settings: second,
             name: third,
-        }),
-        "apply" => Some(Job::Apply {
+        },
+        "apply" => Job::Apply {
             image: first,
             settings: second,
             values: third,
-        }),
-        "check" => Some(Job::Check {
+        },
+        "check" => Job::Check {
             image: first,
             script: second,
             certificate: third,
-        }),
+        },
         "export-hex" => match first {
-            "--pairs" => None,
-            image => Some(Job::ExportHex {
+            "--pairs" => return None,
+            image => Job::ExportHex {
                 pairs: false,
                 image,
                 base: base_of(second)?,
                 dump: third,
-            }),
+            },
         },
-        _ => None,
-    }
+        _ => return None,
+    };
+    Some(job)
 }
 
 /// The job of a command on four texts.
@@ -207,38 +215,40 @@ fn job_of_five<'a>(
     fourth: &'a str,
 ) -> Option<Job<'a>>
     ensures found { IsSaid (command.now ∷ first.now ∷ second.now ∷ third.now ∷ fourth.now ∷ []) result }
-    ensures only { IsFound (command.now ∷ first.now ∷ second.now ∷ third.now ∷ fourth.now ∷ []) result }
+    ensures only { (row : Row) → IsRow row → AreWordsOf (command.now ∷ first.now ∷ second.now ∷ third.now ∷ fourth.now ∷ []) row
+        → option_map row_of result ≡ Some row }
 {
-    match command {
-        "import" => Some(Job::Import {
+    let job = match command {
+        "import" => Job::Import {
             pairs: false,
             shape: shape_of(first, second)?,
             dump: third,
             image: fourth,
-        }),
+        },
         "export-hex" if first == "--pairs" => match second {
-            "--pairs" => None,
-            image => Some(Job::ExportHex {
+            "--pairs" => return None,
+            image => Job::ExportHex {
                 pairs: true,
                 image,
                 base: base_of(third)?,
                 dump: fourth,
-            }),
+            },
         },
-        "set" => Some(Job::Set {
+        "set" => Job::Set {
             image: first,
             settings: second,
             name: third,
             value: value_of(fourth)?,
-        }),
-        "size" => Some(Job::Size {
+        },
+        "size" => Job::Size {
             words: page_words_of(first)?,
             script: second,
             cycles: count_of(third)?,
             runs: count_of(fourth)?,
-        }),
-        _ => None,
-    }
+        },
+        _ => return None,
+    };
+    Some(job)
 }
 
 /// The job of a command on five texts.
@@ -252,28 +262,29 @@ fn job_of_six<'a>(
 ) -> Option<Job<'a>>
     ensures found { IsSaid
         (command.now ∷ first.now ∷ second.now ∷ third.now ∷ fourth.now ∷ fifth.now ∷ []) result }
-    ensures only { IsFound
-        (command.now ∷ first.now ∷ second.now ∷ third.now ∷ fourth.now ∷ fifth.now ∷ []) result }
+    ensures only { (row : Row) → IsRow row → AreWordsOf (command.now ∷ first.now ∷ second.now ∷ third.now ∷ fourth.now ∷ fifth.now ∷ []) row
+        → option_map row_of result ≡ Some row }
 {
-    match command {
-        "import" if first == "--pairs" => Some(Job::Import {
+    let job = match command {
+        "import" if first == "--pairs" => Job::Import {
             pairs: true,
             shape: shape_of(second, third)?,
             dump: fourth,
             image: fifth,
-        }),
+        },
         "import-hex" => {
             let shape = shape_of(first, second)?;
-            Some(Job::ImportHex {
+            Job::ImportHex {
                 pairs: false,
                 shape,
                 base: base_for(false, shape, third)?,
                 dump: fourth,
                 image: fifth,
-            })
+            }
         }
-        _ => None,
-    }
+        _ => return None,
+    };
+    Some(job)
 }
 
 /// The job of a command on six texts.
@@ -288,22 +299,24 @@ fn job_of_seven<'a>(
 ) -> Option<Job<'a>>
     ensures found { IsSaid (command.now ∷ first.now ∷ second.now ∷ third.now ∷ fourth.now
         ∷ fifth.now ∷ sixth.now ∷ []) result }
-    ensures only { IsFound (command.now ∷ first.now ∷ second.now ∷ third.now ∷ fourth.now
-        ∷ fifth.now ∷ sixth.now ∷ []) result }
+    ensures only { (row : Row) → IsRow row → AreWordsOf (command.now ∷ first.now ∷ second.now ∷ third.now ∷ fourth.now
+        ∷ fifth.now ∷ sixth.now ∷ []) row
+        → option_map row_of result ≡ Some row }
 {
-    match command {
+    let job = match command {
         "import-hex" if first == "--pairs" => {
             let shape = shape_of(second, third)?;
-            Some(Job::ImportHex {
+            Job::ImportHex {
                 pairs: true,
                 shape,
                 base: base_for(true, shape, fourth)?,
                 dump: fifth,
                 image: sixth,
-            })
+            }
         }
-        _ => None,
-    }
+        _ => return None,
+    };
+    Some(job)
 }
 
 /// The words of a page that a word spells.
