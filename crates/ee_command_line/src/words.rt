@@ -42,7 +42,8 @@ pub fn job<'a>(words: &[&'a str]) -> Option<Job<'a>>
 
 /// The job that a word alone asks for.
 fn job_of_one<'a>(command: &'a str) -> Option<Job<'a>>
-    ensures found { IsSaid (command.now ∷ []) result }
+    ensures found { IfSome result (λ job. IsRow (row_of job)
+        × AreWordsOf (command.now ∷ []) (row_of job)) }
     ensures only { (row : Row) → IsRow row → AreWordsOf (command.now ∷ []) row
         → option_map row_of result ≡ Some row }
 {
@@ -56,7 +57,8 @@ fn job_of_one<'a>(command: &'a str) -> Option<Job<'a>>
 
 /// The job of a command on one text.
 fn job_of_two<'a>(command: &'a str, first: &'a str) -> Option<Job<'a>>
-    ensures found { IsSaid (command.now ∷ first.now ∷ []) result }
+    ensures found { IfSome result (λ job. IsRow (row_of job)
+        × AreWordsOf (command.now ∷ first.now ∷ []) (row_of job)) }
     ensures only { (row : Row) → IsRow row → AreWordsOf (command.now ∷ first.now ∷ []) row
         → option_map row_of result ≡ Some row }
 {
@@ -87,7 +89,8 @@ fn job_of_two<'a>(command: &'a str, first: &'a str) -> Option<Job<'a>>
 
 /// The job of a command on two texts.
 fn job_of_three<'a>(command: &'a str, first: &'a str, second: &'a str) -> Option<Job<'a>>
-    ensures found { IsSaid (command.now ∷ first.now ∷ second.now ∷ []) result }
+    ensures found { IfSome result (λ job. IsRow (row_of job)
+        × AreWordsOf (command.now ∷ first.now ∷ second.now ∷ []) (row_of job)) }
     ensures only { (row : Row) → IsRow row → AreWordsOf (command.now ∷ first.now ∷ second.now ∷ []) row
         → option_map row_of result ≡ Some row }
 {
@@ -152,7 +155,8 @@ fn job_of_four<'a>(
     second: &'a str,
     third: &'a str,
 ) -> Option<Job<'a>>
-    ensures found { IsSaid (command.now ∷ first.now ∷ second.now ∷ third.now ∷ []) result }
+    ensures found { IfSome result (λ job. IsRow (row_of job)
+        × AreWordsOf (command.now ∷ first.now ∷ second.now ∷ third.now ∷ []) (row_of job)) }
     ensures only { (row : Row) → IsRow row → AreWordsOf (command.now ∷ first.now ∷ second.now ∷ third.now ∷ []) row
         → option_map row_of result ≡ Some row }
 {
@@ -214,7 +218,8 @@ fn job_of_five<'a>(
     third: &'a str,
     fourth: &'a str,
 ) -> Option<Job<'a>>
-    ensures found { IsSaid (command.now ∷ first.now ∷ second.now ∷ third.now ∷ fourth.now ∷ []) result }
+    ensures found { IfSome result (λ job. IsRow (row_of job)
+        × AreWordsOf (command.now ∷ first.now ∷ second.now ∷ third.now ∷ fourth.now ∷ []) (row_of job)) }
     ensures only { (row : Row) → IsRow row → AreWordsOf (command.now ∷ first.now ∷ second.now ∷ third.now ∷ fourth.now ∷ []) row
         → option_map row_of result ≡ Some row }
 {
@@ -260,8 +265,8 @@ fn job_of_six<'a>(
     fourth: &'a str,
     fifth: &'a str,
 ) -> Option<Job<'a>>
-    ensures found { IsSaid
-        (command.now ∷ first.now ∷ second.now ∷ third.now ∷ fourth.now ∷ fifth.now ∷ []) result }
+    ensures found { IfSome result (λ job. IsRow (row_of job)
+        × AreWordsOf (command.now ∷ first.now ∷ second.now ∷ third.now ∷ fourth.now ∷ fifth.now ∷ []) (row_of job)) }
     ensures only { (row : Row) → IsRow row → AreWordsOf (command.now ∷ first.now ∷ second.now ∷ third.now ∷ fourth.now ∷ fifth.now ∷ []) row
         → option_map row_of result ≡ Some row }
 {
@@ -297,8 +302,9 @@ fn job_of_seven<'a>(
     fifth: &'a str,
     sixth: &'a str,
 ) -> Option<Job<'a>>
-    ensures found { IsSaid (command.now ∷ first.now ∷ second.now ∷ third.now ∷ fourth.now
-        ∷ fifth.now ∷ sixth.now ∷ []) result }
+    ensures found { IfSome result (λ job. IsRow (row_of job)
+        × AreWordsOf (command.now ∷ first.now ∷ second.now ∷ third.now ∷ fourth.now
+        ∷ fifth.now ∷ sixth.now ∷ []) (row_of job)) }
     ensures only { (row : Row) → IsRow row → AreWordsOf (command.now ∷ first.now ∷ second.now ∷ third.now ∷ fourth.now
         ∷ fifth.now ∷ sixth.now ∷ []) row
         → option_map row_of result ≡ Some row }
