@@ -1,4 +1,4 @@
-//! A script for which an index pays: `replay` makes one, and goes on without it where a request for memory is refused.
+//! A script for which an index pays: `replay` makes one, and answers without it where a request for memory is refused.
 use super::commands::replays;
 use crate::tests::{same, shape};
 use ee_fakes::Refusing;
@@ -40,9 +40,6 @@ fn requests(heap: &Refusing<Global>) -> u64 {
     u64::MAX - heap.left()
 }
 
-/// How many requests reading an image makes: for the words and for the wear.
-const READING: u64 = 2;
-
 // How many requests `replay_indexed` makes, which is to give this report and this image.
 fn requests_by_index(
     rt: &impl Abort,
@@ -56,8 +53,8 @@ fn requests_by_index(
     requests(&heap)
 }
 
-// Replays a script with each request refused in turn: those of reading the image give want of memory, and all others this
-// report and this image. Gives how many requests there are.
+// Replays a script with each request refused in turn, which gives this report and this image all the same. Gives how many
+// requests there are.
 fn refused_behind(
     rt: &impl Abort,
     memory: Global,
@@ -67,8 +64,7 @@ fn refused_behind(
     for nth in 1..u64::MAX {
         let heap = Refusing::new(memory, nth);
         let found = replays(replay(&heap, image, script), report, left);
-        let wanted = if nth <= READING { None } else { Some(true) };
-        same(rt, nth, found, wanted);
+        same(rt, nth, found, Some(true));
         if !heap.has_refused() {
             return nth - 1;
         }
@@ -76,8 +72,8 @@ fn refused_behind(
     panic!(rt; "requests without end")
 }
 
-// Where `replay` makes an index it answers as a store without one does, also where a request is refused, but for those
-// of reading the image: it goes on without an index then. An index of forty addresses takes several nodes.
+// Where `replay` makes an index it answers as a store without one does, also where a request is refused: it begins anew
+// without an index then. An index of forty addresses takes several nodes.
 fn pays(rt: &impl Abort, memory: Global, image: &[u8], script: &[u8]) {
     let mut reader = script;
     let plain = Refusing::new(memory, u64::MAX);
