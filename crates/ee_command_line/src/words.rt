@@ -42,6 +42,7 @@ pub fn job<'a>(words: &[&'a str]) -> Option<Job<'a>>
 
 /// The job that a word alone asks for.
 fn job_of_one<'a>(command: &'a str) -> Option<Job<'a>>
+    // Here and below `IsSaid` and `IsFound` are written out: so they take less time to prove.
     ensures found { IfSome result (λ job. IsRow (row_of job)
         × AreWordsOf (command.now ∷ []) (row_of job)) }
     ensures only { (row : Row) → IsRow row → AreWordsOf (command.now ∷ []) row
