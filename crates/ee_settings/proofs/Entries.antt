@@ -9,7 +9,6 @@ use Rattle.ee_settings.specs.Setting.{AreProper, HaveOwnAddresses, IsName, Setti
 use Rattle.ee_settings.specs.declared.numbers.Fields.{Fields}
 use Rattle.ee_settings.specs.declared.numbers.Numbers.{Numbers}
 use Rattle.ee_settings.specs.declared.fault.SchemaFault.{SchemaFault}
-use Rattle.ee_settings.specs.declared.fault.SchemaFault.TheVariants as fault
 
 -- of the first n settings none is so
 abbrev pub NoneOf : (Setting → Type 0) → List Setting → ℕ → Type 0

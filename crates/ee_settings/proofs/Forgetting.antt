@@ -11,12 +11,10 @@ use Rattle.ee_core.proofs.Public.{goes_on_both, goes_on_same, forget-other}
 use Rattle.ee_core.specs.Calls.{Forgets}
 use Rattle.ee_core.specs.State.{state_of}
 use Rattle.ee_core.specs.declared.variables.ForgetFault.{ForgetFault}
-use Rattle.ee_core.specs.declared.variables.ForgetFault.TheVariants as forget
 use Rattle.ee_core.specs.declared.variables.Written.{Written}
 use Rattle.ee_settings.specs.Setting.{Setting, has_address}
 use Rattle.ee_settings.specs.Tidying.{ForgetsEach, Stops, StopsForgetting, unnamed_of}
 use Rattle.ee_settings.specs.declared.fault.TidyFault.{TidyFault}
-use Rattle.ee_settings.specs.declared.fault.TidyFault.TheVariants as tidy
 
 -- ---- one forgetting
 

@@ -1,8 +1,8 @@
 //! The entries of a table of settings, read by rising name up to the first one with a fault.
-ghost use Rattle.std.specs.Prelude.{IfOk, IfErr};
+ghost use Rattle.std.specs.Prelude.{◌≡◌, ◌+◌, ◌++◌, ◌∷◌, [], Err, IfErr, IfOk, Ok, length};
 ghost use Rattle.toml.specs.View.{table_view, view};
 ghost use Rattle.ee_settings.specs.File.{GivesSetting, HaveRisingKeys, IsSchemaFault, IsSchemaOf, entries_of};
-ghost use Rattle.ee_settings.specs.Setting.{HaveRisingNames};
+ghost use Rattle.ee_settings.specs.Setting.{HaveRisingNames, Setting as AnySetting};
 
 use crate::fault::SchemaFault;
 use crate::numbers::{checked, read_fields};
@@ -25,14 +25,30 @@ pub(crate) fn read_entries<A: Allocator + Copy>(
 {
     let mut settings = Settings::new(alloc);
     for (name, value) in table.iter() {
-        let number = settings.len() as u64 + 1;
-        let setting = read_entry(alloc, &settings, number, name.as_str(), value)?;
-        settings = match settings.with(setting) {
-            Ok(more) => more,
-            Err(_) => return Err(SchemaFault::Memory),
-        };
+        settings = with_entry(alloc, settings, name.as_str(), value)?;
     }
     Ok(settings)
+}
+
+/// The settings of the entries so far, and that of the next one.
+fn with_entry<A: Allocator + Copy>(
+    alloc: A,
+    settings: Settings<A>,
+    name: &str,
+    value: &Value,
+) -> Result<Settings<A>, SchemaFault>
+    ensures ok { IfOk result (λ more. (setting : AnySetting)
+        × (more ≡ settings ++ setting ∷ [])
+        × GivesSetting settings (length settings + 1) (name.now, view value.now) (Ok setting)) }
+    ensures err { IfErr result (λ fault.
+        GivesSetting settings (length settings + 1) (name.now, view value.now) (Err fault)) }
+{
+    let number = settings.len() as u64 + 1;
+    let setting = read_entry(alloc, &settings, number, name, value)?;
+    match settings.with(setting) {
+        Ok(more) => Ok(more),
+        Err(_) => Err(SchemaFault::Memory),
+    }
 }
 
 /// The setting of one entry of a table. `number` is the entry's, counted from 1, and `earlier` are

@@ -1,5 +1,6 @@
 //! The numbers of a setting: its address, its range and its default, and what a stored value is to them.
-ghost use Rattle.std.specs.Prelude.{◌≡◌, IfSome, IfNone, option_and_then};
+ghost use Rattle.std.specs.Prelude.{◌≡◌, ◌≢◌, ◌<◌, ◌^◌, ℕ, IfSome, IfNone, option_and_then, pos};
+ghost use Rattle.ee_codec.specs.Words.{IsAddress};
 ghost use Rattle.toml.specs.Data.{as_integer, get_member};
 ghost use Rattle.toml.specs.View.{table_view, view};
 ghost use Rattle.ee_settings.specs.File.{HasBadField, HasFields, HaveBadRange, IsTableOf, fields_of_numbers};
@@ -108,10 +109,10 @@ pub(crate) fn checked(fields: Fields) -> Option<Numbers>
     ensures proper { IfSome result AreProper }
     ensures none { IfNone result (HaveBadRange fields) }
 {
-    let address = Address::new(u16::try_from(fields.address).ok()?)?;
-    let min = u32::try_from(fields.min).ok()?;
-    let max = u32::try_from(fields.max).ok()?;
-    let default = u32::try_from(fields.default).ok()?;
+    let address = address_of(fields.address)?;
+    let min = value_of(fields.min)?;
+    let max = value_of(fields.max)?;
+    let default = value_of(fields.default)?;
     if default < min || max < default {
         return None;
     }
@@ -121,4 +122,20 @@ pub(crate) fn checked(fields: Fields) -> Option<Numbers>
         max,
         default,
     })
+}
+
+/// The address of a number, if it is one's.
+fn address_of(number: i64) -> Option<Address>
+    ensures found { IfSome result (λ address. (number ≡ pos address) × IsAddress address) }
+    ensures none { IfNone result ((address : ℕ) → IsAddress address → number ≢ pos address) }
+{
+    Address::new(u16::try_from(number).ok()?)
+}
+
+/// The value of a number, if it is one of 32 bits.
+fn value_of(number: i64) -> Option<u32>
+    ensures found { IfSome result (λ value. (number ≡ pos value) × (value < 2 ^ 32)) }
+    ensures none { IfNone result ((value : ℕ) → value < 2 ^ 32 → number ≢ pos value) }
+{
+    u32::try_from(number).ok()
 }

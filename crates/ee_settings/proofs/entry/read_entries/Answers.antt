@@ -1,6 +1,5 @@
-use Rattle.std.proofs.Common.{◌≡◌, ◌∙◌, ◌++◌, ◌∷◌, [], ◌+◌, length, map, subst, ap, sym, arith, rules, Err, Ok, string_bytes}
+use Rattle.std.proofs.Common.{refl, ◌≡◌, ◌∙◌, ◌++◌, ◌∷◌, ◌+◌, length, map, subst, ap, sym, rules, Err, Ok, string_bytes}
 use Rattle.std.proofs.lemmas.Result.{IfOk-from_err, err_from_is_err_and}
-use Rattle.std.proofs.lemmas.Grind.{common_steps}
 use Rattle.std.proofs.lemmas.Map.Iter.{iter_end, rest_more, rest_so_far}
 use Rattle.std.specs.Map.Iter.{deref_pair}
 use Rattle.toml.specs.View.{view}
@@ -10,33 +9,29 @@ use Rattle.ee_settings.proofs.Names.{rising_keys, rising_names}
 use Rattle.ee_settings.specs.File.{AreEntriesOf, IsSchemaOf}
 use Rattle.ee_settings.proofs.entry.read_entries.Goals as goal
 
-pub returns-in_err-setting : goal.returns-in_err-setting
-returns-in_err-setting g c =
+pub returns-in_err-settings : goal.returns-in_err-settings
+returns-in_err-settings g c =
     let start : c.into_iter-name-iterator.result ≡ c.args.table.now.entries = search rules in
     let so_far = rest_so_far deref_pair c.loop-name.yielded c.into_iter-name-iterator.result c.loop-name.name-iterator c.loop-name.yielded_by in
     let more = rest_more deref_pair c.loop-name.name-iterator c.next.new.self c.next.result (c.in-Some.name, c.in-Some.value) c.in-Some.is c.next.ensures.steps in
     let whole : c.args.table.now.entries ≡ map deref_pair c.loop-name.yielded ++ (c.in-Some.name.now, c.in-Some.value.now) ∷ c.next.new.self = sym start ∙ so_far ∙ ap (λ rest. map deref_pair c.loop-name.yielded ++ rest) more in
-    let counted : c.len.result + 1 ≡ length c.loop-name.settings + 1 = search rules in
     let p = err_from_is_err_and c.from_residual.result c.from_residual.ensures.1 in
     record {
       ok = IfOk-from_err _ _ c.from_residual.ensures.0;
       names = IfOk-from_err _ _ c.from_residual.ensures.0;
-      err = rw (p.1, p.2) (fault_named _ _ _ _ _ c.loop-name.settings (c.len.result + 1)
+      err = rw (p.1, p.2) (fault_named _ _ _ _ _ c.loop-name.settings (length c.loop-name.settings + 1)
           (split_entries c.args.table.now.entries (map deref_pair c.loop-name.yielded) c.next.new.self (c.in-Some.name.now, c.in-Some.value.now) whole)
-          counted c.loop-name.invariant
-          (gives_same (Err c.in_err-setting.field-0.0) c.loop-name.settings c.loop-name.settings (c.len.result + 1) c.as_str.result.now (string_bytes c.in-Some.name.now) (view c.in-Some.value.now) (search rules) (search rules) c.in_err-setting.ensures));
+          refl c.loop-name.invariant
+          (gives_same (Err c.in_err-settings.field-0.0) c.loop-name.settings c.loop-name.settings (length c.loop-name.settings + 1) c.as_str.result.now (string_bytes c.in-Some.name.now) (view c.in-Some.value.now) refl (search rules) c.in_err-settings.ensures.err));
       rises = rising_keys c.args.table.now.entries c.iter-name-items.ensures.ordered;
     }
 
 pub loop-name-preserved : goal.loop-name-preserved
 loop-name-preserved g c =
-    let pushed : c.in-Ok.more ≡ c.loop-name.settings ++ c.in_ok-setting.setting ∷ [] = search rules in
-    let gives = gives_same (Ok c.in_ok-setting.setting) c.loop-name.settings c.loop-name.settings (c.len.result + 1) c.as_str.result.now (string_bytes c.in-Some.name.now) (view c.in-Some.value.now) (search rules) (search rules) c.in_ok-setting.ensures in
-    let grown = schema_more _ c.loop-name.settings (seen (c.in-Some.name.now, c.in-Some.value.now)) c.in_ok-setting.setting c.loop-name.invariant gives in
-    rw (gone_more c.loop-name.yielded (c.in-Some.name, c.in-Some.value), pushed) grown
-
-pub returns-in-Err : goal.returns-in-Err
-returns-in-Err g c = record { ok = tt; names = tt; err = tt; rises = rising_keys c.args.table.now.entries c.iter-name-items.ensures.ordered }
+    let made = c.in_ok-settings.ensures.ok in
+    let gives = gives_same (Ok made.0) c.loop-name.settings c.loop-name.settings (length c.loop-name.settings + 1) c.as_str.result.now (string_bytes c.in-Some.name.now) (view c.in-Some.value.now) refl (search rules) made.2 in
+    let grown = schema_more _ c.loop-name.settings (seen (c.in-Some.name.now, c.in-Some.value.now)) made.0 c.loop-name.invariant gives in
+    rw (gone_more c.loop-name.yielded (c.in-Some.name, c.in-Some.value), made.1) grown
 
 pub returns : goal.returns
 returns g c =
@@ -48,6 +43,3 @@ returns g c =
       err = tt;
       rises = rising_keys c.args.table.now.entries c.iter-name-items.ensures.ordered;
     }
-
-pub overflow_add-number : goal.overflow_add-number
-overflow_add-number g c = grind (arith, common_steps)
