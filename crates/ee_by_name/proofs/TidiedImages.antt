@@ -4,10 +4,11 @@ use Rattle.std.specs.Prelude.{option_map}
 use Rattle.ee_flash.specs.Device.{Device}
 use Rattle.ee_flash.specs.Size.{Size}
 use Rattle.ee_core.specs.State.{State, state_of}
-use Rattle.ee_settings.proofs.Public.{each_goes_on, leaves_named, leaves_state, none_spent}
+use Rattle.ee_settings.proofs.Public.{each_goes_on, leaves_named, leaves_state, none_spent, spent_among}
 use Rattle.ee_settings.specs.Setting.{Setting}
 use Rattle.ee_settings.specs.Stale.{stale_in}
 use Rattle.ee_settings.specs.Tidying.{IsSpentAmong, Tidies, after_forgettings, kept_map, unnamed_in}
+use Rattle.ee_settings.specs.declared.fault.TidyFault.{TidyFault}
 use Rattle.ee_settings.specs.declared.fault.TidyFault.TheVariants as tidy
 use Rattle.ee_faults.specs.declared.fault.Fault.{Fault}
 use Rattle.ee_faults.specs.declared.fault.Fault.TheVariants.{Memory, Spent}
@@ -24,11 +25,26 @@ none_left None e = let wrong : ◌≡◌ {A = Option ℕ} (Some 0) None = e in c
 none_left (Some n) e = let wrong : 0 ≡ n + 1 = cc e in omega arith
 
 -- power that stays on is not cut in it
-pub never_cut : (settings : List Setting) (old new : Device) → StaysOn old → Tidies settings old (Err tidy.Cut) new → ⊥
+never_cut : (settings : List Setting) (old new : Device) → StaysOn old → Tidies settings old (Err tidy.Cut) new → ⊥
 never_cut settings old new on stops = search (rules, each_goes_on, none_left)
 
 pub is_tidied : (settings : List Setting) (old new : Device) (count : ℕ) → StaysOn old → Tidies settings old (Ok count) new → IsTidied settings old count new
-is_tidied settings old new count on done = search (rules, each_goes_on, leaves_named, leaves_state, never_cut)
+is_tidied settings old new count on done =
+    let goes = each_goes_on (unnamed_in settings (state_of old).map) old new done.2 in
+    record {
+      tidied = done;
+      map_is = leaves_named settings old new count done;
+      state_is = leaves_state settings old new count done;
+      stays_on = record { on = goes.same_power ∙ on.on; never_cut = goes.same_cuts_left ∙ on.never_cut };
+      same_size = goes.same_size;
+    }
+
+-- the same of a fault that is found to be one of these
+pub never_cut_so : (settings : List Setting) (old new : Device) (why : TidyFault) → why ≡ tidy.Cut → StaysOn old → Tidies settings old (Err why) new → ⊥
+never_cut_so settings old new why is on stops = never_cut settings old new on (subst (λ (one : TidyFault). Tidies settings old (Err one) new) is stops)
+
+pub spent_so : (settings : List Setting) (old new : Device) (why : TidyFault) → why ≡ tidy.Spent → Tidies settings old (Err why) new → IsSpentAmong old.size (unnamed_in settings (state_of old).map) (state_of old)
+spent_so settings old new why is stops = spent_among settings old new (subst (λ (one : TidyFault). Tidies settings old (Err one) new) is stops)
 
 -- ---- what is told
 

@@ -1,11 +1,18 @@
 -- Texts written piece by piece.
-use Rattle.std.proofs.Common.{◌≡◌, ◌<◌, ◌+◌, ℕ, List, [], ◌++◌, append_assoc, codes, get_or, length, refl, take, rules}
+use Rattle.std.proofs.Common.{◌≡◌, ◌<◌, ◌+◌, ℕ, List, [], ◌++◌, append_assoc, codes, get_or, length, refl, take, rules, Ok, Err, Result}
+use Rattle.std.specs.Bool.{if◌then◌else◌}
+use Rattle.std.specs.Result.{OnOk, is_ok}
 use Rattle.std.proofs.lemmas.List.{flat_map_more, take_more}
 use Rattle.std.specs.List.{flat_map}
 use Rattle.ee_settings.specs.Setting.{Setting}
 use Rattle.ee_by_name.specs.Header.{constant_in, constants_in, in_capitals}
 use Rattle.ee_by_name.specs.declared.language.Language.{Language}
 use Rattle.ee_by_name.specs.declared.language.Language.TheVariants.{C, Rust}
+
+-- what a write leaves where it went well
+pub written_ok : {T E : Type 0} (made : Result T E) (now whole part : List ℕ) → now ≡ (if is_ok made then whole else part) → OnOk made (now ≡ whole)
+written_ok (Ok done) now whole part is = is
+written_ok (Err why) now whole part is = tt
 
 -- what is written of one more setting
 pub one_more : (of : Setting → List ℕ) (settings : List Setting) (i : ℕ) (setting : Setting) (old so_far now : List ℕ) → setting ≡ get_or settings i setting → i < length settings → so_far ≡ old ++ flat_map of (take i settings)

@@ -13,7 +13,7 @@ use super::opening::{open_with_settings, read_table};
 use ee_codec::Address;
 use ee_core::{Store, Variables, WriteFault, Written};
 use ee_faults::Fault;
-use ee_flash::Flash;
+use ee_flash::MemFlash;
 use ee_image_store::{ImageAndText, text_left};
 use ee_settings::{Numbers, Schema};
 use std::alloc::{AllocError, Allocator, Global};
@@ -52,9 +52,9 @@ pub fn apply_values<A: Allocator + Copy>(
 }
 
 /// Takes the entries of a table by a store whose power stays on, and gives what this leaves.
-fn apply_left<A: Allocator + Copy, F: Flash + Drop>(
+fn apply_left<A: Allocator + Copy>(
     alloc: A,
-    mut store: Store<F>,
+    mut store: Store<MemFlash<A>>,
     schema: &Schema<A>,
     table: &Table,
 ) -> Result<ImageAndText<A>, Fault>
@@ -78,18 +78,18 @@ struct Counts {
 }
 
 /// Takes the entries of a table, by rising name. After an error those before it were taken.
-fn take_entries<V: Variables, A: Allocator>(
-    store: &mut V,
+fn take_entries<A: Allocator>(
+    store: &mut Store<MemFlash<A>>,
     schema: &Schema<A>,
     table: &Table,
 ) -> Result<Counts, Fault>
-    requires { StaysOn (V.device store.old) }
+    requires { StaysOn store.old }
     ensures applied { IfOk result (λ counts. Applies schema.now (entries_of (table_view table.now))
-        (V.device store.old) counts.written (V.device store.new)) }
+        store.old counts.written store.new) }
     ensures entries { IfOk result (λ counts.
         counts.entries ≡ length (entries_of (table_view table.now))) }
     ensures stopped { IfErr result (λ fault. StopsAtEntry schema.now (entries_of (table_view table.now))
-        (V.device store.old) fault ⊎ (fault ≡ Fault.Memory)) }
+        store.old fault ⊎ (fault ≡ Fault.Memory)) }
 {
     let entries = table.len() as u64;
     let mut number = 0;
@@ -103,17 +103,17 @@ fn take_entries<V: Variables, A: Allocator>(
 
 /// Takes an entry, and gives by how many writes: 1, or 0 where its value is stored already. `entry` is its
 /// number, counted from 1.
-fn take_entry<V: Variables, A: Allocator>(
-    store: &mut V,
+fn take_entry<A: Allocator>(
+    store: &mut Store<MemFlash<A>>,
     schema: &Schema<A>,
     entry: u64,
     name: &str,
     value: &Value,
 ) -> Result<u64, Fault>
-    requires { StaysOn (V.device store.old) }
-    ensures taken { IfOk result (λ count. TakesEntry schema.now (V.device store.old)
-        (name.now, view value.now) count (V.device store.new)) }
-    ensures refused { let old = V.device store.old in IfErr result (λ fault.
+    requires { StaysOn store.old }
+    ensures taken { IfOk result (λ count. TakesEntry schema.now store.old
+        (name.now, view value.now) count store.new) }
+    ensures refused { let old = store.old in IfErr result (λ fault.
         IsEntryRefusal schema.now old.size (state_of old) entry (name.now, view value.now) fault
         ⊎ (fault ≡ Fault.Memory)) }
 {
@@ -155,10 +155,10 @@ fn in_range(min: u32, max: u32, number: i64) -> Option<u32>
 }
 
 /// Whether the address has this value.
-fn has_value<V: Variables>(store: &V, address: Address, value: u32) -> bool
-    requires { StaysOn (V.device store.now) }
-    ensures stored { OnTrue result ((state_of (V.device store.now)).map address ≡ Some value) }
-    ensures another { OnFalse result ((state_of (V.device store.now)).map address ≢ Some value) }
+fn has_value<A: Allocator>(store: &Store<MemFlash<A>>, address: Address, value: u32) -> bool
+    requires { StaysOn store.now }
+    ensures stored { OnTrue result ((state_of store.now).map address ≡ Some value) }
+    ensures another { OnFalse result ((state_of store.now).map address ≢ Some value) }
 {
     match store.read(address) {
         Ok(stored) => stored == Some(value),
@@ -167,16 +167,16 @@ fn has_value<V: Variables>(store: &V, address: Address, value: u32) -> bool
 }
 
 /// Writes a value at an address for the entry of this number.
-fn write_on<V: Variables>(
-    store: &mut V,
+fn write_on<A: Allocator>(
+    store: &mut Store<MemFlash<A>>,
     address: Address,
     value: u32,
     number: u64,
 ) -> Result<Written, Fault>
-    requires { StaysOn (V.device store.old) }
+    requires { StaysOn store.old }
     ensures written { IfOk result (λ answer.
-        Writes (V.device store.old) address value (Ok answer) (V.device store.new)) }
-    ensures refused { let old = V.device store.old in IfErr result (λ fault.
+        Writes store.old address value (Ok answer) store.new) }
+    ensures refused { let old = store.old in IfErr result (λ fault.
         IsWriteRefusalAt old.size (state_of old) number address fault ⊎ (fault ≡ Fault.Memory)) }
 {
     match store.write(address, value) {

@@ -8,11 +8,12 @@ ghost use Rattle.ee_image_store.specs.Opening.{StaysOn};
 ghost use Rattle.ee_faults.specs.Causes.{NamesEach};
 
 use super::opening::open_with_settings;
-use ee_core::Variables;
+use ee_core::Store;
 use ee_faults::Fault;
+use ee_flash::MemFlash;
 use ee_image_store::open_image;
 use ee_settings::{Held, ListFault, Listed, Schema};
-use ee_text::push_number;
+use ee_text::{push_number, push_number_behind};
 use std::alloc::{AllocError, Allocator, Global};
 
 /// What the image that a text spells holds, as there is to print: a line for each address that has a
@@ -55,8 +56,7 @@ fn list_values<A: Allocator + Copy>(alloc: A, image: &[u8]) -> Result<Vec<u8, A>
 {
     let store = open_image(alloc, image)?;
     let schema = Schema::empty(alloc);
-    let text = lines_on(alloc, &store, &schema)?;
-    Ok(text)
+    lines_on(alloc, &store, &schema)
 }
 
 /// The lines of what an image holds, with the settings that a text spells.
@@ -71,19 +71,19 @@ fn list_settings<A: Allocator + Copy>(
     ensures names { NamesEach Fault.Memory (IsListTextFault image.now (Some settings.now)) result }
 {
     let opened = open_with_settings(alloc, heap, image, settings)?;
-    let text = lines_on(alloc, &opened.store, &opened.schema)?;
-    Ok(text)
+    lines_on(alloc, &opened.store, &opened.schema)
 }
 
 /// The lines of what a store whose power stays on holds, by a schema.
-fn lines_on<V: Variables, A: Allocator + Copy>(
+fn lines_on<A: Allocator + Copy>(
     alloc: A,
-    store: &V,
+    store: &Store<MemFlash<A>>,
     schema: &Schema<A>,
-) -> Result<Vec<u8, A>, AllocError>
-    requires { StaysOn (V.device store.now) }
-    ensures { IfOk result (λ text. text.items
-        ≡ listed_lines schema.now (listed_in schema.now (state_of (V.device store.now)).map)) }
+) -> Result<Vec<u8, A>, Fault>
+    requires { StaysOn store.now }
+    ensures lines { IfOk result (λ text. text.items
+        ≡ listed_lines schema.now (listed_in schema.now (state_of store.now).map)) }
+    ensures fault { IfErr result (λ fault. fault ≡ Fault.Memory) }
 {
     let listed = list_on(alloc, store, schema)?;
     let mut text = Vec::new(alloc);
@@ -92,14 +92,14 @@ fn lines_on<V: Variables, A: Allocator + Copy>(
 }
 
 /// What a store whose power stays on holds.
-fn list_on<V: Variables, A: Allocator + Copy>(
+fn list_on<A: Allocator + Copy>(
     alloc: A,
-    store: &V,
+    store: &Store<MemFlash<A>>,
     schema: &Schema<A>,
 ) -> Result<Vec<Listed, A>, AllocError>
-    requires { StaysOn (V.device store.now) }
+    requires { StaysOn store.now }
     ensures { IfOk result (λ listed. listed.items
-        ≡ listed_in schema.now (state_of (V.device store.now)).map) }
+        ≡ listed_in schema.now (state_of store.now).map) }
 {
     match schema.list(alloc, store) {
         Ok(listed) => Ok(listed),
@@ -138,8 +138,7 @@ fn push_listed<A: Allocator>(
     push_number(out, u64::from(address.get()))?;
     push_held(out, held)?;
     push_name(out, schema, entry)?;
-    out.extend_from_slice(b"\n")?;
-    Ok(())
+    out.extend_from_slice(b"\n")
 }
 
 /// Writes the name of an entry, if there is one, behind a space. After an error there may be a part of
@@ -171,7 +170,6 @@ fn push_held<A: Allocator>(out: &mut Vec<u8, A>, held: Held) -> Result<(), Alloc
         Held::Stale(value) => (b" ".as_slice(), value, b" stale".as_slice()),
         Held::Default(value) => (b" default ".as_slice(), value, b"".as_slice()),
     };
-    out.extend_from_slice(before)?;
-    push_number(out, u64::from(value))?;
+    push_number_behind(out, before, u64::from(value))?;
     out.extend_from_slice(after)
 }

@@ -11,12 +11,12 @@ ghost use Rattle.ee_image_store.specs.Opening.{StaysOn};
 ghost use Rattle.ee_faults.specs.Causes.{NamesEach};
 
 use super::opening::open_with_settings;
-use ee_core::{Store, Variables};
+use ee_core::Store;
 use ee_faults::Fault;
-use ee_flash::Flash;
+use ee_flash::MemFlash;
 use ee_image_store::{ImageAndText, text_left};
 use ee_settings::{Schema, Stale, StaleFault, TidyFault};
-use ee_text::push_number;
+use ee_text::push_number_behind;
 use std::alloc::{AllocError, Allocator, Global};
 
 /// The settings whose stored value in the image that a text spells isn't in their range, as there is
@@ -41,8 +41,7 @@ pub fn stale_text<A: Allocator + Copy>(
     ensures names { NamesEach Fault.Memory (IsOpenWithSettingsFault image.now settings.now) result }
 {
     let opened = open_with_settings(alloc, heap, image, settings)?;
-    let text = stale_lines_on(alloc, &opened.store, &opened.schema)?;
-    Ok(text)
+    stale_lines_on(alloc, &opened.store, &opened.schema)
 }
 
 /// Forgets each address that has a value in the image that a text spells and that no setting has, and
@@ -73,14 +72,15 @@ pub fn tidy_image<A: Allocator + Copy>(
 }
 
 /// The lines of the stale entries of a store whose power stays on.
-fn stale_lines_on<V: Variables, A: Allocator + Copy>(
+fn stale_lines_on<A: Allocator + Copy>(
     alloc: A,
-    store: &V,
+    store: &Store<MemFlash<A>>,
     schema: &Schema<A>,
-) -> Result<Vec<u8, A>, AllocError>
-    requires { StaysOn (V.device store.now) }
-    ensures { IfOk result (λ text. text.items
-        ≡ stale_lines schema.now (stale_in (state_of (V.device store.now)).map schema.now)) }
+) -> Result<Vec<u8, A>, Fault>
+    requires { StaysOn store.now }
+    ensures lines { IfOk result (λ text. text.items
+        ≡ stale_lines schema.now (stale_in (state_of store.now).map schema.now)) }
+    ensures fault { IfErr result (λ fault. fault ≡ Fault.Memory) }
 {
     let stale = stale_on(alloc, store, schema)?;
     let mut text = Vec::new(alloc);
@@ -89,14 +89,14 @@ fn stale_lines_on<V: Variables, A: Allocator + Copy>(
 }
 
 /// The stale entries of a store whose power stays on.
-fn stale_on<V: Variables, A: Allocator + Copy>(
+fn stale_on<A: Allocator + Copy>(
     alloc: A,
-    store: &V,
+    store: &Store<MemFlash<A>>,
     schema: &Schema<A>,
 ) -> Result<Vec<Stale, A>, AllocError>
-    requires { StaysOn (V.device store.now) }
+    requires { StaysOn store.now }
     ensures { IfOk result (λ stale. stale.items
-        ≡ stale_in (state_of (V.device store.now)).map schema.now) }
+        ≡ stale_in (state_of store.now).map schema.now) }
 {
     match schema.stale_values(alloc, store) {
         Ok(stale) => Ok(stale),
@@ -106,9 +106,9 @@ fn stale_on<V: Variables, A: Allocator + Copy>(
 }
 
 /// Tidies a store whose power stays on, and gives what this leaves.
-fn tidy_left<A: Allocator + Copy, F: Flash + Drop>(
+fn tidy_left<A: Allocator + Copy>(
     alloc: A,
-    mut store: Store<F>,
+    mut store: Store<MemFlash<A>>,
     schema: &Schema<A>,
 ) -> Result<ImageAndText<A>, Fault>
     requires { StaysOn store }
@@ -125,12 +125,12 @@ fn tidy_left<A: Allocator + Copy, F: Flash + Drop>(
 }
 
 /// Tidies a store whose power stays on.
-fn tidy_on<V: Variables, A: Allocator>(store: &mut V, schema: &Schema<A>) -> Result<u64, Fault>
-    requires { StaysOn (V.device store.old) }
+fn tidy_on<A: Allocator>(store: &mut Store<MemFlash<A>>, schema: &Schema<A>) -> Result<u64, Fault>
+    requires { StaysOn store.old }
     ensures tidied { IfOk result (λ count.
-        IsTidied schema.now (V.device store.old) count (V.device store.new)) }
+        IsTidied schema.now store.old count store.new) }
     ensures told { IfErr result (λ fault. fault ≡ Fault.Spent) }
-    ensures spent { let old = V.device store.old in IfErr result (λ _.
+    ensures spent { let old = store.old in IfErr result (λ _.
         IsSpentAmong old.size (unnamed_in schema.now (state_of old).map) (state_of old)) }
 {
     match schema.tidy(store) {
@@ -170,8 +170,7 @@ fn push_line<A: Allocator>(
         unreachable!("a stale entry is an entry");
     };
     out.extend_from_slice(name.as_bytes())?;
-    out.extend_from_slice(b" ")?;
-    push_number(out, stale.value as u64)?;
+    push_number_behind(out, b" ", stale.value as u64)?;
     out.extend_from_slice(b"\n")
 }
 
@@ -188,7 +187,6 @@ fn tidied_line<A: Allocator + Copy>(alloc: A, count: u64) -> Result<Vec<u8, A>, 
 fn push_tidied<A: Allocator>(out: &mut Vec<u8, A>, count: u64) -> Result<(), AllocError>
     ensures { OnOk result (out.new.items ≡ out.old.items ++ tidied_text count) }
 {
-    out.extend_from_slice(b"tidied ")?;
-    push_number(out, count)?;
+    push_number_behind(out, b"tidied ", count)?;
     out.extend_from_slice(b"\n")
 }

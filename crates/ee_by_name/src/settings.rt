@@ -8,9 +8,9 @@ ghost use Rattle.ee_image_store.specs.Opening.{StaysOn};
 ghost use Rattle.ee_faults.specs.Causes.{NamesEach};
 
 use super::opening::open_with_settings;
-use ee_core::{Store, Variables, WriteFault};
+use ee_core::{Store, WriteFault};
 use ee_faults::Fault;
-use ee_flash::Flash;
+use ee_flash::MemFlash;
 use ee_image_store::{ImageAndText, text_left};
 use ee_settings::{GetFault, Reading, Schema, SetFault};
 use ee_text::push_number;
@@ -73,15 +73,15 @@ pub fn set_setting<A: Allocator + Copy>(
 }
 
 /// The line of what the setting of a name reads as in a store whose power stays on.
-fn reading_on<V: Variables, A: Allocator + Copy>(
+fn reading_on<A: Allocator + Copy>(
     alloc: A,
-    store: &V,
+    store: &Store<MemFlash<A>>,
     schema: &Schema<A>,
     name: &str,
 ) -> Result<Vec<u8, A>, Fault>
-    requires { StaysOn (V.device store.now) }
+    requires { StaysOn store.now }
     ensures got { IfOk result (λ text.
-        IsReadingLine schema.now (state_of (V.device store.now)) name.now text.items) }
+        IsReadingLine schema.now (state_of store.now) name.now text.items) }
     ensures fault { IfErr result (λ fault.
         (IsUnknown schema.now name.now × (fault ≡ Fault.UnknownName)) ⊎ (fault ≡ Fault.Memory)) }
 {
@@ -94,9 +94,13 @@ fn reading_on<V: Variables, A: Allocator + Copy>(
 }
 
 /// What the setting of a name reads as, if there is one.
-fn read_on<V: Variables, A: Allocator>(store: &V, schema: &Schema<A>, name: &str) -> Option<Reading>
-    requires { StaysOn (V.device store.now) }
-    ensures found { IfSome result (IsSettingRead schema.now (state_of (V.device store.now)) name.now) }
+fn read_on<A: Allocator>(
+    store: &Store<MemFlash<A>>,
+    schema: &Schema<A>,
+    name: &str,
+) -> Option<Reading>
+    requires { StaysOn store.now }
+    ensures found { IfSome result (IsSettingRead schema.now (state_of store.now) name.now) }
     ensures none { IfNone result (IsUnknown schema.now name.now) }
 {
     match schema.get(store, name) {
@@ -107,9 +111,9 @@ fn read_on<V: Variables, A: Allocator>(store: &V, schema: &Schema<A>, name: &str
 }
 
 /// Writes a value for the setting of a name in a store whose power stays on, and gives what this leaves.
-fn set_left<A: Allocator + Copy, F: Flash + Drop>(
+fn set_left<A: Allocator + Copy>(
     alloc: A,
-    mut store: Store<F>,
+    mut store: Store<MemFlash<A>>,
     schema: &Schema<A>,
     name: &str,
     value: u32,
@@ -127,16 +131,16 @@ fn set_left<A: Allocator + Copy, F: Flash + Drop>(
 }
 
 /// Writes a value for the setting of a name.
-fn set_on<V: Variables, A: Allocator>(
-    store: &mut V,
+fn set_on<A: Allocator>(
+    store: &mut Store<MemFlash<A>>,
     schema: &Schema<A>,
     name: &str,
     value: u32,
 ) -> Result<(), Fault>
-    requires { StaysOn (V.device store.old) }
+    requires { StaysOn store.old }
     ensures written { OnOk result
-        (IsWritten schema.now (V.device store.old) name.now value (V.device store.new)) }
-    ensures fault { let old = V.device store.old in
+        (IsWritten schema.now store.old name.now value store.new) }
+    ensures fault { let old = store.old in
         IfErr result (IsSettingRefused schema.now old.size (state_of old) name.now value) }
 {
     match schema.set(store, name, value) {

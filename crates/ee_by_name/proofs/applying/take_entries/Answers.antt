@@ -41,7 +41,7 @@ returns-in_err-written-clause-stopped g c =
     let gone = as_many c.loop-name.yielded in
     let number : c.loop-name.number + 1 ≡ length (map seen (map deref_pair c.loop-name.yielded)) + 1 = omega arith in
     let p = err_from_is_err_and c.from_residual.result c.from_residual.ensures.1 in rw (p.1, p.2) (entry_refused c.args.schema.now _ (map seen (map deref_pair c.loop-name.yielded)) (map seen c.next.new.self) c.as_str.result.now (string_bytes c.in-Some.name.now) (view c.in-Some.value.now)
-    (g.V.Variables.device c.args.store.now) (g.V.Variables.device c.loop-name.store) c.loop-name.written (c.loop-name.number + 1) c.in_err-written.field-0.0
+    c.args.store.now c.loop-name.store c.loop-name.written (c.loop-name.number + 1) c.in_err-written.field-0.0
     (split_entries c.args.table.now.entries (map deref_pair c.loop-name.yielded) c.next.new.self (c.in-Some.name.now, c.in-Some.value.now) whole)
     named number c.loop-name.invariant.taken c.in_err-written.ensures.refused)
 
@@ -54,16 +54,16 @@ loop-name-preserved g c =
     record {
       number = number;
       taken = entry_taken c.args.schema.now (map seen (map deref_pair c.loop-name.yielded)) _ c.as_str.result.now (string_bytes c.in-Some.name.now) (view c.in-Some.value.now)
-          (g.V.Variables.device c.args.store.now) (g.V.Variables.device c.loop-name.store) (g.V.Variables.device c.take_entry.new.store) c.loop-name.written c.in_ok-written.field-0
+          c.args.store.now c.loop-name.store c.take_entry.new.store c.loop-name.written c.in_ok-written.field-0
           (gone_more c.loop-name.yielded (c.in-Some.name, c.in-Some.value)) named c.loop-name.invariant.taken c.in_ok-written.ensures.taken;
-      stays_on = (taken_keeps c.args.schema.now (g.V.Variables.device c.loop-name.store) (g.V.Variables.device c.take_entry.new.store) _ c.in_ok-written.field-0 c.loop-name.invariant.stays_on c.in_ok-written.ensures.taken).0;
+      stays_on = (taken_keeps c.args.schema.now c.loop-name.store c.take_entry.new.store _ c.in_ok-written.field-0 c.loop-name.invariant.stays_on c.in_ok-written.ensures.taken).0;
     }
 
 pub returns-clause-applied : goal.returns-clause-applied
 returns-clause-applied g c =
     let start : c.into_iter-name-iterator.result ≡ c.args.table.now.entries = search rules in
     let e = iter_end deref_pair c.args.table.now.entries c.loop-name.yielded c.into_iter-name-iterator.result c.loop-name.name-iterator c.next.new.self c.next.result start c.loop-name.yielded_by c.in-None.is c.next.ensures.steps in
-    subst (λ entries. Applies c.args.schema.now entries (g.V.Variables.device c.args.store.now) c.loop-name.written (g.V.Variables.device c.loop-name.store)) (ap (map seen) e.0 ∙ sym (entries_seen c.args.table.now.entries)) c.loop-name.invariant.taken
+    subst (λ entries. Applies c.args.schema.now entries c.args.store.now c.loop-name.written c.loop-name.store) (ap (map seen) e.0 ∙ sym (entries_seen c.args.table.now.entries)) c.loop-name.invariant.taken
 
 pub returns-clause-entries : goal.returns-clause-entries
 returns-clause-entries g c = c.len-entries.ensures.len ∙ sym (entries_counted c.args.table.now.entries)

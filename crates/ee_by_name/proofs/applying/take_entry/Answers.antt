@@ -22,7 +22,7 @@ returns-then-has_value-clause-taken g c =
     let same = to_z-of_z {w = w64} {z = c.in-Some.value} (search rules) in
     let found = rw same at c.in-Some-in_range.ensures.found in
     let stored = rw c.if-has_value.true at c.has_value.ensures.stored in
-    taken_stored c.args.schema.now (g.V.Variables.device c.args.store.now) c.args.name.now (view c.args.value.now) c.in-Some.value c.in-Some-find.numbers c.in-Some-in_range.value (sym c.as_integer.ensures ∙ c.in-Some.is)
+    taken_stored c.args.schema.now c.args.store.now c.args.name.now (view c.args.value.now) c.in-Some.value c.in-Some-find.numbers c.in-Some-in_range.value (sym c.as_integer.ensures ∙ c.in-Some.is)
     c.in-Some-find.ensures.found (found.0, (found.1, found.2)) stored
 
 pub returns-clause-taken : goal.returns-clause-taken
@@ -30,7 +30,7 @@ returns-clause-taken g c =
     let same = to_z-of_z {w = w64} {z = c.in-Some.value} (search rules) in
     let found = rw same at c.in-Some-in_range.ensures.found in
     let another = rw c.if-has_value.false at c.has_value.ensures.another in
-    taken_new c.args.schema.now (g.V.Variables.device c.args.store.now) _ c.args.name.now (view c.args.value.now) c.in-Some.value c.in-Some-find.numbers c.in-Some-in_range.value c.in_ok-write_on.field-0 c.requires
+    taken_new c.args.schema.now c.args.store.now _ c.args.name.now (view c.args.value.now) c.in-Some.value c.in-Some-find.numbers c.in-Some-in_range.value c.in_ok-write_on.field-0 c.requires
     (sym c.as_integer.ensures ∙ c.in-Some.is) c.in-Some-find.ensures.found (found.0, (found.1, found.2)) another c.in_ok-write_on.ensures.written
 
 pub returns-in_err-write_on-clause-refused : goal.returns-in_err-write_on-clause-refused
@@ -38,5 +38,5 @@ returns-in_err-write_on-clause-refused g c =
     let same = to_z-of_z {w = w64} {z = c.in-Some.value} (search rules) in
     let found = rw same at c.in-Some-in_range.ensures.found in
     let another = rw c.if-has_value.false at c.has_value.ensures.another in
-    passed_on _ _ _ c.from_residual.ensures.1 (unwritten c.args.schema.now (g.V.Variables.device c.args.store.now) c.args.entry c.args.name.now (view c.args.value.now) c.in-Some.value c.in-Some-find.numbers c.in-Some-in_range.value _
+    passed_on _ _ _ c.from_residual.ensures.1 (unwritten c.args.schema.now c.args.store.now c.args.entry c.args.name.now (view c.args.value.now) c.in-Some.value c.in-Some-find.numbers c.in-Some-in_range.value _
     (sym c.as_integer.ensures ∙ c.in-Some.is) c.in-Some-find.ensures.found (found.0, (found.1, found.2)) another c.in_err-write_on.ensures.refused)

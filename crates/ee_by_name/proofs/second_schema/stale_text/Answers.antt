@@ -1,6 +1,7 @@
-use Rattle.std.proofs.Common.{inl, inr, refl}
-use Rattle.ee_text.proofs.Public.{error_passed_on, passed_on}
-use Rattle.ee_image_store.proofs.Public.{no_memory_to_open}
+use Rattle.std.proofs.Common.{inl}
+use Rattle.std.proofs.lemmas.Result.{IfErr-weaker, IfOk-weaker}
+use Rattle.ee_text.proofs.Public.{error_passed_on}
+use Rattle.ee_by_name.proofs.Listings.{no_memory}
 use Rattle.ee_by_name.proofs.TidiedImages.{are_stale_lines}
 use Rattle.ee_by_name.proofs.second_schema.stale_text.Goals as goal
 
@@ -8,14 +9,12 @@ pub returns-in_err-opened-clause-names : goal.returns-in_err-opened-clause-names
 returns-in_err-opened-clause-names g c = λ cause some applies. error_passed_on _ _ _ _ c.from_residual.ensures.1 (c.in_err-opened.ensures.names cause some applies)
 
 pub returns-clause-names : goal.returns-clause-names
-returns-clause-names g c = λ cause some applies. c.in_ok-opened.ensures.names cause some applies
+returns-clause-names g c = λ cause some applies. absurd (c.in_ok-opened.ensures.names cause some applies)
 
-pub returns-in_err-text-clause-fault : goal.returns-in_err-text-clause-fault
-returns-in_err-text-clause-fault g c = passed_on _ _ _ c.from_residual-in_err-text.ensures.1 (inl (no_memory_to_open c.args.image.now))
+pub returns-clause-fault : goal.returns-clause-fault
+returns-clause-fault g c = IfErr-weaker c.stale_lines_on.result _ _ (λ fault none. inl (no_memory c.args.image.now fault none)) c.stale_lines_on.ensures.fault
 
 pub returns-clause-stale : goal.returns-clause-stale
-returns-clause-stale g c =
-    are_stale_lines c.args.image.now c.args.settings.now _ c.in_ok-opened.opened.store c.in_ok-opened.opened.schema c.in_ok-opened.ensures.opened c.in_ok-opened.ensures.spelled c.in_ok-text.ensures
-
-pub returns-in_err-text-clause-names : goal.returns-in_err-text-clause-names
-returns-in_err-text-clause-names g c = λ cause some applies. error_passed_on _ _ _ _ c.from_residual-in_err-text.ensures.1 (inr refl)
+returns-clause-stale g c = IfOk-weaker c.stale_lines_on.result _ _
+    (λ text. are_stale_lines c.args.image.now c.args.settings.now text.items c.in_ok-opened.opened.store c.in_ok-opened.opened.schema c.in_ok-opened.ensures.opened c.in_ok-opened.ensures.spelled)
+    c.stale_lines_on.ensures.lines

@@ -1,13 +1,11 @@
-use Rattle.std.proofs.Common.{rules}
-use Rattle.ee_settings.proofs.Public.{spent_among}
-use Rattle.ee_by_name.proofs.TidiedImages.{is_tidied, never_cut}
+use Rattle.ee_by_name.proofs.TidiedImages.{is_tidied, never_cut_so, spent_so}
 use Rattle.ee_by_name.proofs.second_schema.tidy_on.Goals as goal
 
 pub unreachable-requires-in-Err-Cut : goal.unreachable-requires-in-Err-Cut
-unreachable-requires-in-Err-Cut g c = search (rules, never_cut)
+unreachable-requires-in-Err-Cut g c = never_cut_so c.args.schema.now _ _ c.in-Err-Cut.field-0 c.in-Err-Cut.field-0-is c.requires c.in-Err-Cut.ensures
 
 pub returns-in-Ok-clause-tidied : goal.returns-in-Ok-clause-tidied
-returns-in-Ok-clause-tidied g c = search (rules, is_tidied)
+returns-in-Ok-clause-tidied g c = is_tidied c.args.schema.now _ _ c.in-Ok.count c.requires c.in-Ok.ensures
 
 pub returns-in-Err-Spent-clause-spent : goal.returns-in-Err-Spent-clause-spent
-returns-in-Err-Spent-clause-spent g c = search (rules, spent_among)
+returns-in-Err-Spent-clause-spent g c = spent_so c.args.schema.now _ _ c.in-Err-Spent.field-0 c.in-Err-Spent.field-0-is c.in-Err-Spent.ensures
