@@ -26,7 +26,7 @@ use ee_image_store::{new_store, open_image, text_of};
 use ee_index::IndexedStore;
 use ee_plan::start_of;
 use ee_script::{answer_reader, answer_script};
-use std::alloc::{AllocError, Allocator, Global};
+use std::alloc::{Allocator, Global};
 use std::io::Read;
 
 /// What a script leaves: the image as text, and the report.
@@ -134,8 +134,7 @@ pub fn replay_reader<A: Allocator + Copy, R: Read>(
         ⊎ (fault ≡ ReplayFault.Read)) }
 {
     let store = open_image(alloc, image)?;
-    let replayed = run_reader(alloc, store, reader)?;
-    Ok(replayed)
+    run_reader(alloc, store, reader)
 }
 
 /// Answers a script on a new device of this shape, which is formatted first, and gives the image that
@@ -159,9 +158,8 @@ pub fn try_script<A: Allocator + Copy>(
         → MatchResult result (λ _. ⊥)
         (λ fault. (fault ≡ ReplayFault.Script n) ⊎ (fault ≡ ReplayFault.Memory)) }
 {
-    let store = new_store(alloc, shape)?;
-    let tried = run_on(alloc, store, script)?;
-    Ok(tried)
+    let new = new_store(alloc, shape)?;
+    run_on(alloc, new, script)
 }
 
 /// Answers a script on a store, and gives the image that this leaves and the report.
@@ -179,8 +177,7 @@ fn run_on<A: Allocator + Copy, S: Opened<MemFlash<A>, A>>(
     let start = start_of(alloc, &store)?;
     let server = Server::new(alloc, store);
     let (server, lines) = answer_script(alloc, server, script)?;
-    let replayed = left_by(alloc, server, &start, lines)?;
-    Ok(replayed)
+    left_by(alloc, server, &start, lines)
 }
 
 /// The same of a script that a reader gives.
@@ -200,8 +197,7 @@ fn run_reader<A: Allocator + Copy, S: Opened<MemFlash<A>, A>, R: Read>(
     let start = start_of(alloc, &store)?;
     let server = Server::new(alloc, store);
     let (server, lines) = answer_reader(alloc, server, reader, MOST_READS)?;
-    let replayed = left_by(alloc, server, &start, lines)?;
-    Ok(replayed)
+    left_by(alloc, server, &start, lines)
 }
 
 /// The image and the report that a script leaves: `start` is what its trace began from, `lines` are those of
@@ -211,12 +207,13 @@ fn left_by<A: Allocator + Copy, S: Opened<MemFlash<A>, A>>(
     server: Server<S, A>,
     start: &Start<A>,
     lines: Vec<u8, A>,
-) -> Result<Replayed<A>, AllocError>
-    ensures { IfOk result (λ replayed. (old : Device) (script : List ℕ)
+) -> Result<Replayed<A>, ReplayFault>
+    ensures run { IfOk result (λ replayed. (old : Device) (script : List ℕ)
         → IsTraced old script (point_of_desk S.device server.desk) server.notes lines.items
         → IsStartOf (slot_count old.size) (state_of old) start.now → IsProper start.now
         → StaysOn old
         → IsRunOn old script replayed.image.items replayed.report.items) }
+    ensures fault { IfErr result (λ fault. fault ≡ ReplayFault.Memory) }
 {
     let Server { desk, notes, .. } = server;
     let desk = desk.settled_to_count(alloc);

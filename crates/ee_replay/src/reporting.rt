@@ -54,11 +54,9 @@ fn push_certificate<A: Allocator, B: Allocator>(
         → report.new.items ≡ report.old.items ++ text_of (claim_noted start.now notes)) }
 {
     if notes.was_cut() {
-        report.extend_from_slice(b"no certificate\n")?;
-        return Ok(());
+        return report.extend_from_slice(b"no certificate\n");
     }
-    write_certificate(&notes.into_certificate(start), report)?;
-    Ok(())
+    write_certificate(&notes.into_certificate(start), report)
 }
 
 /// Writes how a desk stands, and how often the store on it moved. After an error there may be a part
@@ -89,8 +87,7 @@ fn push_off<A: Allocator>(transfers: u64, report: &mut Vec<u8, A>) -> Result<(),
         ++ (codes "end off transfers " ++ decimal transfers ++ codes "\n")) }
 {
     push_number_behind(report, b"end off transfers ", transfers)?;
-    report.extend_from_slice(b"\n")?;
-    Ok(())
+    report.extend_from_slice(b"\n")
 }
 
 /// Writes how a store stands, and how often it moved. After an error there may be a part of the line.
@@ -110,6 +107,5 @@ fn push_end<A: Allocator, V: Variables>(
     push_number_behind(report, b" live ", store.live_count() as u64)?;
     push_number_behind(report, b" pending ", store.pending() as u64)?;
     push_number_behind(report, b" transfers ", transfers)?;
-    report.extend_from_slice(b"\n")?;
-    Ok(())
+    report.extend_from_slice(b"\n")
 }

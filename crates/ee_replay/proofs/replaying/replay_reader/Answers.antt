@@ -1,5 +1,6 @@
-use Rattle.std.proofs.Common.{inl, inr}
-use Rattle.std.proofs.lemmas.Result.{err_from_is_err_and}
+use Rattle.std.proofs.Common.{◌≡◌, ◌⊎◌, inl, inr}
+use Rattle.std.proofs.lemmas.Result.{IfErr-weaker, IfOk-weaker, MatchResult-from_both, err_from_is_err_and}
+use Rattle.ee_faults.specs.declared.replay_fault.ReplayFault.TheVariants.{Memory, Read, Script}
 use Rattle.ee_replay.proofs.Given.{given_is_good, named_of_stream, only_memory}
 use Rattle.ee_image_store.proofs.Public.{one_open_fault, store_is_good}
 use Rattle.ee_replay.proofs.Replays.{is_replayed}
@@ -15,28 +16,25 @@ returns-in_err-store-clause-bad g c = λ script n known store bad.
     let p = err_from_is_err_and c.from_residual.result c.from_residual.ensures.1 in
     rw p.1 (rw p.2 (inr (inl (only_memory c.args.image.now _ store c.in_err-store.ensures.fault))))
 
-pub returns-in_err-replayed-clause-names : goal.returns-in_err-replayed-clause-names
-returns-in_err-replayed-clause-names g c = λ cause some applies.
-    let opened = c.in_ok-store.ensures.opened in
-    absurd (store_is_good c.args.image.now opened.device cause opened.old some applies)
-
-pub returns-in_err-replayed-clause-bad : goal.returns-in_err-replayed-clause-bad
-returns-in_err-replayed-clause-bad g c = λ script n known store bad.
-    let p = err_from_is_err_and c.from_residual-in_err-replayed.result c.from_residual-in_err-replayed.ensures.1 in
-    rw p.1 (rw p.2 (named_of_stream _ _ script n _ known bad c.in_err-replayed.ensures.fault))
-
 pub returns-clause-replayed : goal.returns-clause-replayed
-returns-clause-replayed g c =
-    let run = c.in_ok-replayed.ensures.run in
-    (run.0, run.1, is_replayed _ _ _ _ c.in_ok-store.store c.in_ok-store.ensures.opened run.2)
+returns-clause-replayed g c = IfOk-weaker c.run_reader.result _ _
+    (λ replayed run. (run.0, run.1, is_replayed _ _ _ _ c.in_ok-store.store c.in_ok-store.ensures.opened run.2))
+    c.run_reader.ensures.run
+
+pub returns-clause-fault : goal.returns-clause-fault
+returns-clause-fault g c =
+    let opened = c.in_ok-store.ensures.opened in
+    IfErr-weaker c.run_reader.result _ _ (λ fault why. inr ((opened.device, opened.old), why)) c.run_reader.ensures.fault
 
 pub returns-clause-names : goal.returns-clause-names
 returns-clause-names g c = λ cause some applies.
     let opened = c.in_ok-store.ensures.opened in
-    store_is_good c.args.image.now opened.device cause opened.old some applies
+    absurd (store_is_good c.args.image.now opened.device cause opened.old some applies)
 
 pub returns-clause-bad : goal.returns-clause-bad
 returns-clause-bad g c = λ script n known store bad.
-    let run = c.in_ok-replayed.ensures.run in
-    given_is_good _ _ c.args.image.now script run.0 _ _ n known bad run.1
-    (is_replayed _ _ _ _ c.in_ok-store.store c.in_ok-store.ensures.opened run.2)
+    MatchResult-from_both c.run_reader.result (λ replayed. ⊥) (λ fault. (fault ≡ Script n) ⊎ (fault ≡ Memory) ⊎ (fault ≡ Read))
+    (IfOk-weaker c.run_reader.result _ _
+    (λ replayed run. given_is_good _ _ c.args.image.now script run.0 _ _ n known bad run.1 (is_replayed _ _ _ _ c.in_ok-store.store c.in_ok-store.ensures.opened run.2))
+    c.run_reader.ensures.run)
+    (IfErr-weaker c.run_reader.result _ _ (λ fault why. named_of_stream _ _ script n fault known bad why) c.run_reader.ensures.fault)

@@ -1,4 +1,5 @@
 use Rattle.std.proofs.Common.{subst, sym}
+use Rattle.std.proofs.lemmas.Result.{IfErr-weaker, IfOk-weaker}
 use Rattle.ee_check.specs.Schedule.{IsProper}
 use Rattle.ee_replay.specs.Desk.{point_of_desk}
 use Rattle.ee_replay.specs.Serving.{with_notes}
@@ -10,5 +11,9 @@ returns-clause-run g c =
     let store = c.settled_to_count-store.ensures in
     let traced = is_traced (λ server. with_notes (point_of_desk g.S.Variables.device server.desk) server.notes) (g.S.Variables.device c.settled_to_count-store.result) _ _ _ _
     c.in_ok-server.ensures.answered c.new-server.ensures.point c.new-server.ensures.notes in
-    let run = c.in_ok-replayed.ensures _ _ traced c.in_ok-start.ensures.start (subst IsProper c.start.view_is c.start.invariant.proper) (rw store c.requires) in
-    rw (sym store) run
+    let proper = subst IsProper c.start.view_is c.start.invariant.proper in
+    IfOk-weaker c.left_by.result _ _ (λ replayed made. rw (sym store) (made _ _ traced c.in_ok-start.ensures.start proper (rw store c.requires))) c.left_by.ensures.run
+
+-- memory ran out
+pub returns-clause-fault : goal.returns-clause-fault
+returns-clause-fault g c = IfErr-weaker c.left_by.result _ _ (λ fault none. rw none tt) c.left_by.ensures.fault
