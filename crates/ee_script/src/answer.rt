@@ -44,22 +44,24 @@ pub fn push_answer<A: Allocator>(out: &mut Vec<u8, A>, answer: Answer) -> Result
     ensures ok { OnOk result (out.new.items ≡ out.old.items ++ report (answer ∷ [])) }
     ensures err { OnErr result (GrowsByFront out.old.items (report (answer ∷ [])) out.new.items) }
 {
-    match answer {
-        Answer::Appended => out.extend_from_slice(b"ok\n"),
-        Answer::Moved => out.extend_from_slice(b"moved\n"),
-        Answer::Full => out.extend_from_slice(b"full\n"),
-        Answer::Spent => out.extend_from_slice(b"spent\n"),
-        Answer::Cleaned => out.extend_from_slice(b"clean\n"),
-        Answer::Idle => out.extend_from_slice(b"idle\n"),
+    // The rare ones share one call.
+    let rare: &[u8] = match answer {
+        Answer::Appended => return out.extend_from_slice(b"ok\n"),
+        Answer::Moved => return out.extend_from_slice(b"moved\n"),
         Answer::Value(value) => {
             push_number(out, u64::from(value))?;
-            out.extend_from_slice(b"\n")
+            return out.extend_from_slice(b"\n");
         }
-        Answer::NoValue => out.extend_from_slice(b"none\n"),
-        Answer::Absent => out.extend_from_slice(b"absent\n"),
-        Answer::Armed => out.extend_from_slice(b"armed\n"),
-        Answer::Cut => out.extend_from_slice(b"cut\n"),
-        Answer::Off => out.extend_from_slice(b"off\n"),
-        Answer::Opened => out.extend_from_slice(b"open\n"),
-    }
+        Answer::NoValue => return out.extend_from_slice(b"none\n"),
+        Answer::Full => b"full\n",
+        Answer::Spent => b"spent\n",
+        Answer::Cleaned => b"clean\n",
+        Answer::Idle => b"idle\n",
+        Answer::Absent => b"absent\n",
+        Answer::Armed => b"armed\n",
+        Answer::Cut => b"cut\n",
+        Answer::Off => b"off\n",
+        Answer::Opened => b"open\n",
+    };
+    out.extend_from_slice(rare)
 }
