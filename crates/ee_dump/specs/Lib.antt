@@ -4,3 +4,4 @@ pub mod Fault
 pub mod Reading
 pub mod Writing
 pub mod Laws
+pub mod intel_hex

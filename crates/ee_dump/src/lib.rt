@@ -5,7 +5,8 @@
 //! bytes of 255 alone; no word holds the number that these spell, so that a dump says which words are erased. A torn word has
 //! no bytes, so that a device with one has no dump (`specs/Dump.antt`); but two numbers that make no word are read as a torn
 //! one (`specs/Pair.antt`). `laws` says that a device is told by its size, its dump and its wear, that all bytes of the right
-//! length are a dump of words, and that a device has a dump or a first torn word.
+//! length are a dump of words, and that a device has a dump or a first torn word. `intel_hex` reads such bytes out of a text and
+//! writes them as one.
 //!
 //! # What is proved
 //!
@@ -19,6 +20,7 @@
 
 mod fault;
 mod form;
+pub mod intel_hex;
 pub mod laws;
 mod reading;
 mod word;
@@ -26,5 +28,6 @@ mod writing;
 
 pub use fault::{DumpFault, WriteFault};
 pub use form::Form;
+pub use intel_hex::{HexFault, read_hex, write_hex};
 pub use reading::read_dump;
 pub use writing::write_dump;

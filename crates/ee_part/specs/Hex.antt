@@ -4,11 +4,11 @@ use Rattle.ee_flash.specs.Size.{Size}
 use Rattle.ee_flash.specs.Device.{Device}
 use Rattle.ee_dump.specs.Dump.{dump_length}
 use Rattle.ee_dump.specs.declared.form.Form.{Form}
-use Rattle.ee_hex.specs.Fault.{IsHexFault}
-use Rattle.ee_hex.specs.Text.{IsHexOf}
-use Rattle.ee_hex.specs.Written.{hex_text}
-use Rattle.ee_hex.specs.declared.fault.HexFault.{HexFault}
-use Rattle.ee_hex.specs.declared.fault.HexFault.TheVariants as hex
+use Rattle.ee_dump.specs.intel_hex.Fault.{IsHexFault}
+use Rattle.ee_dump.specs.intel_hex.Text.{IsHexOf}
+use Rattle.ee_dump.specs.intel_hex.Written.{hex_text}
+use Rattle.ee_dump.specs.declared.intel_hex.fault.HexFault.{HexFault}
+use Rattle.ee_dump.specs.declared.intel_hex.fault.HexFault.TheVariants as hex
 use Rattle.ee_image_store.specs.Opening.{SpellsDevice}
 use Rattle.ee_faults.specs.declared.fault.Fault.{Fault}
 use Rattle.ee_faults.specs.declared.fault.Fault.TheVariants.{BadLine, Base, Memory}

@@ -5,10 +5,9 @@ ghost use Rattle.ee_faults.specs.Causes.{NamesEach};
 
 use crate::dump::{dump_of, import_image};
 use crate::image::read_part;
-use ee_dump::Form;
+use ee_dump::{Form, HexFault, read_hex, write_hex};
 use ee_faults::{Fault, File};
 use ee_flash::{Flash, Shape};
-use ee_hex::{HexFault, read_hex, write_hex};
 use std::alloc::Allocator;
 
 /// The text of the image of a part of this shape, whose first word stands at the address `base`, from

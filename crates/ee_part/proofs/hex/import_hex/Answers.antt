@@ -1,5 +1,5 @@
 use Rattle.std.proofs.Common.{rules, ◌≡◌, ℕ, Vec, subst, sym, true}
-use Rattle.ee_hex.specs.Fault.{IsBadHexLine, IsHexFault}
+use Rattle.ee_dump.specs.intel_hex.Fault.{IsBadHexLine, IsHexFault}
 use Rattle.ee_part.proofs.HexCauses.{hex_imported, hex_named, hex_names, hex_not_imported, not_fitting, not_placed, text_wrong}
 use Rattle.ee_part.proofs.hex.import_hex.Goals as goal
 
