@@ -47,7 +47,7 @@ impl fmt::Display for File {
 }
 
 /// What keeps the program from its work.
-#[derive(Clone, Copy, PartialEq, Eq)]
+#[derive(Clone, Copy)]
 pub enum Fault {
     /// Opening or reading failed, or the most read calls were made.
     CannotRead(File),
