@@ -17,12 +17,12 @@ found : (device : Device) (live : Option (Side × ℕ)) → live_of device ≡ l
 found device None e has = absurd (cc (sym (ap is_some e) ∙ has.0))
 found device (Some live) e has = (live.0, live.1, has.1 live.0 live.1 e)
 
-pub legal_there : {S A : Type 0} (desk : Desk S A) → IsLegalSo desk → IsLegalDesk desk
+pub legal_there : {A : Type 0} (desk : Desk A) → IsLegalSo desk → IsLegalDesk desk
 legal_there (Open store) so = tt
 legal_there (Bare flash) so = found (device_of flash) (live_of (device_of flash)) refl (so.alone flash refl)
 legal_there Gone so = so.there refl
 
-pub legal_so : {S A : Type 0} (desk : Desk S A) → IsLegalDesk desk → IsLegalSo desk
+pub legal_so : {A : Type 0} (desk : Desk A) → IsLegalDesk desk → IsLegalSo desk
 legal_so (Open store) legal = record { there = λ e. absurd (cc e); alone = λ flash e. absurd (cc e) }
-legal_so {S} {A} (Bare flash) legal = search (rules, has_image)
+legal_so {A} (Bare flash) legal = search (rules, has_image)
 legal_so Gone legal = absurd legal

@@ -1,4 +1,3 @@
-mod Openings
 mod OneReplayCause
 mod Runs
 mod NotedRuns

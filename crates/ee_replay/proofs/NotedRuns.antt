@@ -10,6 +10,7 @@ use Rattle.ee_pages.specs.Meaning as meaning
 use Rattle.ee_core.specs.Changes.{Appends, IsAccepted, IsCutAppend, IsCutChange, IsCutMove, Moves}
 use Rattle.ee_core.specs.State.{State, appended_state, moved_state, state_of}
 use Rattle.std.proofs.lemmas.Bool.{cases_order}
+use Rattle.std.proofs.lemmas.Grind.{common_steps}
 use Rattle.ee_check.specs.declared.change.Change.{Change}
 use Rattle.ee_check.specs.declared.change.Change.TheVariants as changes
 use Rattle.ee_check.specs.Certificate.{IsCertificateHeader, IsTight}
@@ -28,6 +29,7 @@ use Rattle.ee_script.specs.declared.answer.Answer.TheVariants.{Appended, Moved, 
 use Rattle.ee_script.specs.declared.command.Command.{Command}
 use Rattle.ee_script.specs.declared.command.Command.TheVariants.{Write, Read, Forget, Clean, Arm, PowerOn}
 use Rattle.ee_script.proofs.Public.{IsAnswered-seen}
+use Rattle.ee_core.specs.Finished.{IsStore}
 use Rattle.ee_core.specs.Points.{Point}
 use Rattle.ee_core.specs.Runs.{Forgot, Wrote}
 use Rattle.ee_core.specs.declared.variables.ForgetFault.{ForgetFault}
@@ -318,6 +320,10 @@ count_one counted generation slots fill next wide full a b c h = rw (a, b, c) (o
 count_turn : (counted generation slots fill next wide full : ℕ) → next ≡ generation + 1 → wide ≡ slots → fill ≡ slots → counted ≤ generation * (slots + 1) + fill
     → counted + 1 ≤ next * (wide + 1) + full
 count_turn counted generation slots fill next wide full a b c h = search (rules, add-mul, one-mul)
+
+-- before the first change
+pub none_counted : (device : Device) (fill : ℕ) → IsStore device → fill ≡ (state_of device).fill → IsCounted device (no_notes fill)
+none_counted device fill store is = grind (arith, common_steps)
 
 -- where the size and the state are as before
 same_place : (old new : Device) (notes : Notes) → new.size ≡ old.size → state_of new ≡ state_of old → IsCounted old notes → IsCounted new notes

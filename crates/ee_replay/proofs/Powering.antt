@@ -12,12 +12,12 @@ use Rattle.ee_pages.specs.declared.side.Side.TheVariants.{First, Second}
 use Rattle.ee_core.proofs.Public.{legal_on, legal_powered, live_powered, state_in_on, state_in_powered}
 use Rattle.ee_core.specs.Points.{Point, with_power_on, open_point}
 use Rattle.ee_core.specs.Finished.{IsMarked, IsStore}
+use Rattle.ee_core.specs.Openings.{OpenFails}
+use Rattle.ee_core.specs.declared.opening.OpenFault.{OpenFault}
+use Rattle.ee_core.specs.declared.opening.OpenFault.TheVariants.{Scan}
 use Rattle.ee_core.specs.State.{state_of}
 use Rattle.ee_flash.specs.declared.fuse.Fuse.{Fuse}
-use Rattle.ee_index.specs.Index.{IndexedOpenFails}
 use Rattle.ee_index.specs.Kept.{IsKeptBeside}
-use Rattle.ee_index.specs.declared.indexed.IndexedFault.{IndexedFault}
-use Rattle.ee_index.specs.declared.indexed.IndexedFault.TheVariants.{Scan}
 use Rattle.ee_index.specs.declared.indexed.Kept.{Kept}
 use Rattle.ee_replay.specs.Desk.{SaysTheSame}
 use Rattle.ee_replay.specs.Serving.{ArmsDevice, ArmsItsFuse, IsArmed, IsSound, with_cut_to_come}
@@ -69,6 +69,9 @@ armed_is old new fuse armed = armed.new_is ∙ armed.arms.device_is
 pub store_with_fuse : (old new : Device) (fuse : Fuse) → ArmsDevice old fuse new → IsStore old → IsStore new
 store_with_fuse old new fuse armed store = subst IsStore (sym (armed_is old new fuse armed)) (store_armed old store)
 
+pub layout_with_fuse : (layout : Layout) (old new : Device) (fuse : Fuse) → ArmsDevice old fuse new → IsLayout old layout → IsLayout new layout
+layout_with_fuse layout old new fuse armed is = subst (λ device. IsLayout device layout) (sym (armed_is old new fuse armed)) (layout_armed old layout is)
+
 pub kept_with_fuse : {A : Type 0} (kept : Kept A) (old new : Device) (fuse : Fuse) → ArmsDevice old fuse new → IsKeptBeside old kept → IsKeptBeside new kept
 kept_with_fuse kept old new fuse armed is = subst (λ device. IsKeptBeside device kept) (sym (armed_is old new fuse armed)) (kept_armed old kept is)
 
@@ -103,6 +106,6 @@ pub store_sound : (device : Device) → IsStore device → IsSound (open_point d
 store_sound device store = record { legal = store.legal; on = λ on. on; store = λ on. store }
 
 -- the image of a device whose power came on is still legal, so opening it finds no fault
-pub opens_well : (device old new : Device) (why : IndexedFault) (fault : ScanFault) → old ≡ with_power_on device → IsLegal device → why ≡ Scan fault → IndexedOpenFails old why new → ⊥
+pub opens_well : (device old new : Device) (why : OpenFault) (fault : ScanFault) → old ≡ with_power_on device → IsLegal device → why ≡ Scan fault → OpenFails old why new → ⊥
 opens_well device old new why fault on legal told fails =
-    legal_is_good old fault (subst IsLegal (sym on) (legal_on device legal)) (subst (λ (w : IndexedFault). IndexedOpenFails old w new) told fails).0
+    legal_is_good old fault (subst IsLegal (sym on) (legal_on device legal)) (subst (λ (w : OpenFault). OpenFails old w new) told fails).0

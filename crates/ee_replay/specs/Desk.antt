@@ -11,11 +11,12 @@ use Rattle.ee_core.specs.Runs.{Call, Cleaned, DidRead, Follows, Forgot, Wrote}
 use Rattle.ee_core.specs.State.{state_of}
 use Rattle.ee_core.specs.declared.variables.ForgetFault.TheVariants as forgetting
 use Rattle.ee_core.specs.declared.variables.WriteFault.TheVariants as fault
+use Rattle.ee_replay.specs.Either.{device_of_either}
 use Rattle.ee_replay.specs.declared.desk.Desk.{Desk}
 use Rattle.ee_replay.specs.declared.desk.Desk.TheVariants.{Open, Bare, Gone}
 
 -- the desk is there, and a device alone on it has a legal image; a store sees to its own
-abbrev pub IsLegalDesk : {S A : Type 0} → Desk S A → Type 0
+abbrev pub IsLegalDesk : {A : Type 0} → Desk A → Type 0
 IsLegalDesk (Open store) = Unit {0}
 IsLegalDesk (Bare flash) = IsLegal (device_of flash)
 IsLegalDesk Gone = ⊥
@@ -26,7 +27,7 @@ HasLegalImage device =
     IsTrue (is_some (live_of device)) × ((side : Side) (generation : ℕ) → live_of device ≡ Some (side, generation) → IsLive device side generation)
 
 -- the same of a desk, in that form
-pub record IsLegalSo {S A : Type 0} (desk : Desk S A) : Type 0 where
+pub record IsLegalSo {A : Type 0} (desk : Desk A) : Type 0 where
   pub there : desk ≡ Gone → ⊥
   pub alone : (flash : MemFlash A) → desk ≡ Bare flash → HasLegalImage (device_of flash)
 
@@ -48,8 +49,7 @@ pub record SaysTheSame (old new : Device) : Type 0 where
   pub same_size : new.size ≡ old.size
   pub state_is : state_of new ≡ state_of old
 
-module _ {S A : Type 0} (device : S → Device) where
-  abbrev pub point_of_desk : Desk S A → Point
-  point_of_desk (Open store) = open_point (device store)
-  point_of_desk (Bare flash) = closed_point (device_of flash)
-  point_of_desk Gone = closed_point (blank_device (record { pages = 0; words = 0 }))
+abbrev pub point_of_desk : {A : Type 0} → Desk A → Point
+point_of_desk (Open store) = open_point (device_of_either store)
+point_of_desk (Bare flash) = closed_point (device_of flash)
+point_of_desk Gone = closed_point (blank_device (record { pages = 0; words = 0 }))

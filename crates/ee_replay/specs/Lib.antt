@@ -1,4 +1,3 @@
-pub mod Opening
 pub mod Kept
 pub mod Report
 pub mod Serving

@@ -1,36 +1,38 @@
 //! A device on the desk, with a store open on it or without: a cut is armed, and power comes back.
 ghost use Rattle.std.specs.Prelude.{◌≡◌, IfOk, true};
+ghost use Rattle.ee_flash.specs.Device.{IsOn};
 ghost use Rattle.ee_flash.specs.Memory.{device_of};
+ghost use Rattle.ee_script.specs.declared.answer.Answer.TheVariants.{Opened};
 ghost use Rattle.ee_script.specs.declared.command.Command.TheVariants.{PowerOn};
 ghost use Rattle.ee_core.specs.Points.{open_point};
 ghost use Rattle.ee_core.specs.Runs.{Cleaned, DidRead, Forgot, Wrote};
 ghost use Rattle.ee_core.specs.State.{state_of};
 ghost use Rattle.ee_replay.specs.Desk.{CallsAtDesk, IsLegalDesk, IsLegalSo, SaysTheSame, point_of_desk};
+ghost use Rattle.ee_replay.specs.Either.{device_of_either};
 ghost use Rattle.ee_replay.specs.Serving.{ArmsItsFuse, Attends, IsSound};
 
-use super::opening::{Arming, Opened};
+use super::either::{EitherStore, Kind, armed};
 use ee_codec::Address;
-use ee_core::{ForgetFault, Off, Variables, WriteFault, Written};
+use ee_core::{ForgetFault, Off, OpenFault, Store, Variables, WriteFault, Written, open};
 use ee_flash::{Flash, Fuse, MemFlash};
-use ee_index::IndexedFault;
 use ee_script::Answer;
-use std::alloc::{AllocError, Allocator};
+use std::alloc::{AllocError, Allocator, Global};
 
 /// A device, with a store open on it or without.
 #[derive(Drop)]
-pub(crate) enum Desk<S: Variables + Drop, A: Allocator> {
+pub(crate) enum Desk<A: Allocator = Global> {
     /// A store. It is open as long as its device is on.
-    Open(S),
+    Open(EitherStore<A>),
     /// The device alone.
     Bare(MemFlash<A>),
     /// Nothing, while a call has taken what is there.
     Gone,
 }
 
-impl<S: Opened<MemFlash<A>, A>, A: Allocator + Copy> Desk<S, A> {
+impl<A: Allocator + Copy> Desk<A> {
     /// Whether a store is open.
     pub(crate) fn is_open(&self) -> bool
-        ensures { result ≡ (point_of_desk S.device self.now).serving }
+        ensures { result ≡ (point_of_desk self.now).serving }
     {
         match self {
             Desk::Open(store) => store.is_on(),
@@ -41,11 +43,11 @@ impl<S: Opened<MemFlash<A>, A>, A: Allocator + Copy> Desk<S, A> {
     /// The device. A store that was open on it is closed.
     pub(crate) fn into_flash(self) -> MemFlash<A>
         requires { IsLegalDesk self }
-        ensures device { device_of result ≡ (point_of_desk S.device self).device }
-        ensures sound { IsSound (point_of_desk S.device self) }
+        ensures device { device_of result ≡ (point_of_desk self).device }
+        ensures sound { IsSound (point_of_desk self) }
     {
         match self {
-            Desk::Open(store) => store.close(),
+            Desk::Open(store) => store.into_flash(),
             Desk::Bare(flash) => flash,
             Desk::Gone => unreachable!("it is there"),
         }
@@ -53,8 +55,8 @@ impl<S: Opened<MemFlash<A>, A>, A: Allocator + Copy> Desk<S, A> {
 
     /// Writes. Where no store is open, the fault is `Off`.
     pub(crate) fn write(&mut self, address: Address, value: u32) -> Result<Written, WriteFault>
-        ensures calls { let old = point_of_desk S.device self.old in CallsAtDesk old.serving old.device
-            (Wrote address value result) (point_of_desk S.device self.new) }
+        ensures calls { let old = point_of_desk self.old in CallsAtDesk old.serving old.device
+            (Wrote address value result) (point_of_desk self.new) }
         ensures legal { IsLegalSo self.old → IsLegalSo self.new }
     {
         match self {
@@ -65,8 +67,8 @@ impl<S: Opened<MemFlash<A>, A>, A: Allocator + Copy> Desk<S, A> {
 
     /// Forgets. Where no store is open, the fault is `Off`.
     pub(crate) fn forget(&mut self, address: Address) -> Result<Written, ForgetFault>
-        ensures calls { let old = point_of_desk S.device self.old in CallsAtDesk old.serving old.device
-            (Forgot address result) (point_of_desk S.device self.new) }
+        ensures calls { let old = point_of_desk self.old in CallsAtDesk old.serving old.device
+            (Forgot address result) (point_of_desk self.new) }
         ensures legal { IsLegalSo self.old → IsLegalSo self.new }
     {
         match self {
@@ -77,8 +79,8 @@ impl<S: Opened<MemFlash<A>, A>, A: Allocator + Copy> Desk<S, A> {
 
     /// Takes a clean step. Where no store is open, the fault is `Off`.
     pub(crate) fn clean_step(&mut self) -> Result<bool, WriteFault>
-        ensures calls { let old = point_of_desk S.device self.old in CallsAtDesk old.serving old.device
-            (Cleaned result) (point_of_desk S.device self.new) }
+        ensures calls { let old = point_of_desk self.old in CallsAtDesk old.serving old.device
+            (Cleaned result) (point_of_desk self.new) }
         ensures legal { IsLegalSo self.old → IsLegalSo self.new }
     {
         match self {
@@ -89,7 +91,7 @@ impl<S: Opened<MemFlash<A>, A>, A: Allocator + Copy> Desk<S, A> {
 
     /// Reads.
     pub(crate) fn read(&self, address: Address) -> Result<Option<u32>, Off>
-        ensures { let point = point_of_desk S.device self.now in CallsAtDesk point.serving point.device
+        ensures { let point = point_of_desk self.now in CallsAtDesk point.serving point.device
             (DidRead address result) point }
     {
         match self {
@@ -100,8 +102,8 @@ impl<S: Opened<MemFlash<A>, A>, A: Allocator + Copy> Desk<S, A> {
 
     /// How many slots are used.
     pub(crate) fn fill(&self) -> usize
-        requires { (point_of_desk S.device self.now).serving ≡ true }
-        ensures { result ≡ (state_of (point_of_desk S.device self.now).device).fill }
+        requires { (point_of_desk self.now).serving ≡ true }
+        ensures { result ≡ (state_of (point_of_desk self.now).device).fill }
     {
         match self {
             Desk::Open(store) => store.fill(),
@@ -110,9 +112,9 @@ impl<S: Opened<MemFlash<A>, A>, A: Allocator + Copy> Desk<S, A> {
     }
 
     /// The store that is open.
-    fn into_open(self) -> S
-        requires { (point_of_desk S.device self).serving ≡ true }
-        ensures { open_point (S.device result) ≡ point_of_desk S.device self }
+    fn into_open(self) -> EitherStore<A>
+        requires { (point_of_desk self).serving ≡ true }
+        ensures { open_point (device_of_either result) ≡ point_of_desk self }
     {
         match self {
             Desk::Open(store) => store,
@@ -121,15 +123,15 @@ impl<S: Opened<MemFlash<A>, A>, A: Allocator + Copy> Desk<S, A> {
     }
 
     /// Arms a cut. A store that is open stays so, with all that it keeps in memory.
-    pub(crate) fn arm(self, fuse: Fuse) -> Desk<S, A>
+    pub(crate) fn arm(self, fuse: Fuse) -> Desk<A>
         requires { IsLegalDesk self }
-        ensures arms { ArmsItsFuse (point_of_desk S.device self) fuse
-            (point_of_desk S.device result) }
+        ensures arms { ArmsItsFuse (point_of_desk self) fuse
+            (point_of_desk result) }
         ensures legal { IsLegalDesk result }
-        ensures same { SaysTheSame (point_of_desk S.device self).device (point_of_desk S.device result).device }
+        ensures same { SaysTheSame (point_of_desk self).device (point_of_desk result).device }
     {
         if !self.is_open() {
-            return Desk::Bare(self.into_flash().armed(fuse));
+            return Desk::Bare(armed(self.into_flash(), fuse));
         }
         Desk::Open(self.into_open().with_fuse(fuse))
     }
@@ -137,7 +139,7 @@ impl<S: Opened<MemFlash<A>, A>, A: Allocator + Copy> Desk<S, A> {
     /// Takes note of what a line took, and says whether the store is to be settled now.
     #[inline(always)]
     pub(crate) fn note(&mut self, answer: Answer) -> bool
-        ensures point { point_of_desk S.device self.new ≡ point_of_desk S.device self.old }
+        ensures point { point_of_desk self.new ≡ point_of_desk self.old }
         ensures legal { IsLegalSo self.old → IsLegalSo self.new }
     {
         match self {
@@ -147,9 +149,9 @@ impl<S: Opened<MemFlash<A>, A>, A: Allocator + Copy> Desk<S, A> {
     }
 
     /// A store that is open, in the kind that pays behind a line about this address.
-    pub(crate) fn settled(self, alloc: A, address: Address) -> Desk<S, A>
+    pub(crate) fn settled(self, alloc: A, address: Address) -> Desk<A>
         requires { IsLegalDesk self }
-        ensures point { point_of_desk S.device result ≡ point_of_desk S.device self }
+        ensures point { point_of_desk result ≡ point_of_desk self }
         ensures legal { IsLegalDesk result }
     {
         if !self.is_open() {
@@ -158,37 +160,49 @@ impl<S: Opened<MemFlash<A>, A>, A: Allocator + Copy> Desk<S, A> {
         Desk::Open(self.into_open().settled(alloc, address))
     }
 
-    /// A store that is open, in the kind that counts its variables sooner.
-    pub(crate) fn settled_to_count(self, alloc: A) -> Desk<S, A>
+    /// A store that is open, and whose kind may change, in the kind that counts its variables sooner.
+    pub(crate) fn settled_to_count(self, alloc: A, kind: Kind) -> Desk<A>
         requires { IsLegalDesk self }
-        ensures point { point_of_desk S.device result ≡ point_of_desk S.device self }
+        ensures point { point_of_desk result ≡ point_of_desk self }
         ensures legal { IsLegalDesk result }
     {
-        if !self.is_open() {
+        if !self.is_open() || !matches!(kind, Kind::AsPays) {
             return self;
         }
         Desk::Open(self.into_open().settled_to_count(alloc))
     }
 
-    /// Turns power on and opens the store, which changes nothing where one is open. An error says
-    /// that memory ran out.
-    pub(crate) fn power_on(self, alloc: A) -> (Desk<S, A>, Result<Answer, AllocError>)
+    /// Turns power on and opens the store, of this kind, which changes nothing where one is open. An error
+    /// says that memory ran out.
+    pub(crate) fn power_on(self, alloc: A, kind: Kind) -> (Desk<A>, Result<Answer, AllocError>)
         requires { IsLegalDesk self }
-        ensures attends { IfOk result.1 (λ answer. Attends (point_of_desk S.device self)
-            PowerOn answer (point_of_desk S.device result.0)) }
+        ensures attends { IfOk result.1 (λ answer. Attends (point_of_desk self)
+            PowerOn answer (point_of_desk result.0)) }
         ensures legal { IsLegalDesk result.0 }
-        ensures same { SaysTheSame (point_of_desk S.device self).device (point_of_desk S.device result.0).device }
+        ensures same { SaysTheSame (point_of_desk self).device (point_of_desk result.0).device }
     {
         if self.is_open() {
             return (self, Ok(Answer::Opened));
         }
         let mut flash = self.into_flash();
         flash.power_on();
-        match S::open_on(alloc, flash) {
+        match open(flash) {
+            Ok(store) => Desk::of(alloc, store, kind),
+            Err((flash, OpenFault::Cut)) => (Desk::Bare(flash), Ok(Answer::Cut)),
+            Err((_, OpenFault::Scan(_))) => unreachable!("its image is legal"),
+        }
+    }
+
+    /// A desk with this store, of this kind, on it. An error says that memory for its index ran out.
+    fn of(alloc: A, store: Store<MemFlash<A>>, kind: Kind) -> (Desk<A>, Result<Answer, AllocError>)
+        requires { IsOn store }
+        ensures opened { IfOk result.1 (λ answer. (answer ≡ Opened) × (point_of_desk result.0 ≡ open_point store)) }
+        ensures legal { IsLegalDesk result.0 }
+        ensures device { (point_of_desk result.0).device ≡ store }
+    {
+        match EitherStore::of(alloc, store, kind) {
             Ok(store) => (Desk::Open(store), Ok(Answer::Opened)),
-            Err((flash, IndexedFault::Cut)) => (Desk::Bare(flash), Ok(Answer::Cut)),
-            Err((flash, IndexedFault::Memory)) => (Desk::Bare(flash), Err(AllocError)),
-            Err((_, IndexedFault::Scan(_))) => unreachable!("its image is legal"),
+            Err(store) => (Desk::Bare(store.into_flash()), Err(AllocError)),
         }
     }
 }

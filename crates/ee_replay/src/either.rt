@@ -1,42 +1,53 @@
-//! A store that makes itself an index when looking through the slots has cost more than that, and gives it back when
-//! looking would cost less.
+//! A store of either kind, with an index or without, in memory. One that may change its kind makes itself an index when
+//! looking through the slots has cost more than that, and gives it back when looking would cost less.
 ghost use Rattle.std.specs.Prelude.{◌≡◌, IfErr, IfOk};
 ghost use Rattle.ee_flash.specs.Device.{IsOn};
+ghost use Rattle.ee_flash.specs.Memory.{device_of};
 ghost use Rattle.ee_core.specs.Finished.{IsStore};
-ghost use Rattle.ee_core.specs.Openings.{Opens};
-ghost use Rattle.ee_index.specs.Index.{IndexedOpenFails};
+ghost use Rattle.ee_image_store.specs.Opening.{IsOpenFault, IsOpened};
 ghost use Rattle.ee_replay.specs.Either.{device_of_either};
 ghost use Rattle.ee_replay.specs.Serving.{ArmsDevice};
 
-use super::opening::{Arming, Opened};
 use ee_codec::Address;
 use ee_core::{
     ForgetFault, LiveBatch, Off, Put, Store, Variables, WriteAllFault, WriteFault, Written,
     inner as plain,
 };
-use ee_flash::Fuse;
+use ee_faults::ReplayFault;
+use ee_flash::{Fuse, MemFlash};
+use ee_image_store::open_image;
 use ee_index::inner::{Costs, count_live, looks_for};
-use ee_index::{IndexedFault, IndexedStore, inner as indexed};
+use ee_index::{IndexedStore, inner as indexed};
 use ee_script::Answer;
 use std::alloc::{Allocator, Global};
 
-/// Variables in a store of either kind. It is opened without an index, gets one when that pays, and gives it back when
-/// it no longer does, or when power is cut. Where memory for an index is refused it goes on without.
+/// In which kind of store the variables are kept.
+#[derive(Clone, Copy)]
+pub(crate) enum Kind {
+    /// Without an index.
+    Plain,
+    /// With one.
+    Indexed,
+    /// Without one as long as that pays. Where memory for an index is refused it goes on without.
+    AsPays,
+}
+
+/// Variables in a store of either kind, with what is counted to tell which one pays.
 #[derive(Drop)]
-pub(crate) enum EitherStore<F: Arming, A: Allocator = Global> {
+pub(crate) enum EitherStore<A: Allocator = Global> {
     /// Without an index.
     Plain {
-        store: Store<F>,
+        store: Store<MemFlash<A>>,
         costs: Costs,
     },
     /// With one.
     Indexed {
-        store: IndexedStore<F, A>,
+        store: IndexedStore<MemFlash<A>, A>,
         costs: Costs,
     },
 }
 
-impl<F: Arming, A: Allocator + Copy> Variables for EitherStore<F, A> {
+impl<A: Allocator + Copy> Variables for EitherStore<A> {
     ghost use Rattle.ee_replay.specs.Either.{device_of_either};
 
     ghost device = { λ store. device_of_either store };
@@ -133,77 +144,59 @@ impl<F: Arming, A: Allocator + Copy> Variables for EitherStore<F, A> {
     }
 }
 
-impl<F: Arming, A: Allocator + Copy> Opened<F, A> for EitherStore<F, A> {
-    fn open_on(alloc: A, flash: F) -> Result<EitherStore<F, A>, (F, IndexedFault)>
-        requires { IsOn (F.device flash) }
-        ensures opened { IfOk result (λ store. Opens (F.device flash) (device_of_either store)) }
-        ensures failed { IfErr result
-            (λ failed. IndexedOpenFails (F.device flash) failed.1 (F.device failed.0)) }
-    {
-        let store = <Store<F> as Opened<F, A>>::open_on(alloc, flash)?;
-        Ok(EitherStore::of(store))
-    }
+/// The device, with this fuse.
+pub(crate) fn armed<A: Allocator>(flash: MemFlash<A>, fuse: Fuse) -> MemFlash<A>
+    ensures { ArmsDevice (device_of flash) fuse (device_of result) }
+{
+    let mut flash = flash;
+    flash.arm(fuse);
+    flash
+}
 
-    fn with_fuse(self, fuse: Fuse) -> EitherStore<F, A>
-        requires { IsOn (device_of_either self) }
-        ensures { ArmsDevice (device_of_either self) fuse (device_of_either result) }
-    {
-        match self {
-            EitherStore::Plain { store, costs } => EitherStore::Plain {
-                store: <Store<F> as Opened<F, A>>::with_fuse(store, fuse),
-                costs,
-            },
-            EitherStore::Indexed { store, costs } => EitherStore::Indexed {
-                store: store.with_fuse(fuse),
-                costs,
-            },
-        }
+/// The store of the image that a text spells, of this kind.
+pub(crate) fn open_as<A: Allocator + Copy>(
+    alloc: A,
+    image: &[u8],
+    kind: Kind,
+) -> Result<EitherStore<A>, ReplayFault>
+    ensures opened { IfOk result (λ store. IsOpened image.now (device_of_either store)) }
+    ensures fault { IfErr result (IsOpenFault image.now) }
+{
+    let store = open_image(alloc, image)?;
+    if let Kind::AsPays = kind {
+        return Ok(settle_to_count(alloc, store, Costs::new()));
     }
-
-    #[inline(always)]
-    fn note(&mut self, answer: Answer) -> bool
-        ensures { device_of_either self.new ≡ device_of_either self.old }
-    {
-        match self {
-            EitherStore::Plain { store, costs } => note_answer(store, costs, answer),
-            EitherStore::Indexed { store, costs } => note_answer(store, costs, answer),
-        }
-    }
-
-    fn settled(self, alloc: A, address: Address) -> EitherStore<F, A>
-        requires { IsOn (device_of_either self) }
-        ensures { device_of_either result ≡ device_of_either self }
-    {
-        match self {
-            EitherStore::Plain { store, costs } => settle_looking(alloc, store, costs, address),
-            EitherStore::Indexed { store, costs } => settle_indexed(store, costs, address),
-        }
-    }
-
-    fn settled_to_count(self, alloc: A) -> EitherStore<F, A>
-        requires { IsOn (device_of_either self) }
-        ensures { device_of_either result ≡ device_of_either self }
-    {
-        match self {
-            EitherStore::Plain { store, costs } => settle_to_count(alloc, store, costs),
-            indexed => indexed,
-        }
-    }
-
-    fn close(self) -> F
-        ensures device { F.device result ≡ device_of_either self }
-        ensures store { IsStore (device_of_either self) }
-    {
-        match self {
-            EitherStore::Plain { store, .. } => store.into_flash(),
-            EitherStore::Indexed { store, .. } => store.into_flash(),
-        }
+    match EitherStore::of(alloc, store, kind) {
+        Ok(store) => Ok(store),
+        Err(_) => Err(ReplayFault::Memory),
     }
 }
 
-impl<F: Arming, A: Allocator + Copy> EitherStore<F, A> {
-    /// A store of which nothing is known.
-    fn of(store: Store<F>) -> EitherStore<F, A>
+impl<A: Allocator + Copy> EitherStore<A> {
+    /// A store of this kind. An `Err` has it as it was, where memory for an index is refused that it is to have.
+    pub(crate) fn of(
+        alloc: A,
+        store: Store<MemFlash<A>>,
+        kind: Kind,
+    ) -> Result<EitherStore<A>, Store<MemFlash<A>>>
+        requires { IsOn store }
+        ensures same { IfOk result (λ kept. device_of_either kept ≡ store) }
+        ensures plain { IfErr result (λ plain. plain ≡ store) }
+    {
+        match kind {
+            Kind::Indexed => match indexed::with_index(alloc, store) {
+                Ok(store) => Ok(EitherStore::Indexed {
+                    store,
+                    costs: Costs::new(),
+                }),
+                Err(store) => Err(store),
+            },
+            Kind::Plain | Kind::AsPays => Ok(EitherStore::new(store)),
+        }
+    }
+
+    /// A store without an index, of which nothing is known.
+    pub(crate) fn new(store: Store<MemFlash<A>>) -> EitherStore<A>
         ensures { device_of_either result ≡ store }
     {
         EitherStore::Plain {
@@ -213,7 +206,7 @@ impl<F: Arming, A: Allocator + Copy> EitherStore<F, A> {
     }
 
     /// A store with an index, or as it is where memory is refused: its costs are counted anew then.
-    fn with_index(alloc: A, store: Store<F>, costs: Costs) -> EitherStore<F, A>
+    fn with_index(alloc: A, store: Store<MemFlash<A>>, costs: Costs) -> EitherStore<A>
         requires { IsOn store }
         ensures { device_of_either result ≡ store }
     {
@@ -223,7 +216,70 @@ impl<F: Arming, A: Allocator + Copy> EitherStore<F, A> {
                 store,
                 costs: costs.with_index(fill),
             },
-            Err(store) => EitherStore::of(store),
+            Err(store) => EitherStore::new(store),
+        }
+    }
+
+    /// Its device.
+    pub(crate) fn into_flash(self) -> MemFlash<A>
+        ensures device { device_of result ≡ device_of_either self }
+        ensures store { IsStore (device_of_either self) }
+    {
+        match self {
+            EitherStore::Plain { store, .. } => store.into_flash(),
+            EitherStore::Indexed { store, .. } => store.into_flash(),
+        }
+    }
+
+    /// Arms a cut, which takes no step and no memory.
+    pub(crate) fn with_fuse(self, fuse: Fuse) -> EitherStore<A>
+        requires { IsOn (device_of_either self) }
+        ensures { ArmsDevice (device_of_either self) fuse (device_of_either result) }
+    {
+        match self {
+            EitherStore::Plain { store, costs } => {
+                let (flash, layout) = plain::parts_of(store);
+                let store = plain::store_of(armed(flash, fuse), layout);
+                EitherStore::Plain { store, costs }
+            }
+            EitherStore::Indexed { store, costs } => {
+                let (flash, kept) = indexed::parts_of(store);
+                let store = indexed::store_of(armed(flash, fuse), kept);
+                EitherStore::Indexed { store, costs }
+            }
+        }
+    }
+
+    /// Takes note of what a line took, and says whether to settle now in which kind of store the variables are kept.
+    #[inline(always)]
+    pub(crate) fn note(&mut self, answer: Answer) -> bool
+        ensures { device_of_either self.new ≡ device_of_either self.old }
+    {
+        match self {
+            EitherStore::Plain { store, costs } => note_answer(store, costs, answer),
+            EitherStore::Indexed { store, costs } => note_answer(store, costs, answer),
+        }
+    }
+
+    /// The same variables, in the kind of store that pays behind a line about this address.
+    pub(crate) fn settled(self, alloc: A, address: Address) -> EitherStore<A>
+        requires { IsOn (device_of_either self) }
+        ensures { device_of_either result ≡ device_of_either self }
+    {
+        match self {
+            EitherStore::Plain { store, costs } => settle_looking(alloc, store, costs, address),
+            EitherStore::Indexed { store, costs } => settle_indexed(store, costs, address),
+        }
+    }
+
+    /// The same variables, in the kind of store that counts them sooner.
+    pub(crate) fn settled_to_count(self, alloc: A) -> EitherStore<A>
+        requires { IsOn (device_of_either self) }
+        ensures { device_of_either result ≡ device_of_either self }
+    {
+        match self {
+            EitherStore::Plain { store, costs } => settle_to_count(alloc, store, costs),
+            indexed => indexed,
         }
     }
 }
@@ -255,12 +311,12 @@ fn note_looks<V: Variables>(store: &V, costs: &mut Costs, answer: Answer) -> boo
 }
 
 /// Measures a read of this address, if it is its turn, and makes an index if that pays by now.
-fn settle_looking<F: Arming, A: Allocator + Copy>(
+fn settle_looking<A: Allocator + Copy>(
     alloc: A,
-    store: Store<F>,
+    store: Store<MemFlash<A>>,
     costs: Costs,
     address: Address,
-) -> EitherStore<F, A>
+) -> EitherStore<A>
     requires { IsOn store }
     ensures { device_of_either result ≡ store }
 {
@@ -277,11 +333,11 @@ fn settle_looking<F: Arming, A: Allocator + Copy>(
 }
 
 /// Measures a read of this address, if it is its turn, and gives the index back if it no longer pays.
-fn settle_indexed<F: Arming, A: Allocator + Copy>(
-    store: IndexedStore<F, A>,
+fn settle_indexed<A: Allocator + Copy>(
+    store: IndexedStore<MemFlash<A>, A>,
     costs: Costs,
     address: Address,
-) -> EitherStore<F, A>
+) -> EitherStore<A>
     requires { IsOn store }
     ensures { device_of_either result ≡ store }
 {
@@ -301,11 +357,11 @@ fn settle_indexed<F: Arming, A: Allocator + Copy>(
 }
 
 /// Makes an index if live addresses are counted sooner so.
-fn settle_to_count<F: Arming, A: Allocator + Copy>(
+fn settle_to_count<A: Allocator + Copy>(
     alloc: A,
-    store: Store<F>,
+    store: Store<MemFlash<A>>,
     costs: Costs,
-) -> EitherStore<F, A>
+) -> EitherStore<A>
     requires { IsOn store }
     ensures { device_of_either result ≡ store }
 {

@@ -15,7 +15,6 @@ mod desk;
 mod either;
 pub mod laws;
 mod noting;
-mod opening;
 mod replaying;
 mod reporting;
 mod serving;

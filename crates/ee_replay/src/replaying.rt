@@ -7,23 +7,21 @@ ghost use Rattle.ee_core.specs.State.{state_of};
 ghost use Rattle.ee_plan.specs.Start.{IsStartOf};
 ghost use Rattle.ee_script.specs.Script.{IsFirstBadCommandLine};
 ghost use Rattle.ee_replay.specs.Desk.{point_of_desk};
+ghost use Rattle.ee_replay.specs.Either.{device_of_either};
 ghost use Rattle.ee_replay.specs.Serving.{IsTraced};
 ghost use Rattle.ee_replay.specs.Replaying.{IsReplayFault, IsReplayed, IsRunFault, IsRunOn, IsTried};
 ghost use Rattle.ee_replay.specs.Reading.{IsGiven, IsNotAnswered, IsReaderFault};
 ghost use Rattle.ee_image_store.specs.Opening.{HasStore, IsOpenFault, StaysOn};
 ghost use Rattle.ee_faults.specs.Causes.{NamesEach};
 
-use super::either::EitherStore;
-use super::opening::{Opened, open_as};
+use super::either::{EitherStore, Kind, open_as};
 use super::reporting::report_on;
 use super::serving::Server;
 use ee_check::Start;
 use ee_command_line::MOST_READS;
-use ee_core::Store;
 use ee_faults::ReplayFault;
-use ee_flash::{MemFlash, Shape};
-use ee_image_store::{new_store, open_image, text_of};
-use ee_index::IndexedStore;
+use ee_flash::Shape;
+use ee_image_store::{new_store, text_of};
 use ee_plan::start_of;
 use ee_script::{answer_reader, answer_script};
 use std::alloc::{Allocator, Global};
@@ -60,9 +58,9 @@ pub fn replay<A: Allocator + Copy>(
     // No cause is passed over.
     ensures names { NamesEach ReplayFault.Memory (IsReplayFault image.now script.now) result }
 {
-    match replay_as::<A, EitherStore<MemFlash<A>, A>>(alloc, image, script) {
+    match replay_as(alloc, image, script, Kind::AsPays) {
         // What memory an index took may be what the report wanted.
-        Err(ReplayFault::Memory) => replay_as::<A, Store<MemFlash<A>>>(alloc, image, script),
+        Err(ReplayFault::Memory) => replay_as(alloc, image, script, Kind::Plain),
         replayed => replayed,
     }
 }
@@ -85,14 +83,15 @@ pub fn replay_indexed<A: Allocator + Copy>(
     // No cause is passed over.
     ensures names { NamesEach ReplayFault.Memory (IsReplayFault image.now script.now) result }
 {
-    replay_as::<A, IndexedStore<MemFlash<A>, A>>(alloc, image, script)
+    replay_as(alloc, image, script, Kind::Indexed)
 }
 
-/// The same on either kind of store.
-fn replay_as<A: Allocator + Copy, S: Opened<MemFlash<A>, A>>(
+/// The same on this kind of store.
+fn replay_as<A: Allocator + Copy>(
     alloc: A,
     image: &[u8],
     script: &[u8],
+    kind: Kind,
 ) -> Result<Replayed<A>, ReplayFault>
     ensures replayed { IfOk result (λ replayed.
         IsReplayed image.now script.now replayed.image.items replayed.report.items) }
@@ -100,8 +99,8 @@ fn replay_as<A: Allocator + Copy, S: Opened<MemFlash<A>, A>>(
     // No cause is passed over.
     ensures names { NamesEach ReplayFault.Memory (IsReplayFault image.now script.now) result }
 {
-    let store = open_as::<A, S>(alloc, image)?;
-    run_on(alloc, store, script)
+    let store = open_as(alloc, image, kind)?;
+    run_on(alloc, store, kind, script)
 }
 
 /// `replay` of a script that a reader gives in pieces. The image is opened before the first read; what
@@ -133,7 +132,7 @@ pub fn replay_reader<A: Allocator + Copy, R: Read>(
         (λ fault. (fault ≡ ReplayFault.Script n) ⊎ (fault ≡ ReplayFault.Memory)
         ⊎ (fault ≡ ReplayFault.Read)) }
 {
-    let store = open_image(alloc, image)?;
+    let store = open_as(alloc, image, Kind::Plain)?;
     run_reader(alloc, store, reader)
 }
 
@@ -159,64 +158,68 @@ pub fn try_script<A: Allocator + Copy>(
         (λ fault. (fault ≡ ReplayFault.Script n) ⊎ (fault ≡ ReplayFault.Memory)) }
 {
     let new = new_store(alloc, shape)?;
-    run_on(alloc, new, script)
+    run_on(alloc, EitherStore::new(new), Kind::Plain, script)
 }
 
-/// Answers a script on a store, and gives the image that this leaves and the report.
-fn run_on<A: Allocator + Copy, S: Opened<MemFlash<A>, A>>(
+/// Answers a script on a store of this kind, and gives the image that this leaves and the report.
+fn run_on<A: Allocator + Copy>(
     alloc: A,
-    store: S,
+    store: EitherStore<A>,
+    kind: Kind,
     script: &[u8],
 ) -> Result<Replayed<A>, ReplayFault>
-    requires { StaysOn (S.device store) }
+    requires { StaysOn (device_of_either store) }
     ensures run { IfOk result (λ replayed.
-        IsRunOn (S.device store) script.now replayed.image.items replayed.report.items) }
+        IsRunOn (device_of_either store) script.now replayed.image.items replayed.report.items) }
     ensures fault { IfErr result (IsRunFault script.now) }
 {
-    let store = store.settled_to_count(alloc);
     let start = start_of(alloc, &store)?;
-    let server = Server::new(alloc, store);
+    let server = Server::new(alloc, store, kind);
     let (server, lines) = answer_script(alloc, server, script)?;
     left_by(alloc, server, &start, lines)
 }
 
 /// The same of a script that a reader gives.
-fn run_reader<A: Allocator + Copy, S: Opened<MemFlash<A>, A>, R: Read>(
+fn run_reader<A: Allocator + Copy, R: Read>(
     alloc: A,
-    store: S,
+    store: EitherStore<A>,
     reader: &mut R,
 ) -> Result<Replayed<A>, ReplayFault>
-    requires { StaysOn (S.device store) }
+    requires { StaysOn (device_of_either store) }
     ensures run { IfOk result (λ replayed. (script : List ℕ)
         × IsGiven (R.remaining reader.old) (R.remaining reader.new) script
-        × IsRunOn (S.device store) script replayed.image.items replayed.report.items) }
+        × IsRunOn (device_of_either store) script replayed.image.items replayed.report.items) }
     ensures fault { IfErr result
         (IsNotAnswered (R.remaining reader.old) (R.remaining reader.new)) }
 {
-    let store = store.settled_to_count(alloc);
     let start = start_of(alloc, &store)?;
-    let server = Server::new(alloc, store);
+    let server = Server::new(alloc, store, Kind::Plain);
     let (server, lines) = answer_reader(alloc, server, reader, MOST_READS)?;
     left_by(alloc, server, &start, lines)
 }
 
 /// The image and the report that a script leaves: `start` is what its trace began from, `lines` are those of
 /// its answers.
-fn left_by<A: Allocator + Copy, S: Opened<MemFlash<A>, A>>(
+fn left_by<A: Allocator + Copy>(
     alloc: A,
-    server: Server<S, A>,
+    server: Server<A>,
     start: &Start<A>,
     lines: Vec<u8, A>,
 ) -> Result<Replayed<A>, ReplayFault>
     ensures run { IfOk result (λ replayed. (old : Device) (script : List ℕ)
-        → IsTraced old script (point_of_desk S.device server.desk) server.notes lines.items
+        → IsTraced old script (point_of_desk server.desk) server.notes lines.items
         → IsStartOf (slot_count old.size) (state_of old) start.now → IsProper start.now
         → StaysOn old
         → IsRunOn old script replayed.image.items replayed.report.items) }
     ensures fault { IfErr result (λ fault. fault ≡ ReplayFault.Memory) }
 {
-    let Server { desk, notes, .. } = server;
-    let desk = desk.settled_to_count(alloc);
+    let Server {
+        desk,
+        notes,
+        kind,
+        ..
+    } = server;
+    let desk = desk.settled_to_count(alloc, kind);
     let report = report_on(start, notes, &desk, lines)?;
     let image = text_of(alloc, &desk.into_flash())?;
     Ok(Replayed { image, report })

@@ -14,26 +14,24 @@ ghost use Rattle.ee_image_store.specs.Opening.{StaysOn};
 
 use super::desk::Desk;
 use super::noting::Notes;
-use super::opening::Opened;
 use ee_check::{Start, write_certificate};
 use ee_core::Variables;
-use ee_flash::MemFlash;
 use ee_text::push_number_behind;
 use std::alloc::{AllocError, Allocator};
 
 /// The whole report: the lines of the answers, how the desk stands, and the certificate of what was
 /// noted, if power was not cut.
-pub(crate) fn report_on<A: Allocator + Copy, B: Allocator, S: Opened<MemFlash<A>, A>>(
+pub(crate) fn report_on<A: Allocator + Copy, B: Allocator>(
     start: &Start<B>,
     notes: Notes<A>,
-    desk: &Desk<S, A>,
+    desk: &Desk<A>,
     lines: Vec<u8, A>,
 ) -> Result<Vec<u8, A>, AllocError>
     ensures { IfOk result (λ report. (old : Device) (script : List ℕ)
-        → IsTraced old script (point_of_desk S.device desk.now) notes lines.items
+        → IsTraced old script (point_of_desk desk.now) notes lines.items
         → IsStartOf (slot_count old.size) (state_of old) start.now → IsProper start.now
         → StaysOn old
-        → IsServed old script (point_of_desk S.device desk.now) report.items) }
+        → IsServed old script (point_of_desk desk.now) report.items) }
 {
     let mut report = lines;
     push_desk(desk, notes.transfers(), &mut report)?;
@@ -61,12 +59,12 @@ fn push_certificate<A: Allocator, B: Allocator>(
 
 /// Writes how a desk stands, and how often the store on it moved. After an error there may be a part
 /// of the line.
-fn push_desk<A: Allocator + Copy, S: Opened<MemFlash<A>, A>>(
-    desk: &Desk<S, A>,
+fn push_desk<A: Allocator + Copy>(
+    desk: &Desk<A>,
     transfers: u64,
     report: &mut Vec<u8, A>,
 ) -> Result<(), AllocError>
-    ensures { let point = point_of_desk S.device desk.now in OnOk result (report.new.items
+    ensures { let point = point_of_desk desk.now in OnOk result (report.new.items
         ≡ report.old.items ++ desk_line (slot_count point.device.size) point.serving
         (state_of point.device) transfers) }
 {

@@ -4,44 +4,47 @@ ghost use Rattle.ee_script.specs.declared.command.Command.TheVariants.{Write, Re
 ghost use Rattle.ee_core.specs.Finished.{IsStore};
 ghost use Rattle.ee_core.specs.State.{state_of};
 ghost use Rattle.ee_replay.specs.Desk.{IsLegalSo, point_of_desk};
+ghost use Rattle.ee_replay.specs.Either.{device_of_either};
 ghost use Rattle.ee_replay.specs.Serving.{IsCounted, no_notes, serving_on};
 ghost use Rattle.ee_image_store.specs.Opening.{StaysOn};
 
 use super::desk::Desk;
+use super::either::{EitherStore, Kind};
 use super::noting::Notes;
-use super::opening::Opened;
 use ee_codec::Address;
 use ee_core::{ForgetFault, Off, Variables, WriteFault};
-use ee_flash::{Fuse, MemFlash};
+use ee_flash::Fuse;
 use ee_script::{Answer, Command, Serve};
 use std::alloc::{AllocError, Allocator, Global};
 use std::mem::replace;
 
-/// A desk, and what is noted of the changes that the store on it accepted.
+/// A desk, in which kind a store on it is opened, and what is noted of the changes that the store on it accepted.
 #[derive(Drop)]
-pub(crate) struct Server<S: Opened<MemFlash<A>, A>, A: Allocator + Copy = Global> {
+pub(crate) struct Server<A: Allocator + Copy = Global> {
     alloc: A,
+    pub(crate) kind: Kind,
     /// The device, with a store open on it or without.
-    pub(crate) desk: Desk<S, A>,
+    pub(crate) desk: Desk<A>,
     /// How many changes were accepted, the stretches of their certificate, and whether power was cut.
     pub(crate) notes: Notes<A>,
     ghost legal: { IsLegalSo desk },
-    ghost counted: { IsCounted (point_of_desk S.device desk).device notes },
+    ghost counted: { IsCounted (point_of_desk desk).device notes },
 }
 
-impl<S: Opened<MemFlash<A>, A>, A: Allocator + Copy> Server<S, A> {
+impl<A: Allocator + Copy> Server<A> {
     ghost use Rattle.ee_replay.specs.Serving.{Records, with_notes};
 
-    /// What serves with this store, before the first command.
-    pub(crate) fn new(alloc: A, store: S) -> Server<S, A>
-        requires on { StaysOn (S.device store) }
-        requires legal { IsStore (S.device store) }
-        ensures point { point_of_desk S.device result.desk ≡ serving_on (S.device store) }
-        ensures notes { result.notes ≡ no_notes (state_of (S.device store)).fill }
+    /// What serves with this store, of this kind, before the first command.
+    pub(crate) fn new(alloc: A, store: EitherStore<A>, kind: Kind) -> Server<A>
+        requires on { StaysOn (device_of_either store) }
+        requires legal { IsStore (device_of_either store) }
+        ensures point { point_of_desk result.desk ≡ serving_on (device_of_either store) }
+        ensures notes { result.notes ≡ no_notes (state_of (device_of_either store)).fill }
     {
         let notes = Notes::new(alloc, store.fill() as u64);
         Server {
             alloc,
+            kind,
             desk: Desk::Open(store),
             notes,
         }
@@ -50,8 +53,8 @@ impl<S: Opened<MemFlash<A>, A>, A: Allocator + Copy> Server<S, A> {
     /// Writes, as a line of a script says. An error says that memory ran out.
     fn write(&mut self, address: Address, value: u32) -> Result<Answer, AllocError>
         ensures { IfOk result (λ answer. Records
-            (with_notes (point_of_desk S.device self.old.desk) self.old.notes) (Write address value)
-            answer (with_notes (point_of_desk S.device self.new.desk) self.new.notes)) }
+            (with_notes (point_of_desk self.old.desk) self.old.notes) (Write address value)
+            answer (with_notes (point_of_desk self.new.desk) self.new.notes)) }
     {
         match self.desk.write(address, value) {
             Ok(written) => {
@@ -69,8 +72,8 @@ impl<S: Opened<MemFlash<A>, A>, A: Allocator + Copy> Server<S, A> {
     /// Forgets, as a line of a script says. An error says that memory ran out.
     fn forget(&mut self, address: Address) -> Result<Answer, AllocError>
         ensures { IfOk result (λ answer. Records
-            (with_notes (point_of_desk S.device self.old.desk) self.old.notes) (Forget address)
-            answer (with_notes (point_of_desk S.device self.new.desk) self.new.notes)) }
+            (with_notes (point_of_desk self.old.desk) self.old.notes) (Forget address)
+            answer (with_notes (point_of_desk self.new.desk) self.new.notes)) }
     {
         match self.desk.forget(address) {
             Ok(written) => {
@@ -87,8 +90,8 @@ impl<S: Opened<MemFlash<A>, A>, A: Allocator + Copy> Server<S, A> {
     /// Reads.
     fn read(&self, address: Address) -> Answer
         ensures { Records
-            (with_notes (point_of_desk S.device self.now.desk) self.now.notes) (Read address)
-            result (with_notes (point_of_desk S.device self.now.desk) self.now.notes) }
+            (with_notes (point_of_desk self.now.desk) self.now.notes) (Read address)
+            result (with_notes (point_of_desk self.now.desk) self.now.notes) }
     {
         match self.desk.read(address) {
             Ok(Some(value)) => Answer::Value(value),
@@ -100,8 +103,8 @@ impl<S: Opened<MemFlash<A>, A>, A: Allocator + Copy> Server<S, A> {
     /// Takes a clean step.
     fn clean(&mut self) -> Answer
         ensures { Records
-            (with_notes (point_of_desk S.device self.old.desk) self.old.notes) Clean
-            result (with_notes (point_of_desk S.device self.new.desk) self.new.notes) }
+            (with_notes (point_of_desk self.old.desk) self.old.notes) Clean
+            result (with_notes (point_of_desk self.new.desk) self.new.notes) }
     {
         match self.desk.clean_step() {
             Ok(true) => Answer::Cleaned,
@@ -115,8 +118,8 @@ impl<S: Opened<MemFlash<A>, A>, A: Allocator + Copy> Server<S, A> {
     /// Arms a cut.
     fn arm(&mut self, fuse: Fuse) -> Answer
         ensures { Records
-            (with_notes (point_of_desk S.device self.old.desk) self.old.notes) (Arm fuse)
-            result (with_notes (point_of_desk S.device self.new.desk) self.new.notes) }
+            (with_notes (point_of_desk self.old.desk) self.old.notes) (Arm fuse)
+            result (with_notes (point_of_desk self.new.desk) self.new.notes) }
     {
         let desk = replace(&mut self.desk, Desk::Gone);
         self.desk = desk.arm(fuse);
@@ -126,11 +129,11 @@ impl<S: Opened<MemFlash<A>, A>, A: Allocator + Copy> Server<S, A> {
     /// Turns power on and opens the store. An error says that memory ran out.
     fn power_on(&mut self) -> Result<Answer, AllocError>
         ensures { IfOk result (λ answer. Records
-            (with_notes (point_of_desk S.device self.old.desk) self.old.notes) PowerOn
-            answer (with_notes (point_of_desk S.device self.new.desk) self.new.notes)) }
+            (with_notes (point_of_desk self.old.desk) self.old.notes) PowerOn
+            answer (with_notes (point_of_desk self.new.desk) self.new.notes)) }
     {
         let desk = replace(&mut self.desk, Desk::Gone);
-        let (desk, answer) = desk.power_on(self.alloc);
+        let (desk, answer) = desk.power_on(self.alloc, self.kind);
         self.desk = desk;
         match answer {
             Ok(Answer::Cut) => Ok(self.notes.note_cut()),
@@ -141,10 +144,10 @@ impl<S: Opened<MemFlash<A>, A>, A: Allocator + Copy> Server<S, A> {
     /// Takes note of what a line about this address took, and goes on with the kind of store that pays.
     #[inline(always)]
     fn settle(&mut self, address: Address, answer: Answer)
-        ensures point { point_of_desk S.device self.new.desk ≡ point_of_desk S.device self.old.desk }
+        ensures point { point_of_desk self.new.desk ≡ point_of_desk self.old.desk }
         ensures notes { self.new.notes ≡ self.old.notes }
     {
-        if self.desk.note(answer) {
+        if matches!(self.kind, Kind::AsPays) && self.desk.note(answer) {
             self.change_kind(address);
         }
     }
@@ -152,7 +155,7 @@ impl<S: Opened<MemFlash<A>, A>, A: Allocator + Copy> Server<S, A> {
     /// Goes on with the kind of store that pays behind a line about this address.
     #[inline(never)]
     fn change_kind(&mut self, address: Address)
-        ensures point { point_of_desk S.device self.new.desk ≡ point_of_desk S.device self.old.desk }
+        ensures point { point_of_desk self.new.desk ≡ point_of_desk self.old.desk }
         ensures notes { self.new.notes ≡ self.old.notes }
     {
         let desk = replace(&mut self.desk, Desk::Gone);
@@ -160,12 +163,12 @@ impl<S: Opened<MemFlash<A>, A>, A: Allocator + Copy> Server<S, A> {
     }
 }
 
-impl<S: Opened<MemFlash<A>, A>, A: Allocator + Copy> Serve for Server<S, A> {
+impl<A: Allocator + Copy> Serve for Server<A> {
     ghost use Rattle.ee_replay.specs.Serving.{Records, with_notes};
 
     ghost serves = { λ old command answer new.
-        Records (with_notes (point_of_desk S.device old.desk) old.notes) command answer
-        (with_notes (point_of_desk S.device new.desk) new.notes) };
+        Records (with_notes (point_of_desk old.desk) old.notes) command answer
+        (with_notes (point_of_desk new.desk) new.notes) };
 
     fn serve(&mut self, command: Command) -> Result<Answer, AllocError> {
         match command {

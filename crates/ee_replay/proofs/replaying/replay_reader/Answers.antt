@@ -18,7 +18,7 @@ returns-in_err-store-clause-bad g c = λ script n known store bad.
 
 pub returns-clause-replayed : goal.returns-clause-replayed
 returns-clause-replayed g c = IfOk-weaker c.run_reader.result _ _
-    (λ replayed run. (run.0, run.1, is_replayed _ _ _ _ c.in_ok-store.store c.in_ok-store.ensures.opened run.2))
+    (λ replayed run. (run.0, run.1, is_replayed _ _ _ _ _ c.in_ok-store.ensures.opened run.2))
     c.run_reader.ensures.run
 
 pub returns-clause-fault : goal.returns-clause-fault
@@ -35,6 +35,6 @@ pub returns-clause-bad : goal.returns-clause-bad
 returns-clause-bad g c = λ script n known store bad.
     MatchResult-from_both c.run_reader.result (λ replayed. ⊥) (λ fault. (fault ≡ Script n) ⊎ (fault ≡ Memory) ⊎ (fault ≡ Read))
     (IfOk-weaker c.run_reader.result _ _
-    (λ replayed run. given_is_good _ _ c.args.image.now script run.0 _ _ n known bad run.1 (is_replayed _ _ _ _ c.in_ok-store.store c.in_ok-store.ensures.opened run.2))
+    (λ replayed run. given_is_good _ _ c.args.image.now script run.0 _ _ n known bad run.1 (is_replayed _ _ _ _ _ c.in_ok-store.ensures.opened run.2))
     c.run_reader.ensures.run)
     (IfErr-weaker c.run_reader.result _ _ (λ fault why. named_of_stream _ _ script n fault known bad why) c.run_reader.ensures.fault)

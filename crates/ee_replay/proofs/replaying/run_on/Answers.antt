@@ -1,18 +1,18 @@
-use Rattle.std.proofs.Common.{subst, sym}
+use Rattle.std.proofs.Common.{subst}
 use Rattle.std.proofs.lemmas.Result.{IfErr-weaker, IfOk-weaker}
 use Rattle.ee_check.specs.Schedule.{IsProper}
 use Rattle.ee_replay.specs.Desk.{point_of_desk}
+use Rattle.ee_replay.specs.Either.{device_of_either}
 use Rattle.ee_replay.specs.Serving.{with_notes}
 use Rattle.ee_replay.proofs.NotedRuns.{is_traced}
 use Rattle.ee_replay.proofs.replaying.run_on.Goals as goal
 
 pub returns-clause-run : goal.returns-clause-run
 returns-clause-run g c =
-    let store = c.settled_to_count-store.ensures in
-    let traced = is_traced (λ server. with_notes (point_of_desk g.S.Variables.device server.desk) server.notes) (g.S.Variables.device c.settled_to_count-store.result) _ _ _ _
+    let traced = is_traced (λ server. with_notes (point_of_desk server.desk) server.notes) (device_of_either c.args.store) _ _ _ _
     c.in_ok-server.ensures.answered c.new-server.ensures.point c.new-server.ensures.notes in
     let proper = subst IsProper c.start.view_is c.start.invariant.proper in
-    IfOk-weaker c.left_by.result _ _ (λ replayed made. rw (sym store) (made _ _ traced c.in_ok-start.ensures.start proper (rw store c.requires))) c.left_by.ensures.run
+    IfOk-weaker c.left_by.result _ _ (λ replayed made. made _ _ traced c.in_ok-start.ensures.start proper c.requires) c.left_by.ensures.run
 
 -- memory ran out
 pub returns-clause-fault : goal.returns-clause-fault

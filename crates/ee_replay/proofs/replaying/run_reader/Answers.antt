@@ -1,8 +1,9 @@
-use Rattle.std.proofs.Common.{[], subst, sym}
+use Rattle.std.proofs.Common.{[], subst}
 use Rattle.std.proofs.KnownBytes.{Consumes-nil}
 use Rattle.std.proofs.lemmas.Result.{IfErr-weaker, IfOk-weaker, err_from_is_err_and}
 use Rattle.ee_check.specs.Schedule.{IsProper}
 use Rattle.ee_replay.specs.Desk.{point_of_desk}
+use Rattle.ee_replay.specs.Either.{device_of_either}
 use Rattle.ee_replay.specs.Serving.{with_notes}
 use Rattle.ee_replay.proofs.Given.{out_of_memory}
 use Rattle.ee_replay.proofs.NotedRuns.{is_traced}
@@ -20,11 +21,10 @@ returns-clause-fault g c =
 
 pub returns-clause-run : goal.returns-clause-run
 returns-clause-run g c =
-    let store = c.settled_to_count-store.ensures in
     let all = c.in_ok-server.ensures.answered in
-    let traced = is_traced (λ server. with_notes (point_of_desk g.S.Variables.device server.desk) server.notes) (g.S.Variables.device c.settled_to_count-store.result) _ _ _ _ all.answered
+    let traced = is_traced (λ server. with_notes (point_of_desk server.desk) server.notes) (device_of_either c.args.store) _ _ _ _ all.answered
     c.new-server.ensures.point c.new-server.ensures.notes in
     let proper = subst IsProper c.start.view_is c.start.invariant.proper in
     IfOk-weaker c.left_by.result _ _
-    (λ replayed made. (all.text, record { given = all.given; ended = all.ended }, rw (sym store) (made _ _ traced c.in_ok-start.ensures.start proper (rw store c.requires))))
+    (λ replayed made. (all.text, record { given = all.given; ended = all.ended }, made _ _ traced c.in_ok-start.ensures.start proper c.requires))
     c.left_by.ensures.run

@@ -2,4 +2,4 @@ use Rattle.ee_replay.proofs.Powering.{store_sound}
 use Rattle.ee_replay.proofs.desk.Desk.into_flash.Goals as goal
 
 pub returns-in-Open-clause-sound : goal.returns-in-Open-clause-sound
-returns-in-Open-clause-sound g c = rw c.in-Open.is (store_sound _ c.close.ensures.store)
+returns-in-Open-clause-sound g c = rw c.in-Open.is (store_sound _ c.into_flash.ensures.store)

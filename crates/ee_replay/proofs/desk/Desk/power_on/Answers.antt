@@ -9,5 +9,5 @@ unreachable-requires g c =
     opens_well _ _ _ _ _ (ap (λ (kept : Memory). kept.device) c.power_on.ensures) (subst IsLegal (sym c.into_flash-flash.ensures.device) c.into_flash-flash.ensures.sound.legal)
     c.in-Err-default-Scan.field-0-1-is c.in-Err-default-Scan.ensures.failed
 
-pub open_on-requires : goal.open_on-requires
-open_on-requires g c = ap (λ (kept : Memory). kept.device.on) c.power_on.ensures
+pub open-requires : goal.open-requires
+open-requires g c = ap (λ (kept : Memory). kept.device.on) c.power_on.ensures

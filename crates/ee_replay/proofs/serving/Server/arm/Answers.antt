@@ -12,6 +12,5 @@ invariant_of-self-clause-legal g c = legal_so _ c.arm.ensures.legal
 
 pub invariant_of-self-clause-counted : goal.invariant_of-self-clause-counted
 invariant_of-self-clause-counted g c =
-    let device = g.S.Variables.device in
-    counted_same (point_of_desk device c.args.self.now.desk).device (point_of_desk device c.arm.result).device c.args.self.now.notes c.args.self.now.notes
-    (subst (λ desk. SaysTheSame (point_of_desk device desk).device (point_of_desk device c.arm.result).device) c.replace-desk.ensures.value c.arm.ensures.same) refl c.args.self.now.counted
+    counted_same (point_of_desk c.args.self.now.desk).device (point_of_desk c.arm.result).device c.args.self.now.notes c.args.self.now.notes
+    (subst (λ desk. SaysTheSame (point_of_desk desk).device (point_of_desk c.arm.result).device) c.replace-desk.ensures.value c.arm.ensures.same) refl c.args.self.now.counted

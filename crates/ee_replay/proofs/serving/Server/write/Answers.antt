@@ -4,5 +4,5 @@ use Rattle.ee_replay.proofs.serving.Server.write.Goals as goal
 
 pub invariant_of-self-in-Err-Cut-clause-counted : goal.invariant_of-self-in-Err-Cut-clause-counted
 invariant_of-self-in-Err-Cut-clause-counted g c =
-    wrote_cut_counted _ _ (point_of_desk g.S.Variables.device c.write.new.self) c.args.address c.args.value c.args.self.now.notes c.note_cut.new.self _ c.in-Err-Cut.field-0-is c.in-Err-Cut.ensures.calls
+    wrote_cut_counted _ _ (point_of_desk c.write.new.self) c.args.address c.args.value c.args.self.now.notes c.note_cut.new.self _ c.in-Err-Cut.field-0-is c.in-Err-Cut.ensures.calls
     c.args.self.now.counted c.note_cut.ensures.noted
