@@ -1,5 +1,5 @@
 -- What a device's image says stays as power comes on and a cut is armed.
-use Rattle.std.proofs.Common.{◌≡◌, ◌∙◌, ◌≤◌, ℕ, Bool, Some, ap, refl, subst, sym, rules}
+use Rattle.std.proofs.Common.{◌≡◌, ◌∙◌, ◌≤◌, ℕ, Bool, Some, ap, false, refl, subst, sym, rules}
 use Rattle.ee_flash.specs.Device.{Device, all_ones}
 use Rattle.ee_pages.proofs.Public.{legal_is_good}
 use Rattle.ee_pages.specs.Layout.{IsLayout}
@@ -10,17 +10,20 @@ use Rattle.ee_pages.specs.declared.find.ScanFault.{ScanFault}
 use Rattle.ee_pages.specs.declared.side.Side.{Side}
 use Rattle.ee_pages.specs.declared.side.Side.TheVariants.{First, Second}
 use Rattle.ee_core.proofs.Public.{legal_on, legal_powered, live_powered, state_in_on, state_in_powered}
-use Rattle.ee_core.specs.Points.{Point, with_power_on, open_point}
+use Rattle.ee_core.specs.Points.{Point, closed_point, open_point, with_power_on}
 use Rattle.ee_core.specs.Finished.{IsMarked, IsStore}
-use Rattle.ee_core.specs.Openings.{OpenFails}
+use Rattle.ee_core.specs.Openings.{IsCutOpening, OpenFails, Opens}
 use Rattle.ee_core.specs.declared.opening.OpenFault.{OpenFault}
-use Rattle.ee_core.specs.declared.opening.OpenFault.TheVariants.{Scan}
+use Rattle.ee_core.specs.declared.opening.OpenFault.TheVariants as opening
 use Rattle.ee_core.specs.State.{state_of}
 use Rattle.ee_flash.specs.declared.fuse.Fuse.{Fuse}
 use Rattle.ee_index.specs.Kept.{IsKeptBeside}
 use Rattle.ee_index.specs.declared.indexed.Kept.{Kept}
 use Rattle.ee_replay.specs.Desk.{SaysTheSame}
-use Rattle.ee_replay.specs.Serving.{ArmsDevice, ArmsItsFuse, IsArmed, IsSound, with_cut_to_come}
+use Rattle.ee_script.specs.declared.answer.Answer.{Answer}
+use Rattle.ee_script.specs.declared.answer.Answer.TheVariants.{Cut, Opened}
+use Rattle.ee_script.specs.declared.command.Command.TheVariants.{PowerOn}
+use Rattle.ee_replay.specs.Serving.{ArmsDevice, ArmsItsFuse, Attends, IsArmed, IsSound, with_cut_to_come}
 
 pub state_armed : (device : Device) → state_of (with_cut_to_come device) ≡ state_of device
 state_armed device = state_in_powered device.cuts (Some 1) device.on device (live_of device)
@@ -106,6 +109,24 @@ pub store_sound : (device : Device) → IsStore device → IsSound (open_point d
 store_sound device store = record { legal = store.legal; on = λ on. on; store = λ on. store }
 
 -- the image of a device whose power came on is still legal, so opening it finds no fault
-pub opens_well : (device old new : Device) (why : OpenFault) (fault : ScanFault) → old ≡ with_power_on device → IsLegal device → why ≡ Scan fault → OpenFails old why new → ⊥
+pub opens_well : (device old new : Device) (why : OpenFault) (fault : ScanFault) → old ≡ with_power_on device → IsLegal device → why ≡ opening.Scan fault → OpenFails old why new → ⊥
 opens_well device old new why fault on legal told fails =
     legal_is_good old fault (subst IsLegal (sym on) (legal_on device legal)) (subst (λ (w : OpenFault). OpenFails old w new) told fails).0
+
+-- ---- power that comes on where no store is open
+
+module _ (old : Point) (found powered : Device) (at : found ≡ old.device) (on : powered ≡ with_power_on found) where
+  there : powered ≡ with_power_on old.device
+  there = on ∙ ap with_power_on at
+
+  pub power_opens : (new : Point) (store : Device) (answer : Answer) → old.serving ≡ false → Opens powered store → (answer ≡ Opened) × (new ≡ open_point store) → Attends old PowerOn answer new
+  power_opens new store answer off opens done =
+      rw (off, done.0, done.1) (subst (λ (device : Device). Opens device store) there opens, opens.goes_on.same_power ∙ ap (λ (device : Device). device.on) on)
+
+  pub power_cut : (new : Device) (fault : OpenFault) → old.serving ≡ false → fault ≡ opening.Cut → OpenFails powered fault new → Attends old PowerOn Cut (closed_point new)
+  power_cut new fault off told fails =
+      rw off (subst (λ (device : Device). IsCutOpening device new) there (subst (λ (why : OpenFault). OpenFails powered why new) told fails), refl)
+
+  pub power_same : (new store : Device) → new ≡ store → Opens powered store → SaysTheSame old.device new
+  power_same new store is opens = subst (λ (device : Device). SaysTheSame old.device device) (sym is) (subst (λ (device : Device). SaysTheSame device store) at
+      (record { same_size = opens.goes_on.same_size ∙ ap (λ (device : Device). device.size) on; state_is = opens.state_is ∙ ap state_of on ∙ state_powered found }))

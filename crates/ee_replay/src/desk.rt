@@ -11,7 +11,7 @@ ghost use Rattle.ee_replay.specs.Desk.{CallsAtDesk, IsLegalDesk, IsLegalSo, Says
 ghost use Rattle.ee_replay.specs.Either.{device_of_either};
 ghost use Rattle.ee_replay.specs.Serving.{ArmsItsFuse, Attends, IsSound};
 
-use super::either::{EitherStore, Kind, armed};
+use super::either::{EitherStore, Kind, armed, with_fuse};
 use ee_codec::Address;
 use ee_core::{ForgetFault, Off, OpenFault, Store, Variables, WriteFault, Written, open};
 use ee_flash::{Flash, Fuse, MemFlash};
@@ -22,7 +22,7 @@ use std::alloc::{AllocError, Allocator, Global};
 #[derive(Drop)]
 pub(crate) enum Desk<A: Allocator = Global> {
     /// A store. It is open as long as its device is on.
-    Open(EitherStore<A>),
+    Open(EitherStore<MemFlash<A>, A>),
     /// The device alone.
     Bare(MemFlash<A>),
     /// Nothing, while a call has taken what is there.
@@ -112,7 +112,7 @@ impl<A: Allocator + Copy> Desk<A> {
     }
 
     /// The store that is open.
-    fn into_open(self) -> EitherStore<A>
+    fn into_open(self) -> EitherStore<MemFlash<A>, A>
         requires { (point_of_desk self).serving ≡ true }
         ensures { open_point (device_of_either result) ≡ point_of_desk self }
     {
@@ -133,7 +133,7 @@ impl<A: Allocator + Copy> Desk<A> {
         if !self.is_open() {
             return Desk::Bare(armed(self.into_flash(), fuse));
         }
-        Desk::Open(self.into_open().with_fuse(fuse))
+        Desk::Open(with_fuse(self.into_open(), fuse))
     }
 
     /// Takes note of what a line took, and says whether the store is to be settled now.

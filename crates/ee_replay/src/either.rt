@@ -14,7 +14,7 @@ use ee_core::{
     inner as plain,
 };
 use ee_faults::ReplayFault;
-use ee_flash::{Fuse, MemFlash};
+use ee_flash::{Flash, Fuse, MemFlash};
 use ee_image_store::open_image;
 use ee_index::inner::{Costs, count_live, looks_for};
 use ee_index::{IndexedStore, inner as indexed};
@@ -34,20 +34,20 @@ pub(crate) enum Kind {
 
 /// Variables in a store of either kind, with what is counted to tell which one pays.
 #[derive(Drop)]
-pub(crate) enum EitherStore<A: Allocator = Global> {
+pub(crate) enum EitherStore<F: Flash + Drop, A: Allocator = Global> {
     /// Without an index.
     Plain {
-        store: Store<MemFlash<A>>,
+        store: Store<F>,
         costs: Costs,
     },
     /// With one.
     Indexed {
-        store: IndexedStore<MemFlash<A>, A>,
+        store: IndexedStore<F, A>,
         costs: Costs,
     },
 }
 
-impl<A: Allocator + Copy> Variables for EitherStore<A> {
+impl<F: Flash + Drop, A: Allocator + Copy> Variables for EitherStore<F, A> {
     ghost use Rattle.ee_replay.specs.Either.{device_of_either};
 
     ghost device = { λ store. device_of_either store };
@@ -158,7 +158,7 @@ pub(crate) fn open_as<A: Allocator + Copy>(
     alloc: A,
     image: &[u8],
     kind: Kind,
-) -> Result<EitherStore<A>, ReplayFault>
+) -> Result<EitherStore<MemFlash<A>, A>, ReplayFault>
     ensures opened { IfOk result (λ store. IsOpened image.now (device_of_either store)) }
     ensures fault { IfErr result (IsOpenFault image.now) }
 {
@@ -172,13 +172,9 @@ pub(crate) fn open_as<A: Allocator + Copy>(
     }
 }
 
-impl<A: Allocator + Copy> EitherStore<A> {
+impl<F: Flash + Drop, A: Allocator + Copy> EitherStore<F, A> {
     /// A store of this kind. An `Err` has it as it was, where memory for an index is refused that it is to have.
-    pub(crate) fn of(
-        alloc: A,
-        store: Store<MemFlash<A>>,
-        kind: Kind,
-    ) -> Result<EitherStore<A>, Store<MemFlash<A>>>
+    pub(crate) fn of(alloc: A, store: Store<F>, kind: Kind) -> Result<EitherStore<F, A>, Store<F>>
         requires { IsOn store }
         ensures same { IfOk result (λ kept. device_of_either kept ≡ store) }
         ensures plain { IfErr result (λ plain. plain ≡ store) }
@@ -196,7 +192,7 @@ impl<A: Allocator + Copy> EitherStore<A> {
     }
 
     /// A store without an index, of which nothing is known.
-    pub(crate) fn new(store: Store<MemFlash<A>>) -> EitherStore<A>
+    pub(crate) fn new(store: Store<F>) -> EitherStore<F, A>
         ensures { device_of_either result ≡ store }
     {
         EitherStore::Plain {
@@ -206,7 +202,7 @@ impl<A: Allocator + Copy> EitherStore<A> {
     }
 
     /// A store with an index, or as it is where memory is refused: its costs are counted anew then.
-    fn with_index(alloc: A, store: Store<MemFlash<A>>, costs: Costs) -> EitherStore<A>
+    fn with_index(alloc: A, store: Store<F>, costs: Costs) -> EitherStore<F, A>
         requires { IsOn store }
         ensures { device_of_either result ≡ store }
     {
@@ -217,36 +213,6 @@ impl<A: Allocator + Copy> EitherStore<A> {
                 costs: costs.with_index(fill),
             },
             Err(store) => EitherStore::new(store),
-        }
-    }
-
-    /// Its device.
-    pub(crate) fn into_flash(self) -> MemFlash<A>
-        ensures device { device_of result ≡ device_of_either self }
-        ensures store { IsStore (device_of_either self) }
-    {
-        match self {
-            EitherStore::Plain { store, .. } => store.into_flash(),
-            EitherStore::Indexed { store, .. } => store.into_flash(),
-        }
-    }
-
-    /// Arms a cut, which takes no step and no memory.
-    pub(crate) fn with_fuse(self, fuse: Fuse) -> EitherStore<A>
-        requires { IsOn (device_of_either self) }
-        ensures { ArmsDevice (device_of_either self) fuse (device_of_either result) }
-    {
-        match self {
-            EitherStore::Plain { store, costs } => {
-                let (flash, layout) = plain::parts_of(store);
-                let store = plain::store_of(armed(flash, fuse), layout);
-                EitherStore::Plain { store, costs }
-            }
-            EitherStore::Indexed { store, costs } => {
-                let (flash, kept) = indexed::parts_of(store);
-                let store = indexed::store_of(armed(flash, fuse), kept);
-                EitherStore::Indexed { store, costs }
-            }
         }
     }
 
@@ -262,7 +228,7 @@ impl<A: Allocator + Copy> EitherStore<A> {
     }
 
     /// The same variables, in the kind of store that pays behind a line about this address.
-    pub(crate) fn settled(self, alloc: A, address: Address) -> EitherStore<A>
+    pub(crate) fn settled(self, alloc: A, address: Address) -> EitherStore<F, A>
         requires { IsOn (device_of_either self) }
         ensures { device_of_either result ≡ device_of_either self }
     {
@@ -273,13 +239,46 @@ impl<A: Allocator + Copy> EitherStore<A> {
     }
 
     /// The same variables, in the kind of store that counts them sooner.
-    pub(crate) fn settled_to_count(self, alloc: A) -> EitherStore<A>
+    pub(crate) fn settled_to_count(self, alloc: A) -> EitherStore<F, A>
         requires { IsOn (device_of_either self) }
         ensures { device_of_either result ≡ device_of_either self }
     {
         match self {
             EitherStore::Plain { store, costs } => settle_to_count(alloc, store, costs),
             indexed => indexed,
+        }
+    }
+
+    /// Its device.
+    pub(crate) fn into_flash(self) -> F
+        ensures device { F.device result ≡ device_of_either self }
+        ensures store { IsStore (device_of_either self) }
+    {
+        match self {
+            EitherStore::Plain { store, .. } => store.into_flash(),
+            EitherStore::Indexed { store, .. } => store.into_flash(),
+        }
+    }
+}
+
+/// A store with this fuse on its device. It takes no step and no memory.
+pub(crate) fn with_fuse<A: Allocator + Copy>(
+    store: EitherStore<MemFlash<A>, A>,
+    fuse: Fuse,
+) -> EitherStore<MemFlash<A>, A>
+    requires { IsOn (device_of_either store) }
+    ensures { ArmsDevice (device_of_either store) fuse (device_of_either result) }
+{
+    match store {
+        EitherStore::Plain { store, costs } => {
+            let (flash, layout) = plain::parts_of(store);
+            let store = plain::store_of(armed(flash, fuse), layout);
+            EitherStore::Plain { store, costs }
+        }
+        EitherStore::Indexed { store, costs } => {
+            let (flash, kept) = indexed::parts_of(store);
+            let store = indexed::store_of(armed(flash, fuse), kept);
+            EitherStore::Indexed { store, costs }
         }
     }
 }
@@ -311,12 +310,12 @@ fn note_looks<V: Variables>(store: &V, costs: &mut Costs, answer: Answer) -> boo
 }
 
 /// Measures a read of this address, if it is its turn, and makes an index if that pays by now.
-fn settle_looking<A: Allocator + Copy>(
+fn settle_looking<F: Flash + Drop, A: Allocator + Copy>(
     alloc: A,
-    store: Store<MemFlash<A>>,
+    store: Store<F>,
     costs: Costs,
     address: Address,
-) -> EitherStore<A>
+) -> EitherStore<F, A>
     requires { IsOn store }
     ensures { device_of_either result ≡ store }
 {
@@ -333,11 +332,11 @@ fn settle_looking<A: Allocator + Copy>(
 }
 
 /// Measures a read of this address, if it is its turn, and gives the index back if it no longer pays.
-fn settle_indexed<A: Allocator + Copy>(
-    store: IndexedStore<MemFlash<A>, A>,
+fn settle_indexed<F: Flash + Drop, A: Allocator + Copy>(
+    store: IndexedStore<F, A>,
     costs: Costs,
     address: Address,
-) -> EitherStore<A>
+) -> EitherStore<F, A>
     requires { IsOn store }
     ensures { device_of_either result ≡ store }
 {
@@ -357,11 +356,11 @@ fn settle_indexed<A: Allocator + Copy>(
 }
 
 /// Makes an index if live addresses are counted sooner so.
-fn settle_to_count<A: Allocator + Copy>(
+fn settle_to_count<F: Flash + Drop, A: Allocator + Copy>(
     alloc: A,
-    store: Store<MemFlash<A>>,
+    store: Store<F>,
     costs: Costs,
-) -> EitherStore<A>
+) -> EitherStore<F, A>
     requires { IsOn store }
     ensures { device_of_either result ≡ store }
 {

@@ -20,7 +20,7 @@ use super::serving::Server;
 use ee_check::Start;
 use ee_command_line::MOST_READS;
 use ee_faults::ReplayFault;
-use ee_flash::Shape;
+use ee_flash::{MemFlash, Shape};
 use ee_image_store::{new_store, text_of};
 use ee_plan::start_of;
 use ee_script::{answer_reader, answer_script};
@@ -164,7 +164,7 @@ pub fn try_script<A: Allocator + Copy>(
 /// Answers a script on a store of this kind, and gives the image that this leaves and the report.
 fn run_on<A: Allocator + Copy>(
     alloc: A,
-    store: EitherStore<A>,
+    store: EitherStore<MemFlash<A>, A>,
     kind: Kind,
     script: &[u8],
 ) -> Result<Replayed<A>, ReplayFault>
@@ -182,7 +182,7 @@ fn run_on<A: Allocator + Copy>(
 /// The same of a script that a reader gives.
 fn run_reader<A: Allocator + Copy, R: Read>(
     alloc: A,
-    store: EitherStore<A>,
+    store: EitherStore<MemFlash<A>, A>,
     reader: &mut R,
 ) -> Result<Replayed<A>, ReplayFault>
     requires { StaysOn (device_of_either store) }

@@ -13,7 +13,7 @@ use super::either::{EitherStore, Kind};
 use super::noting::Notes;
 use ee_codec::Address;
 use ee_core::{ForgetFault, Off, Variables, WriteFault};
-use ee_flash::Fuse;
+use ee_flash::{Fuse, MemFlash};
 use ee_script::{Answer, Command, Serve};
 use std::alloc::{AllocError, Allocator, Global};
 use std::mem::replace;
@@ -35,7 +35,7 @@ impl<A: Allocator + Copy> Server<A> {
     ghost use Rattle.ee_replay.specs.Serving.{Records, with_notes};
 
     /// What serves with this store, of this kind, before the first command.
-    pub(crate) fn new(alloc: A, store: EitherStore<A>, kind: Kind) -> Server<A>
+    pub(crate) fn new(alloc: A, store: EitherStore<MemFlash<A>, A>, kind: Kind) -> Server<A>
         requires on { StaysOn (device_of_either store) }
         requires legal { IsStore (device_of_either store) }
         ensures point { point_of_desk result.desk ≡ serving_on (device_of_either store) }

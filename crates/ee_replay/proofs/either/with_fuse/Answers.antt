@@ -4,7 +4,7 @@ use Rattle.ee_pages.specs.Layout.{IsLayout}
 use Rattle.ee_core.specs.Finished.{IsStore}
 use Rattle.ee_index.specs.Kept.{IsKeptBeside}
 use Rattle.ee_replay.proofs.Powering.{kept_with_fuse, layout_with_fuse, store_with_fuse}
-use Rattle.ee_replay.proofs.either.EitherStore.with_fuse.Goals as goal
+use Rattle.ee_replay.proofs.either.with_fuse.Goals as goal
 
 pub store_of-store-requires-clause-store : goal.store_of-store-requires-clause-store
 store_of-store-requires-clause-store g c = store_with_fuse _ _ _ c.armed.ensures (subst IsStore (sym c.parts_of-flash.ensures.device) c.parts_of-flash.ensures.store)
