@@ -43,7 +43,13 @@ pub schema_named : (text : List ℕ) (tree : Members) (why : SchemaFault) (fault
     → cause ≢ Memory → IsSettingsFault text cause → (fault ≡ cause) ⊎ (fault ≡ Memory)
 schema_named text tree why fault cause has rising gives told some (inl h) = absurd (h.1 tree has)
 schema_named text tree why fault cause has rising gives told some (inr (inr h)) = absurd (some h)
-schema_named text tree why fault cause has rising gives told some (inr (inl h)) = search (rules, one_fault, one_tree, schema_memory_or)
+schema_named text tree why fault cause has rising gives told some (inr (inl h)) = elim (schema_memory_or why) [
+  | inl none ↦ inr (told ∙ ap fault_of_schema none)
+  | inr named ↦
+      let there : GivesSchema tree (Err h.cause) = subst (λ (t : Members). GivesSchema t (Err h.cause)) (one_tree text h.tree tree h.has_tree has) h.applies in
+      let same : why ≡ h.cause = one_fault tree rising why h.cause named (λ e. some (h.fault_is ∙ ap fault_of_schema e)) gives there in
+      inl (told ∙ ap fault_of_schema same ∙ sym h.fault_is)
+]
 
 -- a text that spells settings has no fault
 pub schema_good : (text : List ℕ) (tree : Members) (settings : List Setting) (cause : Fault) → HasTree text tree → GivesSchema tree (Ok settings) → cause ≢ Memory → IsSettingsFault text cause → ⊥
