@@ -92,7 +92,18 @@ is_get_fault image text name store settings fault opened spelled (inr none) = rw
 -- ---- setting
 
 pub is_written : (settings : List Setting) (old new : Device) (name : List ℕ) (value : ℕ) (answer : Written) → StaysOn old → Sets settings old name value (Ok answer) new → IsWritten settings old name value new
-is_written settings old new name value written.Appended on set = search (rules, by_append)
+is_written settings old new name value written.Appended on set = record {
+  setting = set.0;
+  named = set.1;
+  in_range = set.2;
+  served = inl (
+    record { step = (set.3.proceeds.accepted, set.3.free, set.3.state_is); same_size = set.3.goes_on.same_size; erases = by_append old (Put set.0.numbers.address value) new set.3 },
+    set.3.no_wear,
+  );
+  stays_on = record { on = set.3.goes_on.same_power ∙ on.on; never_cut = set.3.goes_on.same_cuts_left ∙ on.never_cut };
+  answer = written.Appended;
+  written = set.3;
+}
 is_written settings old new name value written.Moved on set = record {
   setting = set.0;
   named = set.1;
