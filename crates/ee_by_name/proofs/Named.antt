@@ -43,7 +43,13 @@ pub schema_named : (text : List ℕ) (tree : Members) (why : SchemaFault) (fault
     → cause ≢ Memory → IsSettingsFault text cause → (fault ≡ cause) ⊎ (fault ≡ Memory)
 schema_named text tree why fault cause has rising gives told some (inl h) = absurd (h.1 tree has)
 schema_named text tree why fault cause has rising gives told some (inr (inr h)) = absurd (some h)
-schema_named text tree why fault cause has rising gives told some (inr (inl h)) = search (rules, one_fault, one_tree, schema_memory_or)
+schema_named text tree why fault cause has rising gives told some (inr (inl h)) = elim (schema_memory_or why) [
+  | inl none ↦ inr (told ∙ ap fault_of_schema none)
+  | inr named ↦
+      let there : GivesSchema tree (Err h.cause) = subst (λ (t : Members). GivesSchema t (Err h.cause)) (one_tree text h.tree tree h.has_tree has) h.applies in
+      let same : why ≡ h.cause = one_fault tree rising why h.cause named (λ e. some (h.fault_is ∙ ap fault_of_schema e)) gives there in
+      inl (told ∙ ap fault_of_schema same ∙ sym h.fault_is)
+]
 
 -- a text that spells settings has no fault
 pub schema_good : (text : List ℕ) (tree : Members) (settings : List Setting) (cause : Fault) → HasTree text tree → GivesSchema tree (Ok settings) → cause ≢ Memory → IsSettingsFault text cause → ⊥
@@ -86,7 +92,18 @@ is_get_fault image text name store settings fault opened spelled (inr none) = rw
 -- ---- setting
 
 pub is_written : (settings : List Setting) (old new : Device) (name : List ℕ) (value : ℕ) (answer : Written) → StaysOn old → Sets settings old name value (Ok answer) new → IsWritten settings old name value new
-is_written settings old new name value written.Appended on set = search (rules, by_append)
+is_written settings old new name value written.Appended on set = record {
+  setting = set.0;
+  named = set.1;
+  in_range = set.2;
+  served = inl (
+    record { step = (set.3.proceeds.accepted, set.3.free, set.3.state_is); same_size = set.3.goes_on.same_size; erases = by_append old (Put set.0.numbers.address value) new set.3 },
+    set.3.no_wear,
+  );
+  stays_on = record { on = set.3.goes_on.same_power ∙ on.on; never_cut = set.3.goes_on.same_cuts_left ∙ on.never_cut };
+  answer = written.Appended;
+  written = set.3;
+}
 is_written settings old new name value written.Moved on set = record {
   setting = set.0;
   named = set.1;

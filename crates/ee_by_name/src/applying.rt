@@ -29,10 +29,9 @@ use toml::{Table, Value};
 ///
 /// # Errors
 ///
-/// The first that applies: the image is no device's, or not legal; the text of the settings is no
-/// TOML, or no schema; the text of the values is no TOML; or an entry, counted from 1, is no whole
-/// number, no setting has its name, it is not in the setting's range, or the store is full, or spent.
-/// `Memory` can come in place of any answer.
+/// The first that applies: the image is no device's, or not legal; the text of the settings is no TOML, or no schema;
+/// the text of the values is no TOML; or an entry, counted from 1, is no whole number, no setting has its name, it is
+/// not in the setting's range, or the store is full, or spent. `Memory` can come in place of any answer.
 pub fn apply_values<A: Allocator + Copy>(
     alloc: A,
     heap: Global,

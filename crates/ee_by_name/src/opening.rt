@@ -50,8 +50,7 @@ pub(crate) fn open_with_settings<A: Allocator + Copy>(
     Ok(StoreAndSchema { store, schema })
 }
 
-/// The settings that a text spells. `heap` is for the tree of that text alone: `toml` takes no other
-/// allocator.
+/// The settings that a text spells. `heap` is for the tree of that text alone: `toml` takes no other allocator.
 ///
 /// Source: ours.
 ///

@@ -44,10 +44,9 @@ pub fn stale_text<A: Allocator + Copy>(
     stale_lines_on(alloc, &opened.store, &opened.schema)
 }
 
-/// Forgets each address that has a value in the image that a text spells and that no setting has, and
-/// gives the text of the image that this leaves, and what there is to print: `tidied N`, N the number
-/// of addresses forgotten. `settings` is the text of the settings. `heap` is for the tree of that text
-/// alone: `toml` takes no other allocator.
+/// Forgets each address that has a value in the image that a text spells and that no setting has, and gives the text of
+/// the image that this leaves, and what there is to print: `tidied N`, N the number of addresses forgotten. `settings`
+/// is the text of the settings. `heap` is for the tree of that text alone: `toml` takes no other allocator.
 ///
 /// Source: ours.
 ///

@@ -10,8 +10,7 @@ pub struct Stretch {
     pub from: u64,
 }
 
-/// A claim that a trace takes so many transfers at least, one for each stretch. `check` says
-/// whether it holds.
+/// A claim that a trace takes so many transfers at least, one for each stretch. `check` says whether it holds.
 #[derive(Drop)]
 pub struct Certificate<A: Allocator = Global> {
     /// The slots of a set.

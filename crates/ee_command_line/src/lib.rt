@@ -8,11 +8,10 @@
 //!
 //! # What is proved
 //!
-//! `job` reads exactly the rows of the table of commands (`found`, `only`). `read_whole` gives all that
-//! the reader had left (`whole`, `end`), and says `TooLong` only of more than 16777216 bytes, and
-//! `Read` only where no more than these were read (`failed`); an `Ok` of `write_whole` says that
-//! all the bytes went out, once and in order, and `Stopped` how long a front did (`all`, `front`,
-//! `short`).
+//! `job` reads exactly the rows of the table of commands (`found`, `only`). `read_whole` gives all that the reader had
+//! left (`whole`, `end`), and says `TooLong` only of more than 16777216 bytes, and `Read` only where no more than these
+//! were read (`failed`); an `Ok` of `write_whole` says that all the bytes went out, once and in order, and `Stopped`
+//! how long a front did (`all`, `front`, `short`).
 #![tactic(auto)]
 
 mod files;

@@ -58,9 +58,8 @@ pub fn clean_image<A: Allocator + Copy>(alloc: A, image: &[u8]) -> Result<ImageA
     Ok(ImageAndText { image, text })
 }
 
-/// The state of each page of the image that a text spells, a line for each page by rising page: `page
-/// I STATE`, with `ERASED`, `RECEIVE`, `ACTIVE`, `VALID` or `ERASING`. The image may be one that no
-/// store can work on.
+/// The state of each page of the image that a text spells, a line for each page by rising page: `page I STATE`, with
+/// `ERASED`, `RECEIVE`, `ACTIVE`, `VALID` or `ERASING`. The image may be one that no store can work on.
 ///
 /// Source: ours.
 ///

@@ -1,5 +1,4 @@
-//! What holds of every part for which sizes were told. Each function does nothing: its contract is the
-//! law.
+//! What holds of every part for which sizes were told. Each function does nothing: its contract is the law.
 ghost use Rattle.ee_commands.specs.ToldSizes.{EachSizeIsMadeAsTold, EachSizeMovesAsTold, EachSizeWearsAsTold};
 
 /// Where `size_parts` told sizes for a script that is made so many times, and calls of a store that was

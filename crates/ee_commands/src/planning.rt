@@ -15,9 +15,8 @@ use ee_script::{Command, ScriptFault, next_command};
 use ee_text::push_number;
 use std::alloc::{AllocError, Allocator};
 
-/// The text of the tight certificate of a script on the image that a text spells: the fewest transfers
-/// that any store takes for the script's writes, and where each of them is forced. Lines that read or
-/// clean are passed over.
+/// The text of the tight certificate of a script on the image that a text spells: the fewest transfers that any store
+/// takes for the script's writes, and where each of them is forced. Lines that read or clean are passed over.
 ///
 /// Source: ours.
 ///

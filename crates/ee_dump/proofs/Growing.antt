@@ -1,5 +1,5 @@
 -- Words that are read one by one, and a dump that grows by words and by pages.
-use Rattle.std.proofs.Common.{◌≡◌, ◌≢◌, ℕ, ◌+◌, ◌*◌, ◌/◌, ◌<◌, ◌≤◌, List, [], ◌∷◌, ◌++◌, length, get_or, take, drop, sym, ap, ◌∙◌, subst, arith, inl, inr, length-append}
+use Rattle.std.proofs.Common.{◌≡◌, ◌≢◌, ℕ, ◌+◌, ◌*◌, ◌/◌, ◌<◌, ◌≤◌, List, [], ◌∷◌, ◌++◌, length, get_or, take, drop, sym, ap, ◌∙◌, subst, arith, inl, inr, below_more, length-append}
 use Rattle.std.specs.List.{flat_map}
 use Rattle.std.specs.Simd.{first_chunks}
 use Rattle.std.proofs.Math.Seq.{take-add}
@@ -18,6 +18,7 @@ use Rattle.ee_dump.specs.Fault.{IsWriteFault}
 use Rattle.ee_dump.specs.Writing.{IsTornPageFault, IsTornPage}
 use Rattle.ee_dump.specs.declared.fault.WriteFault.{WriteFault}
 use Rattle.ee_dump.specs.declared.fault.WriteFault.TheVariants.{Memory, TornWord}
+use Rattle.ee_flash.proofs.Public.{length-page_at}
 use Rattle.ee_dump.proofs.Words.{chunk_at, erased_whole, length-first_chunks, one_whole_more}
 
 -- ---- reading
@@ -47,6 +48,29 @@ one_read_more dump chunks n words new word are read within spelled sound below p
 pub record IsPageFront (form : Form) (device : Device) (page at : ℕ) (old out : List ℕ) : Type 0 where
   pub written : out ≡ old ++ flat_map (word_bytes form) (take at (page_at device page))
   pub none_torn : (k : ℕ) → k < at → word_at device page k ≢ Torn
+
+pub one_word_more : (form : Form) (device : Device) (page at : ℕ) (old out new : List ℕ) (word : Word) → IsFormed device → page < page_count device.size → at < device.size.words
+    → IsPageFront form device page at old out → word ≡ word_at device page at → word ≢ Torn → new ≡ out ++ word_bytes form word → IsPageFront form device page (at + 1) old new
+one_word_more form device page at old out new word formed in_range within front is sound pushed =
+    let words : List Word = page_at device page in
+    let more : take (at + 1) words ≡ take at words ++ word ∷ [] =
+    take_more words at Erased (omega (arith, length-page_at device page formed in_range)) ∙ ap (λ (w : Word). take at words ++ w ∷ []) (sym is) in
+    record {
+      written = pushed ∙ ap (λ l. l ++ word_bytes form word) front.written ∙ flat_map_more (word_bytes form) old (take at words) word
+          ∙ ap (λ (l : List Word). old ++ flat_map (word_bytes form) l) (sym more);
+      none_torn = below_more (λ k. word_at device page k ≢ Torn) at front.none_torn (subst (λ (w : Word). w ≢ Torn) is sound);
+    }
+
+pub page_written : (form : Form) (device : Device) (page at : ℕ) (old out : List ℕ) → IsFormed device → page < page_count device.size → device.size.words ≤ at
+    → IsPageFront form device page at old out → IsWholePage device page × (out ≡ old ++ flat_map (word_bytes form) (page_at device page))
+page_written form device page at old out formed in_range all front =
+    let past : length (page_at device page) ≤ at = omega (arith, length-page_at device page formed in_range) in (
+      λ k. elim (cases_lt k at) [
+        | inl early ↦ front.none_torn k early
+        | inr late ↦ λ e. erased_whole (sym (get_or_past (page_at device page) k Erased (omega arith)) ∙ e)
+      ],
+      front.written ∙ ap (λ (l : List Word). old ++ flat_map (word_bytes form) l) (take_all at (page_at device page) past),
+    )
 
 -- ---- writing a device
 

@@ -1,9 +1,9 @@
 -- A text that is written grows by words and by pages.
-use Rattle.std.proofs.Common.{◌≡◌, ℕ, zero, suc, ◌+◌, ◌<◌, List, [], ◌∷◌, ◌++◌, length, get_or, map, take, sym, ap, ◌∙◌, arith, add-one, append_assoc}
+use Rattle.std.proofs.Common.{◌≡◌, ℕ, zero, suc, ◌+◌, ◌<◌, ◌≤◌, List, [], ◌∷◌, ◌++◌, length, get_or, map, take, sym, ap, ◌∙◌, arith, add-one, append_assoc}
 use Rattle.std.specs.Fmt.{decimal}
-use Rattle.std.proofs.lemmas.List.{append-nil, map-append, take_more}
+use Rattle.std.proofs.lemmas.List.{append-nil, map-append, take_all, take_more}
 use Rattle.ee_text.specs.Field.{joined_fields}
-use Rattle.ee_text.specs.Line.{line_of, IsLonger}
+use Rattle.ee_text.specs.Line.{line_feed, line_of, IsLonger}
 use Rattle.ee_text.proofs.Public.{joined-append}
 use Rattle.ee_flash.specs.Size.{page_count}
 use Rattle.ee_flash.specs.Device.{Device, IsFormed, page_at, wear_at, word_at}
@@ -33,6 +33,14 @@ page_grows device page at old out spaced new word formed in_range within so_far 
     ap (page_text (wear_at device page)) all ∙ page_text-push (wear_at device page) (take at words) word in
     written ∙ ap (λ l. l ++ word_text word) (space ∙ ap (λ l. l ++ 32 ∷ []) so_far) ∙ append_assoc (old ++ front) (32 ∷ []) (word_text word)
     ∙ append_assoc old front (32 ∷ word_text word) ∙ ap (λ l. old ++ l) (sym grown)
+
+-- the line of a page is ended behind its last word
+pub page_ends : (device : Device) (page at : ℕ) (old out new : List ℕ) → IsFormed device → page < page_count device.size → device.size.words ≤ at
+    → out ≡ old ++ page_text (wear_at device page) (take at (page_at device page)) → new ≡ out ++ line_feed ∷ [] → new ≡ old ++ line_of (page_text (wear_at device page) (page_at device page))
+page_ends device page at old out new formed in_range all so_far ended =
+    let whole : take at (page_at device page) ≡ page_at device page = take_all at (page_at device page) (omega (arith, length-page_at device page formed in_range)) in
+    ended ∙ ap (λ l. l ++ line_feed ∷ []) (so_far ∙ ap (λ (words : List Word). old ++ page_text (wear_at device page) words) whole)
+    ∙ append_assoc old (page_text (wear_at device page) (page_at device page)) (line_feed ∷ [])
 
 -- one page more
 page_lines-take : (pages : List (List Word)) (wears : List ℕ) (n : ℕ) → length pages ≡ length wears → n < length pages

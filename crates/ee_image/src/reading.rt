@@ -26,10 +26,9 @@ const MOST_WEAR_BYTES: usize = 21;
 ///
 /// # Errors
 ///
-/// The first that applies: `TooLong`, more than 4194304 bytes; `BadLine(1)`, no size in the first
-/// line; `BadShape`, no 1 to 64 pages in each set or no 5 to 512 words in a page; `BadLine(n)`, the
-/// first line that is no page's, or is missing, or is one too many. `Memory`, memory ran out, can
-/// come in place of any answer but `TooLong`.
+/// The first that applies: `TooLong`, more than 4194304 bytes; `BadLine(1)`, no size in the first line; `BadShape`, no
+/// 1 to 64 pages in each set or no 5 to 512 words in a page; `BadLine(n)`, the first line that is no page's, or is
+/// missing, or is one too many. `Memory`, memory ran out, can come in place of any answer but `TooLong`.
 ///
 /// Source: ours.
 pub fn read_image<A: Allocator + Copy>(alloc: A, bytes: &[u8]) -> Result<MemFlash<A>, ImageFault>

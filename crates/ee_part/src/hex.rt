@@ -10,9 +10,8 @@ use ee_faults::{Fault, File};
 use ee_flash::{Flash, Shape};
 use std::alloc::Allocator;
 
-/// The text of the image of a part of this shape, whose first word stands at the address `base`, from
-/// what an Intel HEX text says of it: what `import_image` gives of its bytes, with an erased byte where
-/// the text says none.
+/// The text of the image of a part of this shape, whose first word stands at the address `base`, from what an Intel HEX
+/// text says of it: what `import_image` gives of its bytes, with an erased byte where the text says none.
 ///
 /// Source: ours.
 ///
@@ -43,8 +42,7 @@ pub fn import_hex<A: Allocator + Copy>(
     import_image(alloc, shape, form, &dump)
 }
 
-/// The Intel HEX text of the part that an image's text spells, with its first word at the address
-/// `base`.
+/// The Intel HEX text of the part that an image's text spells, with its first word at the address `base`.
 ///
 /// Source: ours.
 ///

@@ -19,14 +19,13 @@ use ee_pages::{Layout, ScanFault, Side, first_page, scan, slot_word, torn_slots}
 use ee_text::push_number_behind;
 use std::alloc::{AllocError, Allocator};
 
-/// What the image that a text spells shows, also where no store can work on it. First `scan ok`, or
-/// `scan` and why the image has no live set. With a live set there follows `set S generation G fill F
-/// room R live N pending Q superseded U torn T`: which set it is, 0 or 1, its generation, its used and
-/// its free slots, how many addresses have a value, how many pages wait to be erased, how many used
-/// slots hold what is no longer so, and how many are torn. Then a line for each torn word, by page and
-/// place, `torn PAGE AT` and `slot` or `header`, where it is such a word of the live set, or `other`.
-/// Last, by rising address, `doubt A` for each address that the live set speaks of for the last time
-/// before a torn slot: its latest change may be lost.
+/// What the image that a text spells shows, also where no store can work on it. First `scan ok`, or `scan` and why the
+/// image has no live set. With a live set there follows `set S generation G fill F room R live N pending Q superseded U
+/// torn T`: which set it is, 0 or 1, its generation, its used and its free slots, how many addresses have a value, how
+/// many pages wait to be erased, how many used slots hold what is no longer so, and how many are torn. Then a line for
+/// each torn word, by page and place, `torn PAGE AT` and `slot` or `header`, where it is such a word of the live set,
+/// or `other`. Last, by rising address, `doubt A` for each address that the live set speaks of for the last time before
+/// a torn slot: its latest change may be lost.
 ///
 /// Source: ours.
 ///

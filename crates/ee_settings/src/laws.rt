@@ -43,8 +43,7 @@ pub fn each_table_is_judged()
     ensures { EachTableIsJudged }
 {}
 
-/// The entries that are told as stale are rising, and are exactly those whose stored value isn't in
-/// their range.
+/// The entries that are told as stale are rising, and are exactly those whose stored value isn't in their range.
 pub fn stale_is_exact()
     ensures { StaleIsExact }
 {}
@@ -60,8 +59,7 @@ pub fn tidy_keeps_readings()
     ensures { TidyKeepsReadings }
 {}
 
-/// Whatever it answers, each address has what it had, but for some that no setting has: they have
-/// nothing now.
+/// Whatever it answers, each address has what it had, but for some that no setting has: they have nothing now.
 pub fn tidy_takes_the_unnamed()
     ensures { TidyTakesTheUnnamed }
 {}
@@ -71,8 +69,7 @@ pub fn tidy_leaves_the_named()
     ensures { TidyLeavesTheNamed }
 {}
 
-/// What is used of it, its generation and the pages that wait are what the forgettings make of the
-/// state before.
+/// What is used of it, its generation and the pages that wait are what the forgettings make of the state before.
 pub fn tidy_leaves_this_state()
     ensures { TidyLeavesThisState }
 {}

@@ -92,8 +92,7 @@ impl<A: Allocator> Schema<A> {
         }
     }
 
-    /// Writes a value for the setting of a name, at its address in a store. `laws` says what is
-    /// read then.
+    /// Writes a value for the setting of a name, at its address in a store. `laws` says what is read then.
     ///
     /// # Errors
     ///

@@ -11,10 +11,9 @@
 //!
 //! # What is proved
 //!
-//! `number`, `number_up_to`, `Fields::of`, `next_field`, `next_line` read exactly what is spelled
-//! so (`found`, `only`, and their like), `push_number` writes it or leaves its buffer as it was
-//! (`ok`, `err`), `push_number_behind` with words before it; `laws`: numbers, rows of fields and texts
-//! of lines are told apart by their bytes.
+//! `number`, `number_up_to`, `Fields::of`, `next_field`, `next_line` read exactly what is spelled so (`found`, `only`,
+//! and their like), `push_number` writes it or leaves its buffer as it was (`ok`, `err`), `push_number_behind` with
+//! words before it; `laws`: numbers, rows of fields and texts of lines are told apart by their bytes.
 #![tactic(auto)]
 
 mod cuts;

@@ -113,8 +113,7 @@ impl<A: Allocator> Part<A> {
         })
     }
 
-    /// Takes what a line says, by way of the buffer. After a bad line some of its bytes may have been
-    /// taken.
+    /// Takes what a line says, by way of the buffer. After a bad line some of its bytes may have been taken.
     #[tactic(auto, using(crate::proofs::intel_hex::Parsing::no_bytes, crate::proofs::intel_hex::Parsing::no_row, crate::proofs::intel_hex::Parsing::one_row))]
     fn meet(&mut self, line: &[u8], buffer: &mut [u8; MOST_BYTES]) -> Met
         ensures base { self.new.base ≡ self.old.base }

@@ -1,5 +1,4 @@
 use Rattle.std.proofs.Common.{arith, rules}
-use Rattle.std.proofs.lemmas.Grind.{common_steps}
 use Rattle.std.proofs.lemmas.Result.{err_from_is_err_and}
 use Rattle.ee_dump.proofs.Growing.{all_written, one_page_more, write_fault}
 use Rattle.ee_dump.proofs.Torn.{no_torn}
@@ -21,4 +20,5 @@ returns-clause-names g c = λ page at first.
     (all_written c.args.form (g.F.Flash.device c.args.flash.now) c.loop-page.page c.loop-page.dump.items (g.met.F.Flash.formed c.args.flash.now) (search rules) c.loop-page.invariant) first
 
 pub returns-clause-written : goal.returns-clause-written
-returns-clause-written g c = grind (arith, common_steps)
+returns-clause-written g c =
+    all_written c.args.form (g.F.Flash.device c.args.flash.now) c.loop-page.page c.loop-page.dump.items (g.met.F.Flash.formed c.args.flash.now) (search rules) c.loop-page.invariant

@@ -1,9 +1,9 @@
-use Rattle.std.proofs.Common.{◌≡◌, ◌<◌, ◌++◌, ◌∷◌, [], take, rules}
+use Rattle.std.proofs.Common.{◌≡◌, ◌<◌, ◌++◌, ◌∷◌, [], take, ap, ◌∙◌, arith, rules}
 use Rattle.ee_text.specs.Line.{IsLonger}
 use Rattle.ee_text.proofs.Public.{longer_still, on_err_anyway}
 use Rattle.ee_flash.specs.Device.{page_at, wear_at}
 use Rattle.ee_image.specs.Text.{page_text}
-use Rattle.ee_image.proofs.Growing.{longer, page_grows}
+use Rattle.ee_image.proofs.Growing.{longer, page_ends, page_grows}
 use Rattle.ee_image.proofs.writing.push_page.Goals as goal
 
 pub returns-in_err-extend_from_slice-clause-err : goal.returns-in_err-extend_from_slice-clause-err
@@ -35,3 +35,8 @@ returns-in_err-extend_from_slice-2-clause-err g c =
     let same : c.extend_from_slice-2.new.self.items ≡ c.loop-at.out.items = search rules in
     on_err_anyway c.from_residual-in_err-extend_from_slice-2.result (IsLonger c.args.out.now.items c.extend_from_slice-2.new.self.items)
     (longer c.args.out.now.items c.loop-at.out.items c.extend_from_slice-2.new.self.items (page_text (wear_at device c.args.page) (take c.loop-at.at (page_at device c.args.page))) c.loop-at.invariant same)
+
+pub returns-clause-ok : goal.returns-clause-ok
+returns-clause-ok g c =
+    page_ends (g.F.Flash.device c.args.flash.now) c.args.page c.loop-at.at c.args.out.now.items c.loop-at.out.items c.extend_from_slice-2.new.self.items (g.met.F.Flash.formed c.args.flash.now) c.requires
+    (omega (arith, c.words-at-end.ensures.value ∙ ap (λ s. s.words) c.shape.ensures)) c.loop-at.invariant c.in_ok-extend_from_slice-2.ensures.items
