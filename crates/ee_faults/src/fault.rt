@@ -91,8 +91,7 @@ pub enum Fault {
     Full,
     /// No slot is free, and no generation is left for a transfer.
     Spent,
-    /// This change of the trace, counted from 1, is the first that makes more addresses live than
-    /// there are slots.
+    /// This change of the trace, counted from 1, is the first that makes more addresses live than there are slots.
     NotFitting(u64),
     /// The certificate's header is not that of the start and the trace.
     WrongStart,
@@ -394,8 +393,7 @@ pub fn fault_line<A: Allocator + Copy>(alloc: A, fault: &Fault) -> Result<Vec<u8
     Ok(line.into_bytes())
 }
 
-/// The status that the program ends with at a fault: 3 for a bad file, 4 for what is refused, 5 for
-/// want of memory.
+/// The status that the program ends with at a fault: 3 for a bad file, 4 for what is refused, 5 for want of memory.
 pub fn status_of(fault: &Fault) -> u8
     ensures { result ≡ status fault.now }
 {

@@ -1,9 +1,8 @@
 //! An image's file, replaced only while it still is what was read, so that its old text or its new one stands.
 //!
-//! A plain file is locked, looked at once more, and gets its new text by way of another file beside it, which
-//! takes its name when all is written. Only where none can be made there is the text written in place, and the
-//! old one put back after a failure. What is no plain file, a device or a pipe, is written in place and nothing
-//! else.
+//! A plain file is locked, looked at once more, and gets its new text by way of another file beside it, which takes its
+//! name when all is written. Only where none can be made there is the text written in place, and the old one put back
+//! after a failure. What is no plain file, a device or a pipe, is written in place and nothing else.
 //!
 //! Two runs that began with one text ask for one lock. Who has it finds the path leading to the file that is
 //! locked, with the text that was read, or writes nothing. So of the two one at most goes on.

@@ -84,8 +84,7 @@ pub(crate) fn renumber<A: Allocator>(index: &mut Index<A>, puts: &[Put])
     });
 }
 
-/// The slot of the next address: one that is put has its place in the list, and each other takes the
-/// next number.
+/// The slot of the next address: one that is put has its place in the list, and each other takes the next number.
 fn next_number(numbers: &mut Range<usize>, puts: &[Put], address: Address) -> usize
     ensures listed { is_put puts.now address ≡ true
         → (result ≡ listed_place puts.now address) × (numbers.new ≡ numbers.old) }
@@ -112,8 +111,7 @@ fn place_in(puts: &[Put], address: Address) -> Option<usize>
     None
 }
 
-/// How many of these values, each of which is of an address of its own, are of addresses that an index
-/// doesn't have.
+/// How many of these values, each of which is of an address of its own, are of addresses that an index doesn't have.
 pub(crate) fn count_new<A: Allocator>(index: &Index<A>, puts: &[Put]) -> usize
     ensures adds { AddsAddresses puts.now (slot_for index.now.entries) result }
     ensures few { result ≤ length puts.now }
@@ -221,8 +219,7 @@ pub(crate) fn batch_indexed<F: Flash, A: Allocator>(
     }
 }
 
-/// Goes over the live addresses by an index. A hidden address, which has no value yet, is passed
-/// over.
+/// Goes over the live addresses by an index. A hidden address, which has no value yet, is passed over.
 #[derive(Drop)]
 pub(crate) struct IndexCursor<'a> {
     /// The entries that are left.

@@ -36,9 +36,8 @@ pub(crate) fn enter_slot<A: Allocator + Copy>(
     Ok(())
 }
 
-/// Makes room in an index for the slots of these values: each new address gets a number that is no used
-/// slot's, of which there are so many. An `Err`, which only a new address meets, leaves the entries of
-/// used slots alone.
+/// Makes room in an index for the slots of these values: each new address gets a number that is no used slot's, of
+/// which there are so many. An `Err`, which only a new address meets, leaves the entries of used slots alone.
 pub(crate) fn make_room<A: Allocator + Copy>(
     index: &mut Index<A>,
     puts: &[Put],

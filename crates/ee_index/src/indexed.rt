@@ -212,8 +212,7 @@ impl<F: Flash + Drop, A: Allocator> IndexedStore<F, A> {
         }
     }
 
-    /// Whether a write or forgetting must be refused since no generation is left for the transfer
-    /// that it needs.
+    /// Whether a write or forgetting must be refused since no generation is left for the transfer that it needs.
     fn is_spent(&self) -> bool
         requires { IsOn self.now }
         ensures { MatchBool result (IsSpent (capacity self.now) (state_of self.now))

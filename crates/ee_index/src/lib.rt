@@ -9,10 +9,9 @@
 //!
 //! # What is proved
 //!
-//! `IndexedStore` keeps the contract of `Variables`, word for word, with an index in memory: the
-//! slot in which each live address stands. Where memory is refused, its `write`, its `write_all` and
-//! its opening leave the device as it was, and a write to addresses that have a value needs none
-//! (`Writes`, `WritesAll`, `failed`).
+//! `IndexedStore` keeps the contract of `Variables`, word for word, with an index in memory: the slot in which each
+//! live address stands. Where memory is refused, its `write`, its `write_all` and its opening leave the device as it
+//! was, and a write to addresses that have a value needs none (`Writes`, `WritesAll`, `failed`).
 #![tactic(auto)]
 
 mod costs;

@@ -8,12 +8,11 @@
 //!
 //! # What is proved
 //!
-//! `start_of` gives a store's slots, fill and live addresses, of any `Variables`. `laws`: where no schedule makes
-//! fewer than K transfers, each of them erases the first page of one set K / 2 times, whatever its steps are
-//! (`fewest_transfers_wear`). So where a store's calls made no more transfers, each erases its most
-//! worn page as often as they erased theirs, or once less (`fewest_moves_last`), and as often where
-//! no clean step erased a page, and at the start no page of the other set waited, or its first page
-//! did (`fewest_moves_last_as_long`).
+//! `start_of` gives a store's slots, fill and live addresses, of any `Variables`. `laws`: where no schedule makes fewer
+//! than K transfers, each of them erases the first page of one set K / 2 times, whatever its steps are
+//! (`fewest_transfers_wear`). So where a store's calls made no more transfers, each erases its most worn page as often
+//! as they erased theirs, or once less (`fewest_moves_last`), and as often where no clean step erased a page, and at
+//! the start no page of the other set waited, or its first page did (`fewest_moves_last_as_long`).
 #![tactic(auto)]
 
 pub mod laws;

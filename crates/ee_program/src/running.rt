@@ -359,8 +359,7 @@ fn tell_states<R: Files + Print + AllocGlobal>(rt: &R, image: &str) -> Result<()
     print(rt, text.as_slice())
 }
 
-/// Erases the pages of an image that wait for it, writes the image in its place, and prints their
-/// number.
+/// Erases the pages of an image that wait for it, writes the image in its place, and prints their number.
 fn clean_file<R: FileLocks + Print + AllocGlobal>(rt: &R, image: &str) -> Result<(), Fault> {
     let before = read_file(rt, File::Image, image)?;
     let cleaned = clean_image(rt.alloc(), before.as_slice())?;
@@ -381,8 +380,7 @@ fn tell_stale<R: Files + Print + AllocGlobal>(
     print(rt, text.as_slice())
 }
 
-/// Forgets the addresses of an image that no setting has, writes the image in its place, and prints
-/// their number.
+/// Forgets the addresses of an image that no setting has, writes the image in its place, and prints their number.
 fn tidy_file<R: FileLocks + Print + AllocGlobal>(
     rt: &R,
     image: &str,
@@ -420,8 +418,7 @@ fn named_values<R: Files + AllocGlobal>(
     list_text(rt.alloc(), rt.alloc(), image, Some(table.as_slice()))
 }
 
-/// Prints for each number of pages whether it bears so many runs of a script. Where none does, that is
-/// told behind it.
+/// Prints for each number of pages whether it bears so many runs of a script. Where none does, that is told behind it.
 fn tell_sizes<R: Files + Print + AllocGlobal>(
     rt: &R,
     words: u16,

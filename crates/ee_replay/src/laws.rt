@@ -2,8 +2,7 @@
 ghost use Rattle.ee_replay.specs.ArmedCuts.{EachCutWasArmed};
 ghost use Rattle.ee_replay.specs.Kept.{AnAnsweredChangeStays};
 
-/// No line is answered `cut` before the first that arms a cut, and from one such line to the next at
-/// most one is.
+/// No line is answered `cut` before the first that arms a cut, and from one such line to the next at most one is.
 pub fn cuts_are_armed()
     ensures { EachCutWasArmed }
 {}

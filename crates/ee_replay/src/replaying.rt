@@ -111,9 +111,8 @@ fn replay_as<A: Allocator + Copy>(
 ///
 /// # Errors
 ///
-/// The first `ReplayFault` that applies, and of those of the script the one that is met first: `Read`
-/// where a read failed or there were too many, with no bad line judged before. `Memory` can come in
-/// place of any answer.
+/// The first `ReplayFault` that applies, and of those of the script the one that is met first: `Read` where a read
+/// failed or there were too many, with no bad line judged before. `Memory` can come in place of any answer.
 pub fn replay_reader<A: Allocator + Copy, R: Read>(
     alloc: A,
     image: &[u8],

@@ -57,8 +57,7 @@ fn push_certificate<A: Allocator, B: Allocator>(
     write_certificate(&notes.into_certificate(start), report)
 }
 
-/// Writes how a desk stands, and how often the store on it moved. After an error there may be a part
-/// of the line.
+/// Writes how a desk stands, and how often the store on it moved. After an error there may be a part of the line.
 fn push_desk<A: Allocator + Copy>(
     desk: &Desk<A>,
     transfers: u64,

@@ -174,8 +174,7 @@ impl<S: Serve + Drop, A: Allocator> Session<S, A> {
         Err(StreamFault::Read)
     }
 
-    /// Ends the script, and gives what served it and the report. A line that no line feed ended is
-    /// bad.
+    /// Ends the script, and gives what served it and the report. A line that no line feed ended is bad.
     pub fn finish(self) -> Result<(S, Vec<u8, A>), ScriptFault>
         ensures { MatchResult result (λ done. EndsScript self done.0 done.1.items) (EndsBadly self) }
     {
