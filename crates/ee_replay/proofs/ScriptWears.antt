@@ -34,33 +34,13 @@ moved_later : (n m : ℕ) (answers : List Answer) → length (moved_at n answers
 moved_later n m [] = refl
 moved_later n m (Appended ∷ answers) = moved_later (n + 1) (m + 1) answers
 moved_later n m (Moved ∷ answers) = let more = moved_later (n + 1) (m + 1) answers in omega (arith, more)
-moved_later n m (Full ∷ answers) = moved_later n m answers
-moved_later n m (Spent ∷ answers) = moved_later n m answers
-moved_later n m (Cleaned ∷ answers) = moved_later n m answers
-moved_later n m (Idle ∷ answers) = moved_later n m answers
-moved_later n m (Value value ∷ answers) = moved_later n m answers
-moved_later n m (NoValue ∷ answers) = moved_later n m answers
-moved_later n m (Absent ∷ answers) = moved_later n m answers
-moved_later n m (Armed ∷ answers) = moved_later n m answers
-moved_later n m (Cut ∷ answers) = moved_later n m answers
-moved_later n m (Off ∷ answers) = moved_later n m answers
-moved_later n m (Opened ∷ answers) = moved_later n m answers
+moved_later n m (answer ∷ answers) = moved_later n m answers
 
 moves_more : (answer : Answer) (answers : List Answer) → moves (answer ∷ answers) ≡ cond (is_move answer) 1 0 + moves answers
 unfolding is_move
 moves_more Appended answers = let later = moved_later 1 0 answers in omega (arith, later)
 moves_more Moved answers = let later = moved_later 1 0 answers in omega (arith, later)
-moves_more Full answers = omega arith
-moves_more Spent answers = omega arith
-moves_more Cleaned answers = omega arith
-moves_more Idle answers = omega arith
-moves_more (Value value) answers = omega arith
-moves_more NoValue answers = omega arith
-moves_more Absent answers = omega arith
-moves_more Armed answers = omega arith
-moves_more Cut answers = omega arith
-moves_more Off answers = omega arith
-moves_more Opened answers = omega arith
+moves_more answer answers = omega arith
 
 -- ---- lines
 
