@@ -108,13 +108,7 @@ first_in : (pages : List (List Word)) → FirstIn pages ⊎ ((k : ℕ) → Whole
 first_in [] = inr (λ k at. erased_whole)
 first_in (words ∷ pages) =
     elim (first_of words) [
-      | inl found ↦ inl record {
-        page = 0;
-        at = found.0;
-        torn = found.1.0;
-        whole_before = λ k less. absurd (omega arith);
-        none_before = found.1.1;
-      }
+      | inl found ↦ inl record { page = 0; at = found.0; torn = found.1.0; whole_before = λ k less. absurd (omega arith); none_before = found.1.1 }
       | inr none ↦ page_later words pages none (first_in pages)
     ]
 

@@ -159,25 +159,11 @@ pages_end size text pages wears rest proper text_is many =
       | inl none ↦ inl (
         pages,
         wears,
-        record {
-          pages = pages;
-          count_is = many;
-          proper = proper;
-          text_is = text_is ∙ ap (λ l. page_lines pages wears ++ l) none;
-          cells_are = refl;
-        },
+        record { pages = pages; count_is = many; proper = proper; text_is = text_is ∙ ap (λ l. page_lines pages wears ++ l) none; cells_are = refl },
       )
       | inr some ↦ inr (
         length pages + 2,
-        record {
-          pages = pages;
-          wears = wears;
-          rest = rest;
-          proper = proper;
-          text_is = text_is;
-          stops = inr (many, some);
-          number = refl;
-        },
+        record { pages = pages; wears = wears; rest = rest; proper = proper; text_is = text_is; stops = inr (many, some); number = refl },
       )
     ]
 
@@ -193,15 +179,7 @@ told_pages (suc left) size text pages wears rest proper text_is many =
           (omega (arith, length-append pages (found.page ∷ [])))
       | inr none ↦ inr (
         length pages + 2,
-        record {
-          pages = pages;
-          wears = wears;
-          rest = rest;
-          proper = proper;
-          text_is = text_is;
-          stops = inl (omega arith, none);
-          number = refl;
-        },
+        record { pages = pages; wears = wears; rest = rest; proper = proper; text_is = text_is; stops = inl (omega arith, none); number = refl },
       )
     ]
 

@@ -4,9 +4,8 @@ use Rattle.std.proofs.lemmas.Bool.{cases_lt}
 use Rattle.std.proofs.lemmas.Grind.{drop_more_same}
 use Rattle.std.proofs.lemmas.List.{append-nil, drop-set-lt, get_or-drop, get_or_default, length-take, take_all, take_more_set}
 use Rattle.std.proofs.lemmas.List.Elements.{All-append}
-use Rattle.std.specs.List.{All}
+use Rattle.std.specs.List.{All, insert}
 use Rattle.ee_codec.specs.Words.{IsAddress}
-use Rattle.std.specs.List.{insert}
 use Rattle.std.specs.Prelude.{unwrap_or}
 use Rattle.ee_pages.specs.Nearest.{IsPlace, IsRising, Named, living, with_said}
 use Rattle.ee_pages.proofs.SetPrograms.{take_of_set}

@@ -224,11 +224,7 @@ module _ (words : List Word) where
   later_says above first rest held low address h = sym (said-rest first rest address (λ e. omega (arith, e))) ∙ held address (omega arith)
 
   pub are_next : (from above n : ℕ) (list : List Named) → from ≤ above → NoneBetween from above → Says above list → IsRising above list → AreNext words from above n list
-  are_next from above zero list low none held rising = record {
-    next = tt;
-    rest = (low, none);
-    all = λ h. absurd (omega (arith, h));
-  }
+  are_next from above zero list low none held rising = record { next = tt; rest = (low, none); all = λ h. absurd (omega (arith, h)) }
   are_next from above (suc n) [] low none held rising = record {
     next = tt;
     rest = (low, none);

@@ -6,11 +6,10 @@ use Rattle.ee_image.specs.Text.{at_rest}
 use Rattle.ee_dump.specs.Dump.{IsDump, dump_length}
 use Rattle.ee_dump.specs.declared.form.Form.{Form}
 use Rattle.ee_dump.specs.declared.fault.WriteFault.TheVariants as write
-use Rattle.ee_dump.proofs.Public.{dumps_are_read_lem}
+use Rattle.ee_dump.proofs.Public.{dumps_are_read_lem, one_reading_lem, readings_are_good_lem}
 use Rattle.ee_dump.specs.intel_hex.Fault.{IsBadHexLine, IsHexFault}
 use Rattle.ee_dump.specs.intel_hex.Text.{IsHexOf}
 use Rattle.ee_dump.specs.intel_hex.Written.{hex_text}
-use Rattle.ee_dump.proofs.Public.{one_reading_lem, readings_are_good_lem}
 use Rattle.ee_dump.specs.declared.intel_hex.fault.HexFault.{HexFault}
 use Rattle.ee_dump.specs.declared.intel_hex.fault.HexFault.TheVariants as hex
 use Rattle.ee_image_store.specs.Opening.{SpellsDevice}

@@ -4,9 +4,8 @@ use Rattle.ee_flash.specs.Device.{Device}
 use Rattle.ee_dump.specs.Dump.{IsDump, dump_length}
 use Rattle.ee_dump.specs.Laws.{unworn_device}
 use Rattle.ee_dump.specs.declared.form.Form.{Form}
-use Rattle.ee_dump.proofs.Public.{dumps_are_bytes, dumps_are_read_lem}
+use Rattle.ee_dump.proofs.Public.{dumps_are_bytes, dumps_are_read_lem, one_reading_lem, texts_read_back_lem}
 use Rattle.ee_dump.specs.intel_hex.Text.{IsHexOf}
-use Rattle.ee_dump.proofs.Public.{one_reading_lem, texts_read_back_lem}
 use Rattle.ee_image_store.specs.Opening.{SpellsDevice}
 use Rattle.ee_faults.specs.declared.fault.Fault.{Fault}
 use Rattle.ee_faults.specs.declared.fault.Fault.TheVariants.{Memory}

@@ -59,10 +59,7 @@ layout_armed device layout is = record {
 }
 
 kept_armed : {A : Type 0} (device : Device) (kept : Kept A) → IsKeptBeside device kept → IsKeptBeside (with_cut_to_come device) kept
-kept_armed device kept is = record {
-  found = layout_armed device kept.layout is.found;
-  indexes = rw (set_armed device kept.layout.side) is.indexes;
-}
+kept_armed device kept is = record { found = layout_armed device kept.layout is.found; indexes = rw (set_armed device kept.layout.side) is.indexes }
 
 -- ---- a device that is armed
 

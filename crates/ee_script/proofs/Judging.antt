@@ -142,10 +142,7 @@ behind_line : (text : List ℕ) (command : Command) (begins : BeginsWith text co
 unfolding IsJudged
 behind_line text command begins (inl good) = inl (
   command ∷ good.0,
-  record {
-    proper = (begins.proper, good.1.proper);
-    text_is = begins.text_is ∙ ap (λ more. line_of (command_text command) ++ more) good.1.text_is;
-  },
+  record { proper = (begins.proper, good.1.proper); text_is = begins.text_is ∙ ap (λ more. line_of (command_text command) ++ more) good.1.text_is },
 )
 behind_line text command begins (inr bad) = inr (
   bad.0 + 1,

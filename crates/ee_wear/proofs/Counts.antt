@@ -21,10 +21,7 @@ IsLedger-wear device formed = record {
 }
 
 tails : (x y : ℕ) (before now : List ℕ) → NoneFell (x ∷ before) (y ∷ now) → NoneFell before now
-tails x y before now h = record {
-  as_many = omega (arith, h.as_many);
-  each = λ k below. h.each (suc k) (omega arith);
-}
+tails x y before now h = record { as_many = omega (arith, h.as_many); each = λ k below. h.each (suc k) (omega arith) }
 
 pub sum-differences : (before now : List ℕ) → NoneFell before now → sum before + sum (differences before now) ≡ sum now
 sum-differences [] [] h = refl

@@ -112,12 +112,7 @@ data_inside : (place : ℕ) (bytes : List ℕ) → IsBytes bytes → length byte
 data_inside place bytes all short below =
     record {
       written = record {
-        proper = record {
-          address_fits = omega arith;
-          few = omega arith;
-          bytes = all;
-          fits = le-leb (place % 65536 + length bytes) 65536 below;
-        };
+        proper = record { address_fits = omega arith; few = omega arith; bytes = all; fits = le-leb (place % 65536 + length bytes) 65536 below };
         kind_fits = omega arith;
       };
       no_end = λ e. omega arith;

@@ -1,5 +1,4 @@
-use Rattle.std.proofs.Common.{inl, inr}
-use Rattle.std.proofs.Common.{◌+◌, arith}
+use Rattle.std.proofs.Common.{inl, inr, ◌+◌, arith}
 use Rattle.ee_pages.specs.Sets.{first_page, other as other_of, page_of_slot, place_of_slot}
 use Rattle.ee_pages.proofs.Public.{page_in_range, place_in_range}
 use Rattle.ee_core.specs.Parts.{meant}

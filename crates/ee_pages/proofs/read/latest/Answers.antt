@@ -32,8 +32,4 @@ loop-page-preserved g c =
     let said : latest_in (take (c.loop-page.left - before) (drop before slots)) c.args.address ≡ None = search (rules, same, c.said_in_page.ensures) in
     let row = latest_in-row before c.loop-page.left slots c.args.address c.loop-page.invariant.from c.loop-page.invariant.silent in
     let lower : (page - 1) * (device.size.words - 4) ≤ before = mul-le-mul_right (device.size.words - 4) (omega arith) in
-    record {
-      from = rw same lower;
-      to = omega (arith, same);
-      silent = rw same (row ∙ said);
-    }
+    record { from = rw same lower; to = omega (arith, same); silent = rw same (row ∙ said) }
