@@ -85,27 +85,19 @@ one_wear_fault : (image : List ℕ) (before : Option (List ℕ)) (cause fault : 
     → (fault ≡ cause) ⊎ (fault ≡ Memory)
 one_wear_fault image None cause fault some h i = one_file_fault Image image cause fault some h i
 one_wear_fault image (Some before) cause fault some (inl h) (inl i) = one_file_fault Image image cause fault some h i
-one_wear_fault image (Some before) cause fault some (inl h) (inr (inl i)) =
-    absurd (some (only_memory Image image i.0.0 cause i.0.1 h))
-one_wear_fault image (Some before) cause fault some (inl h) (inr (inr i)) =
-    absurd (some (only_memory Image image i.device cause i.spelled h))
+one_wear_fault image (Some before) cause fault some (inl h) (inr (inl i)) = absurd (some (only_memory Image image i.0.0 cause i.0.1 h))
+one_wear_fault image (Some before) cause fault some (inl h) (inr (inr i)) = absurd (some (only_memory Image image i.device cause i.spelled h))
 one_wear_fault image (Some before) cause fault some (inr (inl h)) (inl i) = inr (only_memory Image image h.0.0 fault h.0.1 i)
-one_wear_fault image (Some before) cause fault some (inr (inl h)) (inr (inl i)) =
-    one_file_fault Before before cause fault some h.1 i.1
-one_wear_fault image (Some before) cause fault some (inr (inl h)) (inr (inr i)) =
-    absurd (some (only_memory Before before i.old cause i.spelled_before h.1))
-one_wear_fault image (Some before) cause fault some (inr (inr h)) (inl i) =
-    inr (only_memory Image image h.device fault h.spelled i)
-one_wear_fault image (Some before) cause fault some (inr (inr h)) (inr (inl i)) =
-    inr (only_memory Before before h.old fault h.spelled_before i.1)
+one_wear_fault image (Some before) cause fault some (inr (inl h)) (inr (inl i)) = one_file_fault Before before cause fault some h.1 i.1
+one_wear_fault image (Some before) cause fault some (inr (inl h)) (inr (inr i)) = absurd (some (only_memory Before before i.old cause i.spelled_before h.1))
+one_wear_fault image (Some before) cause fault some (inr (inr h)) (inl i) = inr (only_memory Image image h.device fault h.spelled i)
+one_wear_fault image (Some before) cause fault some (inr (inr h)) (inr (inl i)) = inr (only_memory Before before h.old fault h.spelled_before i.1)
 one_wear_fault image (Some before) cause fault some (inr (inr h)) (inr (inr i)) = one_difference image before cause fault some h i
 
 told_is_good : (image : List ℕ) (before : Option (List ℕ)) (text : List ℕ) (cause : Fault) → IsWear image before text
     → cause ≢ Memory → IsWearFault image before cause → ⊥
-told_is_good image None text cause told some h =
-    some (only_memory Image image told.are_counts.device cause told.are_counts.spelled h)
-told_is_good image (Some before) text cause told some (inl h) =
-    some (only_memory Image image told.are_counts.device cause told.are_counts.spelled h)
+told_is_good image None text cause told some h = some (only_memory Image image told.are_counts.device cause told.are_counts.spelled h)
+told_is_good image (Some before) text cause told some (inl h) = some (only_memory Image image told.are_counts.device cause told.are_counts.spelled h)
 told_is_good image (Some before) text cause told some (inr (inl h)) =
     some (only_memory Before before told.are_counts.old cause told.are_counts.spelled_before h.1)
 told_is_good image (Some before) text cause told some (inr (inr h)) =

@@ -105,8 +105,7 @@ module _ (side : Side) (generation fill first words : ℕ) (old : Device) (live 
       push_marks = keeps_marks whole
 
       done_there : new ≡ device_after (slot_step old.size side (fill_of (slots_of (set_of side old))) number) old
-      done_there =
-          done ∙ ap (λ (step : Step). device_after step old) step_is ∙ ap (λ n. device_after (slot_step old.size side n number) old) fill_is
+      done_there = done ∙ ap (λ (step : Step). device_after step old) step_is ∙ ap (λ n. device_after (slot_step old.size side n number) old) fill_is
 
       pub push_is_taken : TakesSlot old new side generation (map_after change (meaning (slots_of (set_of side old))))
       push_is_taken = (whole_push_takes change number old new side generation live free_there spells (at_fill (taken whole)) done_there).0

@@ -116,5 +116,4 @@ module _ (old : Device) (layout : Layout) (found : IsLayout old layout) (free : 
         same_other layout.side mid new (layout.current + 1) stays.keeps.live.formed formed sizes there others ∙ same
 
   pub first_other : (mid : Device) → Stays old mid layout.side layout.generation → IsSameBut layout.current old mid → IsSameSet (other layout.side) old mid
-  first_other mid stays others =
-      same_other layout.side old mid layout.current found.live.formed stays.keeps.live.formed stays.keeps.same_size current_of others
+  first_other mid stays others = same_other layout.side old mid layout.current found.live.formed stays.keeps.live.formed stays.keeps.same_size current_of others

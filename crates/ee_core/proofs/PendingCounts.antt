@@ -34,8 +34,7 @@ longer false page pages h = h
 count_some : (pages : List (List Word)) (k : ℕ) → k < length pages → is_blank (get_or pages k []) ≡ false → 0 < pending_of pages
 count_some [] k h e = absurd (omega (arith, h))
 count_some (page ∷ pages) zero h e = rw e (omega arith)
-count_some (page ∷ pages) (suc k) h e =
-    longer (not (is_blank page)) page (filter (λ one. not (is_blank one)) pages) (count_some pages k (omega arith) e)
+count_some (page ∷ pages) (suc k) h e = longer (not (is_blank page)) page (filter (λ one. not (is_blank one)) pages) (count_some pages k (omega arith) e)
 
 -- the pages of a set from its first one, by their numbers in the device
 module _ (side : Side) (device : Device) (formed : IsFormed device) (first : ℕ) (first_is : first ≡ first_page device.size side) where
@@ -77,5 +76,4 @@ module _ (side : Side) (device : Device) (formed : IsFormed device) (first : ℕ
 
   -- one is not
   pub some_pending : (page : ℕ) → first ≤ page → page < first + device.size.pages → is_blank (page_at device page) ≡ false → 0 < pending_of (set_of side device)
-  some_pending page from below here =
-      count_some (set_of side device) (page - first) (within page from below) (ap is_blank (page_there page from below) ∙ here)
+  some_pending page from below here = count_some (set_of side device) (page - first) (within page from below) (ap is_blank (page_there page from below) ∙ here)

@@ -99,8 +99,7 @@ plain_injective (Held m) Torn below under whole sound e = absurd (sound refl)
 plain_injective Erased Erased below under whole sound e = refl
 plain_injective Erased (Held n) below under whole sound e = absurd (not_erased n under (sym e))
 plain_injective (Held m) Erased below under whole sound e = absurd (not_erased m below e)
-plain_injective (Held m) (Held n) below under whole sound e =
-    ap Held (sym (held_worth m below) ∙ ap (from_le_bytes w64) e ∙ held_worth n under)
+plain_injective (Held m) (Held n) below under whole sound e = ap Held (sym (held_worth m below) ∙ ap (from_le_bytes w64) e ∙ held_worth n under)
 
 -- the first bytes of a pair are those of the word
 front_plain : (word : Word) → word ≢ Torn → take 8 (word_bytes Pairs word) ≡ word_bytes Words word

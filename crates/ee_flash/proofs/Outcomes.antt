@@ -36,16 +36,14 @@ leaves (Erase page) old new formed may (inl done) =
     let same : get_or (set old.image page words) page [] ≡ words = get_or-set_same old.image page words [] in_range in
     rw done.done (rw same (IsPartlyErased-replicate (page_at old page) old.size.words (formed.page_lengths page [] in_range), refl))
 leaves (Erase page) old new formed may (inr (inl cut)) = cut.image
-leaves (Erase page) old new formed may (inr (inr untouched)) =
-    rw untouched.same (IsPartlyErased-same (page_at old page), sym (set-get_or old.image page []))
+leaves (Erase page) old new formed may (inr (inr untouched)) = rw untouched.same (IsPartlyErased-same (page_at old page), sym (set-get_or old.image page []))
 
 pub step_leaves_pages : (step : Step) (old new : Device) → IsStep step old new → MayLeave step old new
 step_leaves_pages step old new taken = leaves step old new taken.formed taken.may taken.follows
 
 -- a list that differs in one place differs in its own element there
 own_element : {X : Type 0} (old new : List X) (i : ℕ) (x d : X) → i < length old → new ≡ set old i x → new ≡ set old i (get_or new i d)
-own_element {X = X} old new i x d within is =
-    is ∙ ap (set old i) (sym (ap (λ (xs : List X). get_or xs i d) is ∙ get_or-set_same old i x d within))
+own_element {X = X} old new i x d within is = is ∙ ap (set old i) (sym (ap (λ (xs : List X). get_or xs i d) is ∙ get_or-set_same old i x d within))
 
 same_element : {X : Type 0} (old new : List X) (i : ℕ) (d : X) → new ≡ old → new ≡ set old i (get_or new i d)
 same_element {X = X} old new i d is = is ∙ sym (set-get_or old i d) ∙ ap (λ (xs : List X). set old i (get_or xs i d)) (sym is)
@@ -83,16 +81,14 @@ element_there : {X : Type 0} (old new : List X) (i : ℕ) (x d : X) → i < leng
 element_there {X = X} old new i x d within is = ap (λ (xs : List X). get_or xs i d) is ∙ get_or-set_same old i x d within
 
 page_length : (step : Step) (old new : Device) → IsFormed old → CanTake step old → MayLeave step old new → length (page_at new (page_of step)) ≡ old.size.words
-page_length (Program page at value) old new formed may (inl same) =
-    rw same (formed.page_lengths page [] (omega (arith, formed.image_length, may.0)))
+page_length (Program page at value) old new formed may (inl same) = rw same (formed.page_lengths page [] (omega (arith, formed.image_length, may.0)))
 page_length (Program page at value) old new formed may (inr (inl held)) =
     let in_range : page < length old.image = omega (arith, formed.image_length, may.0) in
     rw (element_there old.image new.image page _ [] in_range held) (length-set (page_at old page) at (Held value) ∙ formed.page_lengths page [] in_range)
 page_length (Program page at value) old new formed may (inr (inr torn)) =
     let in_range : page < length old.image = omega (arith, formed.image_length, may.0) in
     rw (element_there old.image new.image page _ [] in_range torn) (length-set (page_at old page) at Torn ∙ formed.page_lengths page [] in_range)
-page_length (Erase page) old new formed may left =
-    left.0.as_long ∙ formed.page_lengths page [] (omega (arith, formed.image_length))
+page_length (Erase page) old new formed may left = left.0.as_long ∙ formed.page_lengths page [] (omega (arith, formed.image_length))
 
 pub below-held : (value : ℕ) → value < all_ones → IsBelowAllOnes (Held value)
 below-held value below held is = let same : value ≡ held = cc in omega arith
@@ -105,8 +101,7 @@ below-torn : IsBelowAllOnes Torn
 below-torn held is = cc
 
 page_below : (step : Step) (old new : Device) → IsFormed old → CanTake step old → MayLeave step old new → All IsBelowAllOnes (page_at new (page_of step))
-page_below (Program page at value) old new formed may (inl same) =
-    rw same (formed.below_all_ones page [] (omega (arith, formed.image_length, may.0)))
+page_below (Program page at value) old new formed may (inl same) = rw same (formed.below_all_ones page [] (omega (arith, formed.image_length, may.0)))
 page_below (Program page at value) old new formed may (inr (inl held)) =
     let in_range : page < length old.image = omega (arith, formed.image_length, may.0) in
     rw (element_there old.image new.image page _ [] in_range held) (All-set IsBelowAllOnes (page_at old page) at (Held value) (below-held value may.3) (formed.below_all_ones page [] in_range))

@@ -19,13 +19,11 @@ use Rattle.ee_flash.specs.declared.word.Word.{Word}
 use Rattle.ee_flash.specs.declared.word.Word.TheVariants.{Erased}
 
 get_or-page_words : (size : Size) (cells : List Word) (page at : ℕ) → at < size.words → get_or (page_words size cells page) at Erased ≡ get_or cells (page * size.words + at) Erased
-get_or-page_words size cells page at h =
-    get_or-take size.words (drop (page * size.words) cells) at Erased h ∙ get_or-drop (page * size.words) cells at Erased
+get_or-page_words size cells page at h = get_or-take size.words (drop (page * size.words) cells) at Erased h ∙ get_or-drop (page * size.words) cells at Erased
 
 -- the word at a place of a page
 pub get_or-pages_of : (size : Size) (cells : List Word) (page at : ℕ) → page < page_count size → at < size.words → get_or (get_or (pages_of size cells) page []) at Erased ≡ get_or cells (page * size.words + at) Erased
-get_or-pages_of size cells page at in_range within =
-    rw (page-pages_of size cells page [] in_range) (get_or-page_words size cells page at within)
+get_or-pages_of size cells page at in_range within = rw (page-pages_of size cells page [] in_range) (get_or-page_words size cells page at within)
 
 module _ (size : Size) (old new : List Word) (page : ℕ) (filled : length old ≡ page_count size * size.words) (as_long : length new ≡ length old) (in_range : page < page_count size) (others : (k at : ℕ) → k < page_count size → k ≢ page → at < size.words → get_or new (k * size.words + at) Erased ≡ get_or old (k * size.words + at) Erased) where
   same_page : (k : ℕ) → k < page_count size → k ≢ page → page_words size new k ≡ page_words size old k

@@ -39,15 +39,13 @@ one_of_file file text cause fault first second some (inl bad) is (inl other) i =
 
 pub one_file_fault : (file : File) (text : List ℕ) (cause fault : Fault) → cause ≢ Memory → IsFileFault file text cause
     → IsFileFault file text fault → (fault ≡ cause) ⊎ (fault ≡ Memory)
-one_file_fault file text cause fault some h i =
-    one_of_file file text cause fault h.cause i.cause some h.applies h.fault_is i.applies i.fault_is
+one_file_fault file text cause fault some h i = one_of_file file text cause fault h.cause i.cause some h.applies h.fault_is i.applies i.fault_is
 
 -- why a text is read as no device is the cause
 pub reading_named : (text : List ℕ) (why : ImageFault) (fault cause : Fault) → IsImageFault text why
     → fault ≡ fault_of_image Image why → cause ≢ Memory → IsReadingFault text cause
     → (fault ≡ cause) ⊎ (fault ≡ Memory)
-reading_named text why fault cause bad told some h =
-    one_of_file Image text cause fault h.cause why some h.applies h.fault_is bad told
+reading_named text why fault cause bad told some h = one_of_file Image text cause fault h.cause why some h.applies h.fault_is bad told
 
 -- a device's text has no cause
 pub reading_good : (text : List ℕ) (device : Device) (cause : Fault) → SpellsDevice text device → cause ≢ Memory

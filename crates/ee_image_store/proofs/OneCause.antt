@@ -69,5 +69,4 @@ one_open_fault text Read fault some h i = absurd h
 one_open_fault text (Image cause) (Image fault) some h i = inl (ap Image (one_fault_lem text fault cause i h))
 one_open_fault text (Image cause) (Open fault) some h i = absurd (is_no_text text i.0 cause i.1 h)
 one_open_fault text (Open cause) (Image fault) some h i = absurd (is_no_text text h.0 fault h.1 i)
-one_open_fault text (Open cause) (Open fault) some h i =
-    inl (ap Open (one_scan_fault h.0 fault cause (moved_fault text i.0 h.0 fault i.1 h.1 i.2) h.2))
+one_open_fault text (Open cause) (Open fault) some h i = inl (ap Open (one_scan_fault h.0 fault cause (moved_fault text i.0 h.0 fault i.1 h.1 i.2) h.2))

@@ -53,8 +53,7 @@ part_taken listed count part start within fewer taken =
 -- one more step is listed
 pub more_listed : (listed : List ListedStep) (count : ℕ) (step : ListedStep) → count < length listed → steps_of (count + 1) (set listed count step) ≡ steps_of count listed ++ step_listed_so step ∷ []
 unfolding steps_of
-more_listed listed count step room =
-    ap (map step_listed_so) (take_more_set listed count step room) ∙ map-append step_listed_so (take count listed) (step ∷ [])
+more_listed listed count step room = ap (map step_listed_so) (take_more_set listed count step room) ∙ map-append step_listed_so (take count listed) (step ∷ [])
 
 -- the steps up to the one of this number, and that one
 pub next_listed : (listed : List ListedStep) (count : ℕ) (none : ListedStep) → count < length listed → steps_of (count + 1) listed ≡ steps_of count listed ++ step_listed_so (get_or listed count none) ∷ []

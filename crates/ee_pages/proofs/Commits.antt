@@ -71,8 +71,7 @@ first_words pages word at some other =
     ∙ get_or-set_other (get_or pages 0 []) 1 at word Erased other
 
 further_words : (pages : List (List Word)) (word : Word) (page at : ℕ) → (page ≡ 0 → ⊥) → word_of (marked pages word) page at ≡ word_of pages page at
-further_words pages word page at further =
-    ap (λ words. word_in words at) (get_or-set_other pages 0 page (set (get_or pages 0 []) 1 word) [] further)
+further_words pages word page at further = ap (λ words. word_in words at) (get_or-set_other pages 0 page (set (get_or pages 0 []) 1 word) [] further)
 
 -- the place of the mark that commits takes any word
 any_commits : (size : Size) (generation written : ℕ) → is_allowed size generation written 0 1 (Held mark_number) ≡ true

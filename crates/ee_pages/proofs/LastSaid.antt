@@ -25,8 +25,7 @@ says-erased Torn address e = absurd (cc e)
 
 pub latest_in-erased : (words : List Word) (address : ℕ) → ((k : ℕ) → is_written (get_or words k Erased) ≡ false) → latest_in words address ≡ None
 latest_in-erased [] address each = refl
-latest_in-erased (word ∷ words) address each =
-    rw (says-erased word address (each 0), latest_in-erased words address (λ k. each (suc k))) refl
+latest_in-erased (word ∷ words) address each = rw (says-erased word address (each 0), latest_in-erased words address (λ k. each (suc k))) refl
 
 -- what the last slots say is what all say
 pub latest_in-drop : (k : ℕ) (words : List Word) (address : ℕ) (said : Option ℕ) → latest_in (drop k words) address ≡ Some said → latest_in words address ≡ Some said

@@ -24,8 +24,7 @@ is_run_on old flash new text image reported served sound same spelled = record {
 
 -- a run of the machine of this size from this state, on this store
 abbrev RunFrom : Size → State → List ℕ → List ℕ → List ℕ → Device → Type 0
-RunFrom size start text image reported store =
-    (run : IsScriptRun size start text image reported) × IsMade store run.report.commands run.report.answers run.last
+RunFrom size start text image reported store = (run : IsScriptRun size start text image reported) × IsMade store run.report.commands run.report.answers run.last
 
 -- the same run, of a machine that is known by another size and state
 from_there : (size other : Size) (start from : State) (text image reported : List ℕ) (store : Device) → size ≡ other → start ≡ from

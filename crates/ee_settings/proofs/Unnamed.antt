@@ -93,8 +93,7 @@ batch settings map above (first ∷ more) next =
     ∙ append_assoc (unnamed_to settings map above) (unnamed_of settings first.0) (unnamed_among settings more)
 
 pub batch_through : (settings : List Setting) (map : Map) (above to : ℕ) (found : List (ℕ × ℕ)) → AreLiveThrough map above found (Some to) → unnamed_to settings map to ≡ unnamed_to settings map above ++ unnamed_among settings found
-batch_through settings map above to found live =
-    gap_to settings map (last_of above found) to live.rest.0 live.rest.1 ∙ batch settings map above found live.next
+batch_through settings map above to found live = gap_to settings map (last_of above found) to live.rest.0 live.rest.1 ∙ batch settings map above found live.next
 
 pub batch_all : (settings : List Setting) (map : Map) (above : ℕ) (found : List (ℕ × ℕ)) → last_of above found ≤ 65534 → AreLiveThrough map above found None → unnamed_in settings map ≡ unnamed_to settings map above ++ unnamed_among settings found
 batch_all settings map above found below live =

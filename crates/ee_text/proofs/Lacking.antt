@@ -44,8 +44,7 @@ first_place c (d ∷ a) (f ∷ b) x y in_a in_b e =
 pub front_ends : (c : ℕ) (a b x y : List ℕ) → Lacks c a → a ++ x ≡ b ++ c ∷ y → length a ≤ length b
 front_ends c [] b x y lacks e = omega arith
 front_ends c (d ∷ a) [] x y lacks e = absurd ((Lacks-parts c d a lacks).0 (cc))
-front_ends c (d ∷ a) (f ∷ b) x y lacks e =
-    omega (arith, front_ends c a b x y (Lacks-parts c d a lacks).1 (cc))
+front_ends c (d ∷ a) (f ∷ b) x y lacks e = omega (arith, front_ends c a b x y (Lacks-parts c d a lacks).1 (cc))
 
 -- a text that lacks the byte has no place of it
 pub no_place : (c : ℕ) (a b y : List ℕ) → Lacks c a → a ≡ b ++ c ∷ y → ⊥

@@ -7,8 +7,7 @@ use Rattle.ee_text.proofs.Lacking.{first_place, no_place}
 
 -- the first line of a text and what follows it are determined
 pub first_line : (a b x y : List ℕ) → IsLine a → IsLine b → line_of a ++ x ≡ line_of b ++ y → (a ≡ b) × (x ≡ y)
-first_line a b x y in_a in_b e =
-    first_place line_feed a b x y in_a in_b (sym (append_assoc a (line_feed ∷ []) x) ∙ e ∙ append_assoc b (line_feed ∷ []) y)
+first_line a b x y in_a in_b e = first_place line_feed a b x y in_a in_b (sym (append_assoc a (line_feed ∷ []) x) ∙ e ∙ append_assoc b (line_feed ∷ []) y)
 
 -- a text with no line feed has no line
 pub no_line : (text a x : List ℕ) → Lacks line_feed text → text ≡ line_of a ++ x → ⊥

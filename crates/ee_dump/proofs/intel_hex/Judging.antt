@@ -58,8 +58,7 @@ pub row_refused : (base upper place : ℕ) (cells : List (Option ℕ)) (r : Reco
 row_refused base upper place cells r kind_is place_is put = rw kind_is (ap (step_kept upper) (ap (λ p. put_all base (numbered_bytes p r.bytes) cells) (sym place_is) ∙ put))
 
 pub row_other : (base upper above : ℕ) (cells : List (Option ℕ)) (r : Record) → r.kind ≢ 1 → r.kind ≢ 0 → above ≡ upper_after upper r → step_of_record base upper cells (Some r) ≡ Goes above cells
-row_other base upper above cells r no_end no_data above_is =
-    rw (ne_eqb r.kind 1 no_end, ne_eqb r.kind 0 no_data) (ap (λ u. Goes u cells) (sym above_is))
+row_other base upper above cells r no_end no_data above_is = rw (ne_eqb r.kind 1 no_end, ne_eqb r.kind 0 no_data) (ap (λ u. Goes u cells) (sym above_is))
 
 pub ruleset meeting = (row_ends, row_taken, row_refused, row_other)
 

@@ -141,9 +141,7 @@ returns-in_err-mark-2 g c =
     }
 
 pub mark-requires : goal.mark-requires
-mark-requires g c =
-    record { page_in_range = omega (arith, (g.met.F.Flash.formed c.erase_all.new.flash).within_limits.some_pages); generation = proper_first }
+mark-requires g c = record { page_in_range = omega (arith, (g.met.F.Flash.formed c.erase_all.new.flash).within_limits.some_pages); generation = proper_first }
 
 pub mark-requires-2 : goal.mark-requires-2
-mark-requires-2 g c =
-    record { page_in_range = omega (arith, (g.met.F.Flash.formed c.mark.new.flash).within_limits.some_pages); generation = proper_active }
+mark-requires-2 g c = record { page_in_range = omega (arith, (g.met.F.Flash.formed c.mark.new.flash).within_limits.some_pages); generation = proper_active }
