@@ -2,11 +2,11 @@
 //! looking through the slots has cost more than that, and gives it back when looking would cost less.
 ghost use Rattle.std.specs.Prelude.{◌≡◌, IfErr, IfOk};
 ghost use Rattle.ee_flash.specs.Device.{IsOn};
-ghost use Rattle.ee_flash.specs.Memory.{device_of};
+ghost use Rattle.ee_flash.specs.Memory.{device_of, memory_of};
 ghost use Rattle.ee_core.specs.Finished.{IsStore};
 ghost use Rattle.ee_image_store.specs.Opening.{IsOpenFault, IsOpened};
 ghost use Rattle.ee_replay.specs.Either.{device_of_either};
-ghost use Rattle.ee_replay.specs.Serving.{ArmsDevice};
+ghost use Rattle.ee_replay.specs.Serving.{ArmsDevice, IsArmed};
 
 use ee_codec::Address;
 use ee_core::{
@@ -146,7 +146,9 @@ impl<F: Flash + Drop, A: Allocator + Copy> Variables for EitherStore<F, A> {
 
 /// The device, with this fuse.
 pub(crate) fn armed<A: Allocator>(flash: MemFlash<A>, fuse: Fuse) -> MemFlash<A>
-    ensures { ArmsDevice (device_of flash) fuse (device_of result) }
+    // The fuse that stands in memory is this one, with its step and its tear.
+    ensures memory { IsArmed (device_of flash) fuse (memory_of result) }
+    ensures device { ArmsDevice (device_of flash) fuse (device_of result) }
 {
     let mut flash = flash;
     flash.arm(fuse);

@@ -8,14 +8,14 @@ pub into_flash-requires : goal.into_flash-requires
 into_flash-requires g c = c.requires
 
 pub returns-then-not-is_open-clause-arms : goal.returns-then-not-is_open-clause-arms
-returns-then-not-is_open-clause-arms g c = arms_point _ _ _ _ c.into_flash.ensures.device (sym c.if-not-is_open.true ∙ c.is_open.ensures) c.armed.ensures
+returns-then-not-is_open-clause-arms g c = arms_point _ _ _ _ c.into_flash.ensures.device (sym c.if-not-is_open.true ∙ c.is_open.ensures) c.armed.ensures.device
 
 pub returns-then-not-is_open-clause-legal : goal.returns-then-not-is_open-clause-legal
 returns-then-not-is_open-clause-legal g c =
-    arm_legal _ _ (armed_is _ _ _ c.armed.ensures) (subst IsLegal (sym c.into_flash.ensures.device) c.into_flash.ensures.sound.legal)
+    arm_legal _ _ (armed_is _ _ _ c.armed.ensures.device) (subst IsLegal (sym c.into_flash.ensures.device) c.into_flash.ensures.sound.legal)
 
 pub returns-then-not-is_open-clause-same : goal.returns-then-not-is_open-clause-same
-returns-then-not-is_open-clause-same g c = armed_same _ _ _ _ c.into_flash.ensures.device c.armed.ensures
+returns-then-not-is_open-clause-same g c = armed_same _ _ _ _ c.into_flash.ensures.device c.armed.ensures.device
 
 pub returns-clause-arms : goal.returns-clause-arms
 returns-clause-arms g c = arms_open _ _ _ _ c.into_open.ensures c.with_fuse.ensures
