@@ -39,8 +39,7 @@ pub fn import_image<A: Allocator + Copy>(
         Ok(flash) => flash,
         Err(fault) => return Err(import_fault(fault)),
     };
-    let image = text_of(alloc, &flash)?;
-    Ok(image)
+    Ok(text_of(alloc, &flash)?)
 }
 
 /// The dump of the part that an image's text spells, in the form that `import_image` reads.

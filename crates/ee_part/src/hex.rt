@@ -66,8 +66,7 @@ pub fn export_hex<A: Allocator + Copy>(
         return Err(Fault::Base);
     }
     let dump = dump_of(alloc, form, &flash)?;
-    let hex = write_hex(alloc, base, &dump)?;
-    Ok(hex)
+    Ok(write_hex(alloc, base, &dump)?)
 }
 
 /// Whether each byte of a part of this shape has an address of 32 bits, where its first has this one.

@@ -39,8 +39,7 @@ pub fn inspect_text<A: Allocator + Copy>(alloc: A, image: &[u8]) -> Result<Vec<u
     ensures names { NamesEach Fault.Memory (IsReadingFault image.now) result }
 {
     let flash = read_part(alloc, image)?;
-    let text = findings(alloc, &flash)?;
-    Ok(text)
+    Ok(findings(alloc, &flash)?)
 }
 
 /// What there is to say of a device.

@@ -38,15 +38,15 @@ returns-in_err-dump-clause-names g c = λ cause some applies.
     rw p.1 (rw p.2 (one_hex_export_fault c.args.form c.args.image.now c.args.base cause c.in_err-dump.field-0.0 some applies
     (not_dumped c.args.form c.args.image.now c.args.base (device_of c.in_ok-flash.flash) c.in_err-dump.field-0.0 c.in_ok-flash.ensures.read (subst (PartFits c.args.form c.args.base) c.shape.ensures (c.fits.ensures.0 c.if-not-fits.false)) c.in_err-dump.ensures.fault)))
 
-pub returns-in_err-hex-clause-fault : goal.returns-in_err-hex-clause-fault
-returns-in_err-hex-clause-fault g c =
-    let p = err_from_is_err_and c.from_residual-in_err-hex.result c.from_residual-in_err-hex.ensures.1 in
+pub returns-in_err-write_hex-clause-fault : goal.returns-in_err-write_hex-clause-fault
+returns-in_err-write_hex-clause-fault g c =
+    let p = err_from_is_err_and c.from_residual-in_err-write_hex.result c.from_residual-in_err-write_hex.ensures.1 in
     rw p.1 (rw p.2 (no_memory_told c.args.form c.args.image.now c.args.base (device_of c.in_ok-flash.flash) c.in_ok-flash.ensures.read (subst (PartFits c.args.form c.args.base) c.shape.ensures (c.fits.ensures.0 c.if-not-fits.false))))
 
 pub returns-clause-exported : goal.returns-clause-exported
 returns-clause-exported g c =
-    is_told c.args.form c.args.image.now c.args.base (device_of c.in_ok-flash.flash) c.in_ok-dump.dump.items c.deref.result.now c.in_ok-hex.hex.items c.in_ok-flash.ensures.read (subst (PartFits c.args.form c.args.base) c.shape.ensures (c.fits.ensures.0 c.if-not-fits.false)) c.in_ok-dump.ensures.written c.deref.ensures.value (search rules)
+    is_told c.args.form c.args.image.now c.args.base (device_of c.in_ok-flash.flash) c.in_ok-dump.dump.items c.deref.result.now c.in_ok-write_hex.field-0.items c.in_ok-flash.ensures.read (subst (PartFits c.args.form c.args.base) c.shape.ensures (c.fits.ensures.0 c.if-not-fits.false)) c.in_ok-dump.ensures.written c.deref.ensures.value (search rules)
 
 pub returns-clause-names : goal.returns-clause-names
 returns-clause-names g c = λ cause some applies.
-    hex_exported_good c.args.form c.args.image.now c.args.base c.in_ok-hex.hex.items cause (returns-clause-exported g c) some applies
+    hex_exported_good c.args.form c.args.image.now c.args.base c.in_ok-write_hex.field-0.items cause (returns-clause-exported g c) some applies
