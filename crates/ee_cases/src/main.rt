@@ -40,27 +40,12 @@ fn try_example(rt: &HostRuntime, typist: &mut Typist<'_>, name: &str) -> io::Res
     passed
 }
 
-/// Whether an example went as it was to go. Where it didn't, the first line that differs is printed.
+/// Whether an example went as it was to go. Where it didn't, how it went is printed.
 fn is_as_wanted(rt: &HostRuntime, name: &str, found: &str, wanted: &str) -> io::Result<bool> {
     if found.as_bytes() == wanted.as_bytes() {
         return Ok(true);
     }
-    let mut same: u64 = 0;
-    let mut others = wanted.lines();
-    for line in found.lines() {
-        let other = others.next().unwrap_or("nothing");
-        if line != other {
-            return tell(rt, name, same, line, other);
-        }
-        same = same.saturating_add(1);
-    }
-    let other = others.next().unwrap_or("nothing");
-    tell(rt, name, same, "nothing", other)
-}
-
-/// Prints a line that was found and the one that was wanted, and gives that they aren't the same.
-fn tell(rt: &HostRuntime, name: &str, same: u64, line: &str, other: &str) -> io::Result<bool> {
-    println!(rt; "{name}, behind line {same}:\n  found  {line}\n  wanted {other}")?;
+    println!(rt; "{name} goes otherwise:\n{found}")?;
     Ok(false)
 }
 

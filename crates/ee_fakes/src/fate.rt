@@ -15,7 +15,7 @@ pub enum Fate<'a> {
 }
 
 /// What a cut leaves of a word.
-#[derive(Clone, Copy, Debug, PartialEq, Eq)]
+#[derive(Clone, Copy)]
 pub enum Left {
     /// The word as before the step.
     Before,

@@ -10,7 +10,7 @@ use std::io;
 use std::io::{ErrorKind, Write};
 
 /// How a writer stops.
-#[derive(Clone, Copy, Debug)]
+#[derive(Clone, Copy)]
 pub enum Stop {
     /// The call fails.
     Error(ErrorKind),

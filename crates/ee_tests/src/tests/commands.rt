@@ -1,33 +1,38 @@
 //! The table of commands, built with `clap`: it takes the lines that `job` takes.
 use crate::tests::same;
-use clap::{Arg, ArgAction, Command, value_parser};
+use clap::builder::ValueParser;
+use clap::{Arg, ArgAction, Command};
 use ee_command_line::job;
 use std::alloc::Global;
 use std::process::Abort;
 
-/// The commands with words. Flags and those in brackets may be left out.
-const ROWS: &str = "\
-try P W
-format P W IMAGE
-import --pairs P W DUMP IMAGE
-export --pairs IMAGE DUMP
-import-hex --pairs P W BASE DUMP IMAGE
-export-hex --pairs IMAGE BASE DUMP
-inspect IMAGE
-run --indexed IMAGE SCRIPT
-get IMAGE SETTINGS NAME
-set IMAGE SETTINGS NAME VALUE
-apply IMAGE SETTINGS VALUES
-header --rust SETTINGS
-plan IMAGE SCRIPT
-check IMAGE SCRIPT CERTIFICATE
-wear IMAGE [BEFORE]
-states IMAGE
-clean IMAGE
-stale IMAGE SETTINGS
-tidy IMAGE SETTINGS
-list IMAGE [SETTINGS]
-size W SCRIPT CYCLES RUNS";
+/// The commands with their words. Flags and those in brackets may be left out.
+const ROWS: &[(&str, &[&str])] = &[
+    ("try", &["P", "W"]),
+    ("format", &["P", "W", "IMAGE"]),
+    ("import", &["--pairs", "P", "W", "DUMP", "IMAGE"]),
+    ("export", &["--pairs", "IMAGE", "DUMP"]),
+    (
+        "import-hex",
+        &["--pairs", "P", "W", "BASE", "DUMP", "IMAGE"],
+    ),
+    ("export-hex", &["--pairs", "IMAGE", "BASE", "DUMP"]),
+    ("inspect", &["IMAGE"]),
+    ("run", &["--indexed", "IMAGE", "SCRIPT"]),
+    ("get", &["IMAGE", "SETTINGS", "NAME"]),
+    ("set", &["IMAGE", "SETTINGS", "NAME", "VALUE"]),
+    ("apply", &["IMAGE", "SETTINGS", "VALUES"]),
+    ("header", &["--rust", "SETTINGS"]),
+    ("plan", &["IMAGE", "SCRIPT"]),
+    ("check", &["IMAGE", "SCRIPT", "CERTIFICATE"]),
+    ("wear", &["IMAGE", "[BEFORE]"]),
+    ("states", &["IMAGE"]),
+    ("clean", &["IMAGE"]),
+    ("stale", &["IMAGE", "SETTINGS"]),
+    ("tidy", &["IMAGE", "SETTINGS"]),
+    ("list", &["IMAGE", "[SETTINGS]"]),
+    ("size", &["W", "SCRIPT", "CYCLES", "RUNS"]),
+];
 
 /// A line of each command, and where words may be left out one with them and one without.
 const LINES: &str = "\
@@ -61,25 +66,14 @@ ee list a.image
 ee list a.image a.settings
 ee size 512 a.script 10000 4294967295";
 
-/// The least and the greatest number that a word may be, where it is one.
-fn range_of(id: &str) -> Option<(i64, i64)> {
+/// What a word may be: a number within bounds, or any text.
+fn parser_of<'a>(id: &str) -> ValueParser<'a> {
     match id {
-        "P" => Some((1, 64)),
-        "W" => Some((5, 512)),
-        "VALUE" => Some((0, 4_294_967_295)),
-        "CYCLES" | "RUNS" => Some((1, 4_294_967_295)),
-        _ => None,
-    }
-}
-
-/// A word of a row that is an operand.
-fn operand<'a>(alloc: Global, id: &'a str) -> Arg<'a> {
-    let word = Arg::new(alloc, id)
-        .action(ArgAction::Set)
-        .required(!id.starts_with("["));
-    match range_of(id) {
-        Some((least, most)) => word.value_parser(value_parser!(u64).range(least..=most)),
-        None => word,
+        "P" => ValueParser::unsigned(1, 64),
+        "W" => ValueParser::unsigned(5, 512),
+        "VALUE" => ValueParser::unsigned(0, 4_294_967_295),
+        "CYCLES" | "RUNS" => ValueParser::unsigned(1, 4_294_967_295),
+        _ => ValueParser::string(),
     }
 }
 
@@ -87,15 +81,16 @@ fn operand<'a>(alloc: Global, id: &'a str) -> Arg<'a> {
 fn word<'a>(alloc: Global, id: &'a str) -> Arg<'a> {
     match id.strip_prefix("--") {
         Some(name) => Arg::new(alloc, id).long(name).action(ArgAction::SetTrue),
-        None => operand(alloc, id),
+        None => Arg::new(alloc, id)
+            .required(!id.starts_with("["))
+            .value_parser(parser_of(id)),
     }
 }
 
-/// The command of a row.
-fn command<'a>(rt: &impl Abort, memory: Global, row: &'a str) -> Command<'a> {
-    let (name, operands) = row.split_once(" ").expect(rt, "no words");
+/// The command with these words.
+fn command<'a>(rt: &impl Abort, memory: Global, name: &'a str, ids: &'a [&'a str]) -> Command<'a> {
     let mut command = Command::new(memory, name);
-    for id in operands.split_whitespace() {
+    for id in ids {
         command = command.arg(word(memory, id)).expect(rt, "no room");
     }
     command
@@ -104,9 +99,9 @@ fn command<'a>(rt: &impl Abort, memory: Global, row: &'a str) -> Command<'a> {
 /// The table of commands.
 fn table<'a>(rt: &impl Abort, memory: Global) -> Command<'a> {
     let mut table = Command::new(memory, "ee");
-    for row in ROWS.lines() {
+    for (name, ids) in ROWS {
         table = table
-            .subcommand(command(rt, memory, row))
+            .subcommand(command(rt, memory, name, ids))
             .expect(rt, "no room");
     }
     table

@@ -20,6 +20,14 @@ fn mix_of(number: usize) -> [Left; 5] {
     ]
 }
 
+// Writes 1 at an address in each slot of the first set, and then 2 in each of the second, where each set has so many slots.
+fn fill_both<V: Variables>(rt: &impl Abort, store: &mut V, one: Address, slots: usize) {
+    for slot in 0..slots.saturating_mul(2) {
+        let value = if slot < slots { 1 } else { 2 };
+        store.write(one, value).expect(rt, "no write");
+    }
+}
+
 /// A device with so many pages a set and one slot a page. Address 1 was written with 1 in each slot and then with 2 in
 /// each: the second set is live and full, and the pages of the first wait to be erased.
 pub fn moved_once<'a>(
@@ -31,10 +39,7 @@ pub fn moved_once<'a>(
     let mut flash = ListFlash::blank(memory, shape(rt, pages, 5), &[]).expect(rt, "no device");
     flash.power_on();
     let mut store = format(flash).ok().expect(rt, "no store");
-    for slot in 0..pages.saturating_mul(2) {
-        let value = if slot < pages { 1 } else { 2 };
-        store.write(one, value).expect(rt, "no write");
-    }
+    fill_both(rt, &mut store, one, pages);
     store.into_flash()
 }
 
@@ -65,9 +70,16 @@ fn is_cut<V: Variables>(store: &mut V, cleans: bool, one: Address) -> bool {
 // How many pages wait behind a cut of the erase of the first set's page, as the list says: the page, if it isn't blank. Its
 // third word was erased before.
 fn pending_behind(list: &[Left; 5]) -> usize {
-    let [first, second, third, fourth, fifth] = *list;
-    let is_blank = [first, second, fourth, fifth] == [Left::After; 4] && third != Left::Torn;
-    if is_blank { 0 } else { 1 }
+    match *list {
+        [
+            Left::After,
+            Left::After,
+            Left::Before | Left::After,
+            Left::After,
+            Left::After,
+        ] => 0,
+        _ => 1,
+    }
 }
 
 // Whether the old value stands, and a write moves it.
@@ -77,20 +89,17 @@ fn stands<V: Variables>(store: &mut V, one: Address, pending: usize) -> bool {
         && has(store, one, 3, (3, 1, 1))
 }
 
-// Cuts the erase of the first set's page as the list says, in a clean step or in a write that transfers.
-fn cut_the_erase(rt: &impl Abort, memory: Global, cleans: bool, one: Address, list: &[Left; 5]) {
-    let fates = [Fate::Cut(list)];
+// Cuts the erase of the first set's page in this mix, in a clean step or in a write that transfers.
+fn cut_the_erase(rt: &impl Abort, memory: Global, cleans: bool, one: Address, mix: usize) {
+    let list = mix_of(mix);
+    let fates = [Fate::Cut(&list)];
     let mut flash = moved_once(rt, memory, 1, one);
     flash.set_fates(&fates);
     let mut store = opened(rt, flash);
-    same(rt, cleans, is_cut(&mut store, cleans, one), true);
+    same(rt, mix, is_cut(&mut store, cleans, one), true);
     let mut store = opened(rt, store.into_flash());
-    same(
-        rt,
-        *list,
-        stands(&mut store, one, pending_behind(list)),
-        true,
-    );
+    let pending = pending_behind(&list);
+    same(rt, mix, stands(&mut store, one, pending), true);
 }
 
 #[test]
@@ -98,7 +107,7 @@ fn each_mix_of_a_cut_erase(rt: HostRuntime) {
     let one = address(&rt, 1);
     for mix in 0..243usize {
         for cleans in [true, false] {
-            cut_the_erase(&rt, rt.alloc(), cleans, one, &mix_of(mix));
+            cut_the_erase(&rt, rt.alloc(), cleans, one, mix);
         }
     }
 }

@@ -9,9 +9,12 @@ mod settings;
 mod stores;
 
 use crate::tests::same;
-use commands::{Change, Replay, Text};
+use commands::{
+    Change, DUMP, HEADER, HEX, LISTED, NAMED, PAIRS, PROVED, Replay, SCAN, STALE, STATES, STORED,
+    TEN, Text, WEAR, WEAR_SINCE,
+};
 use ee_command_line::{ReadFault, read_whole};
-use ee_fakes::images::SCRIPT;
+use ee_fakes::images::{CERTIFICATE, CLEANED, FORMATTED, SCRIPT, TIDIED};
 use ee_fakes::{FailingReader, Refusing};
 use ee_faults::{Fault, File};
 use std::alloc::Global;
@@ -31,7 +34,7 @@ enum Call {
     ReadWhole,
     SizeParts,
     FaultLine(Fault, &'static [u8]),
-    Text(Text),
+    Text(Text, &'static [u8]),
     Change(Change),
     Try,
     Replay(Replay),
@@ -59,24 +62,24 @@ const CALLS: &[(Call, u64)] = &[
     (Call::FaultLine(UNREAD, b"ee: cannot read script\n"), 1),
     (Call::FaultLine(BAD_LINE, b"ee: certificate line 12\n"), 1),
     (Call::FaultLine(Fault::Memory, b"ee: out of memory\n"), 1),
-    (Call::Text(Text::Format), 3),
-    (Call::Text(Text::States), 3),
-    (Call::Text(Text::Wear), 4),
-    (Call::Text(Text::WearSince), 7),
-    (Call::Text(Text::Plan), 5),
-    (Call::Text(Text::Check), 5),
-    (Call::Text(Text::Get), 4),
-    (Call::Text(Text::Stale), 7),
-    (Call::Text(Text::List), 6),
-    (Call::Text(Text::ListNamed), 6),
-    (Call::Text(Text::Import), 3),
-    (Call::Text(Text::Export), 3),
-    (Call::Text(Text::ImportPairs), 3),
-    (Call::Text(Text::ExportPairs), 3),
-    (Call::Text(Text::ImportHex), 4),
-    (Call::Text(Text::ExportHex), 4),
-    (Call::Text(Text::Inspect), 3),
-    (Call::Text(Text::Header), 2),
+    (Call::Text(Text::Format, FORMATTED), 3),
+    (Call::Text(Text::States, STATES), 3),
+    (Call::Text(Text::Wear, WEAR), 4),
+    (Call::Text(Text::WearSince, WEAR_SINCE), 7),
+    (Call::Text(Text::Plan, CERTIFICATE), 5),
+    (Call::Text(Text::Check, PROVED), 5),
+    (Call::Text(Text::Get, STORED), 4),
+    (Call::Text(Text::Stale, STALE), 7),
+    (Call::Text(Text::List, LISTED), 6),
+    (Call::Text(Text::ListNamed, NAMED), 6),
+    (Call::Text(Text::Import, FORMATTED), 3),
+    (Call::Text(Text::Export, DUMP), 3),
+    (Call::Text(Text::ImportPairs, FORMATTED), 3),
+    (Call::Text(Text::ExportPairs, PAIRS), 3),
+    (Call::Text(Text::ImportHex, FORMATTED), 4),
+    (Call::Text(Text::ExportHex, HEX), 4),
+    (Call::Text(Text::Inspect, SCAN), 3),
+    (Call::Text(Text::Header, HEADER), 2),
     (Call::Change(Change::Clean), 4),
     (Call::Change(Change::Set), 5),
     (Call::Change(Change::Tidy), 6),
@@ -103,7 +106,7 @@ fn answer(rt: &impl Abort, memory: Global, call: Call, alloc: &Refusing<Global>)
         Call::ReadWhole => script_read(alloc),
         Call::SizeParts => commands::sizes_given(alloc),
         Call::FaultLine(fault, line) => commands::fault_told(alloc, fault, line),
-        Call::Text(text) => commands::text_given(text, alloc, memory),
+        Call::Text(text, wanted) => commands::text_given(text, alloc, memory, wanted),
         Call::Change(change) => commands::change_given(change, alloc, memory),
         Call::Try => commands::moves_tried(alloc),
         Call::Replay(how) => commands::moves_made(how, alloc),
@@ -162,7 +165,8 @@ fn each_complaint(rt: HostRuntime) {
 
 // Makes a call with its first request for memory refused, then with its second, and so on to a run in which none is, which
 // is to make `least` requests or more. A failure names the call by its place in the table, from 0, and the request.
-fn refuse_each(rt: &impl Abort, memory: Global, place: usize, call: Call, least: u64) {
+fn refuse_each(rt: &impl Abort, memory: Global, place: usize, row: &(Call, u64)) {
+    let (call, least) = *row;
     for nth in 1..u64::MAX {
         let alloc = Refusing::new(memory, nth);
         let answer = answer(rt, memory, call, &alloc);
@@ -182,7 +186,7 @@ fn refuse_each(rt: &impl Abort, memory: Global, place: usize, call: Call, least:
 
 #[test]
 fn each_request_is_refused_in_turn(rt: HostRuntime) {
-    for (place, (call, least)) in CALLS.iter().copied().enumerate() {
-        refuse_each(&rt, rt.alloc(), place, call, least);
+    for (place, row) in CALLS.iter().enumerate() {
+        refuse_each(&rt, rt.alloc(), place, row);
     }
 }

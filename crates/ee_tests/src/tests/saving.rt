@@ -4,7 +4,7 @@ use super::trail::Trail;
 use crate::tests::same;
 use ee_fakes::images::{CLEANED, FORMATTED, ONE_MOVE, TWO_MOVES};
 use ee_files::SaveFault;
-use std::{fs, io};
+use std::fs;
 
 /// The calls by which a plain file is replaced.
 const REPLACING: &str =
@@ -27,22 +27,25 @@ fn holds(rt: &HostRuntime, bytes: &[u8]) -> bool {
     }
 }
 
-// Writes the old image, and gives the trail of a run that is to replace it.
-fn trail<'a>(rt: &'a HostRuntime, is_bare: bool, awaited: &'static str) -> io::Result<Trail<'a>> {
-    fs::write(rt, "image", ONE_MOVE)?;
-    let mut trail = Trail::new(rt, "image", awaited);
-    trail.is_bare = is_bare;
-    Ok(trail)
+// Whether the image's file is given the old image.
+fn is_old(rt: &HostRuntime) -> bool {
+    fs::write(rt, "image", ONE_MOVE).is_ok()
+}
+
+// Whether the image is replaced by the calls that are awaited, which are so many, and by no others.
+fn goes_as_awaited(rt: &HostRuntime, trail: &Trail<'_>, calls: u64) -> bool {
+    is_old(rt)
+        && trail.save(Some(ONE_MOVE), CLEANED) == Ok(())
+        && trail.awaited.get().is_empty()
+        && trail.calls.get() == calls
+        && holds(rt, CLEANED)
 }
 
 #[test]
 fn the_calls_in_their_order(rt: HostRuntime) {
     for (is_bare, awaited, calls) in WAYS {
-        let trail = trail(&rt, is_bare, awaited).expect(&rt, "no file");
-        same(&rt, calls, trail.save(Some(ONE_MOVE), CLEANED), Ok(()));
-        same(&rt, calls, trail.awaited.get(), "");
-        same(&rt, calls, trail.calls.get(), calls);
-        same(&rt, calls, holds(&rt, CLEANED), true);
+        let trail = Trail::new(&rt, "image", is_bare, awaited);
+        same(&rt, calls, goes_as_awaited(&rt, &trail, calls), true);
     }
 }
 
@@ -50,7 +53,8 @@ fn the_calls_in_their_order(rt: HostRuntime) {
 // beside it.
 fn saves(rt: &HostRuntime, trail: &Trail<'_>, wanted: Answer) -> bool {
     let stands = if wanted.is_ok() { CLEANED } else { ONE_MOVE };
-    trail.save(Some(ONE_MOVE), CLEANED) == wanted
+    is_old(rt)
+        && trail.save(Some(ONE_MOVE), CLEANED) == wanted
         && holds(rt, stands)
         && fs::metadata(rt, "image.ee-saving-0").is_err()
 }
@@ -70,7 +74,7 @@ fn goes_on(is_bare: bool, call: u64) -> bool {
 fn each_call_that_fails(rt: HostRuntime) {
     for (is_bare, awaited, calls) in WAYS {
         for call in 1..calls + 1 {
-            let mut trail = trail(&rt, is_bare, awaited).expect(&rt, "no file");
+            let mut trail = Trail::new(&rt, "image", is_bare, awaited);
             trail.fails_at = call;
             let wanted = if goes_on(is_bare, call) {
                 Ok(())
@@ -87,7 +91,7 @@ fn each_call_that_fails(rt: HostRuntime) {
 fn a_full_disk_leaves_the_old_image(rt: HostRuntime) {
     for (is_bare, awaited, _) in WAYS {
         for bytes in 0..CLEANED.len() {
-            let trail = trail(&rt, is_bare, awaited).expect(&rt, "no file");
+            let trail = Trail::new(&rt, "image", is_bare, awaited);
             trail.room.set(bytes);
             let stands = saves(&rt, &trail, Err(SaveFault::Failed));
             same(&rt, bytes, stands, true);
@@ -103,7 +107,8 @@ fn is_crossed(rt: &HostRuntime, trail: &Trail<'_>, is_other_first: bool) -> bool
     } else {
         (Ok(()), changed, CLEANED)
     };
-    trail.save(Some(ONE_MOVE), CLEANED) == wanted
+    is_old(rt)
+        && trail.save(Some(ONE_MOVE), CLEANED) == wanted
         && trail.other.get() == Some(others)
         && holds(rt, stands)
 }
@@ -113,11 +118,18 @@ fn is_crossed(rt: &HostRuntime, trail: &Trail<'_>, is_other_first: bool) -> bool
 fn another_run_before_each_call(rt: HostRuntime) {
     for (is_bare, awaited, calls) in WAYS {
         for call in 1..calls + 1 {
-            let mut trail = trail(&rt, is_bare, awaited).expect(&rt, "no file");
+            let mut trail = Trail::new(&rt, "image", is_bare, awaited);
             trail.other_at = call;
             same(&rt, call, is_crossed(&rt, &trail, call <= 4), true);
         }
     }
+}
+
+// Whether saving a first image of which this call fails is answered so, and the file is there, to be removed, if it is done.
+fn begins(rt: &HostRuntime, call: u64, wanted: Answer) -> bool {
+    let mut trail = Trail::new(rt, "none", false, "");
+    trail.fails_at = call;
+    trail.save(None, FORMATTED) == wanted && fs::remove_file(rt, "none").is_ok() == wanted.is_ok()
 }
 
 /// A file that wasn't there isn't there after a failure.
@@ -125,15 +137,6 @@ fn another_run_before_each_call(rt: HostRuntime) {
 fn a_first_image_that_fails(rt: HostRuntime) {
     let failed = Err(SaveFault::Failed);
     for (call, wanted) in [(1, Ok(())), (2, failed), (3, failed)] {
-        let mut trail = Trail::new(&rt, "none", "");
-        trail.fails_at = call;
-        same(&rt, call, trail.save(None, FORMATTED), wanted);
-        // It is there to be removed.
-        same(
-            &rt,
-            call,
-            fs::remove_file(&rt, "none").is_ok(),
-            wanted.is_ok(),
-        );
+        same(&rt, call, begins(&rt, call, wanted), true);
     }
 }

@@ -115,35 +115,29 @@ fn the_most_read_calls(rt: HostRuntime) {
     }
 }
 
-// Writes the text to a writer that stops behind so many bytes, which are those it took.
-fn stops_behind(
-    rt: &impl Abort,
-    memory: Global,
-    stop: Stop,
-    written: usize,
-    wanted: Result<(), Stopped>,
-) {
+// Whether a writer stops that is to take so many bytes of the text, as is wanted, and takes these.
+fn stops_behind(memory: Global, stop: Stop, written: usize, wanted: Option<Stopped>) -> bool {
     let mut writer = FailingWriter {
         taken: Vec::new(memory),
         stops_at: (written as u64).saturating_add(1),
         stop,
     };
-    same(rt, stop, write_whole(&mut writer, TWO_MOVES), wanted);
-    let taken = Some(writer.taken.as_slice());
-    same(rt, stop, taken, TWO_MOVES.get(..written));
+    write_whole(&mut writer, TWO_MOVES).err() == wanted
+        && Some(writer.taken.as_slice()) == TWO_MOVES.get(..written)
 }
 
 #[test]
 fn each_stopped_write_is_told(rt: HostRuntime) {
-    for stop in [
-        Stop::Error(ErrorKind::BrokenPipe),
-        Stop::Error(ErrorKind::Interrupted),
-        Stop::NoByte,
+    for (way, stop) in [
+        ("error", Stop::Error(ErrorKind::BrokenPipe)),
+        ("interruption", Stop::Error(ErrorKind::Interrupted)),
+        ("no byte", Stop::NoByte),
     ] {
-        for written in 0..170usize {
-            stops_behind(&rt, rt.alloc(), stop, written, Err(Stopped { written }));
+        for written in 0..171usize {
+            let wanted = (written < 170).then_some(Stopped { written });
+            let stops = stops_behind(rt.alloc(), stop, written, wanted);
+            same(&rt, (way, written), stops, true);
         }
-        stops_behind(&rt, rt.alloc(), stop, 170, Ok(()));
     }
 }
 

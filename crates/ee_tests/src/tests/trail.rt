@@ -1,11 +1,15 @@
 //! The host's files for tests, with each call noted. One call may fail, the disk may be full, and before one call another
 //! run may save.
+ghost use Rattle.std.specs.Prelude.{◌≤◌};
+
 use ee_fakes::images::{ONE_MOVE, TWO_MOVES};
 use ee_files::{FileLocks, SaveFault, save};
 use std::alloc::{Allocator, Global};
 use std::cell::Cell;
 use std::fs::{File, Metadata, OpenFile, OpenOptions, Permissions, TryLockError};
 use std::io::{self, ErrorKind, PipeReader, PipeWriter, Read, Seek, SeekFrom, Write};
+use std::os::fd::BorrowedFd;
+use std::os::unix::net::SocketAddr;
 use std::path::PathBuf;
 use std::rt::Files;
 
@@ -16,7 +20,7 @@ pub struct Trail<'a> {
     /// The image that both runs save.
     image: &'a str,
     /// Whether no path is resolved, as where no file can be made beside another.
-    pub is_bare: bool,
+    is_bare: bool,
     /// The call that fails, counted from 1; 0 for none.
     pub fails_at: u64,
     /// The call before which the other run saves, counted from 1; 0 for none.
@@ -33,11 +37,16 @@ pub struct Trail<'a> {
 
 impl<'a> Trail<'a> {
     /// A trail of files of which no call fails, on a disk with room, and no other run saves.
-    pub fn new(rt: &'a HostRuntime, image: &'a str, awaited: &'static str) -> Trail<'a> {
+    pub fn new(
+        rt: &'a HostRuntime,
+        image: &'a str,
+        is_bare: bool,
+        awaited: &'static str,
+    ) -> Trail<'a> {
         Trail {
             rt,
             image,
-            is_bare: false,
+            is_bare,
             fails_at: 0,
             other_at: 0,
             room: Cell::new(usize::MAX),
@@ -52,8 +61,8 @@ impl<'a> Trail<'a> {
         save(&Tracked { trail: self }, self.image, old, new)
     }
 
-    /// Counts a call and takes it from those that are awaited, lets the other run go before it, or refuses it.
-    fn meet(&self, word: &str) -> io::Result<()> {
+    /// Counts a call and takes it from those that are awaited, lets the other run go before it, and gives whether it fails.
+    fn fails(&self, word: &str) -> bool {
         let call = self.calls.get().saturating_add(1);
         self.calls.set(call);
         if let Some(rest) = self.awaited.get().strip_prefix(word) {
@@ -63,11 +72,24 @@ impl<'a> Trail<'a> {
             let answer = save(self.rt, self.image, Some(ONE_MOVE), TWO_MOVES);
             self.other.set(Some(answer));
         }
-        if call == self.fails_at {
-            return Err(io::Error::from(ErrorKind::Other));
-        }
-        Ok(())
+        call == self.fails_at
     }
+
+    /// How many of so many bytes the disk takes: none once it is full, and then all.
+    fn taken_of(&self, count: usize) -> usize
+        ensures { result ≤ count }
+    {
+        let room = self.room.get();
+        let taken = room.min(count);
+        self.room
+            .set(if taken == 0 { usize::MAX } else { room - taken });
+        taken
+    }
+}
+
+/// How a call fails.
+fn failure() -> io::Error {
+    io::Error::from(ErrorKind::Other)
 }
 
 /// A runtime whose files leave a trail.
@@ -93,24 +115,22 @@ struct TrackedFile<'a> {
 
 impl Read for TrackedFile<'_> {
     fn read(&mut self, buf: &mut [u8]) -> io::Result<usize> {
-        self.trail.meet("read")?;
+        if self.trail.fails("read") {
+            return Err(failure());
+        }
         self.file.read(buf)
     }
 }
 
 impl Write for TrackedFile<'_> {
     fn write(&mut self, buf: &[u8]) -> io::Result<usize> {
-        self.trail.meet("write")?;
-        let room = &self.trail.room;
-        let left = room.get();
-        if left == 0 {
-            room.set(usize::MAX);
-            return Err(io::Error::from(ErrorKind::StorageFull));
+        if self.trail.fails("write") {
+            return Err(failure());
         }
-        let count = if buf.len() < left { buf.len() } else { left };
-        let written = self.file.write(&buf[..count])?;
-        room.set(left - written);
-        Ok(written)
+        match self.trail.taken_of(buf.len()) {
+            0 => Err(io::Error::from(ErrorKind::StorageFull)),
+            count => self.file.write(&buf[..count]),
+        }
     }
 
     fn flush(&mut self) -> io::Result<()> {
@@ -120,24 +140,32 @@ impl Write for TrackedFile<'_> {
 
 impl Seek for TrackedFile<'_> {
     fn seek(&mut self, to: SeekFrom) -> io::Result<u64> {
-        self.trail.meet("seek")?;
+        if self.trail.fails("seek") {
+            return Err(failure());
+        }
         self.file.seek(to)
     }
 }
 
 impl OpenFile for TrackedFile<'_> {
     fn metadata(&self) -> io::Result<Metadata> {
-        self.trail.meet("examine")?;
+        if self.trail.fails("examine") {
+            return Err(failure());
+        }
         self.file.metadata()
     }
 
     fn set_len(&self, size: u64) -> io::Result<()> {
-        self.trail.meet("length")?;
+        if self.trail.fails("length") {
+            return Err(failure());
+        }
         self.file.set_len(size)
     }
 
     fn sync_all(&self) -> io::Result<()> {
-        self.trail.meet("sync")?;
+        if self.trail.fails("sync") {
+            return Err(failure());
+        }
         self.file.sync_all()
     }
 
@@ -153,38 +181,50 @@ impl<'a> Files for Tracked<'a> {
 
     fn open_file(&self, how: &OpenOptions, path: &str) -> io::Result<TrackedFile<'a>> {
         let makes = how.asks_create() || how.asks_create_new();
-        self.trail.meet(if makes { "create" } else { "open" })?;
-        Ok(TrackedFile {
-            trail: self.trail,
-            file: self.trail.rt.open_file(how, path)?,
-        })
+        if self.trail.fails(if makes { "create" } else { "open" }) {
+            return Err(failure());
+        }
+        match self.trail.rt.open_file(how, path) {
+            Ok(file) => Ok(TrackedFile {
+                trail: self.trail,
+                file,
+            }),
+            Err(error) => Err(error),
+        }
     }
 
     fn canonicalize<B: Allocator>(&self, alloc: B, path: &str) -> io::Result<PathBuf<B>> {
-        self.trail.meet("resolve")?;
-        if self.trail.is_bare {
-            return Err(io::Error::from(ErrorKind::Unsupported));
+        if self.trail.fails("resolve") || self.trail.is_bare {
+            return Err(failure());
         }
         self.trail.rt.canonicalize(alloc, path)
     }
 
     fn set_permissions(&self, path: &str, perm: Permissions) -> io::Result<()> {
-        self.trail.meet("mode")?;
+        if self.trail.fails("mode") {
+            return Err(failure());
+        }
         self.trail.rt.set_permissions(path, perm)
     }
 
     fn metadata(&self, path: &str) -> io::Result<Metadata> {
-        self.trail.meet("find")?;
+        if self.trail.fails("find") {
+            return Err(failure());
+        }
         self.trail.rt.metadata(path)
     }
 
     fn rename(&self, from: &str, to: &str) -> io::Result<()> {
-        self.trail.meet("rename")?;
+        if self.trail.fails("rename") {
+            return Err(failure());
+        }
         self.trail.rt.rename(from, to)
     }
 
     fn remove_file(&self, path: &str) -> io::Result<()> {
-        self.trail.meet("remove")?;
+        if self.trail.fails("remove") {
+            return Err(failure());
+        }
         self.trail.rt.remove_file(path)
     }
 
@@ -240,13 +280,17 @@ impl<'a> Files for Tracked<'a> {
     fn create_dir_with_mode(&self, path: &str, mode: u32) -> io::Result<()> {
         self.trail.rt.create_dir_with_mode(path, mode)
     }
+
+    fn bind_unix(&self, socket: BorrowedFd<'_>, addr: &SocketAddr) -> io::Result<()> {
+        self.trail.rt.bind_unix(socket, addr)
+    }
 }
 
 impl FileLocks for Tracked<'_> {
     fn try_lock(&self, file: &Self::File) -> Result<(), TryLockError> {
-        match self.trail.meet("lock") {
-            Ok(()) => self.trail.rt.try_lock(&file.file),
-            Err(error) => Err(TryLockError::Error(error)),
+        if self.trail.fails("lock") {
+            return Err(TryLockError::Error(failure()));
         }
+        self.trail.rt.try_lock(&file.file)
     }
 }

@@ -14,30 +14,37 @@ use ee_shell::{
 };
 use std::alloc::{Allocator, Global};
 
+// What a fault says of a call: none is a usual answer, but for want of memory.
+fn met(fault: Fault) -> Option<bool> {
+    match fault {
+        Fault::Memory => None,
+        _ => Some(false),
+    }
+}
+
 // Whether these bytes were given, or none for want of memory.
 fn gives<A: Allocator>(given: Result<Vec<u8, A>, Fault>, wanted: &[u8]) -> Option<bool> {
     match given {
         Ok(text) => Some(text.as_slice() == wanted),
-        Err(Fault::Memory) => None,
-        Err(_) => Some(false),
+        Err(fault) => met(fault),
     }
 }
 
 /// With 10 written at address 1.
-const TEN: &[u8] = b"ee 1 6
+pub const TEN: &[u8] = b"ee 1 6
 0 aaaaaaaa00000001 aaaaaaaaaaaaaaaa - - 0000000a00000001 -
 0 - - - - - -
 ";
 
 /// The part of the formatted image, as bytes and as Intel HEX from 0807f000 on.
-const DUMP: &[u8] = b"\x01\x00\x00\x00\xaa\xaa\xaa\xaa\xaa\xaa\xaa\xaa\xaa\xaa\xaa\xaa\
+pub const DUMP: &[u8] = b"\x01\x00\x00\x00\xaa\xaa\xaa\xaa\xaa\xaa\xaa\xaa\xaa\xaa\xaa\xaa\
 \xff\xff\xff\xff\xff\xff\xff\xff\xff\xff\xff\xff\xff\xff\xff\xff\
 \xff\xff\xff\xff\xff\xff\xff\xff\xff\xff\xff\xff\xff\xff\xff\xff\
 \xff\xff\xff\xff\xff\xff\xff\xff\xff\xff\xff\xff\xff\xff\xff\xff\
 \xff\xff\xff\xff\xff\xff\xff\xff\xff\xff\xff\xff\xff\xff\xff\xff\
 \xff\xff\xff\xff\xff\xff\xff\xff\xff\xff\xff\xff\xff\xff\xff\xff";
 
-const HEX: &[u8] = b":020000040807EB
+pub const HEX: &[u8] = b":020000040807EB
 :10F0000001000000AAAAAAAAAAAAAAAAAAAAAAAA07
 :10F01000FFFFFFFFFFFFFFFFFFFFFFFFFFFFFFFF00
 :10F02000FFFFFFFFFFFFFFFFFFFFFFFFFFFFFFFFF0
@@ -48,11 +55,11 @@ const HEX: &[u8] = b":020000040807EB
 ";
 
 /// What is found in it.
-const SCAN: &[u8] = b"scan ok
+pub const SCAN: &[u8] = b"scan ok
 set 0 generation 1 fill 0 room 2 live 0 pending 0 superseded 0 torn 0\n";
 
 /// The bytes of that part where it has each word beside its complement.
-const PAIRS: &[u8] = b"\x01\x00\x00\x00\xaa\xaa\xaa\xaa\xfe\xff\xff\xff\x55\x55\x55\x55\
+pub const PAIRS: &[u8] = b"\x01\x00\x00\x00\xaa\xaa\xaa\xaa\xfe\xff\xff\xff\x55\x55\x55\x55\
 \xaa\xaa\xaa\xaa\xaa\xaa\xaa\xaa\x55\x55\x55\x55\x55\x55\x55\x55\
 \xff\xff\xff\xff\xff\xff\xff\xff\xff\xff\xff\xff\xff\xff\xff\xff\
 \xff\xff\xff\xff\xff\xff\xff\xff\xff\xff\xff\xff\xff\xff\xff\xff\
@@ -66,7 +73,7 @@ const PAIRS: &[u8] = b"\x01\x00\x00\x00\xaa\xaa\xaa\xaa\xfe\xff\xff\xff\x55\x55\
 \xff\xff\xff\xff\xff\xff\xff\xff\xff\xff\xff\xff\xff\xff\xff\xff";
 
 /// The header of the schema.
-const HEADER: &[u8] = b"// Made by `ee header --rust` from a file of settings.
+pub const HEADER: &[u8] = b"// Made by `ee header --rust` from a file of settings.
 
 pub const VOLUME_ADDRESS: u16 = 1;
 pub const VOLUME_LEAST: u32 = 0;
@@ -105,48 +112,61 @@ pub enum Text {
 const BASE: u32 = 0x0807_f000;
 
 /// The states of the pages after one move, and the wear after two.
-const STATES: &[u8] = b"page 0 ERASING\npage 1 ACTIVE\n";
+pub const STATES: &[u8] = b"page 0 ERASING\npage 1 ACTIVE\n";
 
-const WEAR: &[u8] = b"page 0 wear 1\npage 1 wear 0\ntotal 1 least 0 greatest 1\n";
+pub const WEAR: &[u8] = b"page 0 wear 1\npage 1 wear 0\ntotal 1 least 0 greatest 1\n";
 
 /// The wear that came by tidying.
-const WEAR_SINCE: &[u8] = b"page 0 wear 0\npage 1 wear 1\ntotal 1 least 0 greatest 1\n";
+pub const WEAR_SINCE: &[u8] = b"page 0 wear 0\npage 1 wear 1\ntotal 1 least 0 greatest 1\n";
 
-const PROVED: &[u8] = b"proved 2\n";
+pub const PROVED: &[u8] = b"proved 2\n";
 
-const STORED: &[u8] = b"10 stored\n";
+pub const STORED: &[u8] = b"10 stored\n";
 
 /// After two moves, the setting that is stale, and the values without settings and with them.
-const STALE: &[u8] = b"volume 13\n";
+pub const STALE: &[u8] = b"volume 13\n";
 
-const LISTED: &[u8] = b"1 13\n2 5\n";
+pub const LISTED: &[u8] = b"1 13\n2 5\n";
 
-const NAMED: &[u8] = b"1 13 stale volume\n2 5\n";
+pub const NAMED: &[u8] = b"1 13 stale volume\n2 5\n";
 
-/// Whether it gives its text. The tables of settings are read on the heap.
-pub fn text_given(text: Text, alloc: &Refusing<Global>, heap: Global) -> Option<bool> {
-    let shape = Shape::new(1, 6)?;
-    let (given, wanted) = match text {
-        Text::Format => (format_image(alloc, shape), FORMATTED),
-        Text::States => (states_text(alloc, ONE_MOVE), STATES),
-        Text::Wear => (wear_text(alloc, TWO_MOVES, None), WEAR),
-        Text::WearSince => (wear_text(alloc, TIDIED, Some(TWO_MOVES)), WEAR_SINCE),
-        Text::Plan => (plan_script(alloc, FORMATTED, SCRIPT), CERTIFICATE),
-        Text::Check => (check_script(alloc, FORMATTED, SCRIPT, CERTIFICATE), PROVED),
-        Text::Get => (get_setting(alloc, heap, TEN, VOLUME, "volume"), STORED),
-        Text::Stale => (stale_text(alloc, heap, TWO_MOVES, VOLUME), STALE),
-        Text::List => (list_text(alloc, heap, TWO_MOVES, None), LISTED),
-        Text::ListNamed => (list_text(alloc, heap, TWO_MOVES, Some(VOLUME)), NAMED),
-        Text::Import => (import_image(alloc, shape, Form::Words, DUMP), FORMATTED),
-        Text::Export => (export_image(alloc, Form::Words, FORMATTED), DUMP),
-        Text::ImportPairs => (import_image(alloc, shape, Form::Pairs, PAIRS), FORMATTED),
-        Text::ExportPairs => (export_image(alloc, Form::Pairs, FORMATTED), PAIRS),
-        Text::ImportHex => (import_hex(alloc, shape, Form::Words, BASE, HEX), FORMATTED),
-        Text::ExportHex => (export_hex(alloc, Form::Words, FORMATTED, BASE), HEX),
-        Text::Inspect => (inspect_text(alloc, FORMATTED), SCAN),
-        Text::Header => (header_text(alloc, heap, VOLUME, Language::Rust), HEADER),
-    };
-    gives(given, wanted)
+// What it gives. The tables of settings are read on the heap.
+fn text_of<'a>(
+    text: Text,
+    alloc: &'a Refusing<Global>,
+    heap: Global,
+    shape: Shape,
+) -> Result<Vec<u8, &'a Refusing<Global>>, Fault> {
+    match text {
+        Text::Format => format_image(alloc, shape),
+        Text::States => states_text(alloc, ONE_MOVE),
+        Text::Wear => wear_text(alloc, TWO_MOVES, None),
+        Text::WearSince => wear_text(alloc, TIDIED, Some(TWO_MOVES)),
+        Text::Plan => plan_script(alloc, FORMATTED, SCRIPT),
+        Text::Check => check_script(alloc, FORMATTED, SCRIPT, CERTIFICATE),
+        Text::Get => get_setting(alloc, heap, TEN, VOLUME, "volume"),
+        Text::Stale => stale_text(alloc, heap, TWO_MOVES, VOLUME),
+        Text::List => list_text(alloc, heap, TWO_MOVES, None),
+        Text::ListNamed => list_text(alloc, heap, TWO_MOVES, Some(VOLUME)),
+        Text::Import => import_image(alloc, shape, Form::Words, DUMP),
+        Text::Export => export_image(alloc, Form::Words, FORMATTED),
+        Text::ImportPairs => import_image(alloc, shape, Form::Pairs, PAIRS),
+        Text::ExportPairs => export_image(alloc, Form::Pairs, FORMATTED),
+        Text::ImportHex => import_hex(alloc, shape, Form::Words, BASE, HEX),
+        Text::ExportHex => export_hex(alloc, Form::Words, FORMATTED, BASE),
+        Text::Inspect => inspect_text(alloc, FORMATTED),
+        Text::Header => header_text(alloc, heap, VOLUME, Language::Rust),
+    }
+}
+
+/// Whether it gives this text.
+pub fn text_given(
+    text: Text,
+    alloc: &Refusing<Global>,
+    heap: Global,
+    wanted: &[u8],
+) -> Option<bool> {
+    gives(text_of(text, alloc, heap, Shape::new(1, 6)?), wanted)
 }
 
 // Whether this image and this text were given.
@@ -157,8 +177,7 @@ fn gives_both<A: Allocator>(
 ) -> Option<bool> {
     match given {
         Ok(left) => Some(left.image.as_slice() == image && left.text.as_slice() == text),
-        Err(Fault::Memory) => None,
-        Err(_) => Some(false),
+        Err(fault) => met(fault),
     }
 }
 
@@ -172,8 +191,7 @@ pub fn replays<A: Allocator>(
         Ok(replayed) => {
             Some(replayed.report.as_slice() == report && replayed.image.as_slice() == image)
         }
-        Err(ReplayFault::Memory) => None,
-        Err(_) => Some(false),
+        Err(fault) => met(Fault::from(fault)),
     }
 }
 
@@ -245,8 +263,8 @@ const BLANK: &[u8] = b"ee 1 6\n0 - - - - - -\n0 - - - - - -\n";
 /// Whether the fault is that the image is not formatted.
 pub fn unformatted(how: Replay, alloc: &Refusing<Global>) -> Option<bool> {
     match replayed(how, alloc, BLANK) {
-        Err(ReplayFault::Memory) => None,
-        Err(fault) => Some(fault == ReplayFault::Open(ScanFault::Unformatted)),
+        Err(ReplayFault::Open(ScanFault::Unformatted)) => Some(true),
+        Err(fault) => met(Fault::from(fault)),
         Ok(_) => Some(false),
     }
 }
@@ -257,8 +275,7 @@ pub fn sizes_given(alloc: &Refusing<Global>) -> Option<bool> {
 pages 2 slots 4 transfers 2 erases 1 least 1 limit 0 enough\n";
     match size_parts(alloc, 6, b"w 1 1\nw 2 2\nr 1\n", 3, 5) {
         Ok(sizes) => Some(sizes.some_enough && sizes.text.as_slice().starts_with(front)),
-        Err(Fault::Memory) => None,
-        Err(_) => Some(false),
+        Err(fault) => met(fault),
     }
 }
 

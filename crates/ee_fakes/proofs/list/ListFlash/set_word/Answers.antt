@@ -1,6 +1,6 @@
 use Rattle.std.proofs.Common.{ℕ, ◌+◌, ◌≡◌, List, set, sym, ◌∙◌, ap, arith}
-use Rattle.std.proofs.lemmas.Grind.{common_steps}
-use Rattle.ee_flash.specs.Device.{Device}
+use Rattle.std.proofs.lemmas.List.Elements.{All-set}
+use Rattle.ee_flash.specs.Device.{Device, IsBelowAllOnes}
 use Rattle.ee_flash.specs.Pages.{pages_of}
 use Rattle.ee_flash.specs.declared.word.Word.{Word}
 use Rattle.ee_flash.proofs.Public.{pages_of-set}
@@ -17,7 +17,12 @@ returns g c =
     ap (λ (pages : List (List Word)). let old : Listed = state_of_list flash in let device : Device = device_of_list flash in let now : Listed = record old { device = record device { image = pages } } in now) image
 
 pub overflow_add-start : goal.overflow_add-start
-overflow_add-start g c = grind (arith, common_steps)
+overflow_add-start g c = omega (arith, c.args.self.now.cells.ok.0)
 
 pub index_mut-requires : goal.index_mut-requires
-index_mut-requires g c = grind (arith, common_steps)
+index_mut-requires g c = omega (arith, c.args.self.now.cells.ok.0)
+
+pub invariant_of-self-clause-below_all_ones : goal.invariant_of-self-clause-below_all_ones
+invariant_of-self-clause-below_all_ones g c =
+    let flash = c.args.self.now in
+    All-set IsBelowAllOnes flash.cells.items (c.page_start-start.result + c.args.at) c.args.word c.requires.below_all_ones flash.below_all_ones
