@@ -1,4 +1,4 @@
-use Rattle.std.proofs.Common.{arith, rules}
+use Rattle.std.proofs.Common.{rules}
 use Rattle.std.proofs.lemmas.Result.{err_from_is_err_and}
 use Rattle.ee_dump.proofs.Growing.{all_written, one_page_more, write_fault}
 use Rattle.ee_dump.proofs.Torn.{no_torn}

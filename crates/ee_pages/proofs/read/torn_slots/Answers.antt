@@ -1,4 +1,4 @@
-use Rattle.std.proofs.Common.{rules, ◌-◌}
+use Rattle.std.proofs.Common.{rules}
 use Rattle.std.proofs.lemmas.List.{take_all}
 use Rattle.ee_pages.proofs.Slots.{length-slots}
 use Rattle.ee_pages.proofs.read.torn_slots.Goals as goal
