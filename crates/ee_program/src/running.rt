@@ -133,9 +133,7 @@ fn format_file<R: FileLocks + Print + AllocGlobal>(
     shape: Shape,
     image: &str,
 ) -> Result<(), Fault> {
-    let formatted = format_image(rt.alloc(), shape)?;
-    write_image(rt, image, None, formatted.as_slice())?;
-    print(rt, b"formatted\n")
+    write_new(rt, image, format_image(rt.alloc(), shape), b"formatted\n")
 }
 
 /// How a part keeps its words: `pairs` says that each stands beside its complement.
@@ -152,9 +150,8 @@ fn import_file<R: FileLocks + Print + AllocGlobal>(
     image: &str,
 ) -> Result<(), Fault> {
     let bytes = read_file(rt, File::Dump, dump)?;
-    let imported = import_image(rt.alloc(), shape, form_of(pairs), bytes.as_slice())?;
-    write_image(rt, image, None, imported.as_slice())?;
-    print(rt, b"imported\n")
+    let imported = import_image(rt.alloc(), shape, form_of(pairs), bytes.as_slice());
+    write_new(rt, image, imported, b"imported\n")
 }
 
 /// Writes the bytes of the part of an image.
@@ -165,9 +162,8 @@ fn export_file<R: FileLocks + Print + AllocGlobal>(
     dump: &str,
 ) -> Result<(), Fault> {
     let text = read_file(rt, File::Image, image)?;
-    let bytes = export_image(rt.alloc(), form_of(pairs), text.as_slice())?;
-    write_dump(rt, dump, bytes.as_slice())?;
-    print(rt, b"exported\n")
+    let bytes = export_image(rt.alloc(), form_of(pairs), text.as_slice());
+    write_dump(rt, dump, bytes)
 }
 
 /// Writes the image of a part, from Intel HEX. The part begins at the base.
@@ -180,9 +176,8 @@ fn import_hex_file<R: FileLocks + Print + AllocGlobal>(
     image: &str,
 ) -> Result<(), Fault> {
     let lines = read_file(rt, File::Dump, dump)?;
-    let imported = import_hex(rt.alloc(), shape, form_of(pairs), base, lines.as_slice())?;
-    write_image(rt, image, None, imported.as_slice())?;
-    print(rt, b"imported\n")
+    let imported = import_hex(rt.alloc(), shape, form_of(pairs), base, lines.as_slice());
+    write_new(rt, image, imported, b"imported\n")
 }
 
 /// Writes the bytes of the part of an image as Intel HEX. The part begins at the base.
@@ -194,16 +189,14 @@ fn export_hex_file<R: FileLocks + Print + AllocGlobal>(
     dump: &str,
 ) -> Result<(), Fault> {
     let text = read_file(rt, File::Image, image)?;
-    let lines = export_hex(rt.alloc(), form_of(pairs), text.as_slice(), base)?;
-    write_dump(rt, dump, lines.as_slice())?;
-    print(rt, b"exported\n")
+    let lines = export_hex(rt.alloc(), form_of(pairs), text.as_slice(), base);
+    write_dump(rt, dump, lines)
 }
 
 /// Prints what stands in an image, whatever it is.
 fn tell_inside<R: Files + Print + AllocGlobal>(rt: &R, image: &str) -> Result<(), Fault> {
     let image = read_file(rt, File::Image, image)?;
-    let text = inspect_text(rt.alloc(), image.as_slice())?;
-    print(rt, text.as_slice())
+    print_text(rt, inspect_text(rt.alloc(), image.as_slice()))
 }
 
 /// Answers a script on an image, writes the image that this leaves in its place, and prints the
@@ -221,8 +214,13 @@ fn run_files<R: FileLocks + Print + AllocGlobal>(
     } else {
         replay(rt.alloc(), before.as_slice(), lines.as_slice())?
     };
-    let (left, report) = (replayed.image.as_slice(), replayed.report.as_slice());
-    write_and_print(rt, image, before.as_slice(), left, report)
+    write_image(
+        rt,
+        image,
+        Some(before.as_slice()),
+        replayed.image.as_slice(),
+    )?;
+    print(rt, replayed.report.as_slice())
 }
 
 /// Prints what a setting reads as in an image.
@@ -235,8 +233,8 @@ fn tell_setting<R: Files + Print + AllocGlobal>(
     let image = read_file(rt, File::Image, image)?;
     let settings = read_file(rt, File::Settings, settings)?;
     let (alloc, heap) = (rt.alloc(), rt.alloc());
-    let text = get_setting(alloc, heap, image.as_slice(), settings.as_slice(), name)?;
-    print(rt, text.as_slice())
+    let text = get_setting(alloc, heap, image.as_slice(), settings.as_slice(), name);
+    print_text(rt, text)
 }
 
 /// Gives a setting of an image a value, and writes the image in its place.
@@ -257,9 +255,8 @@ fn set_file<R: FileLocks + Print + AllocGlobal>(
         table.as_slice(),
         name,
         value,
-    )?;
-    let (left, text) = (set.image.as_slice(), set.text.as_slice());
-    write_and_print(rt, image, before.as_slice(), left, text)
+    );
+    write_changed(rt, image, before.as_slice(), set)
 }
 
 /// Gives settings of an image the values of a file, and writes the image in its place.
@@ -270,9 +267,8 @@ fn apply_file<R: FileLocks + Print + AllocGlobal>(
     values: &str,
 ) -> Result<(), Fault> {
     let before = read_file(rt, File::Image, image)?;
-    let applied = applied_to(rt, before.as_slice(), settings, values)?;
-    let (left, text) = (applied.image.as_slice(), applied.text.as_slice());
-    write_and_print(rt, image, before.as_slice(), left, text)
+    let applied = applied_to(rt, before.as_slice(), settings, values);
+    write_changed(rt, image, before.as_slice(), applied)
 }
 
 /// What giving settings of an image the values of a file makes of it.
@@ -297,8 +293,7 @@ fn tell_header<R: Files + Print + AllocGlobal>(
     let table = read_file(rt, File::Settings, settings)?;
     let (alloc, heap) = (rt.alloc(), rt.alloc());
     let language = if rust { Language::Rust } else { Language::C };
-    let text = header_text(alloc, heap, table.as_slice(), language)?;
-    print(rt, text.as_slice())
+    print_text(rt, header_text(alloc, heap, table.as_slice(), language))
 }
 
 /// Prints the certificate of what a script changes on an image.
@@ -309,8 +304,8 @@ fn tell_plan<R: Files + Print + AllocGlobal>(
 ) -> Result<(), Fault> {
     let image = read_file(rt, File::Image, image)?;
     let script = read_file(rt, File::Script, script)?;
-    let text = plan_script(rt.alloc(), image.as_slice(), script.as_slice())?;
-    print(rt, text.as_slice())
+    let text = plan_script(rt.alloc(), image.as_slice(), script.as_slice());
+    print_text(rt, text)
 }
 
 /// Checks a certificate of what a script changes on an image, and prints what it proves.
@@ -328,8 +323,8 @@ fn check_files<R: Files + Print + AllocGlobal>(
         image.as_slice(),
         script.as_slice(),
         certificate.as_slice(),
-    )?;
-    print(rt, text.as_slice())
+    );
+    print_text(rt, text)
 }
 
 /// Prints how often the pages of an image were erased, since an image before it where one is named.
@@ -340,10 +335,10 @@ fn tell_wear<R: Files + Print + AllocGlobal>(
 ) -> Result<(), Fault> {
     let now = read_file(rt, File::Image, image)?;
     let text = match before {
-        None => wear_text(rt.alloc(), now.as_slice(), None)?,
-        Some(before) => wear_since(rt, now.as_slice(), before)?,
+        None => wear_text(rt.alloc(), now.as_slice(), None),
+        Some(before) => wear_since(rt, now.as_slice(), before),
     };
-    print(rt, text.as_slice())
+    print_text(rt, text)
 }
 
 /// How often the pages of an image were erased since the one of a file.
@@ -355,16 +350,14 @@ fn wear_since<R: Files + AllocGlobal>(rt: &R, now: &[u8], before: &str) -> Resul
 /// Prints the state of each page of an image.
 fn tell_states<R: Files + Print + AllocGlobal>(rt: &R, image: &str) -> Result<(), Fault> {
     let before = read_file(rt, File::Image, image)?;
-    let text = states_text(rt.alloc(), before.as_slice())?;
-    print(rt, text.as_slice())
+    print_text(rt, states_text(rt.alloc(), before.as_slice()))
 }
 
 /// Erases the pages of an image that wait for it, writes the image in its place, and prints their number.
 fn clean_file<R: FileLocks + Print + AllocGlobal>(rt: &R, image: &str) -> Result<(), Fault> {
     let before = read_file(rt, File::Image, image)?;
-    let cleaned = clean_image(rt.alloc(), before.as_slice())?;
-    let (left, text) = (cleaned.image.as_slice(), cleaned.text.as_slice());
-    write_and_print(rt, image, before.as_slice(), left, text)
+    let cleaned = clean_image(rt.alloc(), before.as_slice());
+    write_changed(rt, image, before.as_slice(), cleaned)
 }
 
 /// Prints the settings whose stored value in an image isn't in their range.
@@ -376,8 +369,8 @@ fn tell_stale<R: Files + Print + AllocGlobal>(
     let image = read_file(rt, File::Image, image)?;
     let settings = read_file(rt, File::Settings, settings)?;
     let (alloc, heap) = (rt.alloc(), rt.alloc());
-    let text = stale_text(alloc, heap, image.as_slice(), settings.as_slice())?;
-    print(rt, text.as_slice())
+    let text = stale_text(alloc, heap, image.as_slice(), settings.as_slice());
+    print_text(rt, text)
 }
 
 /// Forgets the addresses of an image that no setting has, writes the image in its place, and prints their number.
@@ -389,9 +382,8 @@ fn tidy_file<R: FileLocks + Print + AllocGlobal>(
     let before = read_file(rt, File::Image, image)?;
     let table = read_file(rt, File::Settings, settings)?;
     let (alloc, heap) = (rt.alloc(), rt.alloc());
-    let tidied = tidy_image(alloc, heap, before.as_slice(), table.as_slice())?;
-    let (left, text) = (tidied.image.as_slice(), tidied.text.as_slice());
-    write_and_print(rt, image, before.as_slice(), left, text)
+    let tidied = tidy_image(alloc, heap, before.as_slice(), table.as_slice());
+    write_changed(rt, image, before.as_slice(), tidied)
 }
 
 /// Prints what each address of an image has, with the names of settings where their file is named.
@@ -402,10 +394,10 @@ fn tell_values<R: Files + Print + AllocGlobal>(
 ) -> Result<(), Fault> {
     let image = read_file(rt, File::Image, image)?;
     let text = match settings {
-        None => list_text(rt.alloc(), rt.alloc(), image.as_slice(), None)?,
-        Some(settings) => named_values(rt, image.as_slice(), settings)?,
+        None => list_text(rt.alloc(), rt.alloc(), image.as_slice(), None),
+        Some(settings) => named_values(rt, image.as_slice(), settings),
     };
-    print(rt, text.as_slice())
+    print_text(rt, text)
 }
 
 /// What each address of an image has, with the names of a file's settings.
@@ -461,24 +453,44 @@ fn write_image<R: FileLocks + AllocGlobal>(
     }
 }
 
-/// Writes an image in the place of its file, of which `before` was read, and then prints a text.
-fn write_and_print<R: FileLocks + Print + AllocGlobal>(
+/// Writes the image that a command made, in the place of whatever its file was, and says so.
+fn write_new<R: FileLocks + Print + AllocGlobal>(
+    rt: &R,
+    path: &str,
+    image: Result<Vec<u8>, Fault>,
+    said: &[u8],
+) -> Result<(), Fault> {
+    write_image(rt, path, None, image?.as_slice())?;
+    print(rt, said)
+}
+
+/// Writes the image that a command left, in the place of its file, of which `before` was read, and prints its text.
+fn write_changed<R: FileLocks + Print + AllocGlobal>(
     rt: &R,
     path: &str,
     before: &[u8],
-    image: &[u8],
-    text: &[u8],
+    changed: Result<ImageAndText, Fault>,
 ) -> Result<(), Fault> {
-    write_image(rt, path, Some(before), image)?;
-    print(rt, text)
+    let changed = changed?;
+    write_image(rt, path, Some(before), changed.image.as_slice())?;
+    print(rt, changed.text.as_slice())
 }
 
-/// Writes a dump in the place of its file, whatever that was.
-fn write_dump<R: FileLocks + AllocGlobal>(rt: &R, path: &str, dump: &[u8]) -> Result<(), Fault> {
-    match save(rt, path, None, dump) {
-        Ok(()) => Ok(()),
+/// Writes the dump that a command made, in the place of whatever its file was, and says so.
+fn write_dump<R: FileLocks + Print + AllocGlobal>(
+    rt: &R,
+    path: &str,
+    dump: Result<Vec<u8>, Fault>,
+) -> Result<(), Fault> {
+    match save(rt, path, None, dump?.as_slice()) {
+        Ok(()) => print(rt, b"exported\n"),
         Err(fault) => Err(fault.told_of_dump()),
     }
+}
+
+/// Prints the text that a command made.
+fn print_text<R: Print>(rt: &R, text: Result<Vec<u8>, Fault>) -> Result<(), Fault> {
+    print(rt, text?.as_slice())
 }
 
 /// Prints on standard output.
