@@ -1,7 +1,7 @@
-//! The table of commands, built with `clap`: it takes the lines that `job` takes.
+//! The table of commands, built with `clap`: it takes the lines that `job` takes, and finds the same words in them.
 use crate::tests::same;
 use clap::builder::ValueParser;
-use clap::{Arg, ArgAction, Command};
+use clap::{Arg, ArgAction, ArgMatches, Command};
 use ee_command_line::job;
 use std::alloc::Global;
 use std::process::Abort;
@@ -107,14 +107,44 @@ fn table<'a>(rt: &impl Abort, memory: Global) -> Command<'a> {
     table
 }
 
-/// Whether `job` and `clap` both take these words of a line.
+/// A word of a row as `clap` found it: a flag as it is spelled, another word as it was given.
+fn found<'a>(matches: &ArgMatches<'a>, id: &'a str) -> Option<&'a str> {
+    if id.starts_with("--") {
+        matches.get_flag(id).then_some(id)
+    } else {
+        matches.get_str(id)
+    }
+}
+
+/// Whether `clap` found these operands under the names of this row, each in its place, and no other.
+fn are_found(matches: &ArgMatches<'_>, ids: &[&'static str], operands: &[&str]) -> bool {
+    let mut operands = operands.iter().copied();
+    for id in ids {
+        let word = found(matches, id);
+        if word.is_some() && word != operands.next() {
+            return false;
+        }
+    }
+    operands.next().is_none()
+}
+
+/// Whether `job` and `clap` both take these words of a line, and `clap` finds the command and its operands. That the job
+/// is of these very words its contract says.
 fn is_taken(rt: &impl Abort, memory: Global, words: &[&'static str]) -> bool {
-    let operands = words.get(1..).unwrap_or(&[]);
-    job(operands).is_some() && table(rt, memory).try_get_matches_from(words).is_ok()
+    let Ok(matches) = table(rt, memory).try_get_matches_from(words) else {
+        return false;
+    };
+    let (name, matches) = matches.subcommand().expect(rt, "no command");
+    let (_, ids) = ROWS
+        .iter()
+        .find(|row| row.0 == name)
+        .expect(rt, "no row");
+    job(words.get(1..).unwrap_or(&[])).is_some()
+        && are_found(matches, ids, words.get(2..).unwrap_or(&[]))
 }
 
 #[test]
-fn clap_takes_the_same_lines(rt: HostRuntime) {
+fn clap_finds_the_same_words(rt: HostRuntime) {
     for line in LINES.lines() {
         let words: Vec<&'static str> = line
             .split_whitespace()
