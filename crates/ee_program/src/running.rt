@@ -123,8 +123,8 @@ fn try_input<R: Input + Print + AllocGlobal>(rt: &R, shape: Shape) -> Result<(),
         Ok(script) => script,
         Err(fault) => return Err(Fault::reading(File::Script, fault)),
     };
-    let replayed = try_script(rt.alloc(), shape, script.as_slice())?;
-    print(rt, replayed.report.as_slice())
+    let replayed = try_script(rt.alloc(), shape, &script)?;
+    print(rt, &replayed.report)
 }
 
 /// Writes a new image.
@@ -150,7 +150,7 @@ fn import_file<R: FileLocks + Print + AllocGlobal>(
     image: &str,
 ) -> Result<(), Fault> {
     let bytes = read_file(rt, File::Dump, dump)?;
-    let imported = import_image(rt.alloc(), shape, form_of(pairs), bytes.as_slice());
+    let imported = import_image(rt.alloc(), shape, form_of(pairs), &bytes);
     write_new(rt, image, imported, b"imported\n")
 }
 
@@ -162,7 +162,7 @@ fn export_file<R: FileLocks + Print + AllocGlobal>(
     dump: &str,
 ) -> Result<(), Fault> {
     let text = read_file(rt, File::Image, image)?;
-    let bytes = export_image(rt.alloc(), form_of(pairs), text.as_slice());
+    let bytes = export_image(rt.alloc(), form_of(pairs), &text);
     write_dump(rt, dump, bytes)
 }
 
@@ -176,7 +176,7 @@ fn import_hex_file<R: FileLocks + Print + AllocGlobal>(
     image: &str,
 ) -> Result<(), Fault> {
     let lines = read_file(rt, File::Dump, dump)?;
-    let imported = import_hex(rt.alloc(), shape, form_of(pairs), base, lines.as_slice());
+    let imported = import_hex(rt.alloc(), shape, form_of(pairs), base, &lines);
     write_new(rt, image, imported, b"imported\n")
 }
 
@@ -189,14 +189,14 @@ fn export_hex_file<R: FileLocks + Print + AllocGlobal>(
     dump: &str,
 ) -> Result<(), Fault> {
     let text = read_file(rt, File::Image, image)?;
-    let lines = export_hex(rt.alloc(), form_of(pairs), text.as_slice(), base);
+    let lines = export_hex(rt.alloc(), form_of(pairs), &text, base);
     write_dump(rt, dump, lines)
 }
 
 /// Prints what stands in an image, whatever it is.
 fn tell_inside<R: Files + Print + AllocGlobal>(rt: &R, image: &str) -> Result<(), Fault> {
     let image = read_file(rt, File::Image, image)?;
-    print_text(rt, inspect_text(rt.alloc(), image.as_slice()))
+    print_text(rt, inspect_text(rt.alloc(), &image))
 }
 
 /// Answers a script on an image, writes the image that this leaves in its place, and prints the
@@ -210,17 +210,12 @@ fn run_files<R: FileLocks + Print + AllocGlobal>(
     let before = read_file(rt, File::Image, image)?;
     let lines = read_file(rt, File::Script, script)?;
     let replayed = if indexed {
-        replay_indexed(rt.alloc(), before.as_slice(), lines.as_slice())?
+        replay_indexed(rt.alloc(), &before, &lines)?
     } else {
-        replay(rt.alloc(), before.as_slice(), lines.as_slice())?
+        replay(rt.alloc(), &before, &lines)?
     };
-    write_image(
-        rt,
-        image,
-        Some(before.as_slice()),
-        replayed.image.as_slice(),
-    )?;
-    print(rt, replayed.report.as_slice())
+    write_image(rt, image, Some(&before), &replayed.image)?;
+    print(rt, &replayed.report)
 }
 
 /// Prints what a setting reads as in an image.
@@ -232,8 +227,7 @@ fn tell_setting<R: Files + Print + AllocGlobal>(
 ) -> Result<(), Fault> {
     let image = read_file(rt, File::Image, image)?;
     let settings = read_file(rt, File::Settings, settings)?;
-    let (alloc, heap) = (rt.alloc(), rt.alloc());
-    let text = get_setting(alloc, heap, image.as_slice(), settings.as_slice(), name);
+    let text = get_setting(rt.alloc(), rt.alloc(), &image, &settings, name);
     print_text(rt, text)
 }
 
@@ -247,16 +241,8 @@ fn set_file<R: FileLocks + Print + AllocGlobal>(
 ) -> Result<(), Fault> {
     let before = read_file(rt, File::Image, image)?;
     let table = read_file(rt, File::Settings, settings)?;
-    let (alloc, heap) = (rt.alloc(), rt.alloc());
-    let set = set_setting(
-        alloc,
-        heap,
-        before.as_slice(),
-        table.as_slice(),
-        name,
-        value,
-    );
-    write_changed(rt, image, before.as_slice(), set)
+    let set = set_setting(rt.alloc(), rt.alloc(), &before, &table, name, value);
+    write_changed(rt, image, &before, set)
 }
 
 /// Gives settings of an image the values of a file, and writes the image in its place.
@@ -267,8 +253,8 @@ fn apply_file<R: FileLocks + Print + AllocGlobal>(
     values: &str,
 ) -> Result<(), Fault> {
     let before = read_file(rt, File::Image, image)?;
-    let applied = applied_to(rt, before.as_slice(), settings, values);
-    write_changed(rt, image, before.as_slice(), applied)
+    let applied = applied_to(rt, &before, settings, values);
+    write_changed(rt, image, &before, applied)
 }
 
 /// What giving settings of an image the values of a file makes of it.
@@ -280,8 +266,7 @@ fn applied_to<R: Files + AllocGlobal>(
 ) -> Result<ImageAndText<Global>, Fault> {
     let table = read_file(rt, File::Settings, settings)?;
     let given = read_file(rt, File::Values, values)?;
-    let (alloc, heap) = (rt.alloc(), rt.alloc());
-    apply_values(alloc, heap, image, table.as_slice(), given.as_slice())
+    apply_values(rt.alloc(), rt.alloc(), image, &table, &given)
 }
 
 /// Prints the constants of settings, in Rust or in C.
@@ -291,9 +276,8 @@ fn tell_header<R: Files + Print + AllocGlobal>(
     settings: &str,
 ) -> Result<(), Fault> {
     let table = read_file(rt, File::Settings, settings)?;
-    let (alloc, heap) = (rt.alloc(), rt.alloc());
     let language = if rust { Language::Rust } else { Language::C };
-    print_text(rt, header_text(alloc, heap, table.as_slice(), language))
+    print_text(rt, header_text(rt.alloc(), rt.alloc(), &table, language))
 }
 
 /// Prints the certificate of what a script changes on an image.
@@ -304,7 +288,7 @@ fn tell_plan<R: Files + Print + AllocGlobal>(
 ) -> Result<(), Fault> {
     let image = read_file(rt, File::Image, image)?;
     let script = read_file(rt, File::Script, script)?;
-    let text = plan_script(rt.alloc(), image.as_slice(), script.as_slice());
+    let text = plan_script(rt.alloc(), &image, &script);
     print_text(rt, text)
 }
 
@@ -318,12 +302,7 @@ fn check_files<R: Files + Print + AllocGlobal>(
     let image = read_file(rt, File::Image, image)?;
     let script = read_file(rt, File::Script, script)?;
     let certificate = read_file(rt, File::Certificate, certificate)?;
-    let text = check_script(
-        rt.alloc(),
-        image.as_slice(),
-        script.as_slice(),
-        certificate.as_slice(),
-    );
+    let text = check_script(rt.alloc(), &image, &script, &certificate);
     print_text(rt, text)
 }
 
@@ -335,8 +314,8 @@ fn tell_wear<R: Files + Print + AllocGlobal>(
 ) -> Result<(), Fault> {
     let now = read_file(rt, File::Image, image)?;
     let text = match before {
-        None => wear_text(rt.alloc(), now.as_slice(), None),
-        Some(before) => wear_since(rt, now.as_slice(), before),
+        None => wear_text(rt.alloc(), &now, None),
+        Some(before) => wear_since(rt, &now, before),
     };
     print_text(rt, text)
 }
@@ -344,20 +323,20 @@ fn tell_wear<R: Files + Print + AllocGlobal>(
 /// How often the pages of an image were erased since the one of a file.
 fn wear_since<R: Files + AllocGlobal>(rt: &R, now: &[u8], before: &str) -> Result<Vec<u8>, Fault> {
     let then = read_file(rt, File::Before, before)?;
-    wear_text(rt.alloc(), now, Some(then.as_slice()))
+    wear_text(rt.alloc(), now, Some(&then))
 }
 
 /// Prints the state of each page of an image.
 fn tell_states<R: Files + Print + AllocGlobal>(rt: &R, image: &str) -> Result<(), Fault> {
     let before = read_file(rt, File::Image, image)?;
-    print_text(rt, states_text(rt.alloc(), before.as_slice()))
+    print_text(rt, states_text(rt.alloc(), &before))
 }
 
 /// Erases the pages of an image that wait for it, writes the image in its place, and prints their number.
 fn clean_file<R: FileLocks + Print + AllocGlobal>(rt: &R, image: &str) -> Result<(), Fault> {
     let before = read_file(rt, File::Image, image)?;
-    let cleaned = clean_image(rt.alloc(), before.as_slice());
-    write_changed(rt, image, before.as_slice(), cleaned)
+    let cleaned = clean_image(rt.alloc(), &before);
+    write_changed(rt, image, &before, cleaned)
 }
 
 /// Prints the settings whose stored value in an image isn't in their range.
@@ -368,8 +347,7 @@ fn tell_stale<R: Files + Print + AllocGlobal>(
 ) -> Result<(), Fault> {
     let image = read_file(rt, File::Image, image)?;
     let settings = read_file(rt, File::Settings, settings)?;
-    let (alloc, heap) = (rt.alloc(), rt.alloc());
-    let text = stale_text(alloc, heap, image.as_slice(), settings.as_slice());
+    let text = stale_text(rt.alloc(), rt.alloc(), &image, &settings);
     print_text(rt, text)
 }
 
@@ -381,9 +359,8 @@ fn tidy_file<R: FileLocks + Print + AllocGlobal>(
 ) -> Result<(), Fault> {
     let before = read_file(rt, File::Image, image)?;
     let table = read_file(rt, File::Settings, settings)?;
-    let (alloc, heap) = (rt.alloc(), rt.alloc());
-    let tidied = tidy_image(alloc, heap, before.as_slice(), table.as_slice());
-    write_changed(rt, image, before.as_slice(), tidied)
+    let tidied = tidy_image(rt.alloc(), rt.alloc(), &before, &table);
+    write_changed(rt, image, &before, tidied)
 }
 
 /// Prints what each address of an image has, with the names of settings where their file is named.
@@ -394,8 +371,8 @@ fn tell_values<R: Files + Print + AllocGlobal>(
 ) -> Result<(), Fault> {
     let image = read_file(rt, File::Image, image)?;
     let text = match settings {
-        None => list_text(rt.alloc(), rt.alloc(), image.as_slice(), None),
-        Some(settings) => named_values(rt, image.as_slice(), settings),
+        None => list_text(rt.alloc(), rt.alloc(), &image, None),
+        Some(settings) => named_values(rt, &image, settings),
     };
     print_text(rt, text)
 }
@@ -407,7 +384,7 @@ fn named_values<R: Files + AllocGlobal>(
     settings: &str,
 ) -> Result<Vec<u8>, Fault> {
     let table = read_file(rt, File::Settings, settings)?;
-    list_text(rt.alloc(), rt.alloc(), image, Some(table.as_slice()))
+    list_text(rt.alloc(), rt.alloc(), image, Some(&table))
 }
 
 /// Prints for each number of pages whether it bears so many runs of a script. Where none does, that is told behind it.
@@ -419,8 +396,8 @@ fn tell_sizes<R: Files + Print + AllocGlobal>(
     runs: u32,
 ) -> Result<(), Fault> {
     let script = read_file(rt, File::Script, script)?;
-    let sizes = size_parts(rt.alloc(), words, script.as_slice(), cycles, runs)?;
-    print(rt, sizes.text.as_slice())?;
+    let sizes = size_parts(rt.alloc(), words, &script, cycles, runs)?;
+    print(rt, &sizes.text)?;
     if sizes.some_enough {
         return Ok(());
     }
@@ -460,7 +437,7 @@ fn write_new<R: FileLocks + Print + AllocGlobal>(
     image: Result<Vec<u8>, Fault>,
     said: &[u8],
 ) -> Result<(), Fault> {
-    write_image(rt, path, None, image?.as_slice())?;
+    write_image(rt, path, None, &image?)?;
     print(rt, said)
 }
 
@@ -472,8 +449,8 @@ fn write_changed<R: FileLocks + Print + AllocGlobal>(
     changed: Result<ImageAndText, Fault>,
 ) -> Result<(), Fault> {
     let changed = changed?;
-    write_image(rt, path, Some(before), changed.image.as_slice())?;
-    print(rt, changed.text.as_slice())
+    write_image(rt, path, Some(before), &changed.image)?;
+    print(rt, &changed.text)
 }
 
 /// Writes the dump that a command made, in the place of whatever its file was, and says so.
@@ -482,7 +459,7 @@ fn write_dump<R: FileLocks + Print + AllocGlobal>(
     path: &str,
     dump: Result<Vec<u8>, Fault>,
 ) -> Result<(), Fault> {
-    match save(rt, path, None, dump?.as_slice()) {
+    match save(rt, path, None, &dump?) {
         Ok(()) => print(rt, b"exported\n"),
         Err(fault) => Err(fault.told_of_dump()),
     }
@@ -490,7 +467,7 @@ fn write_dump<R: FileLocks + Print + AllocGlobal>(
 
 /// Prints the text that a command made.
 fn print_text<R: Print>(rt: &R, text: Result<Vec<u8>, Fault>) -> Result<(), Fault> {
-    print(rt, text?.as_slice())
+    print(rt, &text?)
 }
 
 /// Prints on standard output.
@@ -505,7 +482,7 @@ fn print<R: Print>(rt: &R, text: &[u8]) -> Result<(), Fault> {
 fn tell<R: Eprint + AllocGlobal>(rt: &R, fault: &Fault) -> u8 {
     match fault_line(rt.alloc(), fault) {
         Ok(line) => {
-            eprint_bytes(rt, line.as_slice());
+            eprint_bytes(rt, &line);
             status_of(fault)
         }
         Err(_) => out_of_memory(rt),
