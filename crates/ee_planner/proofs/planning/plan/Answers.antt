@@ -16,14 +16,14 @@ returns-in_err-store-clause-names g c = λ n first.
 
 pub returns-clause-certificate : goal.returns-clause-certificate
 returns-clause-certificate g c =
-    whole_certificate c.args.start.now c.args.trace.now c.in_ok-store.store _ c.in_ok-store.ensures.ok (search rules)
+    whole_certificate c.args.start.now c.args.trace.now c.in_ok-store.store _ c.in_ok-store.ensures.ok c.into_stretches-stretches.ensures
     record { slots = search rules; fill = search rules; live = search rules; writes = search rules }
 
 pub returns-clause-reached : goal.returns-clause-reached
-returns-clause-reached g c = whole_reached c.args.start.now c.args.trace.now c.in_ok-store.store _ _ (search rules) c.in_ok-store.ensures.ok (search rules) (search rules)
+returns-clause-reached g c = whole_reached c.args.start.now c.args.trace.now c.in_ok-store.store _ _ (search rules) c.in_ok-store.ensures.ok (cc) (search rules fits 100 parts 0)
 
 pub returns-clause-best : goal.returns-clause-best
-returns-clause-best g c = whole_best c.args.start.now c.args.trace.now c.in_ok-store.store _ (search rules) c.in_ok-store.ensures.ok (search rules)
+returns-clause-best g c = whole_best c.args.start.now c.args.trace.now c.in_ok-store.store _ (search rules) c.in_ok-store.ensures.ok (search rules fits 100 parts 0)
 
 pub returns-clause-keeps : goal.returns-clause-keeps
 returns-clause-keeps g c = whole_keeps c.args.start.now c.args.trace.now c.in_ok-store.store c.in_ok-store.ensures.ok
@@ -32,4 +32,4 @@ pub returns-clause-names : goal.returns-clause-names
 returns-clause-names g c = λ n first. whole_breaks_nowhere c.args.start.now c.args.trace.now c.in_ok-store.store n c.in_ok-store.ensures.ok first
 
 pub returns-clause-planned : goal.returns-clause-planned
-returns-clause-planned g c = search rules
+returns-clause-planned g c = search rules fits 100 parts 0
