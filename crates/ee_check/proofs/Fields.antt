@@ -1,7 +1,7 @@
 -- What stands behind a name, and the field there.
 use Rattle.std.proofs.Common.{◌≡◌, ◌≢◌, ℕ, ◌<◌, ◌^◌, ◌++◌, List, ◌∷◌, refl, sym, ◌∙◌, ap, subst, arith, inl, true, not, eqb, Option, Some, None, IfSome, IfNone, MatchOption, Bor, rules}
 use Rattle.std.specs.Fmt.{decimal}
-use Rattle.std.specs.Option.{option_eq}
+use Rattle.std.specs.Option.{option_eq, option_zip}
 use Rattle.std.proofs.lemmas.Bool.{eq-eqb}
 use mathlib.Core.Bool.{true≢false}
 use Rattle.ee_text.specs.Field.{IsField}
@@ -19,6 +19,18 @@ pub number_field : (text field : List ℕ) (tail : Option (Bor (List ℕ))) (n :
     → (field ≡ decimal n) × MatchOption tail ⊥ (λ t. t.now ≡ rest)
 number_field text field None n rest in_field last more fits e = absurd (no_place 32 field (decimal n) rest in_field (sym last ∙ e))
 number_field text field (Some t) n rest in_field last more fits e = first_place 32 field (decimal n) t.now rest in_field (Lacks-decimal 32 n (inl (omega arith)) fits) (sym more ∙ e)
+
+-- a number and what stands behind it
+pub number_beside : (found : Option ℕ) (tail : Option (Bor (List ℕ))) (n : ℕ) (rest : List ℕ) → found ≡ Some n → MatchOption tail ⊥ (λ t. t.now ≡ rest)
+    → MatchOption (option_zip found tail) ⊥ (λ parts. (parts.0 ≡ n) × (parts.1.now ≡ rest))
+number_beside None tail n rest same behind = absurd (cc same)
+number_beside (Some m) None n rest same behind = behind
+number_beside (Some m) (Some t) n rest same behind = (cc same, behind)
+
+-- what stands where nothing was read
+pub none_beside : {X Y : Type 0} (found : Option X) (tail : Y) (N : Type 0) → (found ≡ None → N) → IfNone (option_zip found (Some tail)) N
+none_beside None tail N none = none refl
+none_beside (Some x) tail N none = tt
 
 -- a count that was found to be another
 pub other_count : (r : Option ℕ) (n : ℕ) → true ≡ not (option_eq eqb r (Some n)) → r ≢ Some n

@@ -1,5 +1,5 @@
 -- A text is the text of one claim at most, or has one first bad line, and not both.
-use Rattle.std.proofs.Common.{◌≡◌, ◌≢◌, ◌⊎◌, ℕ, ◌+◌, ◌++◌, List, [], ◌∷◌, length, get_or, refl, sym, ◌∙◌, ap, arith, append_assoc, inl, inr, rules}
+use Rattle.std.proofs.Common.{◌≡◌, ◌⊎◌, ℕ, ◌+◌, ◌++◌, List, [], ◌∷◌, length, get_or, refl, sym, ◌∙◌, ap, arith, append_assoc, inl, inr, rules}
 use Rattle.std.proofs.lemmas.Grind.{common_steps}
 use Rattle.std.specs.Fmt.{decimal}
 use Rattle.std.proofs.lemmas.Fmt.{decimal_injective}

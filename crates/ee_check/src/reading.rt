@@ -78,7 +78,7 @@ fn next_heading(text: &[u8]) -> Option<(Heading, &[u8])>
     ensures none { IfNone result (NoFirstLine text.now) }
 {
     let (line, rest) = next_line(text)?;
-    Some((read_heading(line)?, rest))
+    read_heading(line).zip(Some(rest))
 }
 
 /// The stretches whose lines stand at the front of the text, and what stands behind them.
@@ -106,7 +106,7 @@ fn next_stretch(text: &[u8]) -> Option<(Stretch, &[u8])>
     ensures none { IfNone result (NoStretch text.now) }
 {
     let (line, rest) = next_line(text)?;
-    Some((read_stretch(line)?, rest))
+    read_stretch(line).zip(Some(rest))
 }
 
 /// Whether the last line, with this count, is all that is left.
@@ -173,7 +173,7 @@ fn first_number<'a>(name: &[u8], text: &'a [u8]) -> Option<(u64, &'a [u8])>
         → MatchOption result ⊥ (λ parts. (parts.0 ≡ n) × (parts.1.now ≡ rest)) }
 {
     let (field, rest) = next_field(behind(name, text)?);
-    Some((number(field)?, rest?))
+    number(field).zip(rest)
 }
 
 /// The number that stands behind this name and is the last.

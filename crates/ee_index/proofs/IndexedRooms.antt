@@ -1,5 +1,6 @@
 -- How room is made in an index for values that are put, and how addresses that are forgotten leave it.
-use Rattle.std.proofs.Common.{◌≡◌, inl, inr, ℕ, ◌+◌, ◌<◌, ◌≤◌, Bool, cond, true, false, Option, Some, None, nat_lt, is_some, List, [], ◌∷◌, ◌++◌, length, get_or, take, refl, sym, ap, ◌∙◌, arith, suc, zero}
+use Rattle.std.proofs.Common.{◌≡◌, inl, inr, ℕ, ◌+◌, ◌<◌, ◌≤◌, Bool, cond, true, false, Option, Some, None, nat_lt, is_some, not, List, [], ◌∷◌, ◌++◌, length, get_or, take, refl, sym, ap, ◌∙◌, arith, suc, zero}
+use mir.Val.{bool_byte}
 use Rattle.std.proofs.lemmas.Bool.{cases_eq, cases_lt, le-ltb, lt-ltb}
 use Rattle.std.proofs.lemmas.List.{take_more}
 use Rattle.std.proofs.lemmas.Map.Keys.{sorted_tail}
@@ -204,13 +205,17 @@ module _ (device : Device) (layout : Layout) (entries : List (ℕ × ℕ)) (kept
 
 -- ---- how many addresses are new
 
+pub worth : (held : Bool) → (bool_byte (not held) ≡ cond held 0 1) × (bool_byte (not held) ≤ 1)
+worth true = (refl, omega arith)
+worth false = (refl, omega arith)
+
 module _ (puts : List listed.Put) (place : ℕ) (put : listed.Put) (within : place < length puts) (is : put ≡ get_or puts place put) (index : Map) (count : ℕ)
     (so_far : (map : Map) → HasAddresses index map → AreApart (puts_of puts) → live_in (changed_by (puts_of (take place puts)) map) ≡ live_in map + count) where
-  pub counted_more : (held : Bool) → held ≡ is_some (index put.address) → (next : ℕ) → next ≡ count + cond held 0 1 → (map : Map) → HasAddresses index map → AreApart (puts_of puts) → live_in (changed_by (puts_of (take (place + 1) puts)) map) ≡ live_in map + next
+  pub counted_more : (held : Bool) → held ≡ is_some (index put.address) → (next : ℕ) → next ≡ count + bool_byte (not held) → (map : Map) → HasAddresses index map → AreApart (puts_of puts) → live_in (changed_by (puts_of (take (place + 1) puts)) map) ≡ live_in map + next
   counted_more held e next next_is map same each =
       let one = one_counted map puts each place put within is in
       let there = ap (λ (b : Bool). live_in map + cond b 0 1) (sym (e ∙ same put.address)) in
-      omega (arith, one, there, next_is, so_far map same each)
+      omega (arith, one, there, next_is, (worth held).0, so_far map same each)
 
 -- a change goes through on a device that is on, where there is a place for it and the store is not spent
 pub one_proceeds : (device inside : Device) (change : Change) → inside ≡ device → IsOn inside → ¬ HasNoPlace (capacity device) (state_of device) change → ¬ IsSpent (capacity device) (state_of device) → Proceeds inside (change ∷ [])

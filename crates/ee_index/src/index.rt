@@ -118,9 +118,7 @@ pub(crate) fn count_new<A: Allocator>(index: &Index<A>, puts: &[Put]) -> usize
 {
     let mut count = 0;
     'entries: for put in puts {
-        if !index.contains_key(&put.address) {
-            count += 1;
-        }
+        count += !index.contains_key(&put.address) as usize;
     }
     count
 }

@@ -80,7 +80,6 @@ impl<A: Allocator> Rounds<A> {
     /// first change that doesn't fit.
     ///
     /// Source: ours.
-    #[tactic(auto, using(crate::proofs::Answering::answers_fits, crate::proofs::Answering::answers_not_fitting))]
     pub fn demand(&self, slots: u32) -> Demand
         ensures demand { IsDemand (fresh slots) self.now result }
         // Every trace that keeps within the slots has its number of transfers, and of every other one the

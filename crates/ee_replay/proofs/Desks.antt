@@ -1,14 +1,13 @@
 -- What a line does at a desk is a step of the report machine.
-use Rattle.std.proofs.Common.{◌≡◌, ◌∙◌, ◌⊎◌, ◌+◌, arith, ℕ, Bool, Option, Some, None, Ok, Err, List, [], ◌∷◌, ap, false, inl, inr, option_map, refl, subst, true, rules}
+use Rattle.std.proofs.Common.{◌≡◌, ◌∙◌, ◌⊎◌, ◌+◌, arith, ℕ, Bool, Option, Some, None, Ok, Err, List, [], ◌∷◌, ap, false, inl, inr, option_map, refl, subst, sym, true, add-one, rules}
 use Rattle.ee_flash.specs.Device.{Device}
 use Rattle.ee_flash.specs.Power.{GoesOn, IsCut}
 use Rattle.ee_flash.specs.Size.{Size}
-use Rattle.ee_flash.specs.declared.fuse.Fuse.{Fuse}
 use Rattle.ee_pages.specs.Meaning.{Change, Put}
 use Rattle.ee_pages.specs.Meaning as meaning
 use Rattle.ee_core.proofs.Public.{runs_go_on_lem}
 use Rattle.ee_core.specs.Changes.{IsCutChange}
-use Rattle.ee_core.specs.Points.{Point}
+use Rattle.ee_core.specs.Points.{Point, with_power_on}
 use Rattle.ee_core.specs.Runs.{Call, Cleaned as DidClean, DidRead, Follows, Forgot, Wrote, is_cut}
 use Rattle.ee_core.specs.State.{State, state_of}
 use Rattle.ee_core.specs.declared.variables.ForgetFault.TheVariants as forgetting
@@ -39,8 +38,8 @@ taken : (before after : Option ℕ) → before ≡ option_map (λ left. left + 1
     → (is_armed before ≡ true) × (after ≡ Some 0)
 taken before None e (inl none) = absurd (cc (e, none))
 taken before None e (inr one) = absurd (cc (e, one))
-taken before (Some left) e (inl none) = absurd (grind (arith, e, none))
-taken before (Some left) e (inr one) = (rw one refl, grind (arith, e, one))
+taken before (Some left) e (inl none) = absurd (cc (e, none, add-one left))
+taken before (Some left) e (inr one) = let same : left + 1 ≡ 1 = cc (e, one) in (rw one refl, ap Some (omega arith))
 
 goes_on : (made : Call) (old new : Device) → Follows made old new → is_cut made ≡ false → GoesOn old new
 goes_on made old new follows whole = search (rules, runs_go_on_lem, whole)
@@ -81,15 +80,6 @@ cut_made old command new step cut off most =
     let here = cut_here old new cut off most in
     record { step = (refl, here.armed, step, here.desk); same_size = cut.same_size; at_most = here.at_most }
 
--- of these no store is asked
-no_arming : (old : Device) (fuse : Fuse) (answer : Answer) (new : Point) → Asks true old (Arm fuse) answer new → ⊥
-no_arming old fuse Cut new asks = asks
-no_arming old fuse answer new asks = asks
-
-no_power : (old : Device) (answer : Answer) (new : Point) → Asks true old PowerOn answer new → ⊥
-no_power old Cut new asks = asks
-no_power old answer new asks = asks
-
 asked_on : (old : Device) (command : Command) (answer : Answer) (new : Point) → AtMostOne old → Asks true old command answer new → IsCallMade true old command answer new
 asked_on old (Write address value) Appended new most asks = whole old (Write address value) Appended new (Wrote address value (Ok written.Appended)) asks.0 asks.0 refl refl asks.1 most
 asked_on old (Write address value) Moved new most asks = whole old (Write address value) Moved new (Wrote address value (Ok written.Moved)) asks.0 asks.0 refl refl asks.1 most
@@ -106,8 +96,8 @@ asked_on old (Read address) NoValue new most asks = whole old (Read address) NoV
 asked_on old Clean Cleaned new most asks = whole old Clean Cleaned new (DidClean (Ok true)) asks.0 asks.0 refl refl asks.1 most
 asked_on old Clean Idle new most asks = whole old Clean Idle new (DidClean (Ok false)) asks.0 asks.0 refl refl asks.1 most
 asked_on old Clean Cut new most asks = cut_made old Clean new (asks.0.some, asks.0.state_is) asks.0.cut asks.1 most
-asked_on old (Arm fuse) answer new most asks = absurd (no_arming old fuse answer new asks)
-asked_on old PowerOn answer new most asks = absurd (no_power old answer new asks)
+asked_on old (Arm fuse) Cut new most asks = absurd asks
+asked_on old PowerOn Cut new most asks = absurd asks
 asked_on old command answer new most asks = absurd asks
 
 asked_off : (old : Device) (command : Command) (answer : Answer) (new : Point) → AtMostOne old → Asks false old command answer new → IsCallMade false old command answer new
@@ -127,9 +117,16 @@ desk_is point state serving left says still kept = cc
 -- power that comes on
 power_made : (serving : Bool) (old : Device) (answer : Answer) (new : Point) → AtMostOne old → Powers serving old answer new
     → IsLineMade (record { serving = serving; device = old }) PowerOn answer new
-power_made true old Opened new most powers = search (rules, at_most_still)
-power_made false old Opened new most powers = search (rules, at_most_still, desk_is, state_powered)
-power_made false old Cut new most powers = search (rules, cut_here, state_powered)
+power_made true old Opened new most powers =
+    subst (λ (point : Point). IsLineMade (record { serving = true; device = old }) PowerOn Opened point) (sym powers) (record { step = refl; same_size = refl; at_most = most })
+power_made false old Opened new most powers =
+    let kept = powers.0.goes_on in
+    let step = desk_is new (state_of old) true old.cuts_left (powers.0.state_is ∙ state_powered old) powers.1 kept.same_cuts_left in
+    record { step = step; same_size = kept.same_size; at_most = at_most_still old new.device kept.same_cuts_left most }
+power_made false old Cut new most powers =
+    let here = cut_here (with_power_on old) new powers.0.cut powers.1 most in
+    let desk = here.desk ∙ ap (λ (state : State). record { state = state; serving = false; armed = false }) (powers.0.state_is ∙ state_powered old) in
+    record { step = (refl, here.armed, desk); same_size = powers.0.cut.same_size; at_most = here.at_most }
 power_made serving old answer new most powers = absurd powers
 
 pub line_made : (old : Point) (command : Command) (answer : Answer) (new : Point) → AtMostOne old.device → Attends old command answer new → IsLineMade old command answer new

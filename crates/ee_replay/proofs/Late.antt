@@ -168,10 +168,9 @@ fewest_moves slots start commands answers new claim proper run tight =
 -- ---- the values
 
 module _ (size : Size) where
-  put_first : (old mid : State) (commands : List Command) (answers : List Answer) (new : State) (change : meaning.Change)
-      → mid.map ≡ meaning.map_after change old.map → new.map ≡ changed_by (map_changes (accepted_commands commands answers)) mid.map
-      → new.map ≡ changed_by (map_changes (accepted_commands commands answers)) (meaning.map_after change old.map)
-  put_first old mid commands answers new change is rest = rest ∙ ap (λ m. changed_by (map_changes (accepted_commands commands answers)) m) is
+  from_map : (before after : meaning.Map) (commands : List Command) (answers : List Answer) (new : State) → after ≡ before
+      → new.map ≡ changed_by (map_changes (accepted_commands commands answers)) after → new.map ≡ changed_by (map_changes (accepted_commands commands answers)) before
+  from_map before after commands answers new is rest = rest ∙ ap (λ m. changed_by (map_changes (accepted_commands commands answers)) m) is
 
   -- the map at the end has what was written last
   pub values_are : (commands : List Command) (answers : List Answer) (old new : State) → Run (MachineStep size) old commands answers new
@@ -179,30 +178,20 @@ module _ (size : Size) where
   values_are [] [] old new run = ap (λ s. s.map) run
   values_are [] (answer ∷ answers) old new run = absurd run
   values_are (command ∷ commands) [] old new run = absurd run
-  values_are (Write address value ∷ commands) (Appended ∷ answers) old new run = search (rules, put_first, (values_are commands answers run.0 new run.2))
-  values_are (Write address value ∷ commands) (Moved ∷ answers) old new run = search (rules, put_first, (values_are commands answers run.0 new run.2))
-  values_are (Write address value ∷ commands) (Full ∷ answers) old new run =
-      values_are commands answers run.0 new run.2 ∙ ap (λ s. changed_by (map_changes (accepted_commands commands answers)) s.map) run.1.1
-  values_are (Write address value ∷ commands) (Spent ∷ answers) old new run =
-      values_are commands answers run.0 new run.2 ∙ ap (λ s. changed_by (map_changes (accepted_commands commands answers)) s.map) run.1.2
-  values_are (Forget address ∷ commands) (Appended ∷ answers) old new run = search (rules, put_first, (values_are commands answers run.0 new run.2))
-  values_are (Forget address ∷ commands) (Moved ∷ answers) old new run = search (rules, put_first, (values_are commands answers run.0 new run.2))
-  values_are (Forget address ∷ commands) (Absent ∷ answers) old new run =
-      values_are commands answers run.0 new run.2 ∙ ap (λ s. changed_by (map_changes (accepted_commands commands answers)) s.map) run.1.1
-  values_are (Forget address ∷ commands) (Spent ∷ answers) old new run =
-      values_are commands answers run.0 new run.2 ∙ ap (λ s. changed_by (map_changes (accepted_commands commands answers)) s.map) run.1.2
-  values_are (Read address ∷ commands) (Value value ∷ answers) old new run =
-      values_are commands answers run.0 new run.2 ∙ ap (λ s. changed_by (map_changes (accepted_commands commands answers)) s.map) run.1.1
-  values_are (Read address ∷ commands) (NoValue ∷ answers) old new run =
-      values_are commands answers run.0 new run.2 ∙ ap (λ s. changed_by (map_changes (accepted_commands commands answers)) s.map) run.1.1
-  values_are (Clean ∷ commands) (Cleaned ∷ answers) old new run =
-      values_are commands answers run.0 new run.2 ∙ ap (λ s. changed_by (map_changes (accepted_commands commands answers)) s.map) run.1.1
-  values_are (Clean ∷ commands) (Idle ∷ answers) old new run =
-      values_are commands answers run.0 new run.2 ∙ ap (λ s. changed_by (map_changes (accepted_commands commands answers)) s.map) run.1.1
-  values_are (Arm fuse ∷ commands) (Armed ∷ answers) old new run =
-      values_are commands answers run.0 new run.2 ∙ ap (λ s. changed_by (map_changes (accepted_commands commands answers)) s.map) run.1
-  values_are (PowerOn ∷ commands) (Opened ∷ answers) old new run =
-      values_are commands answers run.0 new run.2 ∙ ap (λ s. changed_by (map_changes (accepted_commands commands answers)) s.map) run.1
+  values_are (Write address value ∷ commands) (Appended ∷ answers) old new run = from_map (meaning.map_after (Put address value) old.map) run.0.map commands answers new (ap (λ (s : State). s.map) run.1.2) (values_are commands answers run.0 new run.2)
+  values_are (Write address value ∷ commands) (Moved ∷ answers) old new run = from_map (meaning.map_after (Put address value) old.map) run.0.map commands answers new (ap (λ (s : State). s.map) run.1.2) (values_are commands answers run.0 new run.2)
+  values_are (Write address value ∷ commands) (Full ∷ answers) old new run = from_map old.map run.0.map commands answers new (ap (λ (s : State). s.map) run.1.1) (values_are commands answers run.0 new run.2)
+  values_are (Write address value ∷ commands) (Spent ∷ answers) old new run = from_map old.map run.0.map commands answers new (ap (λ (s : State). s.map) run.1.2) (values_are commands answers run.0 new run.2)
+  values_are (Forget address ∷ commands) (Appended ∷ answers) old new run = from_map (meaning.map_after (meaning.Forget address) old.map) run.0.map commands answers new (ap (λ (s : State). s.map) run.1.2) (values_are commands answers run.0 new run.2)
+  values_are (Forget address ∷ commands) (Moved ∷ answers) old new run = from_map (meaning.map_after (meaning.Forget address) old.map) run.0.map commands answers new (ap (λ (s : State). s.map) run.1.2) (values_are commands answers run.0 new run.2)
+  values_are (Forget address ∷ commands) (Absent ∷ answers) old new run = from_map old.map run.0.map commands answers new (ap (λ (s : State). s.map) run.1.1) (values_are commands answers run.0 new run.2)
+  values_are (Forget address ∷ commands) (Spent ∷ answers) old new run = from_map old.map run.0.map commands answers new (ap (λ (s : State). s.map) run.1.2) (values_are commands answers run.0 new run.2)
+  values_are (Read address ∷ commands) (Value value ∷ answers) old new run = from_map old.map run.0.map commands answers new (ap (λ (s : State). s.map) run.1.1) (values_are commands answers run.0 new run.2)
+  values_are (Read address ∷ commands) (NoValue ∷ answers) old new run = from_map old.map run.0.map commands answers new (ap (λ (s : State). s.map) run.1.1) (values_are commands answers run.0 new run.2)
+  values_are (Clean ∷ commands) (Cleaned ∷ answers) old new run = from_map old.map run.0.map commands answers new (ap (λ (s : State). s.map) run.1.1) (values_are commands answers run.0 new run.2)
+  values_are (Clean ∷ commands) (Idle ∷ answers) old new run = from_map old.map run.0.map commands answers new (ap (λ (s : State). s.map) run.1.1) (values_are commands answers run.0 new run.2)
+  values_are (Arm fuse ∷ commands) (Armed ∷ answers) old new run = from_map old.map run.0.map commands answers new (ap (λ (s : State). s.map) run.1) (values_are commands answers run.0 new run.2)
+  values_are (PowerOn ∷ commands) (Opened ∷ answers) old new run = from_map old.map run.0.map commands answers new (ap (λ (s : State). s.map) run.1) (values_are commands answers run.0 new run.2)
   values_are (command ∷ commands) (answer ∷ answers) old new run = absurd run.1
 
   -- ---- where all changes fit
@@ -232,16 +221,14 @@ module _ (size : Size) where
       let next = after_move start (Append (changes.Write address)) in
       let live = live_after_put old.map start.live address value are.0.0 is.are_live in
       let here : IsStartOf (slot_count size) run.0 next = appends size old run.0 start (changes.Write address) (Put address value) run.1.2 live is in
-      let same : run.0.generation ≡ old.generation = ap (λ s. s.generation) run.1.2 in
       ap (λ l. Put address value ∷ l) (all_put commands answers run.0 new next are.1 here run.2
-      (fits_after old run.0 start next (Write address value) (changes.Write address) (Put address value) commands (λ rest. refl) (omega arith) (ap (λ s. s.map) run.1.2) refl refl fits.held fits))
+      (fits_after old run.0 start next (Write address value) (changes.Write address) (Put address value) commands (λ rest. refl) (omega (arith, ap (λ (s : State). s.generation) run.1.2)) (ap (λ s. s.map) run.1.2) refl refl fits.held fits))
   all_put (Write address value ∷ commands) (Moved ∷ answers) old new start are is run fits =
       let next = after_move start (Carry (changes.Write address)) in
       let live = live_after_put old.map start.live address value are.0.0 is.are_live in
       let here : IsStartOf (slot_count size) run.0 next = moves_on size old run.0 start (changes.Write address) (Put address value) run.1.2 live is in
-      let one : run.0.generation ≡ old.generation + 1 = ap (λ s. s.generation) run.1.2 in
       ap (λ l. Put address value ∷ l) (all_put commands answers run.0 new next are.1 here run.2
-      (fits_after old run.0 start next (Write address value) (changes.Write address) (Put address value) commands (λ rest. refl) (omega arith) (ap (λ s. s.map) run.1.2) refl refl fits.held fits))
+      (fits_after old run.0 start next (Write address value) (changes.Write address) (Put address value) commands (λ rest. refl) (omega (arith, ap (λ (s : State). s.generation) run.1.2)) (ap (λ s. s.map) run.1.2) refl refl fits.held fits))
   all_put (Write address value ∷ commands) (Full ∷ answers) old new start are is run fits =
       absurd (not_full (slot_count size) old start address are.0.0 is fits.keeps.0 run.1.0)
   all_put (Write address value ∷ commands) (Spent ∷ answers) old new start are is run fits =
@@ -250,16 +237,14 @@ module _ (size : Size) where
       let next = after_move start (Append (changes.Forget address)) in
       let live = live_after_forget old.map start.live address is.are_live in
       let here : IsStartOf (slot_count size) run.0 next = appends size old run.0 start (changes.Forget address) (meaning.Forget address) run.1.2 live is in
-      let same : run.0.generation ≡ old.generation = ap (λ s. s.generation) run.1.2 in
       ap (λ l. meaning.Forget address ∷ l) (all_put commands answers run.0 new next are.1 here run.2
-      (fits_after old run.0 start next (Forget address) (changes.Forget address) (meaning.Forget address) commands (λ rest. refl) (omega arith) (ap (λ s. s.map) run.1.2) refl refl fits.held.1 fits))
+      (fits_after old run.0 start next (Forget address) (changes.Forget address) (meaning.Forget address) commands (λ rest. refl) (omega (arith, ap (λ (s : State). s.generation) run.1.2)) (ap (λ s. s.map) run.1.2) refl refl fits.held.1 fits))
   all_put (Forget address ∷ commands) (Moved ∷ answers) old new start are is run fits =
       let next = after_move start (Carry (changes.Forget address)) in
       let live = live_after_forget old.map start.live address is.are_live in
       let here : IsStartOf (slot_count size) run.0 next = moves_on size old run.0 start (changes.Forget address) (meaning.Forget address) run.1.2 live is in
-      let one : run.0.generation ≡ old.generation + 1 = ap (λ s. s.generation) run.1.2 in
       ap (λ l. meaning.Forget address ∷ l) (all_put commands answers run.0 new next are.1 here run.2
-      (fits_after old run.0 start next (Forget address) (changes.Forget address) (meaning.Forget address) commands (λ rest. refl) (omega arith) (ap (λ s. s.map) run.1.2) refl refl fits.held.1 fits))
+      (fits_after old run.0 start next (Forget address) (changes.Forget address) (meaning.Forget address) commands (λ rest. refl) (omega (arith, ap (λ (s : State). s.generation) run.1.2)) (ap (λ s. s.map) run.1.2) refl refl fits.held.1 fits))
   all_put (Forget address ∷ commands) (Absent ∷ answers) old new start are is run fits = absurd (fits.held.0 run.1.0)
   all_put (Forget address ∷ commands) (Spent ∷ answers) old new start are is run fits =
       absurd (let g = fits.generations in let last = run.1.1.last_generation in omega arith)

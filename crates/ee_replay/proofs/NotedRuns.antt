@@ -1,6 +1,6 @@
 -- What is noted of a store's changes is the tight certificate of its trace.
 use Rattle.std.proofs.Common.{◌≡◌, ◌∙◌, ◌++◌, ℕ, ◌+◌, ◌*◌, ◌<◌, ◌≤◌, List, [], ◌∷◌, length, get_or, ap, arith, inl, inr, refl, subst, sym, append_assoc, append-nil, length-append, add-mul, one-mul, rules}
-use Rattle.std.proofs.Math.Bool.{or-false}
+use Rattle.std.proofs.Math.Bool.{or-false, or_assoc, or_comm}
 use Rattle.std.proofs.Math.Seq.{get_or-append_seam}
 use Rattle.std.specs.Prelude.{Bool, false, true, ◌||◌, Err}
 use Rattle.ee_flash.specs.Device.{Device}
@@ -278,17 +278,14 @@ one_cut : (answer : Answer) (fill : ℕ) (notes : Notes) → (notes_after answer
 one_cut Cut fill notes = refl
 one_cut answer fill notes = refl
 
-swapped : (first second third : Bool) → (first || (second || third)) ≡ ((second || first) || third)
-swapped false false third = refl
-swapped false true third = refl
-swapped true false third = refl
-swapped true true third = refl
-
 cuts_are : (old new : Noted) (commands : List Command) (answers : List Answer) → Run Records old commands answers new → new.notes.cut ≡ (was_cut answers || old.notes.cut)
 cuts_are old new [] [] run = ap (λ (n : Noted). n.notes.cut) run
 cuts_are old new [] (answer ∷ answers) run = absurd run
 cuts_are old new (command ∷ commands) [] run = absurd run
-cuts_are old new (command ∷ commands) (answer ∷ answers) run = search (rules, one_cut, swapped, (cuts_are run.0 new commands answers run.2))
+cuts_are old new (command ∷ commands) (answer ∷ answers) run =
+    let was = was_cut answers in
+    let kept = ap (λ (notes : Notes). was || notes.cut) run.1.notes_are ∙ ap (λ (cut : Bool). was || cut) (one_cut answer (state_of run.0.point.device).fill old.notes) in
+    cuts_are run.0 new commands answers run.2 ∙ kept ∙ sym (or_assoc was (is_cut_answer answer) old.notes.cut) ∙ ap (λ (cut : Bool). cut || old.notes.cut) (or_comm was (is_cut_answer answer))
 
 -- what serves, as its desk and its notes are seen
 pub is_traced : {S : Type 0} (see : S → Noted) (device : Device) (old new : S) (text lines : List ℕ) → IsAnswered (λ from command answer to. Records (see from) command answer (see to)) old text new lines

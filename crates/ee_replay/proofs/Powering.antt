@@ -1,6 +1,8 @@
 -- What a device's image says stays as power comes on and a cut is armed.
 use Rattle.std.proofs.Common.{◌≡◌, ◌∙◌, ◌≤◌, ℕ, Bool, Some, ap, false, refl, subst, sym, rules}
 use Rattle.ee_flash.specs.Device.{Device, all_ones}
+use Rattle.ee_flash.specs.Memory.{Memory, device_of, memory_of, with_device}
+use Rattle.ee_flash.specs.declared.memory.MemFlash.{MemFlash}
 use Rattle.ee_pages.proofs.Public.{legal_is_good}
 use Rattle.ee_pages.specs.Layout.{IsLayout}
 use Rattle.ee_pages.specs.Legal.{IsLegal}
@@ -105,6 +107,14 @@ arm_legal old new is legal = subst IsLegal (sym is) (legal_armed old legal)
 pub store_sound : (device : Device) → IsStore device → IsSound (open_point device)
 store_sound device store = record { legal = store.legal; on = λ on. on; store = λ on. store }
 
+-- and a device alone has its image
+pub device_sound : (device : Device) → IsLegal device → IsSound (closed_point device)
+device_sound device legal = record { legal = legal; on = λ e. absurd (cc e); store = λ e. absurd (cc e) }
+
+-- power comes on a device in memory
+pub powered : {A : Type 0} (old new : MemFlash A) → memory_of new ≡ with_device (with_power_on (device_of old)) (memory_of old) → device_of new ≡ with_power_on (device_of old)
+powered old new on = ap (λ (kept : Memory). kept.device) on
+
 -- the image of a device whose power came on is still legal, so opening it finds no fault
 pub opens_well : (device old new : Device) (why : OpenFault) (fault : ScanFault) → old ≡ with_power_on device → IsLegal device → why ≡ opening.Scan fault → OpenFails old why new → ⊥
 opens_well device old new why fault on legal told fails =
@@ -124,6 +134,11 @@ module _ (old : Point) (found powered : Device) (at : found ≡ old.device) (on 
   power_cut new fault off told fails =
       rw off (subst (λ (device : Device). IsCutOpening device new) there (subst (λ (why : OpenFault). OpenFails powered why new) told fails), refl)
 
+  said : (new : Device) → new.size ≡ powered.size → state_of new ≡ state_of powered → SaysTheSame old.device new
+  said new size state = subst (λ (device : Device). SaysTheSame device new) at (record { same_size = size ∙ ap (λ (device : Device). device.size) on; state_is = state ∙ ap state_of on ∙ state_powered found })
+
   pub power_same : (new store : Device) → new ≡ store → Opens powered store → SaysTheSame old.device new
-  power_same new store is opens = subst (λ (device : Device). SaysTheSame old.device device) (sym is) (subst (λ (device : Device). SaysTheSame device store) at
-      (record { same_size = opens.goes_on.same_size ∙ ap (λ (device : Device). device.size) on; state_is = opens.state_is ∙ ap state_of on ∙ state_powered found }))
+  power_same new store is opens = subst (λ (device : Device). SaysTheSame old.device device) (sym is) (said store opens.goes_on.same_size opens.state_is)
+
+  pub cut_same : (new : Device) (fault : OpenFault) → fault ≡ opening.Cut → OpenFails powered fault new → SaysTheSame old.device new
+  cut_same new fault told fails = let cut = subst (λ (why : OpenFault). OpenFails powered why new) told fails in said new cut.cut.same_size cut.state_is

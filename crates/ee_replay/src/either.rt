@@ -28,7 +28,7 @@ pub(crate) enum Kind {
     Plain,
     /// With one.
     Indexed,
-    /// Without one as long as that pays. Where memory for an index is refused it goes on without.
+    /// Without one until an index pays. Where memory for an index is refused it goes on without.
     AsPays,
 }
 

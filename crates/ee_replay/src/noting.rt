@@ -2,7 +2,7 @@
 ghost use Rattle.std.specs.Prelude.{◌≡◌, ◌<◌, ◌+◌, ◌^◌, IfOk, OnErr, OnOk, length};
 ghost use Rattle.ee_check.specs.Certificate.{claim_of};
 ghost use Rattle.ee_replay.specs.Serving.{claim_noted, no_notes, notes_after, stored_answer};
-ghost use Rattle.ee_script.specs.declared.answer.Answer.TheVariants.{Appended, Cut, Moved};
+ghost use Rattle.ee_script.specs.declared.answer.Answer.TheVariants.{Cut, Moved};
 
 use ee_check::{Certificate, Start, Stretch};
 use ee_core::Written;
@@ -59,7 +59,7 @@ impl<A: Allocator> Notes<A> {
     {
         match written {
             Written::Appended => {
-                self.append();
+                self.changes += 1;
                 Ok(Answer::Appended)
             }
             Written::Moved => {
@@ -67,14 +67,6 @@ impl<A: Allocator> Notes<A> {
                 Ok(Answer::Moved)
             }
         }
-    }
-
-    /// A change was appended.
-    fn append(&mut self)
-        requires { self.old.changes + 1 < 2 ^ 64 }
-        ensures { self.new ≡ notes_after Appended 0 self.old }
-    {
-        self.changes += 1;
     }
 
     /// A change was moved with the map, and so many slots are used behind it.

@@ -18,10 +18,11 @@ use ee_script::{Answer, Command, Serve};
 use std::alloc::{AllocError, Allocator, Global};
 use std::mem::replace;
 
-/// A desk, in which kind a store on it is opened, and what is noted of the changes that the store on it accepted.
+/// A desk, and what is noted of the changes that the store on it accepted.
 #[derive(Drop)]
 pub(crate) struct Server<A: Allocator + Copy = Global> {
     alloc: A,
+    /// In which kind a store is opened when power comes back.
     pub(crate) kind: Kind,
     /// The device, with a store open on it or without.
     pub(crate) desk: Desk<A>,

@@ -1,6 +1,5 @@
-use Rattle.std.proofs.Common.{rules}
 use Rattle.ee_check.proofs.Bounds.{certificates_bound_schedules_lem}
 use Rattle.ee_check.proofs.laws.certificates_bound_schedules.Goals as goal
 
 pub returns : goal.returns
-returns c = search (rules, certificates_bound_schedules_lem)
+returns c = certificates_bound_schedules_lem

@@ -1,6 +1,5 @@
-use Rattle.std.proofs.Common.{rules}
 use Rattle.ee_check.proofs.Texts.{one_first_bad_line_lem}
 use Rattle.ee_check.proofs.laws.one_first_bad_line.Goals as goal
 
 pub returns : goal.returns
-returns c = search (rules, one_first_bad_line_lem)
+returns c = one_first_bad_line_lem

@@ -1,6 +1,5 @@
-use Rattle.std.proofs.Common.{rules}
 use Rattle.ee_check.proofs.Texts.{one_text_lem}
 use Rattle.ee_check.proofs.laws.one_text.Goals as goal
 
 pub returns : goal.returns
-returns c = search (rules, one_text_lem)
+returns c = one_text_lem

@@ -1,6 +1,5 @@
-use Rattle.std.proofs.Common.{rules}
 use Rattle.ee_check.proofs.Bounds.{some_is_tight_lem}
 use Rattle.ee_check.proofs.laws.some_is_tight.Goals as goal
 
 pub returns : goal.returns
-returns c = search (rules, some_is_tight_lem)
+returns c = some_is_tight_lem

@@ -1,6 +1,5 @@
-use Rattle.std.proofs.Common.{rules}
 use Rattle.ee_check.proofs.Bounds.{tight_are_certificates_lem}
 use Rattle.ee_check.proofs.laws.tight_are_certificates.Goals as goal
 
 pub returns : goal.returns
-returns c = search (rules, tight_are_certificates_lem)
+returns c = tight_are_certificates_lem

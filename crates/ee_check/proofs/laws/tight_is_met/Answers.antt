@@ -1,6 +1,5 @@
-use Rattle.std.proofs.Common.{rules}
 use Rattle.ee_check.proofs.Bounds.{tight_is_met_lem}
 use Rattle.ee_check.proofs.laws.tight_is_met.Goals as goal
 
 pub returns : goal.returns
-returns c = search (rules, tight_is_met_lem)
+returns c = tight_is_met_lem

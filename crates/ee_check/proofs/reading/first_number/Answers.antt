@@ -1,24 +1,10 @@
 use Rattle.std.proofs.Common.{sym, ◌∙◌}
 use Rattle.std.proofs.lemmas.List.{append_cancel_left}
-use Rattle.ee_check.proofs.Fields.{number_field}
+use Rattle.ee_check.proofs.Fields.{number_beside, number_field}
 use Rattle.ee_check.proofs.reading.first_number.Goals as goal
-
-pub returns-in_err-number-clause-only : goal.returns-in_err-number-clause-only
-returns-in_err-number-clause-only c = λ n rest fits spelled.
-    let same = number_field c.in_ok-behind.field-0.now c.next_field.result.0.now c.next_field.result.1 n rest c.next_field.ensures.field c.next_field.ensures.last
-    c.next_field.ensures.more fits (append_cancel_left c.args.name.now _ _ (sym c.in_ok-behind.ensures.found ∙ spelled)) in
-    let none = c.in_err-number.ensures.only n fits same.0 in
-    absurd (cc none)
-
-pub returns-in_err-rest-clause-only : goal.returns-in_err-rest-clause-only
-returns-in_err-rest-clause-only c = λ n rest fits spelled.
-    let same = number_field c.in_ok-behind.field-0.now c.next_field.result.0.now c.next_field.result.1 n rest c.next_field.ensures.field c.next_field.ensures.last
-    c.next_field.ensures.more fits (append_cancel_left c.args.name.now _ _ (sym c.in_ok-behind.ensures.found ∙ spelled)) in
-    absurd (rw c.in_err-rest.was at same.1)
 
 pub returns-clause-only : goal.returns-clause-only
 returns-clause-only c = λ n rest fits spelled.
     let same = number_field c.in_ok-behind.field-0.now c.next_field.result.0.now c.next_field.result.1 n rest c.next_field.ensures.field c.next_field.ensures.last
     c.next_field.ensures.more fits (append_cancel_left c.args.name.now _ _ (sym c.in_ok-behind.ensures.found ∙ spelled)) in
-    let some = c.in_ok-number.ensures.only n fits same.0 in
-    (cc some, rw c.in_ok-rest.was at same.1)
+    rw c.zip.ensures (number_beside c.number.result c.next_field.result.1 n rest (c.number.ensures.only n fits same.0) same.1)

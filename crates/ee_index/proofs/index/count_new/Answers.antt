@@ -1,24 +1,19 @@
-use Rattle.std.proofs.Common.{◌≡◌, ◌+◌, Bool, cond, true, false, ap, sym, ◌∙◌, arith}
-use Rattle.std.proofs.lemmas.Grind.{common_steps}
+use Rattle.std.proofs.Common.{◌≡◌, ◌+◌, List, arith, refl, subst}
+use Rattle.std.proofs.lemmas.List.{take_all}
+use Rattle.ee_pages.specs.Meaning.{changed_by, live_in}
+use Rattle.ee_core.specs.Puts.{puts_of}
+use Rattle.ee_core.specs.declared.change.Put.{Put}
 use Rattle.ee_index.specs.Index.{slot_for}
-use Rattle.ee_index.proofs.IndexedRooms.{counted_more}
-use Rattle.ee_index.proofs.index.count_new.Goals.{then-not-contains_key, else-not-contains_key}
+use Rattle.ee_index.proofs.IndexedRooms.{counted_more, worth}
 use Rattle.ee_index.proofs.index.count_new.Goals as goal
 
 pub entries-preserved : goal.entries-preserved
-entries-preserved g c =
-    let held = c.contains_key.result in
-    let next = c.if-not-contains_key.count in
-    let more = counted_more c.args.puts.now c.entries.put-index c.put-item.result c.entries-test.true c.put-item.is (slot_for c.args.index.now.entries) c.entries.count c.entries.invariant.adds held c.contains_key.ensures next in
-    elim c.if-not-contains_key.branch [
-      | then-not-contains_key w ↦
-          let none : held ≡ false = w.if-not-contains_key.true in
-          record { adds = more (w.count-is ∙ ap (λ (b : Bool). c.entries.count + cond b 0 1) (sym none)); few = omega (arith, w.count-is, c.entries.invariant.few) }
-      | else-not-contains_key w ↦
-          let some : held ≡ true = w.if-not-contains_key.false in
-          let same : next ≡ c.entries.count + 0 = omega (arith, w.count-is) in
-          record { adds = more (same ∙ ap (λ (b : Bool). c.entries.count + cond b 0 1) (sym some)); few = omega (arith, w.count-is, c.entries.invariant.few) }
-    ]
+entries-preserved g c = record {
+  adds = counted_more c.args.puts.now c.entries.put-index c.put-item.result c.entries-test.true c.put-item.is (slot_for c.args.index.now.entries) c.entries.count c.entries.invariant.adds
+      c.contains_key.result c.contains_key.ensures _ refl;
+  few = omega (arith, c.entries.invariant.few, (worth c.contains_key.result).1);
+}
 
 pub returns-clause-adds : goal.returns-clause-adds
-returns-clause-adds g c = grind (arith, common_steps)
+returns-clause-adds g c = λ map same each. subst (λ (puts : List Put). live_in (changed_by (puts_of puts) map) ≡ live_in map + c.entries.count)
+    (take_all c.entries.put-index c.args.puts.now c.entries-test.false) (c.entries.invariant.adds map same each)

@@ -1,4 +1,4 @@
-use Rattle.std.proofs.Common.{◌≡◌, ◌+◌, ◌-◌, rules}
+use Rattle.std.proofs.Common.{rules}
 use Rattle.std.proofs.lemmas.Grind.{get_or_default_zero}
 use Rattle.ee_planner.proofs.Counted.{flat_more, flat_within, no_flats}
 use Rattle.ee_planner.proofs.counting.flats.Goals as goal

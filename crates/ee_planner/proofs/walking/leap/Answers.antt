@@ -1,4 +1,4 @@
-use Rattle.std.proofs.Common.{◌-◌, arith, rules}
+use Rattle.std.proofs.Common.{arith, rules}
 use Rattle.std.proofs.lemmas.Grind.{common_steps}
 use Rattle.ee_planner.proofs.Counted.{comes_round}
 use Rattle.ee_planner.proofs.Stations.{begun, leapt}

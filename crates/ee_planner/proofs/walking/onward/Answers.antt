@@ -1,4 +1,4 @@
-use Rattle.std.proofs.Common.{◌≡◌, ◌+◌, ◌-◌, ◌*◌, ◌/◌, ◌≤◌, arith, rules}
+use Rattle.std.proofs.Common.{◌+◌, ◌-◌, ◌/◌, ◌≤◌, arith, rules}
 use Rattle.std.proofs.lemmas.Grind.{common_steps}
 use Rattle.std.proofs.Math.Nat.{div-mul-le_self, mul-le-mul_right}
 use Rattle.ee_planner.specs.Places.{count_after}
@@ -8,6 +8,9 @@ use Rattle.ee_planner.proofs.walking.onward.Goals.{then-more-left, else-more-lef
 
 pub overflow_add-result : goal.overflow_add-result
 overflow_add-result g c = grind (arith, common_steps, mul-le-mul_right, div-mul-le_self)
+
+pub overflow_mul-result : goal.overflow_mul-result
+overflow_mul-result g c = grind (arith, common_steps, mul-le-mul_right, div-mul-le_self)
 
 pub returns-clause-walked : goal.returns-clause-walked
 returns-clause-walked g c =

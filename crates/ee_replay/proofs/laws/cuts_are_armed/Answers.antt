@@ -1,6 +1,5 @@
-use Rattle.std.proofs.Common.{rules}
 use Rattle.ee_replay.proofs.Arming.{each_cut_was_armed}
 use Rattle.ee_replay.proofs.laws.cuts_are_armed.Goals as goal
 
 pub returns : goal.returns
-returns c = search (rules, each_cut_was_armed)
+returns c = each_cut_was_armed

@@ -8,15 +8,15 @@ pub returns-in-Ok-finish-clause-opened : goal.returns-in-Ok-finish-clause-opened
 returns-in-Ok-finish-clause-opened g c =
     let old = g.F.Flash.device c.args.flash in
     let new = g.F.Flash.device c.finish.new.flash in
-    search (opens c.in-Ok.layout old new c.in-Ok.ensures.layout c.in-Ok-finish.ensures.stays c.in-Ok-finish.ensures.finished c.in-Ok-finish.ensures.shows (λ marked. (c.finish.ensures.no_step marked).1) c.in-Ok-finish.ensures.power.ok)
+    opens c.in-Ok.layout old new c.in-Ok.ensures.layout c.in-Ok-finish.ensures.stays c.in-Ok-finish.ensures.finished c.in-Ok-finish.ensures.shows (λ marked. (c.finish.ensures.no_step marked).1) c.in-Ok-finish.ensures.power.ok
 
 pub returns-in-Err-finish-clause-failed : goal.returns-in-Err-finish-clause-failed
 returns-in-Err-finish-clause-failed g c =
     let old = g.F.Flash.device c.args.flash in
     let new = g.F.Flash.device c.finish.new.flash in
-    search (opening_cut c.in-Ok.layout old new c.in-Ok.ensures.layout c.in-Err-finish.ensures.stays
+    opening_cut c.in-Ok.layout old new c.in-Ok.ensures.layout c.in-Err-finish.ensures.stays
     (λ marked. let none = c.finish.ensures.no_step marked in cc (none.0, c.in-Err-finish.is)) c.in-Err-finish.ensures.begun
-    (c.in-Err-finish.ensures.power.cut c.requires))
+    (c.in-Err-finish.ensures.power.cut c.requires)
 
 pub invariant_of-result : goal.invariant_of-result
 invariant_of-result g c =

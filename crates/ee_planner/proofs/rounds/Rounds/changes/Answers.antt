@@ -1,4 +1,4 @@
-use Rattle.std.proofs.Common.{◌*◌, rules}
+use Rattle.std.proofs.Common.{rules}
 use Rattle.ee_planner.proofs.Demanded.{length-repeated}
 use Rattle.ee_planner.proofs.rounds.Rounds.changes.Goals as goal
 
