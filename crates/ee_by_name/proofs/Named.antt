@@ -1,5 +1,5 @@
 -- What is read and set by name, and that one cause at most applies for which it is not.
-use Rattle.std.proofs.Common.{◌≡◌, ◌≢◌, ◌⊎◌, ◌∙◌, ℕ, List, inl, inr, refl, sym, ap, subst, Ok, Err, rules, [], ◌∷◌}
+use Rattle.std.proofs.Common.{◌≡◌, ◌≢◌, ◌⊎◌, ◌∙◌, ◌+◌, ℕ, List, inl, inr, refl, sym, ap, subst, Ok, Err, arith, rules, [], ◌∷◌}
 use Rattle.toml.specs.Data.{Members}
 use Rattle.ee_flash.specs.Device.{Device}
 use Rattle.ee_flash.specs.Size.{Size, slot_count}
@@ -23,6 +23,8 @@ use Rattle.ee_by_name.specs.Settings.{fault_of_schema, HasTree, IsGetFault, IsGo
 use Rattle.ee_faults.specs.declared.fault.Fault.{Fault}
 use Rattle.ee_faults.specs.declared.fault.Fault.TheVariants.{Memory, UnknownName}
 use Rattle.ee_image_store.proofs.Public.{both, by_append, by_move, no_memory_to_open, pages_since, same_at_rest, same_state}
+use Rattle.ee_image_store.specs.Erases.{ErasesRise, erases_left_by}
+use Rattle.ee_image_store.specs.Machine.{MachineStep}
 use Rattle.ee_image_store.specs.Opening.{IsOpened, IsStoreLeft, StaysOn}
 use Rattle.ee_image_store.specs.Steps.{Steps}
 
@@ -55,7 +57,9 @@ schema_named text tree why fault cause has rising gives told some (inr (inl h)) 
 pub schema_good : (text : List ℕ) (tree : Members) (settings : List Setting) (cause : Fault) → HasTree text tree → GivesSchema tree (Ok settings) → cause ≢ Memory → IsSettingsFault text cause → ⊥
 schema_good text tree settings cause has gives some (inl h) = h.1 tree has
 schema_good text tree settings cause has gives some (inr (inr h)) = some h
-schema_good text tree settings cause has gives some (inr (inl h)) = search (rules, never_refused, one_tree)
+schema_good text tree settings cause has gives some (inr (inl h)) =
+    never_refused tree settings h.cause (λ e. some (h.fault_is ∙ ap fault_of_schema e)) gives
+    (subst (λ (t : Members). GivesSchema t (Err h.cause)) (one_tree text h.tree tree h.has_tree has) h.applies)
 
 pub settings_good : (text : List ℕ) (settings : List Setting) (cause : Fault) → SpellsSettings text settings → cause ≢ Memory → IsSettingsFault text cause → ⊥
 settings_good text settings cause spelled some h = schema_good text spelled.tree settings cause spelled.has_tree spelled.schema some h
@@ -72,7 +76,10 @@ spelled_once text settings others spelled again = schema_once text spelled.tree 
 -- only want of memory refuses a text that spells settings
 pub schema_only : (text : List ℕ) (tree : Members) (why : SchemaFault) (fault : Fault) (others : List Setting) → HasTree text tree → GivesSchema tree (Err why) → fault ≡ fault_of_schema why → SpellsSettings text others
     → fault ≡ Memory
-schema_only text tree why fault others has gives told spelled = search (rules, never_refused, schema_memory_or, there_too)
+schema_only text tree why fault others has gives told spelled = elim (schema_memory_or why) [
+  | inl none ↦ told ∙ ap fault_of_schema none
+  | inr named ↦ absurd (never_refused tree others why named (there_too text tree others has spelled) gives)
+]
 
 -- ---- reading
 
@@ -123,7 +130,15 @@ is_written settings old new name value written.Moved on set = record {
 
 -- what was served by an opened store was served by what its text spells
 from_text : (image : List ℕ) (store new : Device) (command : Command) (answer : Answer) (opened : IsOpened image store) → Steps store command answer new → Steps opened.device command answer new
-from_text image store new command answer opened serves = search (rules, both)
+from_text image store new command answer opened serves =
+    let left = erases_left_by store.size answer in
+    let same : left ≡ 0 + left = omega arith in
+    record {
+      step = subst (λ (size : Size). MachineStep size (state_of opened.device) command answer (state_of new)) opened.same_size
+          (subst (λ (state : State). MachineStep store.size state command answer (state_of new)) opened.state_is serves.step);
+      same_size = serves.same_size ∙ opened.same_size;
+      erases = subst (λ (size : Size). ErasesRise (erases_left_by size answer) opened.device new) opened.same_size (both opened.device store new 0 left left opened.erases serves.erases same);
+    }
 
 served_from_text : (image : List ℕ) (store new : Device) (address value : ℕ) (opened : IsOpened image store) → IsWriteServed store address value new → IsWriteServed opened.device address value new
 served_from_text image store new address value opened (inl h) = inl (from_text image store new (Write address value) Appended opened h.0, h.1 ∙ opened.no_wear)
