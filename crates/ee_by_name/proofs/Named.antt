@@ -57,9 +57,7 @@ schema_named text tree why fault cause has rising gives told some (inr (inl h)) 
 pub schema_good : (text : List ℕ) (tree : Members) (settings : List Setting) (cause : Fault) → HasTree text tree → GivesSchema tree (Ok settings) → cause ≢ Memory → IsSettingsFault text cause → ⊥
 schema_good text tree settings cause has gives some (inl h) = h.1 tree has
 schema_good text tree settings cause has gives some (inr (inr h)) = some h
-schema_good text tree settings cause has gives some (inr (inl h)) =
-    never_refused tree settings h.cause (λ e. some (h.fault_is ∙ ap fault_of_schema e)) gives
-    (subst (λ (t : Members). GivesSchema t (Err h.cause)) (one_tree text h.tree tree h.has_tree has) h.applies)
+schema_good text tree settings cause has gives some (inr (inl h)) = search (rules, never_refused, one_tree)
 
 pub settings_good : (text : List ℕ) (settings : List Setting) (cause : Fault) → SpellsSettings text settings → cause ≢ Memory → IsSettingsFault text cause → ⊥
 settings_good text settings cause spelled some h = schema_good text spelled.tree settings cause spelled.has_tree spelled.schema some h
@@ -76,10 +74,7 @@ spelled_once text settings others spelled again = schema_once text spelled.tree 
 -- only want of memory refuses a text that spells settings
 pub schema_only : (text : List ℕ) (tree : Members) (why : SchemaFault) (fault : Fault) (others : List Setting) → HasTree text tree → GivesSchema tree (Err why) → fault ≡ fault_of_schema why → SpellsSettings text others
     → fault ≡ Memory
-schema_only text tree why fault others has gives told spelled = elim (schema_memory_or why) [
-  | inl none ↦ told ∙ ap fault_of_schema none
-  | inr named ↦ absurd (never_refused tree others why named (there_too text tree others has spelled) gives)
-]
+schema_only text tree why fault others has gives told spelled = search (rules, never_refused, schema_memory_or, there_too)
 
 -- ---- reading
 

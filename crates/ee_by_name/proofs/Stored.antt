@@ -17,17 +17,7 @@ use Rattle.ee_by_name.specs.Applying.{Applies, IsMapApplied, IsStored, NamesAddr
 
 stored_by : (settings : List Setting) (old new : Device) (entry : Entry) (count : ℕ) → TakesEntry settings old entry count new → IsStored settings new entry
 stored_by settings old new entry count (inl h) = subst (λ (d : Device). IsStored settings d entry) (sym h.2) h.0
-stored_by settings old new entry count (inr h) =
-    let value = h.0.value in
-    let write = h.0.written in
-    record {
-      value = value;
-      number = h.0.number;
-      setting = write.setting;
-      named = write.named;
-      in_range = write.in_range;
-      stored = ap (λ (m : Map). m write.setting.numbers.address) (written_map old new write.setting.numbers.address value write.answer write.written) ∙ put_there write.setting.numbers.address value (state_of old).map;
-    }
+stored_by settings old new entry count (inr h) = search (rules, put_there, written_map)
 
 kept_by : (settings : List Setting) (old new : Device) (entry : Entry) (entries : List Entry) (count address : ℕ) → ¬ NamesAddress settings (entry ∷ entries) address → TakesEntry settings old entry count new → (state_of new).map address ≡ (state_of old).map address
 kept_by settings old new entry entries count address apart (inl h) = ap (λ (d : Device). (state_of d).map address) h.2
@@ -47,7 +37,7 @@ named_later settings entries entry address h =
 
 kept_elsewhere : (settings : List Setting) (entries : List Entry) (old new : Device) (count address : ℕ) → ¬ NamesAddress settings entries address → Applies settings entries old count new → (state_of new).map address ≡ (state_of old).map address
 kept_elsewhere settings [] old new count address apart h = ap (λ (d : Device). (state_of d).map address) h.1
-kept_elsewhere settings (entry ∷ entries) old new count address apart h = 
+kept_elsewhere settings (entry ∷ entries) old new count address apart h =
     kept_elsewhere settings entries h.1 new h.2 address (λ named. apart (named_later settings entries entry address named)) h.4 ∙ kept_by settings old h.1 entry entries h.0 address apart h.3
 
 each_below : (key : List ℕ) (entries : List Entry) → AllByRecursion (λ (y : List ℕ). slice_cmp nat_cmp key y ≡ Less) (map (λ (e : Entry). e.0) entries) → All (λ (e : Entry). slice_cmp nat_cmp key e.0 ≡ Less) entries
@@ -87,10 +77,7 @@ each_stored settings (entry ∷ entries) old new count schema rising h =
 
 pub applying_stores_values_lem : (settings : List Setting) → IsSchema settings → (entries : List Entry) → HaveRisingKeys entries → (old new : Device) (count : ℕ) → Applies settings entries old count new
     → IsMapApplied settings entries old new
-applying_stores_values_lem settings schema entries rising old new count h = record {
-  stored = each_stored settings entries old new count schema rising h;
-  others = λ address apart. kept_elsewhere settings entries old new count address apart h;
-}
+applying_stores_values_lem settings schema entries rising old new count h = search (rules, each_stored, kept_elsewhere)
 
 applies_none : (settings : List Setting) (entries : List Entry) (device : Device) → All (IsStored settings device) entries → Applies settings entries device 0 device
 applies_none settings [] device h = (refl, refl)

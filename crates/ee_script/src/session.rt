@@ -200,6 +200,7 @@ impl<S: Serve + Drop, A: Allocator> Session<S, A> {
     }
 
     /// Judges and answers the line that an earlier piece began and that ends behind these bytes.
+    #[tactic(auto, using(crate::proofs::Steps::goes_at_feed, crate::proofs::Faults::fault_at_feed, crate::proofs::Faults::fault_before, crate::proofs::Faults::fault_when_long))]
     fn end_line(&mut self, bytes: &[u8]) -> Result<(), ScriptFault>
         requires { IsLine bytes.now }
         ensures done { OnOk result (Goes S.serves self.old (line_of bytes.now) self.new) }
@@ -230,6 +231,7 @@ impl<S: Serve + Drop, A: Allocator> Session<S, A> {
 
     /// Keeps the bytes of a line that isn't ended yet. They make it a bad line if they end it, since
     /// no good line begins so, or if they make it too long.
+    #[tactic(auto, using(crate::proofs::Steps::goes_keeping, crate::proofs::Faults::fault_when_long, crate::proofs::Faults::fault_within))]
     fn keep(&mut self, bytes: &[u8]) -> Result<(), ScriptFault>
         requires before { IsLine self.old.unfinished }
         requires none { NoLine (self.old.unfinished ++ bytes.now) }

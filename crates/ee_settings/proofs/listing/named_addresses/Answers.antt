@@ -1,4 +1,4 @@
-use Rattle.std.proofs.Common.{◌≡◌, ◌-◌, ◌+◌, arith, rules, drop, nat_cmp}
+use Rattle.std.proofs.Common.{◌≡◌, ◌-◌, ◌+◌, arith, drop, nat_cmp}
 use Rattle.std.proofs.lemmas.Grind.{common_steps}
 use Rattle.std.specs.BTreeMap.{get}
 use Rattle.ee_settings.proofs.Listings.{named_before}
