@@ -1,5 +1,5 @@
 -- What is read and set by name, and that one cause at most applies for which it is not.
-use Rattle.std.proofs.Common.{◌≡◌, ◌≢◌, ◌⊎◌, ◌∙◌, ◌+◌, ℕ, List, inl, inr, refl, sym, ap, subst, Ok, Err, arith, rules, [], ◌∷◌}
+use Rattle.std.proofs.Common.{◌≡◌, ◌≢◌, ◌⊎◌, ◌∙◌, ℕ, List, inl, inr, refl, sym, ap, subst, Ok, Err, arith, rules, [], ◌∷◌}
 use Rattle.toml.specs.Data.{Members}
 use Rattle.ee_flash.specs.Device.{Device}
 use Rattle.ee_flash.specs.Size.{Size, slot_count}
@@ -126,13 +126,11 @@ is_written settings old new name value written.Moved on set = record {
 -- what was served by an opened store was served by what its text spells
 from_text : (image : List ℕ) (store new : Device) (command : Command) (answer : Answer) (opened : IsOpened image store) → Steps store command answer new → Steps opened.device command answer new
 from_text image store new command answer opened serves =
-    let left = erases_left_by store.size answer in
-    let same : left ≡ 0 + left = omega arith in
     record {
       step = subst (λ (size : Size). MachineStep size (state_of opened.device) command answer (state_of new)) opened.same_size
           (subst (λ (state : State). MachineStep store.size state command answer (state_of new)) opened.state_is serves.step);
       same_size = serves.same_size ∙ opened.same_size;
-      erases = subst (λ (size : Size). ErasesRise (erases_left_by size answer) opened.device new) opened.same_size (both opened.device store new 0 left left opened.erases serves.erases same);
+      erases = subst (λ (size : Size). ErasesRise (erases_left_by size answer) opened.device new) opened.same_size (both opened.device store new 0 (erases_left_by store.size answer) (erases_left_by store.size answer) opened.erases serves.erases (omega arith));
     }
 
 served_from_text : (image : List ℕ) (store new : Device) (address value : ℕ) (opened : IsOpened image store) → IsWriteServed store address value new → IsWriteServed opened.device address value new

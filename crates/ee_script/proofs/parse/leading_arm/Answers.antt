@@ -1,5 +1,4 @@
 use Rattle.std.proofs.Common.{◌≡◌, ◌∙◌, ◌+◌, ap, arith}
-use Rattle.std.proofs.lemmas.Grind.{common_steps}
 use Rattle.ee_script.proofs.Spelling.{cut_behind_step}
 use Rattle.ee_script.proofs.Reading.{same_fuse}
 use Rattle.ee_script.specs.declared.command.Command.TheVariants as commands
@@ -35,6 +34,3 @@ returns-clause-only c = λ fuse behind fits spelled.
     let after : c.in_ok-after.after ≡ fuse.after = omega (arith, step, c.in_ok-after.ensures) in
     let torn = c.in_ok-tear.ensures.only fuse.tear behind (ap (λ r. r.now) c.in_default-Some.rest-is ∙ parts.1) in
     (ap commands.Arm (same_fuse _ fuse after torn.0), torn.1)
-
-pub returns-in_default-clause-only : goal.returns-in_default-clause-only
-returns-in_default-clause-only c = grind (arith, common_steps)

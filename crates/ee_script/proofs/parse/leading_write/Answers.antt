@@ -7,6 +7,3 @@ returns-in_err-value-clause-only g c = grind (arith, common_steps)
 
 pub returns-clause-only : goal.returns-clause-only
 returns-clause-only g c = grind (arith, common_steps)
-
-pub returns-in_default-clause-only : goal.returns-in_default-clause-only
-returns-in_default-clause-only c = grind (arith, common_steps)
