@@ -1,5 +1,5 @@
 -- What is read and set by name, and that one cause at most applies for which it is not.
-use Rattle.std.proofs.Common.{◌≡◌, ◌≢◌, ◌⊎◌, ◌∙◌, ℕ, List, inl, inr, refl, sym, ap, subst, Ok, Err, rules, [], ◌∷◌}
+use Rattle.std.proofs.Common.{◌≡◌, ◌≢◌, ◌⊎◌, ◌∙◌, ℕ, List, inl, inr, refl, sym, ap, subst, Ok, Err, arith, rules, [], ◌∷◌}
 use Rattle.toml.specs.Data.{Members}
 use Rattle.ee_flash.specs.Device.{Device}
 use Rattle.ee_flash.specs.Size.{Size, slot_count}
@@ -23,6 +23,8 @@ use Rattle.ee_by_name.specs.Settings.{fault_of_schema, HasTree, IsGetFault, IsGo
 use Rattle.ee_faults.specs.declared.fault.Fault.{Fault}
 use Rattle.ee_faults.specs.declared.fault.Fault.TheVariants.{Memory, UnknownName}
 use Rattle.ee_image_store.proofs.Public.{both, by_append, by_move, no_memory_to_open, pages_since, same_at_rest, same_state}
+use Rattle.ee_image_store.specs.Erases.{ErasesRise, erases_left_by}
+use Rattle.ee_image_store.specs.Machine.{MachineStep}
 use Rattle.ee_image_store.specs.Opening.{IsOpened, IsStoreLeft, StaysOn}
 use Rattle.ee_image_store.specs.Steps.{Steps}
 
@@ -123,7 +125,13 @@ is_written settings old new name value written.Moved on set = record {
 
 -- what was served by an opened store was served by what its text spells
 from_text : (image : List ℕ) (store new : Device) (command : Command) (answer : Answer) (opened : IsOpened image store) → Steps store command answer new → Steps opened.device command answer new
-from_text image store new command answer opened serves = search (rules, both)
+from_text image store new command answer opened serves =
+    record {
+      step = subst (λ (size : Size). MachineStep size (state_of opened.device) command answer (state_of new)) opened.same_size
+          (subst (λ (state : State). MachineStep store.size state command answer (state_of new)) opened.state_is serves.step);
+      same_size = serves.same_size ∙ opened.same_size;
+      erases = subst (λ (size : Size). ErasesRise (erases_left_by size answer) opened.device new) opened.same_size (both opened.device store new 0 (erases_left_by store.size answer) (erases_left_by store.size answer) opened.erases serves.erases (omega arith));
+    }
 
 served_from_text : (image : List ℕ) (store new : Device) (address value : ℕ) (opened : IsOpened image store) → IsWriteServed store address value new → IsWriteServed opened.device address value new
 served_from_text image store new address value opened (inl h) = inl (from_text image store new (Write address value) Appended opened h.0, h.1 ∙ opened.no_wear)

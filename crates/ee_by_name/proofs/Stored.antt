@@ -19,18 +19,15 @@ stored_by : (settings : List Setting) (old new : Device) (entry : Entry) (count 
 stored_by settings old new entry count (inl h) = subst (λ (d : Device). IsStored settings d entry) (sym h.2) h.0
 stored_by settings old new entry count (inr h) = search (rules, put_there, written_map)
 
-kept_by : (settings : List Setting) (old new : Device) (entry : Entry) (count address : ℕ) → ¬ NamesAddress settings (entry ∷ []) address → TakesEntry settings old entry count new → (state_of new).map address ≡ (state_of old).map address
-kept_by settings old new entry count address apart (inl h) = ap (λ (d : Device). (state_of d).map address) h.2
-kept_by settings old new entry count address apart (inr h) =
+kept_by : (settings : List Setting) (old new : Device) (entry : Entry) (entries : List Entry) (count address : ℕ) → ¬ NamesAddress settings (entry ∷ entries) address → TakesEntry settings old entry count new → (state_of new).map address ≡ (state_of old).map address
+kept_by settings old new entry entries count address apart (inl h) = ap (λ (d : Device). (state_of d).map address) h.2
+kept_by settings old new entry entries count address apart (inr h) =
     let write = h.0.written in
-    let here : 0 < length (entry ∷ []) = omega arith in
+    let here : 0 < length (entry ∷ entries) = omega arith in
     let other : write.setting.numbers.address ≢ address = λ same. apart (entry, (0, here, refl), write.setting, write.named, same) in
     ap (λ (m : Map). m address) (written_map old new write.setting.numbers.address h.0.value write.answer write.written) ∙ changed_elsewhere write.setting.numbers.address h.0.value address (state_of old).map other
 
 -- ---- all of them
-
-named_first : (settings : List Setting) (entries : List Entry) (entry : Entry) (address : ℕ) → NamesAddress settings (entry ∷ []) address → NamesAddress settings (entry ∷ entries) address
-named_first settings entries entry address h = search rules
 
 named_later : (settings : List Setting) (entries : List Entry) (entry : Entry) (address : ℕ) → NamesAddress settings entries address → NamesAddress settings (entry ∷ entries) address
 named_later settings entries entry address h =
@@ -40,7 +37,8 @@ named_later settings entries entry address h =
 
 kept_elsewhere : (settings : List Setting) (entries : List Entry) (old new : Device) (count address : ℕ) → ¬ NamesAddress settings entries address → Applies settings entries old count new → (state_of new).map address ≡ (state_of old).map address
 kept_elsewhere settings [] old new count address apart h = ap (λ (d : Device). (state_of d).map address) h.1
-kept_elsewhere settings (entry ∷ entries) old new count address apart h = search (rules, kept_by, named_first, named_later, (kept_elsewhere settings entries h.1 new h.2 address (λ named. apart (named_later settings entries entry address named)) h.4))
+kept_elsewhere settings (entry ∷ entries) old new count address apart h =
+    kept_elsewhere settings entries h.1 new h.2 address (λ named. apart (named_later settings entries entry address named)) h.4 ∙ kept_by settings old h.1 entry entries h.0 address apart h.3
 
 each_below : (key : List ℕ) (entries : List Entry) → AllByRecursion (λ (y : List ℕ). slice_cmp nat_cmp key y ≡ Less) (map (λ (e : Entry). e.0) entries) → All (λ (e : Entry). slice_cmp nat_cmp key e.0 ≡ Less) entries
 each_below key [] h = All-nil (λ (e : Entry). slice_cmp nat_cmp key e.0 ≡ Less)

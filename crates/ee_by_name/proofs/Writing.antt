@@ -1,5 +1,5 @@
 -- Texts written piece by piece.
-use Rattle.std.proofs.Common.{◌≡◌, ◌<◌, ◌+◌, ℕ, List, [], ◌++◌, append_assoc, codes, get_or, length, refl, take, rules, Ok, Err, Result}
+use Rattle.std.proofs.Common.{◌≡◌, ◌<◌, ◌+◌, ℕ, List, ◌++◌, append_assoc, codes, get_or, length, take, rules, Ok, Err, Result}
 use Rattle.std.specs.Bool.{if◌then◌else◌}
 use Rattle.std.specs.Result.{OnOk, is_ok}
 use Rattle.std.proofs.lemmas.List.{flat_map_more, take_more}
@@ -19,9 +19,11 @@ pub one_more : (of : Setting → List ℕ) (settings : List Setting) (i : ℕ) (
     → now ≡ so_far ++ of setting → now ≡ old ++ flat_map of (take (i + 1) settings)
 one_more of settings i setting old so_far now here within before written = search (rules, flat_map_more, take_more)
 
--- five pieces from nothing on
-pub five_pieces : (a b c d e none first second third fourth fifth : List ℕ) → none ≡ [] → first ≡ none ++ a → second ≡ first ++ b → third ≡ second ++ c → fourth ≡ third ++ d → fifth ≡ fourth ++ e → fifth ≡ a ++ b ++ c ++ d ++ e
-five_pieces a b c d e none first second third fourth fifth h0 h1 h2 h3 h4 h5 = rw (h5, h4, h3, h2, h1, h0) refl
+-- five pieces, where the last of them went well
+pub five_pieces : {T E : Type 0} (made : Result T E) (a b c d e old first second third fourth fifth : List ℕ) → first ≡ old ++ a → second ≡ first ++ b → third ≡ second ++ c → fourth ≡ third ++ d
+    → fifth ≡ (if is_ok made then fourth ++ e else fourth) → OnOk made (fifth ≡ old ++ (a ++ b ++ c ++ d ++ e))
+five_pieces (Ok done) a b c d e old first second third fourth fifth h1 h2 h3 h4 h5 = rw (h5, h4, h3, h2, h1) (simp append_assoc)
+five_pieces (Err why) a b c d e old first second third fourth fifth h1 h2 h3 h4 h5 = tt
 
 -- the constants of a setting
 pub constants_made : (language : Language) (setting : Setting) (name old line first second third last : List ℕ) → name ≡ in_capitals setting.name → line ≡ old ++ codes "\n"

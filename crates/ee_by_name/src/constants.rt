@@ -1,5 +1,5 @@
 //! The settings as constants of a program, in C or in Rust.
-ghost use Rattle.std.specs.Prelude.{◌≡◌, ◌++◌, IfOk, OnOk, string_bytes};
+ghost use Rattle.std.specs.Prelude.{◌≡◌, ◌++◌, OnOk, string_bytes};
 ghost use Rattle.std.specs.List.{flat_map};
 ghost use Rattle.ee_by_name.specs.Header.{c_header, constant_in, constants_in, row_in, rust_header, rust_list};
 
@@ -7,40 +7,38 @@ use crate::language::Language;
 use ee_settings::{Numbers, Setting};
 use std::alloc::{AllocError, Allocator};
 
-/// The header of these settings in C.
-pub(crate) fn c_header<A: Allocator + Copy>(
+/// Writes the header of these settings in C. After an error there may be a part of it.
+pub(crate) fn push_c_header<A: Allocator + Copy>(
     alloc: A,
+    out: &mut String<A>,
     settings: &[Setting<A>],
-) -> Result<String<A>, AllocError>
-    ensures { IfOk result (λ text. string_bytes text ≡ c_header settings.now) }
+) -> Result<(), AllocError>
+    ensures { OnOk result (string_bytes out.new ≡ string_bytes out.old ++ c_header settings.now) }
 {
-    let mut out = String::new(alloc);
     out.push_str(
         "/* Made by `ee header` from a file of settings. */\n\
          #ifndef EE_SETTINGS_H\n\
          #define EE_SETTINGS_H\n",
     )?;
-    push_each_constant(alloc, &mut out, settings, Language::C)?;
+    push_each_constant(alloc, out, settings, Language::C)?;
     out.push_str("\n#define EE_SETTINGS(SETTING)")?;
-    push_rows(alloc, &mut out, settings, Language::C)?;
-    out.push_str("\n\n#endif\n")?;
-    Ok(out)
+    push_rows(alloc, out, settings, Language::C)?;
+    out.push_str("\n\n#endif\n")
 }
 
-/// The header of these settings in Rust.
-pub(crate) fn rust_header<A: Allocator + Copy>(
+/// Writes the header of these settings in Rust. After an error there may be a part of it.
+pub(crate) fn push_rust_header<A: Allocator + Copy>(
     alloc: A,
+    out: &mut String<A>,
     settings: &[Setting<A>],
-) -> Result<String<A>, AllocError>
-    ensures { IfOk result (λ text. string_bytes text ≡ rust_header settings.now) }
+) -> Result<(), AllocError>
+    ensures { OnOk result (string_bytes out.new ≡ string_bytes out.old ++ rust_header settings.now) }
 {
-    let mut out = String::new(alloc);
     out.push_str("// Made by `ee header --rust` from a file of settings.\n")?;
-    push_each_constant(alloc, &mut out, settings, Language::Rust)?;
-    push_rust_list_head(&mut out, settings.len() as u64)?;
-    push_rows(alloc, &mut out, settings, Language::Rust)?;
-    out.push_str("];\n")?;
-    Ok(out)
+    push_each_constant(alloc, out, settings, Language::Rust)?;
+    push_rust_list_head(out, settings.len() as u64)?;
+    push_rows(alloc, out, settings, Language::Rust)?;
+    out.push_str("];\n")
 }
 
 /// Writes the constants of each setting. After an error there may be a part of them.

@@ -4,7 +4,7 @@ ghost use Rattle.ee_by_name.specs.Settings.{IsSettingsFault};
 ghost use Rattle.ee_by_name.specs.Header.{IsHeader, header};
 ghost use Rattle.ee_faults.specs.Causes.{NamesEach};
 
-use crate::constants::{c_header, rust_header};
+use crate::constants::{push_c_header, push_rust_header};
 use crate::language::Language;
 use crate::opening::read_schema;
 use ee_faults::Fault;
@@ -44,8 +44,10 @@ fn header_of<A: Allocator + Copy>(
 ) -> Result<String<A>, AllocError>
     ensures { IfOk result (λ text. string_bytes text ≡ header language settings.now) }
 {
+    let mut out = String::new(alloc);
     match language {
-        Language::C => c_header(alloc, settings),
-        Language::Rust => rust_header(alloc, settings),
+        Language::C => push_c_header(alloc, &mut out, settings)?,
+        Language::Rust => push_rust_header(alloc, &mut out, settings)?,
     }
+    Ok(out)
 }

@@ -84,27 +84,14 @@ fn lines_on<A: Allocator + Copy>(
         ≡ listed_lines schema.now (listed_in schema.now (state_of store.now).map)) }
     ensures fault { IfErr result (λ fault. fault ≡ Fault.Memory) }
 {
-    let listed = list_on(alloc, store, schema)?;
+    let listed = match schema.list(alloc, store) {
+        Ok(listed) => listed,
+        Err(ListFault::Memory) => return Err(Fault::Memory),
+        Err(ListFault::Off) => unreachable!("power stays on"),
+    };
     let mut text = Vec::new(alloc);
     push_lines(&mut text, schema, listed.as_slice())?;
     Ok(text)
-}
-
-/// What a store whose power stays on holds.
-fn list_on<A: Allocator + Copy>(
-    alloc: A,
-    store: &Store<MemFlash<A>>,
-    schema: &Schema<A>,
-) -> Result<Vec<Listed, A>, AllocError>
-    requires { StaysOn store.now }
-    ensures { IfOk result (λ listed. listed.items
-        ≡ listed_in schema.now (state_of store.now).map) }
-{
-    match schema.list(alloc, store) {
-        Ok(listed) => Ok(listed),
-        Err(ListFault::Memory) => Err(AllocError),
-        Err(ListFault::Off) => unreachable!("power stays on"),
-    }
 }
 
 /// Writes the lines of listed addresses. After an error there may be a part of them.

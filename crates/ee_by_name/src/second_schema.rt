@@ -178,14 +178,7 @@ fn tidied_line<A: Allocator + Copy>(alloc: A, count: u64) -> Result<Vec<u8, A>, 
     ensures { IfOk result (λ line. line.items ≡ tidied_text count) }
 {
     let mut line = Vec::new(alloc);
-    push_tidied(&mut line, count)?;
+    push_number_behind(&mut line, b"tidied ", count)?;
+    line.extend_from_slice(b"\n")?;
     Ok(line)
-}
-
-/// Writes how many addresses were forgotten. After an error there may be a part of the line.
-fn push_tidied<A: Allocator>(out: &mut Vec<u8, A>, count: u64) -> Result<(), AllocError>
-    ensures { OnOk result (out.new.items ≡ out.old.items ++ tidied_text count) }
-{
-    push_number_behind(out, b"tidied ", count)?;
-    out.extend_from_slice(b"\n")
 }

@@ -1,9 +1,9 @@
 //! The commands that read and set a setting by its name.
-ghost use Rattle.std.specs.Prelude.{◌≡◌, ◌⊎◌, ◌++◌, IfOk, IfErr, IfSome, IfNone, OnOk};
+ghost use Rattle.std.specs.Prelude.{◌≡◌, ◌⊎◌, ◌++◌, IfOk, IfErr, OnOk};
 ghost use Rattle.ee_text.specs.Line.{line_of};
 ghost use Rattle.ee_core.specs.State.{state_of};
 ghost use Rattle.ee_settings.specs.Calls.{IsUnknown};
-ghost use Rattle.ee_by_name.specs.Settings.{IsGetFault, IsGot, IsReadingLine, IsSettingRead, IsSettingRefused, IsSet, IsSetFault, IsWritten, LeavesSet, reading_text};
+ghost use Rattle.ee_by_name.specs.Settings.{IsGetFault, IsGot, IsReadingLine, IsSettingRefused, IsSet, IsSetFault, IsWritten, LeavesSet, reading_text};
 ghost use Rattle.ee_image_store.specs.Opening.{StaysOn};
 ghost use Rattle.ee_faults.specs.Causes.{NamesEach};
 
@@ -84,29 +84,14 @@ fn reading_on<A: Allocator + Copy>(
     ensures fault { IfErr result (λ fault.
         (IsUnknown schema.now name.now × (fault ≡ Fault.UnknownName)) ⊎ (fault ≡ Fault.Memory)) }
 {
-    let Some(reading) = read_on(store, schema, name) else {
-        return Err(Fault::UnknownName);
+    let reading = match schema.get(store, name) {
+        Ok(reading) => reading,
+        Err(GetFault::UnknownName) => return Err(Fault::UnknownName),
+        Err(GetFault::Off) => unreachable!("power stays on"),
     };
     let mut text = Vec::new(alloc);
     push_reading(&mut text, reading)?;
     Ok(text)
-}
-
-/// What the setting of a name reads as, if there is one.
-fn read_on<A: Allocator>(
-    store: &Store<MemFlash<A>>,
-    schema: &Schema<A>,
-    name: &str,
-) -> Option<Reading>
-    requires { StaysOn store.now }
-    ensures found { IfSome result (IsSettingRead schema.now (state_of store.now) name.now) }
-    ensures none { IfNone result (IsUnknown schema.now name.now) }
-{
-    match schema.get(store, name) {
-        Ok(reading) => Some(reading),
-        Err(GetFault::UnknownName) => None,
-        Err(GetFault::Off) => unreachable!("power stays on"),
-    }
 }
 
 /// Writes a value for the setting of a name in a store whose power stays on, and gives what this leaves.

@@ -30,8 +30,7 @@ pub fn format_image<A: Allocator + Copy>(alloc: A, shape: Shape) -> Result<Vec<u
     ensures fault { IfErr result (λ fault. fault ≡ Fault.Memory) }
 {
     let store = new_store(alloc, shape)?;
-    let image = text_left(alloc, store)?;
-    Ok(image)
+    Ok(text_left(alloc, store)?)
 }
 
 /// Erases each page that waits for it in the image that a text spells, and gives the text of the image

@@ -163,17 +163,7 @@ fn push_fitting<A: Allocator>(
     ensures { OnOk result (out.new.items
         ≡ out.old.items ++ line_of (fitting_text cycles pages slots transfers limit)) }
 {
-    let erases = erases_of(transfers);
-    let least = least_of(transfers);
-    push_numbers(
-        out,
-        pages as u64,
-        slots as u64,
-        transfers,
-        erases,
-        least,
-        limit,
-    )?;
+    push_numbers(out, pages as u64, slots as u64, transfers, limit)?;
     out.extend_from_slice(b" ")?;
     push_verdict(out, transfers, limit, cycles)?;
     out.extend_from_slice(b"\n")
@@ -185,18 +175,16 @@ fn push_numbers<A: Allocator>(
     pages: u64,
     slots: u64,
     transfers: u64,
-    erases: u64,
-    least: u64,
     limit: u64,
 ) -> Result<(), AllocError>
-    ensures { OnOk result (out.new.items
-        ≡ out.old.items ++ numbers_text pages slots transfers erases least limit) }
+    ensures { OnOk result (out.new.items ≡ out.old.items
+        ++ numbers_text pages slots transfers (erases_for transfers) (least_for transfers) limit) }
 {
     push_number_behind(out, b"pages ", pages)?;
     push_number_behind(out, b" slots ", slots)?;
     push_number_behind(out, b" transfers ", transfers)?;
-    push_number_behind(out, b" erases ", erases)?;
-    push_number_behind(out, b" least ", least)?;
+    push_number_behind(out, b" erases ", erases_of(transfers))?;
+    push_number_behind(out, b" least ", least_of(transfers))?;
     push_number_behind(out, b" limit ", limit)?;
     Ok(())
 }

@@ -47,8 +47,7 @@ fn whole_wear<A: Allocator + Copy>(alloc: A, image: &[u8]) -> Result<Vec<u8, A>,
     ensures fault { IfErr result (IsWearFault image.now None) }
 {
     let ledger = read_ledger(alloc, File::Image, image)?;
-    let text = text_of_ledger(alloc, &ledger)?;
-    Ok(text)
+    Ok(text_of_ledger(alloc, &ledger)?)
 }
 
 /// The wear that came between the image before and this one.
@@ -63,8 +62,7 @@ fn wear_since<A: Allocator + Copy>(
     let ledger = read_ledger(alloc, File::Image, image)?;
     let old = read_ledger(alloc, File::Before, before)?;
     let since = ledger.since(alloc, &old)?;
-    let text = text_of_ledger(alloc, &since)?;
-    Ok(text)
+    Ok(text_of_ledger(alloc, &since)?)
 }
 
 /// The ledger of the image that the text of a file spells.
@@ -76,8 +74,7 @@ fn read_ledger<A: Allocator + Copy>(alloc: A, file: File, image: &[u8]) -> Resul
         Ok(flash) => flash,
         Err(fault) => return Err(Fault::image(file, fault)),
     };
-    let ledger = Ledger::of(alloc, &flash)?;
-    Ok(ledger)
+    Ok(Ledger::of(alloc, &flash)?)
 }
 
 /// A ledger's counts as text.

@@ -196,8 +196,7 @@ impl<S: Serve + Drop, A: Allocator> Session<S, A> {
             self.answer(command)?;
             rest = behind;
         }
-        self.keep(rest)?;
-        Ok(())
+        self.keep(rest)
     }
 
     /// Judges and answers the line that an earlier piece began and that ends behind these bytes.
@@ -215,8 +214,7 @@ impl<S: Serve + Drop, A: Allocator> Session<S, A> {
             return Err(self.bad_line());
         };
         self.unfinished.clear();
-        self.answer(command)?;
-        Ok(())
+        self.answer(command)
     }
 
     /// Answers the command of the next line, with nothing unfinished before it.

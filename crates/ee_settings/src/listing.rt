@@ -136,11 +136,18 @@ fn push_listed<A: Allocator>(
 ) -> Result<(), AllocError>
     ensures { OnOk result (listed.new.items ≡ listed.old.items ++ listed_of address named value) }
 {
-    let (entry, held) = match (named, value) {
-        (None, None) => return Ok(()),
-        (None, Some(value)) => (None, Held::Value(value)),
-        (Some((entry, numbers)), None) => (Some(entry), Held::Default(numbers.default)),
-        (Some((entry, numbers)), Some(value)) => (Some(entry), numbers.held(value)),
+    let (entry, held) = match named {
+        Some((entry, numbers)) => {
+            let held = match value {
+                Some(value) => numbers.held(value),
+                None => Held::Default(numbers.default),
+            };
+            (Some(entry), held)
+        }
+        None => match value {
+            Some(value) => (None, Held::Value(value)),
+            None => return Ok(()),
+        },
     };
     listed.push(Listed {
         address,

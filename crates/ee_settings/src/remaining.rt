@@ -52,12 +52,13 @@ impl<'a, T: Copy> Remaining<'a, T> {
         ensures found { result ≡ first_at address self.old }
         ensures left { self.new ≡ behind_at address self.old }
     {
-        let (first, value) = self.first?;
-        if first != address {
-            return None;
+        if let Some((first, value)) = self.first {
+            if first == address {
+                self.first = next_of(&mut self.behind);
+                return Some(value);
+            }
         }
-        self.first = next_of(&mut self.behind);
-        Some(value)
+        None
     }
 }
 

@@ -3,4 +3,4 @@ use Rattle.std.proofs.lemmas.Grind.{common_steps}
 use Rattle.ee_commands.proofs.sizing.push_numbers.Goals as goal
 
 pub returns : goal.returns
-returns g c = grind (arith, common_steps)
+returns g c = rw (← c.erases_of.ensures, ← c.least_of.ensures) (grind (arith, common_steps))

@@ -1,4 +1,4 @@
-use Rattle.std.proofs.Common.{◌≡◌, ◌-◌, ◌+◌, arith, rules, drop, nat_cmp}
+use Rattle.std.proofs.Common.{◌≡◌, ◌-◌, ◌+◌, arith, drop, nat_cmp}
 use Rattle.std.proofs.lemmas.Grind.{common_steps}
 use Rattle.std.specs.BTreeMap.{get}
 use Rattle.ee_settings.proofs.Listings.{named_before}
@@ -16,7 +16,7 @@ loop-index-preserved g c =
 pub returns : goal.returns
 returns g c =
     let first : c.loop-index.index ≡ 0 = omega arith in
-    search (rules, first, c.loop-index.invariant)
+    rw first at c.loop-index.invariant
 
 pub loop-index-init : goal.loop-index-init
 loop-index-init g c = grind (arith, common_steps)
