@@ -4,7 +4,7 @@ use Rattle.std.specs.Prelude.{Result, Ok, Err, IsErr, OnOk}
 use Rattle.std.proofs.lemmas.Bool.{cases_Bool, true≢false}
 use Rattle.ee_flash.specs.Device.{Device, IsOff, IsOn, page_at}
 use Rattle.ee_flash.specs.Power.{Ends, GoesOn}
-use Rattle.ee_flash.specs.Step.{IsCutIn, IsUntouched, Step, device_after}
+use Rattle.ee_flash.specs.Step.{IsCutIn, IsUntouched, Program, Step, device_after}
 use Rattle.ee_pages.specs.Page.{is_marked, marking}
 use Rattle.ee_flash.specs.Laws.{IsStep}
 use Rattle.ee_pages.proofs.Public.{step_keeps_other_pages}
@@ -40,15 +40,15 @@ ends_in_step {old = old} {mid = mid} {new = new} step (Err error) is on (inl cut
 }
 ends_in_step {mid = mid} step (Err error) is on (inr none) = record { ok = tt; cut = λ was. absurd (not_both mid (on.same_power ∙ was) none.was_off); off = λ was. none.same ∙ on.same_while_off was }
 
--- a mark that was set
-pub goes_on_marked : {new : Device} (page : ℕ) (mark : Mark) (old : Device) → IsOn old → new ≡ device_after (marking page mark) old → GoesOn old new
-goes_on_marked page mark old on done = rw done (record { same_size = refl; same_power = refl; same_cuts = refl; same_cuts_left = refl; same_while_off = λ off. absurd (not_both old on off) })
+-- a word that was programmed
+pub goes_on_programmed : {new : Device} (page at value : ℕ) (old : Device) → IsOn old → new ≡ device_after (Program page at value) old → GoesOn old new
+goes_on_programmed page at value old on done = rw done (record { same_size = refl; same_power = refl; same_cuts = refl; same_cuts_left = refl; same_while_off = λ off. absurd (not_both old on off) })
 
 -- or was set before
 pub goes_on_mark : {new : Device} (page : ℕ) (mark : Mark) (old : Device) → (is_marked old page mark ≡ true → new ≡ old) → (is_marked old page mark ≡ false → IsOn old) → (is_marked old page mark ≡ false → new ≡ device_after (marking page mark) old) → GoesOn old new
 goes_on_mark page mark old present on done = elim (cases_Bool (is_marked old page mark)) [
   | inl set ↦ rw (present set) (goes_on_same old)
-  | inr unset ↦ goes_on_marked page mark old (on unset) (done unset)
+  | inr unset ↦ goes_on_programmed _ _ _ old (on unset) (done unset)
 ]
 
 -- the pages apart from that of a step

@@ -4,7 +4,7 @@ use Rattle.std.specs.Result.{OnErr}
 use Rattle.std.proofs.lemmas.Bool.{cases_eq}
 use Rattle.ee_flash.specs.Device.{Device, IsOn, all_ones, word_at}
 use Rattle.ee_flash.specs.Laws.{CanTake, IsStep}
-use Rattle.ee_flash.specs.Size.{slot_count}
+use Rattle.ee_flash.specs.Size.{page_count, slot_count}
 use Rattle.ee_flash.specs.Step.{Step, Program, IsCutIn, IsUntouched, MayFollow, device_after}
 use Rattle.ee_flash.specs.declared.word.Word.{Word}
 use Rattle.ee_flash.specs.declared.word.Word.TheVariants.{Erased, Held}
@@ -55,6 +55,15 @@ slot_erased side generation fill old live fill_is free =
 module _ (side : Side) (generation fill first words : ℕ) (old : Device) (live : IsLive old side generation) (fill_is : fill ≡ fill_of (slots_of (set_of side old))) (free : fill < slot_count old.size) (first_is : first ≡ first_page old.size side) (words_is : words ≡ old.size.words) where
   pub free_slot_erased : word_at old (first + fill / (words - 4)) (4 + fill % (words - 4)) ≡ Erased
   free_slot_erased = rw (first_is, words_is) (slot_erased side generation fill old live fill_is free)
+
+  pub slot_page : first + fill / (words - 4) ≡ first_page old.size side + page_of_slot old.size fill
+  slot_page = rw (first_is, words_is) refl
+
+  pub slot_place : 4 + fill % (words - 4) ≡ place_of_slot old.size fill
+  slot_place = rw words_is refl
+
+  pub slot_in_device : first + fill / (words - 4) < page_count old.size
+  slot_in_device = rw slot_page (page_in_device old.size side (page_of_slot old.size fill) (page_in_range old fill free))
 
   -- a change in it
   module _ (new : Device) (change : Change) (number : ℕ) (spells : SpellsChange number change) (below : number < all_ones) where

@@ -47,9 +47,9 @@ pub valid_behind : (layout : Layout) (device : Device) (page : ℕ) → IsLayout
 valid_behind layout device page is from below =
     mark_behind layout device (page - first_page device.size layout.side) Valid is (omega (arith, last_is layout device is, from, below)) (inr refl)
 
-pub active_behind : (layout : Layout) (device : Device) → IsLayout device layout → IsMarkBehind device layout.side (layout.current - first_page device.size layout.side) Active
-active_behind layout device is =
-    mark_behind layout device (layout.current - first_page device.size layout.side) Active is (omega (arith, last_is layout device is)) (inl refl)
+pub last_behind : (layout : Layout) (device : Device) (mark : Mark) → IsLayout device layout → (mark ≡ Active) ⊎ (mark ≡ Valid) → IsMarkBehind device layout.side (layout.current - first_page device.size layout.side) mark
+last_behind layout device mark is kind =
+    mark_behind layout device (layout.current - first_page device.size layout.side) mark is (omega (arith, last_is layout device is)) kind
 
 -- where the live set is marked, each mark is set
 pub valid_already : (layout : Layout) (device : Device) (page : ℕ) → IsLayout device layout → IsLiveMarked device layout.side → first_page device.size layout.side ≤ page → page < layout.current → is_marked device page Valid ≡ true

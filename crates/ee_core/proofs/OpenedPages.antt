@@ -1,5 +1,5 @@
 -- The page of the first free slot, and what marks it.
-use Rattle.std.proofs.Common.{rules, ◌≡◌, ◌≢◌, ◌⊎◌, inl, inr, ℕ, ◌+◌, ◌-◌, ◌*◌, ◌<◌, ◌/◌, ◌%◌, true, sym, subst, ap, ◌∙◌, arith}
+use Rattle.std.proofs.Common.{rules, ◌≡◌, ◌≢◌, ◌⊎◌, inl, inr, ℕ, ◌+◌, ◌-◌, ◌*◌, ◌<◌, ◌/◌, ◌%◌, true, refl, sym, subst, ap, ◌∙◌, arith}
 use Rattle.std.proofs.Math.Nat.{div-add-mod, div-mul-le_self}
 use Rattle.std.proofs.lemmas.Bool.{cases_lt}
 use Rattle.std.proofs.lemmas.Nat.{div-mul-add}
@@ -87,7 +87,15 @@ module _ (old : Device) (layout : Layout) (found : IsLayout old layout) (free : 
 
     -- the further page may be marked
     pub next_behind : (mid : Device) → Stays old mid layout.side layout.generation → IsMarkBehind mid layout.side (layout.current + 1 - first_page mid.size layout.side) Active
-    next_behind mid stays = search (rules, next_is, page_in_range, div-mul-le_self)
+    next_behind mid stays =
+        let size = stays.keeps.same_size in
+        let page : layout.current + 1 - first_page mid.size layout.side ≡ page_of_slot mid.size layout.fill =
+        omega (arith, next_is, ap (λ (size : Size). first_page size layout.side) size, ap (λ (size : Size). page_of_slot size layout.fill) size) in
+        subst (λ n. IsMarkBehind mid layout.side n Active) (sym page) (record {
+          in_range = page_in_range mid layout.fill (rw size free);
+          behind = omega (arith, div-mul-le_self layout.fill (mid.size.words - 4), found.fill, stays.keeps.same_fill);
+          active_or_valid = inl refl;
+        })
 
     -- both marks are set
     pub ready_now : (mid new : Device) → new.size ≡ old.size → IsLiveMarked old layout.side → KeepsMarks old mid → KeepsMarks mid new → is_marked mid layout.current Valid ≡ true → is_marked new (layout.current + 1) Active ≡ true → IsReady new layout.side layout.fill

@@ -1,4 +1,4 @@
-use Rattle.std.proofs.Common.{◌≡◌, ◌<◌, inl, inr, false, None, ap, subst, sym, ◌∙◌, arith}
+use Rattle.std.proofs.Common.{◌≡◌, ◌<◌, inl, inr, false, None, ap, refl, subst, sym, ◌∙◌, arith}
 use Rattle.std.proofs.lemmas.Bool.{cases_Bool}
 use Rattle.std.proofs.lemmas.Result.{err_from_is_err_and}
 use Rattle.ee_flash.specs.Size.{slot_count}
@@ -7,9 +7,10 @@ use Rattle.ee_pages.specs.Meaning.{meaning}
 use Rattle.ee_pages.specs.LiveOrder.{IsNextLive}
 use Rattle.ee_core.proofs.Fillings.{all_filled, next_filled, next_partly, none_filled, room}
 use Rattle.ee_core.proofs.copying.copy_others.Goals as goal
-use Rattle.ee_core.proofs.AfterCalls.{goes_on_same}
+use Rattle.ee_core.proofs.AfterCalls.{goes_on_same, not_ok}
 use Rattle.ee_core.proofs.Listed.{names-puts}
 use Rattle.ee_core.specs.Puts.{puts_of}
+use Rattle.ee_core.specs.declared.copying.Place.{Place}
 
 pub live-init : goal.live-init
 live-init g c =
@@ -35,7 +36,7 @@ live-preserved g c =
     rw c.in-Some.ensures.moved (record {
       at = one.at;
       filled = next_filled old c.args.layout.now c.args.place (puts_of c.args.puts.now) (g.C.LiveCursor.behind c.live.cursor) _ _ (g.F.Flash.device c.live.flash) (g.F.Flash.device c.copy_one.new.flash) c.live.place.slot next filled c.copy_one.new.place.slot
-          (λ same. (let e = (one.passed (carries_is ∙ same)).1 in cc, (one.passed (carries_is ∙ same)).2)) (λ apart. one.fills (carries_is ∙ apart));
+          (λ same. (ap (λ (at : Place). at.slot) (one.passed (carries_is ∙ same)).1, (one.passed (carries_is ∙ same)).2)) (λ apart. one.fills (carries_is ∙ apart));
       below = c.in-Some.ensures.proper.1;
       over = rw filled.keeps.same_slots at c.in-Some.ensures.over;
       goes = (calls_compose _ _ _ c.live.invariant.goes).0 one.power.ok;
@@ -55,7 +56,7 @@ returns-in_err-copy_one-clause-fills g c =
     let carries_is = c.has_put-carries.ensures.found ∙ sym (names-puts c.args.puts.now _) in
     let one = c.in_err-copy_one.ensures in
     let apart : c.has_put-carries.result ≡ false = elim (cases_Bool c.has_put-carries.result) [
-      | inl same ↦ absurd (cc (one.passed same).0)
+      | inl same ↦ absurd (not_ok (one.passed same).0 refl)
       | inr other ↦ other
     ] in
     rw failed.1 (next_partly (g.F.Flash.device c.args.flash.now) c.args.layout.now c.args.place (puts_of c.args.puts.now) (g.C.LiveCursor.behind c.live.cursor) _ _ (g.F.Flash.device c.live.flash) (g.F.Flash.device c.copy_one.new.flash) c.live.place.slot next filled (sym carries_is ∙ apart) c.in-Some.ensures.proper.1 (one.fills apart))

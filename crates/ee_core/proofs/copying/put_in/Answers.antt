@@ -1,4 +1,5 @@
-use Rattle.std.proofs.Common.{inl, inr, ◌+◌, arith}
+use Rattle.std.proofs.Common.{inl, inr, ap, ◌+◌, ◌∙◌, arith}
+use Rattle.ee_flash.specs.Device.{word_at}
 use Rattle.ee_pages.specs.Sets.{first_page, other as other_of, page_of_slot, place_of_slot}
 use Rattle.ee_pages.proofs.Public.{page_in_range, place_in_range}
 use Rattle.ee_core.specs.Parts.{meant}
@@ -18,8 +19,9 @@ program-requires-clause-page_in_range g c =
 
 pub program-requires-clause-erased : goal.program-requires-clause-erased
 program-requires-clause-erased g c =
-    let free = free_slot (g.F.Flash.device c.args.flash.now) (other_of c.args.layout.now.side) _ c.args.place.slot c.requires.at.filling c.requires.free in
-    cc (free, c.requires.at.stands.page, c.requires.at.stands.at)
+    let old = g.F.Flash.device c.args.flash.now in
+    let free = free_slot old (other_of c.args.layout.now.side) _ c.args.place.slot c.requires.at.filling c.requires.free in
+    ap (λ n. word_at old n c.args.place.at) c.requires.at.stands.page ∙ ap (word_at old _) c.requires.at.stands.at ∙ free
 
 pub returns-in_err-program-clause-keeps : goal.returns-in_err-program-clause-keeps
 returns-in_err-program-clause-keeps g c =

@@ -31,10 +31,10 @@ pages-preserved g c =
     let within : page < length old.image = omega (arith, in_range, formed.image_length) in
     let step : BlanksPage mid new page = elim c.if-not-is_blank.branch [
       | then-not-is_blank+in_ok-erase w ↦
-          let written : is_blank (page_at mid page) ≡ false = cc in
+          let written : is_blank (page_at mid page) ≡ false = sym c.is_blank.ensures ∙ w.if-not-is_blank.true in
           rw w.flash-is (blanks_page page mid _ (g.met.F.Flash.formed c.pages.flash) now_in_range written w.in_ok-erase.ensures.on w.in_ok-erase.ensures.done)
       | else-not-is_blank w ↦
-          let blank : is_blank (page_at mid page) ≡ true = cc in
+          let blank : is_blank (page_at mid page) ≡ true = sym c.is_blank.ensures ∙ w.if-not-is_blank.false in
           rw w.flash-is (blank_already mid page blank)
     ] in
     let stays : IsStartable mid → IsStartable new = elim c.if-not-is_blank.branch [

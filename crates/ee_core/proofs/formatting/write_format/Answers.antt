@@ -2,7 +2,7 @@ use Rattle.std.proofs.Common.{◌≡◌, ◌<◌, inl, inr, ap, arith, refl, ◌
 use Rattle.std.proofs.lemmas.Result.{IfOk-from_err}
 use Rattle.ee_flash.specs.Device.{Device}
 use Rattle.ee_pages.specs.Page.{marking}
-use Rattle.ee_core.proofs.AfterCalls.{ends_in_step, ends_later, goes_on_both, goes_on_marked, goes_on_same, never_on_ok}
+use Rattle.ee_core.proofs.AfterCalls.{ends_in_step, ends_later, goes_on_both, goes_on_programmed, goes_on_same, never_on_ok}
 use Rattle.ee_core.specs.Openings.{not_blank_pages}
 use Rattle.ee_core.proofs.Wears.{front_all, wears_still}
 use Rattle.ee_core.proofs.Marks.{mark_step, program_keeps_wear}
@@ -34,7 +34,7 @@ returns g c =
     let on = c.in_ok-mark.ensures.on unset in
     let whole = c.in_ok-mark.ensures.done unset in
     let next = active_unset blank mid formed all on whole in
-    let on_still = goes_on_both old blank mid c.in_ok-erase_all.ensures.power.ok (goes_on_marked 0 (Receive 1) blank on whole) in
+    let on_still = goes_on_both old blank mid c.in_ok-erase_all.ensures.power.ok (goes_on_programmed _ _ _ blank on whole) in
     let sets = sets_mark 0 (Receive 1) blank mid formed h (λ set. (c.in_ok-mark.ensures.present set).1) c.in_ok-mark.ensures.done in
     let on_then = c.in_ok-mark-2.ensures.on next in
     let done = c.in_ok-mark-2.ensures.done next in
@@ -53,7 +53,7 @@ returns g c =
       begun = tt;
       words = tt;
       starting = tt;
-      power = record { ok = goes_on_both old mid new on_still (goes_on_marked 0 Active mid on_then done); cut = tt; off = tt };
+      power = record { ok = goes_on_both old mid new on_still (goes_on_programmed _ _ _ mid on_then done); cut = tt; off = tt };
     }
 
 pub returns-in_err-erase_all : goal.returns-in_err-erase_all
@@ -118,7 +118,7 @@ returns-in_err-mark-2 g c =
     let on = c.in_ok-mark.ensures.on unset in
     let whole = c.in_ok-mark.ensures.done unset in
     let next = active_unset blank mid formed all on whole in
-    let on_still = goes_on_both old blank mid c.in_ok-erase_all.ensures.power.ok (goes_on_marked 0 (Receive 1) blank on whole) in
+    let on_still = goes_on_both old blank mid c.in_ok-erase_all.ensures.power.ok (goes_on_programmed _ _ _ blank on whole) in
     let sets = sets_mark 0 (Receive 1) blank mid formed h (λ set. (c.in_ok-mark.ensures.present set).1) c.in_ok-mark.ensures.done in
     let cut = c.in_err-mark-2.ensures.cut in
     let taken = mark_step 0 Active mid new mid_formed still proper_active next (inr cut) in

@@ -1,4 +1,4 @@
-use Rattle.std.proofs.Common.{◌≡◌, ◌≤◌, ◌<◌, ◌+◌, ◌-◌, true, ap, arith, ◌∙◌, refl, subst}
+use Rattle.std.proofs.Common.{◌≡◌, ◌≤◌, ◌<◌, ◌+◌, ◌-◌, true, ap, arith, inl, ◌∙◌, refl, subst}
 use Rattle.ee_flash.specs.Size.{Size}
 use Rattle.ee_pages.specs.Page.{is_marked}
 use Rattle.ee_pages.specs.Sets.{first_page}
@@ -9,7 +9,7 @@ use Rattle.ee_core.proofs.MarkedSets.{active_then, other_stays, valid_next, vali
 use Rattle.ee_core.proofs.Marks.{same_stays}
 use Rattle.ee_core.specs.Finished.{last_used}
 use Rattle.ee_core.specs.Picture.{IsDrawn, picture_of}
-use Rattle.ee_core.proofs.LiveMarks.{active_behind, last_in_range, last_is, layout_stays, live_marked, stays_both, valid_already, valid_behind, valid_more}
+use Rattle.ee_core.proofs.LiveMarks.{last_behind, last_in_range, last_is, layout_stays, live_marked, stays_both, valid_already, valid_behind, valid_more}
 use Rattle.ee_core.proofs.CutMarks.{active_partly, valid_partly}
 use Rattle.ee_core.proofs.Making.{always_on_err}
 use Rattle.ee_core.specs.Cuts.{SetsPartly}
@@ -51,7 +51,7 @@ pub mark_live-requires-2-clause-behind : goal.mark_live-requires-2-clause-behind
 mark_live-requires-2-clause-behind g c =
     let old = g.F.Flash.device c.args.flash.now in
     let mid = g.F.Flash.device c.pages.flash in
-    active_behind c.args.layout.now mid (layout_stays c.args.layout.now old mid c.requires c.pages.invariant.stays)
+    last_behind c.args.layout.now mid Active (layout_stays c.args.layout.now old mid c.requires c.pages.invariant.stays) (inl refl)
 
 pub mark_live-requires-clause-layout : goal.mark_live-requires-clause-layout
 mark_live-requires-clause-layout g c = layout_stays c.args.layout.now (g.F.Flash.device c.args.flash.now) (g.F.Flash.device c.pages.flash) c.requires c.pages.invariant.stays

@@ -1,6 +1,6 @@
 use Rattle.std.proofs.Common.{◌≡◌, ◌+◌, ◌∙◌, ap, inl, inr, rules}
 use Rattle.ee_pages.specs.Sets.{first_page, other as other_of}
-use Rattle.ee_core.proofs.AfterCalls.{ends_in_step, goes_on_marked, goes_on_same, never_on_ok}
+use Rattle.ee_core.proofs.AfterCalls.{ends_in_step, goes_on_programmed, goes_on_same, never_on_ok}
 use Rattle.ee_core.proofs.Marks.{program_keeps_wear}
 use Rattle.ee_core.proofs.OtherSteps.{active_commits, active_done, active_unmarked}
 use Rattle.ee_core.proofs.Cuts.{cut_size, mark_partly_at}
@@ -52,5 +52,5 @@ returns g c =
       sets = search rules;
       same_size = committed.same_size;
       wear = ap (λ device. device.wear) done;
-      power = record { ok = goes_on_marked _ Active old on done; cut = tt; off = tt };
+      power = record { ok = goes_on_programmed _ _ _ old on done; cut = tt; off = tt };
     }

@@ -5,7 +5,7 @@ use Rattle.ee_pages.specs.Sets.{first_page, page_of_slot}
 use Rattle.ee_pages.specs.declared.state.Mark.TheVariants.{Active, Valid}
 use Rattle.ee_core.proofs.AfterCalls.{ends_later, goes_on_both, goes_on_same, never_on_ok}
 use Rattle.ee_core.proofs.Drawings.{marks_drawn}
-use Rattle.ee_core.proofs.LiveMarks.{stays_both}
+use Rattle.ee_core.proofs.LiveMarks.{last_behind, layout_stays, stays_both}
 use Rattle.ee_core.proofs.Marks.{same_stays}
 use Rattle.ee_core.proofs.MarkedSets.{opens_next}
 use Rattle.ee_core.specs.Parts.{IsReady, SetsMark}
@@ -120,7 +120,7 @@ returns g c =
       stays = stays_both _ _ _ _ _ first.stays second.stays;
       other = second_other old layout c.requires.layout c.requires.free _ words some c.if-layout-slots-ne0.false _ _ second.stays.keeps.live.formed first.stays second.stays.keeps.same_size same second.others;
       ready = ready_now old layout c.requires.layout c.requires.free _ words some c.if-layout-slots-ne0.false mid new (second.stays.keeps.same_size ∙ first.stays.keeps.same_size) c.requires.marked.live
-          first.marks second.marks (cc c.in_ok-mark_live.ensures.marked) (cc c.in_ok-mark_live-2.ensures.marked);
+          first.marks second.marks c.in_ok-mark_live.ensures.marked c.in_ok-mark_live-2.ensures.marked;
       drawn = subst (λ n. IsDrawn layout.side new (marked_to n (picture_of layout.side old))) (sym next)
           (opens_next layout.side old mid new k c.requires.layout.live.formed first.stays.keeps.live.formed first.stays.keeps.same_size second.stays.keeps.same_size
           (omega (arith, next, page_in_range old layout.fill c.requires.free))
@@ -130,3 +130,12 @@ returns g c =
       begun = tt;
       power = record { ok = goes_on_both old mid new c.in_ok-mark_live.ensures.power.ok c.in_ok-mark_live-2.ensures.power.ok; cut = tt; off = tt };
     }
+
+pub mark_live-requires-clause-behind : goal.mark_live-requires-clause-behind
+mark_live-requires-clause-behind g c = last_behind c.args.layout.now (g.F.Flash.device c.args.flash.now) Valid c.requires.layout (inr refl)
+
+pub mark_live-requires-2-clause-from : goal.mark_live-requires-2-clause-from
+mark_live-requires-2-clause-from g c = omega (arith, c.requires.layout.current, ap (λ (size : Size). first_page size c.args.layout.now.side) c.mark_live.ensures.stays.keeps.same_size)
+
+pub mark_live-requires-2-clause-layout : goal.mark_live-requires-2-clause-layout
+mark_live-requires-2-clause-layout g c = layout_stays c.args.layout.now (g.F.Flash.device c.args.flash.now) _ c.requires.layout c.mark_live.ensures.stays
