@@ -51,6 +51,13 @@ goes_on_mark page mark old present on done = elim (cases_Bool (is_marked old pag
   | inr unset ↦ goes_on_programmed _ _ _ old (on unset) (done unset)
 ]
 
+-- a mark wears no page
+pub mark_keeps_wear : {new : Device} (page : ℕ) (mark : Mark) (old : Device) → (is_marked old page mark ≡ true → new ≡ old) → (is_marked old page mark ≡ false → new ≡ device_after (marking page mark) old) → new.wear ≡ old.wear
+mark_keeps_wear page mark old present done = elim (cases_Bool (is_marked old page mark)) [
+  | inl set ↦ ap (λ (device : Device). device.wear) (present set)
+  | inr unset ↦ ap (λ (device : Device). device.wear) (done unset)
+]
+
 -- the pages apart from that of a step
 pub same_but : (page : ℕ) (mark : Mark) (old new : Device) → (new ≡ old) ⊎ IsStep (marking page mark) old new → (other : ℕ) → other ≢ page → page_at new other ≡ page_at old other
 same_but page mark old new (inl same) other apart = ap (λ device. page_at device other) same

@@ -19,7 +19,8 @@ use Rattle.ee_pages.specs.declared.side.Side.{Side}
 use Rattle.ee_pages.proofs.Public.{erased_word, fill-front, slots_behind, step_keeps_other_pages, page_in_range, place_in_range, slot_at, push_takes, whole_push_takes, programmed_word}
 use Rattle.ee_core.proofs.Cuts.{program_partly}
 use Rattle.ee_core.specs.Cuts.{PutsPartly}
-use Rattle.ee_core.specs.Parts.{IsSameSet, KeepsMarks}
+use Rattle.ee_core.specs.Parts.{IsSameSet, KeepsMarks, map_in}
+use Rattle.ee_core.proofs.MovingFacts.{keeps_both}
 use Rattle.ee_core.proofs.SetPages.{page_in_device, page_of_set}
 use Rattle.ee_core.proofs.Marks.{place_below}
 
@@ -122,3 +123,11 @@ module _ (side : Side) (generation fill first words : ℕ) (old : Device) (live 
 -- a change behind what keeps the live set
 pub taken_after : (old mid new : Device) (side : Side) (generation : ℕ) (now map : Map) → KeepsLiveSet old mid side generation → now ≡ map → TakesSlot mid new side generation now → TakesSlot old new side generation map
 taken_after old mid new side generation now map keeps same takes = search rules
+
+-- or behind that, where power was cut
+pub cut_after : (old mid new : Device) (side : Side) (generation : ℕ) (change : Change) → KeepsLiveSet old mid side generation → map_in side mid ≡ map_in side old
+    → KeepsLiveSet mid new side generation ⊎ TakesSlot mid new side generation (map_in side mid) ⊎ TakesSlot mid new side generation (map_after change (map_in side mid))
+    → KeepsLiveSet old new side generation ⊎ TakesSlot old new side generation (map_in side old) ⊎ TakesSlot old new side generation (map_after change (map_in side old))
+cut_after old mid new side generation change keeps same (inl kept) = inl (keeps_both old mid new side generation keeps kept)
+cut_after old mid new side generation change keeps same (inr (inl torn)) = inr (inl (taken_after old mid new side generation (map_in side mid) (map_in side old) keeps same torn))
+cut_after old mid new side generation change keeps same (inr (inr whole)) = inr (inr (taken_after old mid new side generation (map_after change (map_in side mid)) (map_after change (map_in side old)) keeps (ap (map_after change) same) whole))

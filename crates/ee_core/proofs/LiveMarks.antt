@@ -17,6 +17,7 @@ use Rattle.ee_pages.specs.declared.side.Side.{Side}
 use Rattle.ee_pages.specs.declared.state.Mark.{Mark}
 use Rattle.ee_pages.specs.declared.state.Mark.TheVariants.{Active, Valid, Erasing}
 use Rattle.ee_pages.proofs.Public.{page_in_range, slot_below}
+use Rattle.ee_core.proofs.SetPages.{first_below}
 use Rattle.ee_core.proofs.AfterCalls.{goes_on_same}
 use Rattle.ee_core.proofs.Marks.{same_stays}
 use Rattle.ee_core.specs.Finished.{IsLiveMarked, IsOldMarked, last_used}
@@ -38,6 +39,9 @@ pub last_in_range : (layout : Layout) (device : Device) → IsLayout device layo
 last_in_range layout device is =
     let fill = fill_of (slots_of (set_of layout.side device)) in
     page_in_range device (fill - 1) (slot_below device fill is.live.formed (fill_fits layout.side device is.live.formed))
+
+pub current_below : (layout : Layout) (device : Device) → IsLayout device layout → layout.current < 128
+current_below layout device is = omega (arith, last_is layout device is, last_in_range layout device is, first_below device.size layout.side, is.live.formed.within_limits.few_pages)
 
 -- a page up to that one stands behind written slots
 mark_behind : (layout : Layout) (device : Device) (page : ℕ) (mark : Mark) → IsLayout device layout → page ≤ last_used device layout.side → (mark ≡ Active) ⊎ (mark ≡ Valid) → IsMarkBehind device layout.side page mark

@@ -154,3 +154,7 @@ marked_after page mark old new formed h proper same on done = elim (cases_Bool (
   | inl set ↦ ap (λ (device : Device). is_marked device page mark) (same set) ∙ set
   | inr unset ↦ marked_by page mark old new (mark_step page mark old new formed h proper unset (inl (record { was_on = on unset; done = done unset }))) (done unset)
 ]
+
+-- of the numbers that a receive word may have, this is the one
+pub one_receive : (number : ℕ) → IsGeneration number → (generation : ℕ) → Receive number ≡ Receive generation → IsGeneration generation
+one_receive number proper generation is = subst IsGeneration (cc is) proper

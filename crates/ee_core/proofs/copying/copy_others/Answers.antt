@@ -7,7 +7,7 @@ use Rattle.ee_pages.specs.Meaning.{meaning}
 use Rattle.ee_pages.specs.LiveOrder.{IsNextLive}
 use Rattle.ee_core.proofs.Fillings.{all_filled, next_filled, next_partly, none_filled, room}
 use Rattle.ee_core.proofs.copying.copy_others.Goals as goal
-use Rattle.ee_core.proofs.AfterCalls.{goes_on_same, not_ok}
+use Rattle.ee_core.proofs.AfterCalls.{ends_later, goes_on_same, not_ok}
 use Rattle.ee_core.proofs.Listed.{names-puts}
 use Rattle.ee_core.specs.Puts.{puts_of}
 use Rattle.ee_core.specs.declared.copying.Place.{Place}
@@ -42,14 +42,17 @@ live-preserved g c =
       goes = (calls_compose _ _ _ c.live.invariant.goes).0 one.power.ok;
     })
 
-pub returns-clause-fills : goal.returns-clause-fills
-returns-clause-fills g c =
+pub returns : goal.returns
+returns g c =
     let filled = c.live.invariant.filled in
     let none = subst (λ slots. IsNextLive (meaning slots) (g.C.LiveCursor.behind c.live.cursor) None) filled.keeps.same_slots c.in_default.ensures.next in
-    all_filled (g.F.Flash.device c.args.flash.now) c.args.layout.now c.args.place (puts_of c.args.puts.now) (g.C.LiveCursor.behind c.live.cursor) (g.F.Flash.device c.live.flash) c.live.place.slot filled c.live.invariant.below none
+    record {
+      fills = all_filled (g.F.Flash.device c.args.flash.now) c.args.layout.now c.args.place (puts_of c.args.puts.now) (g.C.LiveCursor.behind c.live.cursor) (g.F.Flash.device c.live.flash) c.live.place.slot filled c.live.invariant.below none;
+      power = record { ok = c.live.invariant.goes; cut = tt; off = tt };
+    }
 
-pub returns-in_err-copy_one-clause-fills : goal.returns-in_err-copy_one-clause-fills
-returns-in_err-copy_one-clause-fills g c =
+pub returns-in_err-copy_one : goal.returns-in_err-copy_one
+returns-in_err-copy_one g c =
     let failed = err_from_is_err_and c.from_residual.result c.from_residual.ensures.1 in
     let filled = c.live.invariant.filled in
     let next = rw filled.keeps.same_slots at c.in-Some.ensures.next in
@@ -59,4 +62,7 @@ returns-in_err-copy_one-clause-fills g c =
       | inl same ↦ absurd (not_ok (one.passed same).0 refl)
       | inr other ↦ other
     ] in
-    rw failed.1 (next_partly (g.F.Flash.device c.args.flash.now) c.args.layout.now c.args.place (puts_of c.args.puts.now) (g.C.LiveCursor.behind c.live.cursor) _ _ (g.F.Flash.device c.live.flash) (g.F.Flash.device c.copy_one.new.flash) c.live.place.slot next filled (sym carries_is ∙ apart) c.in-Some.ensures.proper.1 (one.fills apart))
+    record {
+      fills = rw failed.1 (next_partly (g.F.Flash.device c.args.flash.now) c.args.layout.now c.args.place (puts_of c.args.puts.now) (g.C.LiveCursor.behind c.live.cursor) _ _ (g.F.Flash.device c.live.flash) (g.F.Flash.device c.copy_one.new.flash) c.live.place.slot next filled (sym carries_is ∙ apart) c.in-Some.ensures.proper.1 (one.fills apart));
+      power = ends_later _ c.from_residual.ensures.0 c.live.invariant.goes one.power;
+    }

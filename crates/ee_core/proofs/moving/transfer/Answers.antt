@@ -1,15 +1,16 @@
-use Rattle.std.proofs.Common.{◌≡◌, ◌+◌, ◌-◌, ap, inl, inr, length, rules, sym, subst, ◌∙◌}
+use Rattle.std.proofs.Common.{◌≡◌, ◌+◌, ◌-◌, ap, arith, inl, inr, length, sym, subst, ◌∙◌}
 use Rattle.std.proofs.lemmas.Result.{err_from_is_err_and}
 use Rattle.ee_flash.specs.Size.{Size}
 use Rattle.ee_pages.specs.declared.side.Side.{Side}
-use Rattle.ee_pages.specs.Sets.{fill_of, other as other_of, set_of, slots_of, page_of_slot}
+use Rattle.ee_pages.specs.Sets.{fill_of, first_page, other as other_of, set_of, slots_of, page_of_slot}
 use Rattle.ee_pages.proofs.Public.{other_twice}
 use Rattle.ee_core.proofs.AfterCalls.{ends_later, goes_on_both, goes_on_same, never_on_ok}
 use Rattle.ee_core.proofs.MovedSets.{all_retired, filled_up}
 use Rattle.ee_core.specs.Picture.{IsDrawn, blank, filled_set, is_used, moved_words, picture_of, retired_pages}
 use Rattle.ee_core.specs.Parts.{map_in}
 use Rattle.ee_core.specs.Puts.{carried}
-use Rattle.ee_core.proofs.MovingFacts.{moved_stays}
+use Rattle.ee_core.proofs.LiveMarks.{current_below, layout_stays}
+use Rattle.ee_core.proofs.MovingFacts.{layout_moved, moved_stays}
 use Rattle.ee_core.proofs.Wears.{front_all, wears_still}
 use Rattle.ee_core.specs.State.{not_blank_in}
 use Rattle.ee_core.proofs.Cuts.{drawn_before}
@@ -17,6 +18,21 @@ use Rattle.ee_core.proofs.CutMoves.{marked_partly, retires_partly}
 use Rattle.ee_core.specs.Cuts.{IsDrawnPartly}
 use Rattle.ee_core.specs.Finished.{last_used}
 use Rattle.ee_core.proofs.moving.transfer.Goals as goal
+
+pub finish-requires : goal.finish-requires
+finish-requires g c =
+    let mid = g.F.Flash.device c.move_map.new.flash in
+    let done = c.in_ok-count.ensures in
+    let words : c.words-slots.result ≡ mid.size.words = c.words-slots.ensures.value ∙ ap (λ (size : Size). size.words) c.shape.ensures in
+    layout_moved (g.F.Flash.device c.args.flash.now) mid c.args.layout.now (carried c.args.puts.now c.args.forgets) _ _ _ _ _ done.moves.moved c.other.ensures done.each_once (c.first_page.ensures ∙ ap (first_page mid.size) c.other-2.ensures) words c.saturating_sub.ensures
+
+pub overflow_add-layout-2 : goal.overflow_add-layout-2
+overflow_add-layout-2 g c =
+    let mid = g.F.Flash.device c.move_map.new.flash in
+    let done = c.in_ok-count.ensures in
+    let words : c.words-slots.result ≡ mid.size.words = c.words-slots.ensures.value ∙ ap (λ (size : Size). size.words) c.shape.ensures in
+    let layout = layout_moved (g.F.Flash.device c.args.flash.now) mid c.args.layout.now (carried c.args.puts.now c.args.forgets) _ _ _ _ _ done.moves.moved c.other.ensures done.each_once (c.first_page.ensures ∙ ap (first_page mid.size) c.other-2.ensures) words c.saturating_sub.ensures in
+    omega (arith, current_below _ mid layout)
 
 pub returns-in_err-count : goal.returns-in_err-count
 returns-in_err-count g c =
@@ -87,6 +103,7 @@ returns g c =
     let words = moved_words changes (map_in side old) in
     let done = c.in_ok-count.ensures in
     let moves = done.moves in
+    let words_is : c.words-slots.result ≡ mid.size.words = c.words-slots.ensures.value ∙ ap (λ (size : Size). size.words) c.shape.ensures in
     let stays = rw c.other.ensures at c.in_ok-finish.ensures.stays in
     let shows = rw c.other.ensures at c.in_ok-finish.ensures.shows in
     let fill : fill_of (slots_of (set_of (other_of side) mid)) ≡ length words = moves.moved.fill_is ∙ sym done.each_once ∙ moves.as_many in
@@ -94,7 +111,7 @@ returns g c =
     subst (λ (set : Side). IsDrawn set new (retired_pages (is_used set mid) (picture_of set mid))) (other_twice side) shows.old_pages in
     record {
       moves = record { moved = moved_stays old mid new side c.args.layout.now.generation changes moves.moved stays; as_many = moves.as_many; wear = wears_still (not_blank_in (other_of side) old) old mid new moves.wear stays.same_wear };
-      layout = search rules;
+      layout = layout_stays _ mid new (layout_moved old mid c.args.layout.now changes _ _ _ _ _ moves.moved c.other.ensures done.each_once (c.first_page.ensures ∙ ap (first_page mid.size) c.other-2.ensures) words_is c.saturating_sub.ensures) c.in_ok-finish.ensures.stays;
       other_set = c.other.ensures;
       marked = rw c.other.ensures at c.in_ok-finish.ensures.finished;
       new_pages = subst (λ (size : Size). IsDrawn (other_of side) new (filled_set size (c.args.layout.now.generation + 1) words)) moves.moved.same_size

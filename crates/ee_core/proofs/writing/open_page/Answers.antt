@@ -5,7 +5,7 @@ use Rattle.ee_pages.specs.Sets.{first_page, page_of_slot}
 use Rattle.ee_pages.specs.declared.state.Mark.TheVariants.{Active, Valid}
 use Rattle.ee_core.proofs.AfterCalls.{ends_later, goes_on_both, goes_on_same, never_on_ok}
 use Rattle.ee_core.proofs.Drawings.{marks_drawn}
-use Rattle.ee_core.proofs.LiveMarks.{last_behind, layout_stays, stays_both}
+use Rattle.ee_core.proofs.LiveMarks.{current_below, last_behind, layout_stays, stays_both}
 use Rattle.ee_core.proofs.Marks.{same_stays}
 use Rattle.ee_core.proofs.MarkedSets.{opens_next}
 use Rattle.ee_core.specs.Parts.{IsReady, SetsMark}
@@ -139,3 +139,6 @@ mark_live-requires-2-clause-from g c = omega (arith, c.requires.layout.current, 
 
 pub mark_live-requires-2-clause-layout : goal.mark_live-requires-2-clause-layout
 mark_live-requires-2-clause-layout g c = layout_stays c.args.layout.now (g.F.Flash.device c.args.flash.now) _ c.requires.layout c.mark_live.ensures.stays
+
+pub overflow_add-layout : goal.overflow_add-layout
+overflow_add-layout g c = omega (arith, current_below c.args.layout.now (g.F.Flash.device c.args.flash.now) c.requires.layout)
