@@ -63,6 +63,9 @@ module _ (side : Side) (generation fill first words : ℕ) (old : Device) (live 
   pub slot_place : 4 + fill % (words - 4) ≡ place_of_slot old.size fill
   slot_place = rw words_is refl
 
+  pub slot_in_page : 4 + fill % (words - 4) < old.size.words
+  slot_in_page = rw slot_place (place_in_range old fill live.formed)
+
   pub slot_in_device : first + fill / (words - 4) < page_count old.size
   slot_in_device = rw slot_page (page_in_device old.size side (page_of_slot old.size fill) (page_in_range old fill free))
 
@@ -131,3 +134,8 @@ pub cut_after : (old mid new : Device) (side : Side) (generation : ℕ) (change 
 cut_after old mid new side generation change keeps same (inl kept) = inl (keeps_both old mid new side generation keeps kept)
 cut_after old mid new side generation change keeps same (inr (inl torn)) = inr (inl (taken_after old mid new side generation (map_in side mid) (map_in side old) keeps same torn))
 cut_after old mid new side generation change keeps same (inr (inr whole)) = inr (inr (taken_after old mid new side generation (map_after change (map_in side mid)) (map_after change (map_in side old)) keeps (ap (map_after change) same) whole))
+
+pub cut_size : {mid new : Device} {side : Side} {generation : ℕ} {torn whole : Map} → KeepsLiveSet mid new side generation ⊎ TakesSlot mid new side generation torn ⊎ TakesSlot mid new side generation whole → new.size ≡ mid.size
+cut_size (inl keeps) = keeps.same_size
+cut_size (inr (inl torn)) = torn.same_size
+cut_size (inr (inr whole)) = whole.same_size

@@ -93,3 +93,9 @@ further map after items more through last n to h is over live proper =
     let none = (subst (λ l. GoesOver map record { after = after; ready = l; through = Some to }) (drop_all n items h) over_last).rest in
     let behind = live_behind map after to none more last live in
     record { next = behind.next; rest = behind.rest; proper = proper }
+
+-- or none, where none is left
+pub none_further : (map : Map) (after : ℕ) (items : List (ℕ × ℕ)) (through : Option ℕ) (n : ℕ) → length items ≤ n → through ≡ None → GoesOver map record { after = after; ready = drop n items; through = through } → IsNextLive map after None
+none_further map after items through n h is over =
+    let over_last = subst (λ (t : Option ℕ). GoesOver map record { after = after; ready = drop n items; through = t }) is over in
+    (subst (λ l. GoesOver map record { after = after; ready = l; through = None }) (drop_all n items h) over_last).rest

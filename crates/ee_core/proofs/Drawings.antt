@@ -77,7 +77,10 @@ abbrev pub with_mark : ℕ → Mark → Picture → Picture
 with_mark k mark picture = picture_with_word k (place_of_mark mark) (marked_word mark (picture k (place_of_mark mark))) picture
 
 pub mark_drawn : (side : Side) (old new : Device) (k : ℕ) (mark : Mark) (picture : Picture) → IsFormed old → new.size ≡ old.size → k < old.size.pages → IsDrawn side old picture → SetsMark (first_page old.size side + k) mark old new → IsDrawn side new (with_mark k mark picture)
-mark_drawn side old new k mark picture formed sizes h drawn sets = search (rules, place_below, put_drawn)
+mark_drawn side old new k mark picture formed sizes h drawn sets =
+    let at = place_of_mark mark in
+    let word : word_at old (first_page old.size side + k) at ≡ picture k at = drawn k at h (omega (arith, place_below mark, formed.within_limits.some_words)) in
+    put_drawn side old new k at (marked_word mark (picture k at)) picture sizes drawn (subst (λ (was : Word). PutsWord (first_page old.size side + k) at (marked_word mark was) old new) word sets)
 
 -- a word that is written already stays
 pub marked-written : (mark : Mark) (word : Word) → is_written word ≡ true → marked_word mark word ≡ word

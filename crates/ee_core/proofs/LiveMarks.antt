@@ -21,7 +21,7 @@ use Rattle.ee_core.proofs.SetPages.{first_below}
 use Rattle.ee_core.proofs.AfterCalls.{goes_on_same}
 use Rattle.ee_core.proofs.Marks.{same_stays}
 use Rattle.ee_core.specs.Finished.{IsLiveMarked, IsOldMarked, last_used}
-use Rattle.ee_core.specs.Parts.{IsSameBut, KeepsMarks, Stays}
+use Rattle.ee_core.specs.Parts.{IsSameBut, KeepsMarks, SetsMark, Stays}
 use Rattle.ee_core.proofs.KeptMarks.{fill_fits}
 
 -- after what keeps the live set, the layout is still right
@@ -119,14 +119,20 @@ pub record MarksPage (mid new : Device) (side : Side) (generation page : ℕ) : 
   pub done : IsPageDone new page
   pub no_step : IsPageDone mid page → new ≡ mid
   pub power : GoesOn mid new
+  pub waiting : is_blank (page_at mid page) ≡ false → SetsMark page Erasing mid new
+  pub passed : is_blank (page_at mid page) ≡ true → new ≡ mid
 
 pub marks_none : (device : Device) (side : Side) (generation page : ℕ) → IsLive device side generation → is_blank (page_at device page) ≡ true → MarksPage device device side generation page
-marks_none device side generation page live blank = record { stays = same_stays device device side generation live refl; marks = λ p mark was. was; others = λ p apart. refl; done = inl blank; no_step = λ done. refl; power = goes_on_same device }
+marks_none device side generation page live blank = record { stays = same_stays device device side generation live refl; marks = λ p mark was. was; others = λ p apart. refl; done = inl blank; no_step = λ done. refl; power = goes_on_same device; waiting = λ written. absurd (true≢false (sym blank ∙ written)); passed = λ is. refl }
 
 -- a page that is not blank is done only by its mark
 pub marked_from : (device : Device) (page : ℕ) → is_blank (page_at device page) ≡ false → IsPageDone device page → is_marked device page Erasing ≡ true
 marked_from device page written (inl blank) = absurd (true≢false (sym blank ∙ written))
 marked_from device page written (inr marked) = marked
+
+pub marks_one : (mid new : Device) (side : Side) (generation page : ℕ) → is_blank (page_at mid page) ≡ false → Stays mid new side generation → KeepsMarks mid new → IsSameBut page mid new → is_marked new page Erasing ≡ true → SetsMark page Erasing mid new → (is_marked mid page Erasing ≡ true → new ≡ mid) → GoesOn mid new → MarksPage mid new side generation page
+marks_one mid new side generation page written stays marks others marked sets no_step power =
+    record { stays = stays; marks = marks; others = others; done = inr marked; no_step = λ done. no_step (marked_from mid page written done); power = power; waiting = λ is. sets; passed = λ blank. absurd (true≢false (sym blank ∙ written)) }
 
 -- where the other set is marked, each page of it is done
 pub done_already : (device : Device) (side : Side) (page : ℕ) → IsOldMarked device side → first_page device.size side ≤ page → page < first_page device.size side + device.size.pages → IsPageDone device page

@@ -1,5 +1,5 @@
 -- The pictures of both sets while an opening sets the marks, page after page.
-use Rattle.std.proofs.Common.{rules, ◌≡◌, inl, inr, ℕ, ◌+◌, ◌-◌, ◌<◌, ◌≤◌, true, false, sym, subst, ap, ◌∙◌, arith}
+use Rattle.std.proofs.Common.{rules, ◌≡◌, inl, inr, ℕ, ◌+◌, ◌-◌, ◌<◌, ◌≤◌, true, sym, subst, ap, ◌∙◌, arith}
 use Rattle.std.specs.Prelude.{◌&&◌, not, nat_lt}
 use Rattle.std.proofs.lemmas.Bool.{cases_Bool}
 use Rattle.ee_flash.specs.Device.{Device, IsFormed, page_at}
@@ -12,6 +12,7 @@ use Rattle.ee_pages.specs.declared.side.Side.{Side}
 use Rattle.ee_pages.specs.declared.state.Mark.TheVariants.{Active, Erasing, Valid}
 use Rattle.ee_pages.proofs.Public.{other_twice}
 use Rattle.ee_core.proofs.Drawings.{active_last, drawn_as, drawn_same, mark_drawn, put_drawn, retired_all, retired_more, retired_none, retired_past, same_drawn, valid_drawn, valid_more, valid_none, valid_to, with_mark}
+use Rattle.ee_core.proofs.LiveMarks.{MarksPage}
 use Rattle.ee_core.proofs.SetPages.{same_other, same_page}
 use Rattle.ee_core.specs.Parts.{IsSameBut, IsSameSet, PutsWord, SetsMark}
 use Rattle.ee_core.specs.Picture.{IsDrawn, Picture, is_used, marked_to, picture_of, retired_pages, with_change}
@@ -39,14 +40,7 @@ module _ (side : Side) (old : Device) (first : ℕ) (first_is : first ≡ first_
       let there : IsPageOf mid.size side page = record { from = omega (arith, is); below = omega (arith, is, h) } in
       same_other side mid new page formed new_formed second_sizes there others ∙ same
 
--- marking a page of the other set, if it is not blank
-pub record RetiresPage (mid new : Device) (page : ℕ) : Type 0 where
-  pub sizes : new.size ≡ mid.size
-  pub waiting : is_blank (page_at mid page) ≡ false → SetsMark page Erasing mid new
-  pub passed : is_blank (page_at mid page) ≡ true → new ≡ mid
-  pub others : IsSameBut page mid new
-
--- those of them before this one are marked
+-- the pages of the other set before this one are marked
 abbrev pub retired_to : Side → Device → ℕ → Picture
 retired_to side device last = retired_pages (λ p. nat_lt p last && is_used side device p) (picture_of side device)
 
@@ -54,8 +48,8 @@ module _ (side : Side) (old : Device) (first : ℕ) (first_is : first ≡ first_
   pub retired_start : (page : ℕ) → page ≡ first → IsDrawn side old (retired_to side old (page - first))
   retired_start page is = search (rules, drawn_as, drawn_same, retired_none)
 
-  pub retired_next : (mid new : Device) (page : ℕ) → IsFormed mid → mid.size ≡ old.size → first ≤ page → page - first < mid.size.pages → page_at mid page ≡ page_at old page → RetiresPage mid new page → IsDrawn side mid (retired_to side old (page - first)) → IsDrawn side new (retired_to side old (page + 1 - first))
-  retired_next mid new page formed sizes from h same step drawn =
+  pub retired_next : (live : Side) (generation : ℕ) (mid new : Device) (page : ℕ) → IsFormed mid → mid.size ≡ old.size → first ≤ page → page - first < mid.size.pages → page_at mid page ≡ page_at old page → MarksPage mid new live generation page → IsDrawn side mid (retired_to side old (page - first)) → IsDrawn side new (retired_to side old (page + 1 - first))
+  retired_next live generation mid new page formed sizes from h same step drawn =
       let is : page ≡ first_page mid.size side + (page - first) = omega (arith, first_is, ap (λ (size : Size). first_page size side) sizes) in
       let here : first_page old.size side + (page - first) ≡ page = omega (arith, first_is) in
       let more : page - first + 1 ≡ page + 1 - first = omega (arith, from) in
@@ -68,7 +62,7 @@ module _ (side : Side) (old : Device) (first : ℕ) (first_is : first ≡ first_
         | inr written ↦
             let there = subst (λ n. SetsMark n Erasing mid new) is (step.waiting written) in
             drawn_as side new (with_mark (page - first) Erasing (retired_to side old (page - first))) (retired_to side old (page - first + 1))
-            (mark_drawn side mid new (page - first) Erasing (retired_to side old (page - first)) formed step.sizes h drawn there)
+            (mark_drawn side mid new (page - first) Erasing (retired_to side old (page - first)) formed step.stays.keeps.same_size h drawn there)
             (λ p at _ _. retired_more (page - first) (is_used side old) (picture_of side old) p at (as_now ∙ ap not written))
       ])
 

@@ -28,6 +28,12 @@ page_of_device size side page at = omega (arith, first_below size side, at.below
 pub page_in_device : (size : Size) (side : Side) (k : ℕ) → k < size.pages → first_page size side + k < page_count size
 page_in_device size side k h = omega (arith, first_below size side)
 
+-- a page that a loop over a set came to
+pub page_reached : (side : Side) (old mid : Device) (first pages page : ℕ) → first ≡ first_page old.size side → pages ≡ old.size.pages → mid.size ≡ old.size → first ≤ page → page < first + pages → IsPageOf mid.size side page
+page_reached side old mid first pages page first_is pages_is sizes from below =
+    let start = ap (λ (size : Size). first_page size side) sizes in
+    record { from = omega (arith, start, first_is, from); below = omega (arith, start, first_is, pages_is, ap (λ (size : Size). size.pages) sizes, below) }
+
 -- a page of one set is none of the other
 pub apart : (size : Size) (side : Side) (page k : ℕ) → IsPageOf size (other side) page → k < size.pages → first_page size side + k ≢ page
 apart size First page k at h e = omega (arith, at.from)

@@ -228,3 +228,8 @@ starts_end_from (suc more) old new starting run =
 
 pub starts_end_lem : (starts : ℕ) (old new : Device) → IsUnformatted old → AreCutStarts starts old new → StartsEmpty new × ((left : ℕ) → old.cuts_left ≡ Some left → starts ≤ left)
 starts_end_lem starts old new blank run = starts_end_from starts old new (inl (blank_startable old blank)) run
+
+-- and so is one of a page past the last
+pub past_device : (device : Device) (page at number : ℕ) → IsFormed device → page_count device.size ≤ page → word_at device page at ≢ Held number
+past_device device page at number formed past =
+    is_held (word_at device page at) number (inl (ap (λ (words : List Word). get_or words at Erased) (get_or_past device.image page [] (omega (arith, formed.image_length, past)))))

@@ -13,6 +13,7 @@ use Rattle.ee_core.proofs.PendingCounts.{page_there}
 use Rattle.ee_core.proofs.Wears.{front_begun}
 use Rattle.ee_core.proofs.moving.clear.Goals.{then-not-is_blank+in_ok-erase_other, else-not-is_blank}
 use Rattle.ee_core.proofs.Cuts.{erases_partly}
+use Rattle.ee_core.proofs.SetPages.{page_of_device, page_reached}
 use Rattle.ee_core.proofs.moving.clear.Goals as goal
 use Rattle.ee_core.proofs.AfterCalls.{ends_later, goes_on_same, never_on_ok}
 use Rattle.ee_core.proofs.Making.{always_on_err}
@@ -131,3 +132,11 @@ returns-in_err-erase_other g c =
           c.erase_other.ensures.others cut.partly);
       power = ends_later _ failed c.pages.invariant.goes cut.power;
     }
+
+pub is_blank-requires : goal.is_blank-requires
+is_blank-requires g c = page_of_device _ (other_of c.args.layout.now.side) c.pages.page
+    (page_reached (other_of c.args.layout.now.side) (g.F.Flash.device c.args.flash.now) (g.F.Flash.device c.pages.flash) _ _ c.pages.page (c.first_page-first.ensures ∙ ap (first_page (g.F.Flash.device c.args.flash.now).size) c.other.ensures) (c.pages-2.ensures.value ∙ ap (λ (size : Size). size.pages) c.shape.ensures) c.pages.invariant.keeps.same_size c.pages.auto.page c.pages-test.true)
+
+pub erase_other-requires-clause-page : goal.erase_other-requires-clause-page
+erase_other-requires-clause-page g c =
+    page_reached (other_of c.args.layout.now.side) (g.F.Flash.device c.args.flash.now) (g.F.Flash.device c.pages.flash) _ _ c.pages.page (c.first_page-first.ensures ∙ ap (first_page (g.F.Flash.device c.args.flash.now).size) c.other.ensures) (c.pages-2.ensures.value ∙ ap (λ (size : Size). size.pages) c.shape.ensures) c.pages.invariant.keeps.same_size c.pages.auto.page c.pages-test.true

@@ -9,13 +9,27 @@ use Rattle.ee_core.proofs.Drawings.{drawn_both, same_drawn}
 use Rattle.ee_core.proofs.MovedSets.{commits, same_set_drawn}
 use Rattle.ee_core.specs.Parts.{Holds, IsCommittedWith, map_in}
 use Rattle.ee_core.specs.Puts.{carried}
-use Rattle.ee_core.proofs.MovingFacts.{has_moved, keeps_both}
+use Rattle.ee_core.proofs.MovingFacts.{has_moved, keeps_both, layout_kept}
 use Rattle.ee_flash.specs.Size.{Size}
 use Rattle.ee_core.proofs.CutMoves.{filled_partly}
 use Rattle.ee_core.proofs.Wears.{front_all, wears_still}
 use Rattle.ee_core.specs.State.{not_blank_in}
 use Rattle.ee_core.specs.Cuts.{AddsPartly, IsDrawnPartly}
 use Rattle.ee_core.proofs.moving.move_map.Goals as goal
+
+pub open_set-requires : goal.open_set-requires
+open_set-requires g c =
+    record { layout = layout_kept (g.F.Flash.device c.args.flash.now) (g.F.Flash.device c.clear.new.flash) c.args.layout.now c.requires.layout c.in_ok-clear.ensures.keeps; generation = c.requires.generation; blank = c.in_ok-clear.ensures.blank }
+
+pub commit-requires : goal.commit-requires
+commit-requires g c =
+    let old = g.F.Flash.device c.args.flash.now in
+    let opened = g.F.Flash.device c.open_set.new.flash in
+    let filled = g.F.Flash.device c.fill_set.new.flash in
+    let layout = c.args.layout.now in
+    let fills = c.in_ok-count.ensures.fills in
+    let before = keeps_both old _ opened layout.side layout.generation c.in_ok-clear.ensures.keeps c.in_ok-open_set.ensures.keeps in
+    record { layout = layout_kept old filled layout c.requires.layout (keeps_both old opened filled layout.side layout.generation before fills.keeps); generation = c.requires.generation; filling = (_, fills.filling) }
 
 pub returns-in_err-clear : goal.returns-in_err-clear
 returns-in_err-clear g c =

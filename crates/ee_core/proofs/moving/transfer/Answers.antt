@@ -1,4 +1,4 @@
-use Rattle.std.proofs.Common.{◌≡◌, ◌+◌, ◌-◌, ap, arith, inl, inr, length, sym, subst, ◌∙◌}
+use Rattle.std.proofs.Common.{◌≡◌, ◌+◌, ◌-◌, ap, inl, inr, length, sym, subst, ◌∙◌}
 use Rattle.std.proofs.lemmas.Result.{err_from_is_err_and}
 use Rattle.ee_flash.specs.Size.{Size}
 use Rattle.ee_pages.specs.declared.side.Side.{Side}
@@ -9,7 +9,7 @@ use Rattle.ee_core.proofs.MovedSets.{all_retired, filled_up}
 use Rattle.ee_core.specs.Picture.{IsDrawn, blank, filled_set, is_used, moved_words, picture_of, retired_pages}
 use Rattle.ee_core.specs.Parts.{map_in}
 use Rattle.ee_core.specs.Puts.{carried}
-use Rattle.ee_core.proofs.LiveMarks.{current_below, layout_stays}
+use Rattle.ee_core.proofs.LiveMarks.{layout_stays}
 use Rattle.ee_core.proofs.MovingFacts.{layout_moved, moved_stays}
 use Rattle.ee_core.proofs.Wears.{front_all, wears_still}
 use Rattle.ee_core.specs.State.{not_blank_in}
@@ -25,14 +25,6 @@ finish-requires g c =
     let done = c.in_ok-count.ensures in
     let words : c.words-slots.result ≡ mid.size.words = c.words-slots.ensures.value ∙ ap (λ (size : Size). size.words) c.shape.ensures in
     layout_moved (g.F.Flash.device c.args.flash.now) mid c.args.layout.now (carried c.args.puts.now c.args.forgets) _ _ _ _ _ done.moves.moved c.other.ensures done.each_once (c.first_page.ensures ∙ ap (first_page mid.size) c.other-2.ensures) words c.saturating_sub.ensures
-
-pub overflow_add-layout-2 : goal.overflow_add-layout-2
-overflow_add-layout-2 g c =
-    let mid = g.F.Flash.device c.move_map.new.flash in
-    let done = c.in_ok-count.ensures in
-    let words : c.words-slots.result ≡ mid.size.words = c.words-slots.ensures.value ∙ ap (λ (size : Size). size.words) c.shape.ensures in
-    let layout = layout_moved (g.F.Flash.device c.args.flash.now) mid c.args.layout.now (carried c.args.puts.now c.args.forgets) _ _ _ _ _ done.moves.moved c.other.ensures done.each_once (c.first_page.ensures ∙ ap (first_page mid.size) c.other-2.ensures) words c.saturating_sub.ensures in
-    omega (arith, current_below _ mid layout)
 
 pub returns-in_err-count : goal.returns-in_err-count
 returns-in_err-count g c =

@@ -1,4 +1,4 @@
-use Rattle.ee_core.proofs.OpeningFacts.{formats}
+use Rattle.ee_core.proofs.OpeningFacts.{format_store, formats}
 use Rattle.ee_core.specs.Openings.{IsFormatted}
 use Rattle.ee_core.proofs.opening.format.Goals as goal
 
@@ -12,3 +12,6 @@ returns-in-Ok-clause-formatted g c =
 
 pub returns-in-Err-clause-cut : goal.returns-in-Err-clause-cut
 returns-in-Err-clause-cut g c = record { cut = c.in-Err.ensures.power.cut c.requires; wear = c.in-Err.ensures.begun; words = c.in-Err.ensures.words }
+
+pub of-requires-clause-store : goal.of-requires-clause-store
+of-requires-clause-store g c = format_store c.in-Ok.layout (g.F.Flash.device c.write_format.new.flash) c.in-Ok.ensures.layout c.in-Ok.ensures.first c.in-Ok.ensures.marked

@@ -1,13 +1,13 @@
-use Rattle.std.proofs.Common.{arith, rules, ◌≡◌, ◌<◌, ◌+◌, inl, inr, refl, sym, subst, ap, ◌∙◌}
+use Rattle.std.proofs.Common.{arith, ◌<◌, ◌+◌, inl, refl, sym, subst, ap, ◌∙◌}
 use Rattle.std.proofs.Math.Path.{fun_ext}
 use Rattle.ee_flash.specs.Size.{Size, slot_count}
-use Rattle.ee_pages.specs.Meaning.{Map, map_after}
+use Rattle.ee_pages.specs.Meaning.{map_after}
 use Rattle.ee_core.proofs.AfterCalls.{ends_later, goes_on_both, goes_on_same, never_on_ok}
-use Rattle.ee_core.proofs.Appending.{cut_after, taken_after}
+use Rattle.ee_core.proofs.Appending.{cut_after, cut_size, taken_after}
 use Rattle.ee_core.proofs.MarkedSets.{appends_word}
 use Rattle.ee_core.proofs.LiveMarks.{layout_stays}
 use Rattle.ee_core.proofs.MovingFacts.{few_slots}
-use Rattle.ee_core.specs.Parts.{map_in, meant, number_written}
+use Rattle.ee_core.specs.Parts.{meant, number_written}
 use Rattle.ee_core.proofs.KeptMarks.{appended_marked}
 use Rattle.ee_core.proofs.CutMarks.{cut_marks, cut_word}
 use Rattle.ee_core.proofs.Making.{always_on_err}
@@ -76,7 +76,7 @@ returns-in_err-page g c =
       spells = never_on_ok _ _ failed;
       drawn = never_on_ok _ _ failed;
       begun = always_on_err _
-          (cut_word side old mid new layout.fill (number_written c.args.change) keeps.same_size (search rules)
+          (cut_word side old mid new layout.fill (number_written c.args.change) keeps.same_size (cut_size c.in_err-page.ensures.cut)
           (page_in_range old layout.fill c.requires.free) (place_in_range old layout.fill c.requires.layout.live.formed) c.in_ok-open_page.ensures.drawn c.in_err-page.ensures.begun);
       other = c.push.ensures.other ∙ c.open_page.ensures.other;
       wear = c.push.ensures.wear ∙ c.open_page.ensures.stays.same_wear;

@@ -9,23 +9,26 @@ use Rattle.ee_core.proofs.Drawings.{put_there}
 use Rattle.ee_core.proofs.Marks.{program_keeps_wear}
 use Rattle.ee_core.proofs.SetPages.{page_in_device}
 use Rattle.ee_core.specs.Parts.{meant}
-use Rattle.ee_core.proofs.Appending.{cut_push_leaves, cut_push_marks, cut_push_other, cut_push_partly, free_slot_erased, on_err, push_is_taken, push_marks, push_other, slot_in_device, slot_page, slot_place}
+use Rattle.ee_core.proofs.Appending.{cut_push_leaves, cut_push_marks, cut_push_other, cut_push_partly, free_slot_erased, on_err, push_is_taken, push_marks, push_other, slot_in_device, slot_in_page, slot_page, slot_place}
 use Rattle.ee_core.proofs.Making.{always_on_err}
 use Rattle.ee_core.specs.Cuts.{PutsPartly}
 use Rattle.ee_flash.specs.declared.word.Word.TheVariants.{Held}
 use Rattle.ee_core.proofs.writing.push.Goals as goal
 
-pub program-requires-clause-page_in_range : goal.program-requires-clause-page_in_range
-program-requires-clause-page_in_range g c =
+pub program-requires : goal.program-requires
+program-requires g c =
+    let old = g.F.Flash.device c.args.flash.now in
     let words = c.words-slots.ensures.value ∙ ap (λ (size : Size). size.words) c.shape.ensures in
     let found = c.requires.layout in
-    slot_in_device c.args.layout.now.side c.args.layout.now.generation c.args.layout.now.fill _ _ _ found.live found.fill c.requires.free c.first_page.ensures words
-
-pub program-requires-clause-erased : goal.program-requires-clause-erased
-program-requires-clause-erased g c =
-    let words = c.words-slots.ensures.value ∙ ap (λ (size : Size). size.words) c.shape.ensures in
-    let found = c.requires.layout in
-    free_slot_erased c.args.layout.now.side c.args.layout.now.generation c.args.layout.now.fill _ _ _ found.live found.fill c.requires.free c.first_page.ensures words
+    let side = c.args.layout.now.side in
+    let generation = c.args.layout.now.generation in
+    let fill = c.args.layout.now.fill in
+    record {
+      page_in_range = slot_in_device side generation fill _ _ old found.live found.fill c.requires.free c.first_page.ensures words;
+      place_in_range = slot_in_page side generation fill _ _ old found.live found.fill c.requires.free c.first_page.ensures words;
+      erased = free_slot_erased side generation fill _ _ old found.live found.fill c.requires.free c.first_page.ensures words;
+      below_all_ones = c.word.ensures.below_all_ones;
+    }
 
 pub returns-in_err-program : goal.returns-in_err-program
 returns-in_err-program g c =
