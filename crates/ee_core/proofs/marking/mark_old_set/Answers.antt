@@ -38,9 +38,6 @@ pages-preserved g c =
     ] in
     marked_next side generation old _ _ first pages mid c.pages.page (g.met.F.Flash.formed c.pages.flash) c.pages.auto.page c.pages-test.true c.pages.invariant new (g.met.F.Flash.formed c.if-not-is_blank.flash) step
 
-pub mark_old-requires-clause-layout : goal.mark_old-requires-clause-layout
-mark_old-requires-clause-layout g c = layout_stays _ _ _ c.requires c.pages.invariant.stays
-
 pub is_blank-requires : goal.is_blank-requires
 is_blank-requires g c =
     let old = g.F.Flash.device c.args.flash.now in
@@ -49,13 +46,17 @@ is_blank-requires g c =
     let pages : c.pages-2.result ≡ old.size.pages = c.pages-2.ensures.value ∙ ap (λ (size : Size). size.pages) c.shape.ensures in
     page_of_device _ (other side) c.pages.page (page_reached (other side) old (g.F.Flash.device c.pages.flash) _ _ c.pages.page first pages c.pages.invariant.stays.keeps.same_size c.pages.auto.page c.pages-test.true)
 
-pub mark_old-requires-clause-page : goal.mark_old-requires-clause-page
-mark_old-requires-clause-page g c =
+pub mark_old-requires : goal.mark_old-requires
+mark_old-requires g c =
     let old = g.F.Flash.device c.args.flash.now in
     let side = c.args.layout.now.side in
     let first : c.first_page-first.result ≡ first_page old.size (other side) = c.first_page-first.ensures ∙ ap (first_page old.size) c.other.ensures in
     let pages : c.pages-2.result ≡ old.size.pages = c.pages-2.ensures.value ∙ ap (λ (size : Size). size.pages) c.shape.ensures in
-    page_reached (other side) old (g.F.Flash.device c.pages.flash) _ _ c.pages.page first pages c.pages.invariant.stays.keeps.same_size c.pages.auto.page c.pages-test.true
+    record {
+      layout = layout_stays _ _ _ c.requires c.pages.invariant.stays;
+      page = page_reached (other side) old (g.F.Flash.device c.pages.flash) _ _ c.pages.page first pages c.pages.invariant.stays.keeps.same_size c.pages.auto.page c.pages-test.true;
+      not_blank = sym c.is_blank.ensures ∙ c.if-not-is_blank.true;
+    }
 
 pub returns-in_err-mark_old : goal.returns-in_err-mark_old
 returns-in_err-mark_old g c =
