@@ -1,5 +1,5 @@
 -- Steps that went on, one after another.
-use Rattle.std.proofs.Common.{◌≡◌, ◌≢◌, ◌⊎◌, inl, inr, ℕ, ap, false, true, refl, sym, ◌∙◌}
+use Rattle.std.proofs.Common.{◌≡◌, ◌≢◌, ◌⊎◌, inl, inr, ℕ, Bool, ap, false, true, refl, sym, ◌∙◌}
 use Rattle.std.specs.Prelude.{Result, Ok, Err, IsErr, OnOk}
 use Rattle.std.proofs.lemmas.Bool.{cases_Bool, true≢false}
 use Rattle.ee_flash.specs.Device.{Device, IsOff, IsOn, page_at}
@@ -66,3 +66,7 @@ same_but page mark old new (inr taken) other apart = step_keeps_other_pages (mar
 -- no result is a success and an error
 pub not_ok : {T E : Type 0} {value : T} {error : E} {result : Result T E} → result ≡ Ok value → result ≡ Err error → ⊥
 not_ok is failed = absurd (cc (is, failed))
+
+-- nor two successes
+pub not_both_ok : {E : Type 0} (result : Result Bool E) → result ≡ Ok false → result ≡ Ok true → ⊥
+not_both_ok result first second = absurd (cc (first, second))

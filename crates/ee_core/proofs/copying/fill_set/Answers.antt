@@ -17,22 +17,35 @@ put_all-requires-clause-fits g c =
     let old = g.F.Flash.device c.args.flash.now in
     puts_fit c.args.puts.now c.args.forgets c.values_put.result.now (map_in c.args.layout.now.side old) (slot_count old.size) c.values_put.ensures c.requires.apart c.requires.fits
 
-pub copy_others-requires : goal.copy_others-requires
-copy_others-requires g c =
+pub copy_others-requires-clause-at : goal.copy_others-requires-clause-at
+copy_others-requires-clause-at g c =
+    let fills = c.in_ok-first.ensures.fills in
+    record { found = layout_kept _ _ c.args.layout.now c.requires.opened.found fills.keeps; generation = c.requires.opened.generation; filling = fills.filling; stands = c.in_ok-first.ensures.stands }
+
+pub copy_others-requires-clause-first : goal.copy_others-requires-clause-first
+copy_others-requires-clause-first g c = c.requires.first
+
+pub copy_others-requires-clause-over : goal.copy_others-requires-clause-over
+copy_others-requires-clause-over g c = rw c.in_ok-first.ensures.fills.keeps.same_slots c.requires.over
+
+pub copy_others-requires-clause-only : goal.copy_others-requires-clause-only
+copy_others-requires-clause-only g c =
     let old = g.F.Flash.device c.args.flash.now in
     let mid = g.F.Flash.device c.put_all.new.flash in
     let layout = c.args.layout.now in
     let slot = c.in_ok-first.first.slot in
-    let fills = c.in_ok-first.ensures.fills in
-    let first = carried_first old mid layout c.args.puts.now c.args.forgets c.values_put.result.now slot c.values_put.ensures fills in
-    record {
-      at = record { found = layout_kept old mid layout c.requires.opened.found fills.keeps; generation = c.requires.opened.generation; filling = fills.filling; stands = c.in_ok-first.ensures.stands };
-      first = c.requires.first;
-      over = rw fills.keeps.same_slots c.requires.over;
-      only = λ address away. only_these (carried c.args.puts.now c.args.forgets) old mid mid layout slot first address (carried_names c.args.puts.now c.args.forgets address ∙ away);
-      fits = subst (λ (left : Map). slot + length (elements_of left) ≤ slot_count mid.size) (carried_without c.args.puts.now c.args.forgets (map_in layout.side mid))
-          (others_fit (carried c.args.puts.now c.args.forgets) old mid mid layout slot first c.requires.apart c.requires.fits);
-    }
+    let first = carried_first old mid layout c.args.puts.now c.args.forgets c.values_put.result.now slot c.values_put.ensures c.in_ok-first.ensures.fills in
+    λ address away. only_these (carried c.args.puts.now c.args.forgets) old mid mid layout slot first address (carried_names c.args.puts.now c.args.forgets address ∙ away)
+
+pub copy_others-requires-clause-fits : goal.copy_others-requires-clause-fits
+copy_others-requires-clause-fits g c =
+    let old = g.F.Flash.device c.args.flash.now in
+    let mid = g.F.Flash.device c.put_all.new.flash in
+    let layout = c.args.layout.now in
+    let slot = c.in_ok-first.first.slot in
+    let first = carried_first old mid layout c.args.puts.now c.args.forgets c.values_put.result.now slot c.values_put.ensures c.in_ok-first.ensures.fills in
+    subst (λ (left : Map). slot + length (elements_of left) ≤ slot_count mid.size) (carried_without c.args.puts.now c.args.forgets (map_in layout.side mid))
+    (others_fit (carried c.args.puts.now c.args.forgets) old mid mid layout slot first c.requires.apart c.requires.fits)
 
 pub returns : goal.returns
 returns g c =

@@ -188,11 +188,23 @@ returns g c =
       power = record { ok = goes_on_both old filling new (goes_on_both old opened filling (goes_on_both old cleared opened clears.power.ok opens.power.ok) c.in_ok-count.ensures.power.ok) done.power.ok; cut = tt; off = tt };
     }
 
-pub fill_set-requires : goal.fill_set-requires
-fill_set-requires g c =
+pub fill_set-requires-clause-opened : goal.fill_set-requires-clause-opened
+fill_set-requires-clause-opened g c = c.in_ok-open_set.ensures.opened
+
+pub fill_set-requires-clause-first : goal.fill_set-requires-clause-first
+fill_set-requires-clause-first g c = c.requires.first
+
+pub fill_set-requires-clause-over : goal.fill_set-requires-clause-over
+fill_set-requires-clause-over g c = rw (c.open_set.ensures.keeps.same_slots ∙ c.clear.ensures.keeps.same_slots) c.requires.over
+
+pub fill_set-requires-clause-apart : goal.fill_set-requires-clause-apart
+fill_set-requires-clause-apart g c = c.requires.apart
+
+pub fill_set-requires-clause-fits : goal.fill_set-requires-clause-fits
+fill_set-requires-clause-fits g c =
     let old = g.F.Flash.device c.args.flash.now in
     let opened = g.F.Flash.device c.open_set.new.flash in
     let side = c.args.layout.now.side in
     let before = keeps_both old (g.F.Flash.device c.clear.new.flash) opened side c.args.layout.now.generation c.clear.ensures.keeps c.open_set.ensures.keeps in
     let same : map_in side opened ≡ map_in side old = fun_ext before.same_map in
-    record { opened = c.in_ok-open_set.ensures.opened; first = c.requires.first; over = rw before.same_slots c.requires.over; apart = c.requires.apart; fits = rw (same, before.same_size) c.requires.fits }
+    rw (same, before.same_size) c.requires.fits

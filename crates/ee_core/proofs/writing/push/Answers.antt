@@ -15,20 +15,26 @@ use Rattle.ee_core.specs.Cuts.{PutsPartly}
 use Rattle.ee_flash.specs.declared.word.Word.TheVariants.{Held}
 use Rattle.ee_core.proofs.writing.push.Goals as goal
 
-pub program-requires : goal.program-requires
-program-requires g c =
-    let old = g.F.Flash.device c.args.flash.now in
+pub program-requires-clause-page_in_range : goal.program-requires-clause-page_in_range
+program-requires-clause-page_in_range g c =
     let words = c.words-slots.ensures.value ∙ ap (λ (size : Size). size.words) c.shape.ensures in
+    let layout = c.args.layout.now in
     let found = c.requires.layout in
-    let side = c.args.layout.now.side in
-    let generation = c.args.layout.now.generation in
-    let fill = c.args.layout.now.fill in
-    record {
-      page_in_range = slot_in_device side generation fill _ _ old found.live found.fill c.requires.free c.first_page.ensures words;
-      place_in_range = slot_in_page side generation fill _ _ old found.live found.fill c.requires.free c.first_page.ensures words;
-      erased = free_slot_erased side generation fill _ _ old found.live found.fill c.requires.free c.first_page.ensures words;
-      below_all_ones = c.word.ensures.below_all_ones;
-    }
+    slot_in_device layout.side layout.generation layout.fill _ _ (g.F.Flash.device c.args.flash.now) found.live found.fill c.requires.free c.first_page.ensures words
+
+pub program-requires-clause-place_in_range : goal.program-requires-clause-place_in_range
+program-requires-clause-place_in_range g c =
+    let words = c.words-slots.ensures.value ∙ ap (λ (size : Size). size.words) c.shape.ensures in
+    let layout = c.args.layout.now in
+    let found = c.requires.layout in
+    slot_in_page layout.side layout.generation layout.fill _ _ (g.F.Flash.device c.args.flash.now) found.live found.fill c.requires.free c.first_page.ensures words
+
+pub program-requires-clause-erased : goal.program-requires-clause-erased
+program-requires-clause-erased g c =
+    let words = c.words-slots.ensures.value ∙ ap (λ (size : Size). size.words) c.shape.ensures in
+    let layout = c.args.layout.now in
+    let found = c.requires.layout in
+    free_slot_erased layout.side layout.generation layout.fill _ _ (g.F.Flash.device c.args.flash.now) found.live found.fill c.requires.free c.first_page.ensures words
 
 pub returns-in_err-program : goal.returns-in_err-program
 returns-in_err-program g c =
