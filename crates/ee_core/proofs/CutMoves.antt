@@ -169,11 +169,28 @@ commit_partly side old new generation words formed sizes sets holds =
 -- or in a mark behind that
 pub marked_partly : (side : Side) (mid new : Device) (generation last : ℕ) (words : List Word) → new.size ≡ mid.size → IsDrawn side mid (committed mid.size generation words) → last ≡ page_of_slot mid.size (length words - 1)
     → IsDrawnPartly side new (picture_of side mid) (marked_to last (picture_of side mid)) → IsDrawnPartly side new blank (filled_set mid.size generation words)
-marked_partly side mid new generation last words sizes held last_is drawn = search (rules, drawn_between, committed, all_marked, IsOnTheWay, committed_way)
+marked_partly side mid new generation last words sizes held last_is drawn =
+    let whole = filled_set mid.size generation words in
+    drawn_between side new blank whole (picture_of side mid) (marked_to last (picture_of side mid))
+    (λ page at h within.
+    let word = held page at (omega (arith, h, ap (λ (size : Size). size.pages) sizes)) (omega (arith, within, ap (λ (size : Size). size.words) sizes)) in (
+      subst (λ (found : Word). IsOnTheWay Erased (whole page at) found) (sym word) (committed_way mid.size generation words page at),
+      inr (ap (λ (found : Word). marked_to last (λ p a. found) page at) word ∙ ap (λ n. marked_to n (committed mid.size generation words) page at) last_is ∙ all_marked mid.size generation words page at),
+    )) drawn
 
 -- the first mark of blank pages
 pub open_partly : (side : Side) (old new : Device) (generation : ℕ) (words : List Word) → IsFormed old → new.size ≡ old.size → IsDrawn side old blank → SetsPartly (first_page old.size side) (Receive generation) old new → FillsPartly new side generation words
-open_partly side old new generation words formed sizes all sets = search (rules, page_later, drawn_between, with_mark, IsOnTheWay, first_opened, opened_front, mark_drawn_partly)
+open_partly side old new generation words formed sizes all sets =
+    let e : first_page old.size side ≡ first_page old.size side + 0 = omega arith in
+    let some : 0 < new.size.words - 4 = omega (arith, formed.within_limits.some_words, ap (λ (size : Size). size.words) sizes) in
+    let last = page_of_slot new.size (length words - 1) in
+    drawn_between side new blank (opened_set new.size generation last words) blank (with_mark 0 (Receive generation) blank)
+    (λ page at _ _. (
+      inl refl,
+      subst (λ (found : Word). IsOnTheWay Erased (opened_set new.size generation last words page at) found) (sym (first_opened new.size generation page at))
+          (opened_front new.size generation (page_of_slot new.size (0 - 1)) last [] words page at (page_later new.size (0 - 1) (length words - 1) some (omega arith))),
+    ))
+    (mark_drawn_partly side old new 0 (Receive generation) blank formed sizes (omega (arith, formed.within_limits.some_pages)) all (subst (λ n. SetsPartly n (Receive generation) old new) e sets))
 
 -- ---- a format
 

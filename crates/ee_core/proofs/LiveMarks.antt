@@ -45,7 +45,10 @@ current_below layout device is = omega (arith, last_is layout device is, last_in
 
 -- a page up to that one stands behind written slots
 mark_behind : (layout : Layout) (device : Device) (page : ℕ) (mark : Mark) → IsLayout device layout → page ≤ last_used device layout.side → (mark ≡ Active) ⊎ (mark ≡ Valid) → IsMarkBehind device layout.side page mark
-mark_behind layout device page mark is h kind = search (rules, last_in_range, mul-le-mul_right, div-mul-le_self)
+mark_behind layout device page mark is h kind =
+    let fill = fill_of (slots_of (set_of layout.side device)) in
+    let row = device.size.words - 4 in
+    record { in_range = omega (arith, h, last_in_range layout device is); behind = omega (arith, mul-le-mul_right row h, div-mul-le_self (fill - 1) row); active_or_valid = kind }
 
 pub valid_behind : (layout : Layout) (device : Device) (page : ℕ) → IsLayout device layout → first_page device.size layout.side ≤ page → page < layout.current → IsMarkBehind device layout.side (page - first_page device.size layout.side) Valid
 valid_behind layout device page is from below =

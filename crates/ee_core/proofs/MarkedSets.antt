@@ -27,11 +27,21 @@ module _ (side : Side) (old : Device) (first : ℕ) (first_is : first ≡ first_
 
   -- one page more is marked valid
   pub valid_next : (mid new : Device) (page : ℕ) → IsFormed mid → mid.size ≡ old.size → new.size ≡ mid.size → first ≤ page → page - first < mid.size.pages → SetsMark page Valid mid new → IsDrawn side mid (valid_to (page - first) (picture_of side old)) → IsDrawn side new (valid_to (page + 1 - first) (picture_of side old))
-  valid_next mid new page formed first_sizes second_sizes from h sets drawn = search (rules, place, valid_to, drawn_as, with_mark, mark_drawn, valid_more)
+  valid_next mid new page formed first_sizes second_sizes from h sets drawn =
+      let k = page - first in
+      let more : k + 1 ≡ page + 1 - first = omega (arith, from) in
+      let picture = picture_of side old in
+      let there = subst (λ n. SetsMark n Valid mid new) (place mid page first_sizes from) sets in
+      subst (λ n. IsDrawn side new (valid_to n picture)) more
+      (drawn_as side new (with_mark k Valid (valid_to k picture)) (valid_to (k + 1) picture) (mark_drawn side mid new k Valid (valid_to k picture) formed second_sizes h drawn there) (λ p at _ _. valid_more k picture p at))
 
   -- and the last one active
   pub active_then : (mid new : Device) (page last : ℕ) → IsFormed mid → mid.size ≡ old.size → new.size ≡ mid.size → page ≡ first + last → last < mid.size.pages → SetsMark page Active mid new → IsDrawn side mid (valid_to last (picture_of side old)) → IsDrawn side new (marked_to last (picture_of side old))
-  active_then mid new page last formed first_sizes second_sizes is h sets drawn = search (rules, drawn_as, with_mark, valid_to, mark_drawn, active_last)
+  active_then mid new page last formed first_sizes second_sizes is h sets drawn =
+      let picture = picture_of side old in
+      let e : page ≡ first_page mid.size side + last = omega (arith, is, first_is, ap (λ (size : Size). first_page size side) first_sizes) in
+      let there = subst (λ n. SetsMark n Active mid new) e sets in
+      drawn_as side new (with_mark last Active (valid_to last picture)) (marked_to last picture) (mark_drawn side mid new last Active (valid_to last picture) formed second_sizes h drawn there) (λ p at _ _. active_last last picture p at)
 
   -- the other set is as before
   pub other_stays : (mid new : Device) (page : ℕ) → IsFormed mid → IsFormed new → mid.size ≡ old.size → new.size ≡ mid.size → first ≤ page → page - first < mid.size.pages → IsSameBut page mid new → IsSameSet (other side) old mid → IsSameSet (other side) old new

@@ -98,3 +98,9 @@ module _ (map : Map) (puts : List listed.Put) (each : AreApart (puts_of puts)) (
       ap live_in (map_with_more map puts place put within is)
       ∙ counts
       ∙ ap (λ (held : Option ℕ). live_in so_far + cond (is_some held) 0 1) as_before
+
+-- a list of one value
+pub one_listed : (puts : List listed.Put) (put : listed.Put) → length puts ≡ 1 → put ≡ get_or puts 0 put → puts ≡ put ∷ []
+one_listed [] put long is = absurd (omega (arith, long))
+one_listed (first ∷ []) put long is = ap (λ (one : listed.Put). one ∷ []) (sym is)
+one_listed (first ∷ second ∷ more) put long is = absurd (omega (arith, long))
