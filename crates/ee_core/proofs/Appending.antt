@@ -44,8 +44,7 @@ slot_keeps_marks page place value old new taken there mark was = search (rules, 
 -- the first free slot is erased
 pub slot_erased : (side : Side) (generation fill : ℕ) (old : Device) → IsLive old side generation → fill ≡ fill_of (slots_of (set_of side old)) → fill < slot_count old.size → word_at old (first_page old.size side + page_of_slot old.size fill) (place_of_slot old.size fill) ≡ Erased
 slot_erased side generation fill old live fill_is free =
-    let slots = slots_of (set_of side old) in
-    let front = fill-front side old generation live.formed live.allowed in
+    let slots = slots_of (set_of side old) in let front = fill-front side old generation live.formed live.allowed in
     let unwritten : is_written (get_or slots fill Erased) ≡ false = slots_behind side old generation live.formed live.allowed fill (omega (arith, front, fill_is)) in
     let there = page_of_set side old (page_of_slot old.size fill) (page_in_range old fill free) in
     ap (λ (words : List Word). get_or words (place_of_slot old.size fill) Erased) (sym there)

@@ -34,8 +34,7 @@ module _ (side : Side) (generation : ℕ) (old : Device) (first pages : ℕ) (fo
   -- the whole set
   pub all_cleared : (new : Device) (page : ℕ) → IsFormed new → page ≡ first + pages → ClearedTo old new side generation first page → All (λ words. is_blank words ≡ true) (set_of (other side) new) × Wears (not_blank_in (other side) old) old new
   all_cleared new page new_formed end all =
-      let start = ap (λ (size : Size). first_page size (other side)) all.keeps.same_size in
-      let counted = ap (λ (size : Size). size.pages) all.keeps.same_size in
+      let start = ap (λ (size : Size). first_page size (other side)) all.keeps.same_size in let counted = ap (λ (size : Size). size.pages) all.keeps.same_size in
       let long : page - first ≡ length (set_of (other side) old) = omega (arith, length-set_of (other side) old formed, pages_is, end) in (
         all_blank (other side) new new_formed (λ k from below. all.blank k (omega (arith, first_is, start, from)) (omega (arith, first_is, start, counted, pages_is, end, below))),
         subst (λ n. Wears (not_blank_from n (set_of (other side) old)) old new) first_is (all_wear (set_of (other side) old) first (page - first) old new long all.wear),

@@ -118,9 +118,7 @@ pub cut_word : (side : Side) (old mid new : Device) (fill number : ℕ) → mid.
     → PutsPartly (first_page mid.size side + page_of_slot mid.size fill) (place_of_slot mid.size fill) (Held number) mid new
     → IsDrawnPartly side new (picture_of side old) (with_change old.size fill number (picture_of side old))
 cut_word side old mid new fill number first_sizes second_sizes h inside drawn puts =
-    let picture = picture_of side old in
-    let at = place_of_slot old.size fill in
-    let k = page_of_slot old.size fill in
+    let picture = picture_of side old in let at = place_of_slot old.size fill in let k = page_of_slot old.size fill in
     let there = subst (λ (size : Size). PutsPartly (first_page mid.size side + page_of_slot size fill) (place_of_slot size fill) (Held number) mid new) first_sizes puts in
     drawn_between side new picture (with_change old.size fill number picture) (marked_to k picture) (with_change old.size fill number picture)
     (λ page place _ _. (marks_way old.size fill number picture page place, inr refl))

@@ -82,10 +82,8 @@ pub partly_longer : (old new : Device) (side : Side) (generation count : ℕ) (m
 partly_longer old new side generation count more rest formed adds = record {
   live_pages = adds.live_pages;
   new_pages = λ words long holds.
-      let all = words ++ more in
-      let some : 0 < new.size.words - 4 = omega (arith, formed.within_limits.some_words) in
-      let last = page_of_slot new.size (length all - 1) in
-      let later = page_of_slot new.size (length (all ++ rest) - 1) in
+      let all = words ++ more in let some : 0 < new.size.words - 4 = omega (arith, formed.within_limits.some_words) in
+      let last = page_of_slot new.size (length all - 1) in let later = page_of_slot new.size (length (all ++ rest) - 1) in
       let before : last ≤ later = page_later new.size (length all - 1) (length (all ++ rest) - 1) some (omega (arith, length-append all rest)) in
       let longer : FillsPartly new (other side) generation (all ++ rest) =
       drawn_between (other side) new blank (opened_set new.size generation later (all ++ rest)) blank (opened_set new.size generation last all)
@@ -110,9 +108,7 @@ pub receive_partly : (old new : Device) (side : Side) (generation count : ℕ) (
 receive_partly old new side generation count word formed sizes h live sets = record {
   live_pages = live;
   new_pages = λ words long holds.
-      let k = page_of_slot old.size count in
-      let last = page_of_slot old.size (count - 1) in
-      let all = words ++ (word ∷ []) in
+      let k = page_of_slot old.size count in let last = page_of_slot old.size (count - 1) in let all = words ++ (word ∷ []) in
       let some : 0 < old.size.words - 4 = omega (arith, formed.within_limits.some_words) in
       let before : IsDrawn (other side) old (opened_set old.size generation last words) = subst (λ n. IsDrawn (other side) old (opened_set old.size generation (page_of_slot old.size (n - 1)) words)) long holds in
       let drawn = mark_drawn_partly (other side) old new k (Receive generation) (opened_set old.size generation last words) formed sizes h before sets in
@@ -135,8 +131,7 @@ pub word_partly : (old new : Device) (side : Side) (generation count : ℕ) (wor
     → PutsPartly (first_page old.size (other side) + page_of_slot old.size count) (place_of_slot old.size count) word old new
     → (words : List Word) → length words ≡ count → IsDrawn (other side) old (opened_set old.size generation (page_of_slot old.size count) words) → FillsPartly new (other side) generation (words ++ (word ∷ []))
 word_partly old new side generation count word formed sizes h inside puts words long before =
-    let k = page_of_slot old.size count in
-    let all = words ++ (word ∷ []) in
+    let k = page_of_slot old.size count in let all = words ++ (word ∷ []) in
     let drawn = put_partly (other side) old new k (place_of_slot old.size count) word (opened_set old.size generation k words) sizes before h inside puts in
     let fills : IsDrawnPartly (other side) new blank (opened_set old.size generation k all) =
     drawn_between (other side) new blank (opened_set old.size generation k all) (opened_set old.size generation k words) _
@@ -159,8 +154,7 @@ filled_partly side new generation words fills =
 -- cut in the mark that commits it
 pub commit_partly : (side : Side) (old new : Device) (generation : ℕ) (words : List Word) → IsFormed old → new.size ≡ old.size → SetsPartly (first_page old.size side) Active old new → Holds old side generation words → IsDrawnPartly side new blank (filled_set old.size generation words)
 commit_partly side old new generation words formed sizes sets holds =
-    let e : first_page old.size side ≡ first_page old.size side + 0 = omega arith in
-    let there = subst (λ n. SetsPartly n Active old new) e sets in
+    let e : first_page old.size side ≡ first_page old.size side + 0 = omega arith in let there = subst (λ n. SetsPartly n Active old new) e sets in
     let before = opened_set old.size generation (page_of_slot old.size (length words - 1)) words in
     drawn_between side new blank (filled_set old.size generation words) before (with_mark 0 Active before)
     (λ page at _ _. (opened_way old.size generation words page at, committed_way old.size generation words page at))

@@ -1,10 +1,10 @@
 -- Lists of values that are put: an address that is listed twice, and lists in which each is listed once.
-use Rattle.std.proofs.Common.{◌≡◌, inl, inr, ℕ, ◌+◌, ◌<◌, ◌≤◌, arith, false, Bool, Option, Some, None, List, [], ◌∷◌, length, get_or, take, refl, subst, ap, ◌∙◌, suc}
+use Rattle.std.proofs.Common.{◌≡◌, ℕ, ◌≤◌, false, Bool, Option, Some, None, List, [], ◌∷◌, length, take, refl, ap, ◌∙◌, suc}
 use Rattle.std.specs.Prelude.{◌==◌, ◌||◌, slice_get}
 use Rattle.std.specs.List.{All}
-use Rattle.std.proofs.lemmas.Bool.{cases_lt, ne_eqb}
+use Rattle.std.proofs.lemmas.Bool.{ne_eqb}
 use Rattle.std.proofs.lemmas.List.Elements.{All-head, All-tail}
-use Rattle.std.proofs.lemmas.Option.{slice_get-get_or, slice_get_past}
+use Rattle.std.proofs.lemmas.Option.{slice_get_past}
 use Rattle.ee_codec.specs.Words.{IsAddress}
 use Rattle.ee_core.specs.Puts.{AreApart, IsEachOnce, ListsAreThere, is_put, is_put_again, is_twice, names, puts_of}
 use Rattle.ee_core.specs.declared.change.Put as listed
@@ -39,16 +39,6 @@ each_apart (put ∷ puts) proper once = (
   none_again put puts (λ place. again_first put (take place puts) (slice_get puts place) (once (suc place))),
   each_apart puts (All-tail (λ (put : listed.Put). IsAddress put.address) put puts proper) (λ place. again_behind put (take place puts) (slice_get puts place) (once (suc place))),
 )
-
--- an entry is listed twice if one of those before it has its address
-pub twice_at : (puts : List listed.Put) (place : ℕ) (d : listed.Put) → place < length puts → is_twice puts place ≡ is_put (take place puts) (get_or puts place d).address
-twice_at puts place d h = ap (is_put_again (take place puts)) (slice_get-get_or puts place d h)
-
-pub once_more : (puts : List listed.Put) (place : ℕ) → is_twice puts place ≡ false → ((lower : ℕ) → lower < place → is_twice puts lower ≡ false) → (lower : ℕ) → lower < place + 1 → is_twice puts lower ≡ false
-once_more puts place here none lower below = elim (cases_lt lower place) [
-  | inl earlier ↦ none lower earlier
-  | inr last ↦ let e : place ≡ lower = omega arith in subst (λ n. is_twice puts n ≡ false) e here
-]
 
 -- there is none behind the last
 pub none_behind : (puts : List listed.Put) (place : ℕ) → length puts ≤ place → is_twice puts place ≡ false

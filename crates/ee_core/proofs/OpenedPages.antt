@@ -26,8 +26,7 @@ same_row n m q r e some below =
 pub same_place : (n m : ℕ) → 0 < m → (n ≡ 0) ⊎ (n % m ≢ 0) → n / m ≡ (n - 1) / m
 same_place n m some (inl none) = let e : n ≡ n - 1 = omega arith in ap (λ k. k / m) e
 same_place n m some (inr inside) =
-    let split : n ≡ n / m * m + n % m = omega (arith, div-add-mod n m) in
-    let below : n % m < m = omega (arith, some) in
+    let split : n ≡ n / m * m + n % m = omega (arith, div-add-mod n m) in let below : n % m < m = omega (arith, some) in
     sym (same_row n m (n / m) (n % m) split (omega (arith, inside)) below)
 
 -- the first slot of a page stands one page behind the slot before
@@ -44,13 +43,10 @@ next_place n m some many whole =
     let split : n ≡ n / m * m = omega (arith, div-add-mod n m, whole) in
     elim (cases_lt 0 (n / m)) [
       | inl positive ↦
-          let p : ℕ = n / m - 1 in
-          let quotient : n / m ≡ p + 1 = omega arith in
-          let rows : n ≡ (p + 1) * m = split ∙ ap (λ k. k * m) quotient in
+          let p : ℕ = n / m - 1 in let quotient : n / m ≡ p + 1 = omega arith in let rows : n ≡ (p + 1) * m = split ∙ ap (λ k. k * m) quotient in
           quotient ∙ ap (λ k. k + 1) (sym (after_row n m p (one_row_more n m p rows) some))
       | inr none ↦
-          let zero : n / m ≡ 0 = omega arith in
-          let nothing : n ≡ 0 * m = split ∙ ap (λ k. k * m) zero in
+          let zero : n / m ≡ 0 = omega arith in let nothing : n ≡ 0 * m = split ∙ ap (λ k. k * m) zero in
           absurd (omega (arith, nothing))
     ]
 

@@ -1,5 +1,5 @@
 -- With no forgetting among the slots, the last element of an address says its value.
-use Rattle.std.proofs.Common.{rules, ◌≡◌, ◌≢◌, inl, inr, ℕ, Option, Some, None, List, [], ◌∷◌, refl, ap, ◌∙◌, arith, suc, zero}
+use Rattle.std.proofs.Common.{◌≡◌, ◌≢◌, inl, inr, ℕ, Option, Some, None, List, [], ◌∷◌, refl, ap, ◌∙◌, arith, suc, zero}
 use Rattle.std.proofs.lemmas.Bool.{cases_eq, eq-eqb, ne_eqb}
 use Rattle.ee_codec.specs.Reading.{slot_of}
 use Rattle.ee_codec.specs.declared.slot.Slot.{Slot}

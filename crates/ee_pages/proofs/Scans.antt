@@ -47,8 +47,7 @@ allowed_in device page at (Some live) = is_allowed_at device.size live.1 (set_of
 -- an image with a foreign word is not legal
 pub foreign_not_legal : (device : Device) (side : Side) (generation page at : ℕ) → live_of device ≡ Some (side, generation) → IsFirstForeign device.size generation (set_of side device) page at → ¬ IsLegal device
 foreign_not_legal device side generation page at live foreign legal =
-    let same : Some (side, generation) ≡ Some (legal.0, legal.1) = sym live ∙ legal.2.live in
-    let allowed = legal.2.allowed page at foreign.page_in_range foreign.place_in_range in
+    let same : Some (side, generation) ≡ Some (legal.0, legal.1) = sym live ∙ legal.2.live in let allowed = legal.2.allowed page at foreign.page_in_range foreign.place_in_range in
     let here : is_allowed_at device.size generation (set_of side device) page at ≡ true = subst (λ (found : Option (Side × ℕ)). allowed_in device page at found ≡ true) (sym same) allowed in
     true≢false (sym here ∙ foreign.foreign)
 

@@ -16,8 +16,7 @@ appended_not_moved result first second = absurd (cc (first, second))
 
 pub move_unindexed-requires-clause-needed : goal.move_unindexed-requires-clause-needed
 move_unindexed-requires-clause-needed g c =
-    let old = g.F.Flash.device c.args.flash.now in
-    let slots : c.slots.result ≡ capacity old = c.slots.ensures.value ∙ ap slot_count c.shape.ensures in
+    let old = g.F.Flash.device c.args.flash.now in let slots : c.slots.result ≡ capacity old = c.slots.ensures.value ∙ ap slot_count c.shape.ensures in
     let used : c.args.layout.now.fill ≡ capacity old =
     omega (arith, slots, c.if-layout-slots.false, c.requires.layout.fill, few_within old c.args.layout.now.side (g.met.F.Flash.formed c.args.flash.now)) in
     let found = c.requires.layout in

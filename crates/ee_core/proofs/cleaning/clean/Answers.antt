@@ -1,7 +1,7 @@
 use Rattle.std.proofs.Common.{◌≡◌, ◌<◌, refl, subst}
 use Rattle.std.proofs.lemmas.Result.{err_from_is_err_and}
 use Rattle.ee_pages.specs.Laws.{IsPageOf}
-use Rattle.ee_pages.specs.Sets.{other as other_of, pending_of, set_of}
+use Rattle.ee_pages.specs.Sets.{pending_of, set_of}
 use Rattle.ee_pages.specs.declared.side.Side.{Side}
 use Rattle.ee_core.proofs.AfterCalls.{ends_later, goes_on_same, never_on_ok, not_both_ok, not_ok}
 use Rattle.ee_core.proofs.LowestPending.{erases_lowest, keeps_all_but_lowest}
@@ -30,12 +30,8 @@ erase_other-requires-clause-page g c = subst (λ (set : Side). IsPageOf (g.F.Fla
 
 pub returns : goal.returns
 returns g c =
-    let old = g.F.Flash.device c.args.flash.now in
-    let new = g.F.Flash.device c.erase_other.new.flash in
-    let layout = c.args.layout.now in
-    let found = c.in-Some.ensures in
-    let left = c.in_ok-erase_other.ensures in
-    let live = c.requires.layout.live in
+    let old = g.F.Flash.device c.args.flash.now in let new = g.F.Flash.device c.erase_other.new.flash in let layout = c.args.layout.now in
+    let found = c.in-Some.ensures in let left = c.in_ok-erase_other.ensures in let live = c.requires.layout.live in
     record {
       keeps = left.keeps;
       none = λ is. absurd (not_both_ok _ is refl);
@@ -50,12 +46,8 @@ returns g c =
 
 pub returns-in_err-erase_other : goal.returns-in_err-erase_other
 returns-in_err-erase_other g c =
-    let old = g.F.Flash.device c.args.flash.now in
-    let new = g.F.Flash.device c.erase_other.new.flash in
-    let layout = c.args.layout.now in
-    let found = c.in-Some.ensures in
-    let cut = c.in_err-erase_other.ensures in
-    let failed = c.from_residual.ensures.0 in
+    let old = g.F.Flash.device c.args.flash.now in let new = g.F.Flash.device c.erase_other.new.flash in let layout = c.args.layout.now in
+    let found = c.in-Some.ensures in let cut = c.in_err-erase_other.ensures in let failed = c.from_residual.ensures.0 in
     let is_err = err_from_is_err_and c.from_residual.result c.from_residual.ensures.1 in
     record {
       keeps = cut.keeps;

@@ -24,18 +24,14 @@ stage-requires-clause-at g c =
 
 pub stage-requires-clause-free : goal.stage-requires-clause-free
 stage-requires-clause-free g c =
-    let old = g.F.Flash.device c.args.flash.now in
-    let mid = g.F.Flash.device c.puts.flash in
-    let filled = c.puts.invariant.filled in
+    let old = g.F.Flash.device c.args.flash.now in let mid = g.F.Flash.device c.puts.flash in let filled = c.puts.invariant.filled in
     let room : c.puts.place.slot < slot_count old.size =
     put_room old c.args.layout.now c.args.puts.now c.puts.put-index c.put-item.result mid mid c.puts.place.slot c.puts-test.true c.put-item.is filled (slot_count old.size) c.requires.fits in
     omega (arith, room, ap slot_count filled.keeps.same_size)
 
 pub puts-preserved : goal.puts-preserved
 puts-preserved g c =
-    let old = g.F.Flash.device c.args.flash.now in
-    let mid = g.F.Flash.device c.puts.flash in
-    let new = g.F.Flash.device c.stage.new.flash in
+    let old = g.F.Flash.device c.args.flash.now in let mid = g.F.Flash.device c.puts.flash in let new = g.F.Flash.device c.stage.new.flash in
     record {
       filled = one_put old c.args.layout.now c.args.puts.now c.puts.put-index c.put-item.result mid new c.puts.place.slot c.puts-test.true c.put-item.is c.puts.invariant.filled c.stage.new.place.slot c.in_ok-stage.ensures.fills;
       stands = c.in_ok-stage.ensures.stands;
@@ -53,9 +49,7 @@ returns g c =
 
 pub returns-in_err-stage : goal.returns-in_err-stage
 returns-in_err-stage g c =
-    let old = g.F.Flash.device c.args.flash.now in
-    let mid = g.F.Flash.device c.puts.flash in
-    let new = g.F.Flash.device c.stage.new.flash in
+    let old = g.F.Flash.device c.args.flash.now in let mid = g.F.Flash.device c.puts.flash in let new = g.F.Flash.device c.stage.new.flash in
     let is = err_from_is_err_and c.from_residual.result c.from_residual.ensures.1 in
     record {
       fills = rw is.1 (one_put_partly old c.args.layout.now c.args.puts.now c.puts.put-index c.put-item.result mid new c.puts.place.slot c.puts-test.true c.put-item.is c.puts.invariant.filled c.in_err-stage.ensures.fills);

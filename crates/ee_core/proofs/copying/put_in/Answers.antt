@@ -21,19 +21,13 @@ program-requires-clause-page_in_range g c =
 
 pub program-requires-clause-erased : goal.program-requires-clause-erased
 program-requires-clause-erased g c =
-    let old = g.F.Flash.device c.args.flash.now in
-    let free = free_slot old (other_of c.args.layout.now.side) _ c.args.place.slot c.requires.at.filling c.requires.free in
+    let old = g.F.Flash.device c.args.flash.now in let free = free_slot old (other_of c.args.layout.now.side) _ c.args.place.slot c.requires.at.filling c.requires.free in
     ap (λ n. word_at old n c.args.place.at) c.requires.at.stands.page ∙ ap (word_at old _) c.requires.at.stands.at ∙ free
 
 pub returns-in_err-program : goal.returns-in_err-program
 returns-in_err-program g c =
-    let old = g.F.Flash.device c.args.flash.now in
-    let new = g.F.Flash.device c.program.new.self in
-    let layout = c.args.layout.now in
-    let side = other_of layout.side in
-    let slot = c.args.place.slot in
-    let formed = c.requires.at.found.live.formed in
-    let cut = c.in_err-program.ensures.cut in
+    let old = g.F.Flash.device c.args.flash.now in let new = g.F.Flash.device c.program.new.self in let layout = c.args.layout.now in
+    let side = other_of layout.side in let slot = c.args.place.slot in let formed = c.requires.at.found.live.formed in let cut = c.in_err-program.ensures.cut in
     let failed = c.from_residual.ensures.0 in
     record {
       keeps = put_cut old new layout.side layout.generation slot _ c.requires.at.found.live c.requires.at.filling c.requires.free c.word.ensures.below_all_ones _ _ c.requires.at.stands.page c.requires.at.stands.at (inr cut);
@@ -48,15 +42,9 @@ returns-in_err-program g c =
 
 pub returns : goal.returns
 returns g c =
-    let old = g.F.Flash.device c.args.flash.now in
-    let new = g.F.Flash.device c.program.new.self in
-    let layout = c.args.layout.now in
-    let side = other_of layout.side in
-    let slot = c.args.place.slot in
-    let formed = c.requires.at.found.live.formed in
-    let in_range = page_in_range old slot c.requires.free in
-    let on = c.in_ok-program.ensures.on in
-    let done = c.in_ok-program.ensures.done in
+    let old = g.F.Flash.device c.args.flash.now in let new = g.F.Flash.device c.program.new.self in let layout = c.args.layout.now in
+    let side = other_of layout.side in let slot = c.args.place.slot in let formed = c.requires.at.found.live.formed in
+    let in_range = page_in_range old slot c.requires.free in let on = c.in_ok-program.ensures.on in let done = c.in_ok-program.ensures.done in
     let sizes = same_size_of _ _ _ old new done in
     let all = put_done old new layout.side layout.generation slot _ c.requires.at.found.live c.requires.at.filling c.requires.free c.word.ensures.below_all_ones (meant c.args.change) _ _
     c.requires.at.stands.page c.requires.at.stands.at c.word.ensures.spells on done in

@@ -24,13 +24,8 @@ mark-requires-clause-generation g c = one_receive (c.args.layout.now.generation 
 
 pub returns-in_err-mark : goal.returns-in_err-mark
 returns-in_err-mark g c =
-    let old = g.F.Flash.device c.args.flash.now in
-    let new = g.F.Flash.device c.mark.new.flash in
-    let layout = c.args.layout.now in
-    let side = other_of layout.side in
-    let page = page_of_slot old.size c.args.place.slot in
-    let cut = c.in_err-mark.ensures.cut in
-    let failed = c.from_residual.ensures.0 in
+    let old = g.F.Flash.device c.args.flash.now in let new = g.F.Flash.device c.mark.new.flash in let layout = c.args.layout.now in
+    let side = other_of layout.side in let page = page_of_slot old.size c.args.place.slot in let cut = c.in_err-mark.ensures.cut in let failed = c.from_residual.ensures.0 in
     record {
       keeps = receive_cut old new layout.side layout.generation c.args.place.slot c.requires.at.found.live c.requires.at.filling c.requires.free c.requires.at.generation _ _ _ refl _ c.requires.at.stands.page c.in_err-mark.ensures.present cut;
       opens = never_on_ok _ _ failed;
@@ -43,12 +38,8 @@ returns-in_err-mark g c =
 
 pub returns : goal.returns
 returns g c =
-    let old = g.F.Flash.device c.args.flash.now in
-    let new = g.F.Flash.device c.mark.new.flash in
-    let layout = c.args.layout.now in
-    let side = other_of layout.side in
-    let page = page_of_slot old.size c.args.place.slot in
-    let formed = c.requires.at.found.live.formed in
+    let old = g.F.Flash.device c.args.flash.now in let new = g.F.Flash.device c.mark.new.flash in let layout = c.args.layout.now in
+    let side = other_of layout.side in let page = page_of_slot old.size c.args.place.slot in let formed = c.requires.at.found.live.formed in
     let in_range = page_in_range old c.args.place.slot c.requires.free in
     let same = λ (set : is_marked old c.args.place.page (Receive (layout.generation + 1)) ≡ true). (c.in_ok-mark.ensures.present set).1 in
     let received = receive_done old new layout.side layout.generation c.args.place.slot c.requires.at.found.live c.requires.at.filling c.requires.free c.requires.at.generation _ c.requires.at.stands.page same c.in_ok-mark.ensures.on c.in_ok-mark.ensures.done in

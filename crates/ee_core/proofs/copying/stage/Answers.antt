@@ -32,8 +32,7 @@ put_in-requires g c = elim c.if-place-eq-HEADER_WORDS.branch [
 
 pub step-requires : goal.step-requires
 step-requires g c =
-    let old = g.F.Flash.device c.args.flash.now in
-    let mid = g.F.Flash.device c.if-place-eq-HEADER_WORDS.flash in
+    let old = g.F.Flash.device c.args.flash.now in let mid = g.F.Flash.device c.if-place-eq-HEADER_WORDS.flash in
     let sizes : mid.size ≡ old.size = elim c.if-place-eq-HEADER_WORDS.branch [
       | then-place-eq-HEADER_WORDS+in_ok-receive w ↦ rw w.flash-is w.receive.ensures.keeps.same_size
       | else-place-eq-HEADER_WORDS w ↦ rw w.flash-is refl
@@ -43,12 +42,8 @@ step-requires g c =
 
 pub returns : goal.returns
 returns g c =
-    let old = g.F.Flash.device c.args.flash.now in
-    let mid = g.F.Flash.device c.if-place-eq-HEADER_WORDS.flash in
-    let new = g.F.Flash.device c.put_in.new.flash in
-    let layout = c.args.layout.now in
-    let generation = layout.generation + 1 in
-    let slot = c.args.place.now.slot in
+    let old = g.F.Flash.device c.args.flash.now in let mid = g.F.Flash.device c.if-place-eq-HEADER_WORDS.flash in
+    let new = g.F.Flash.device c.put_in.new.flash in let layout = c.args.layout.now in let generation = layout.generation + 1 in let slot = c.args.place.now.slot in
     let first : OpensForSlot old mid layout.side generation slot × KeepsLiveSet old mid layout.side layout.generation × (mid.wear ≡ old.wear) × GoesOn old mid = elim c.if-place-eq-HEADER_WORDS.branch [
       | then-place-eq-HEADER_WORDS+in_ok-receive w ↦ rw w.flash-is (w.in_ok-receive.ensures.opens, w.receive.ensures.keeps, w.receive.ensures.wear, w.in_ok-receive.ensures.power.ok)
       | else-place-eq-HEADER_WORDS w ↦ rw w.flash-is (open_already old layout.side generation slot c.requires.at.filling (λ e. w.if-place-eq-HEADER_WORDS.false (omega (arith, c.requires.at.stands.at, e))), keeps_same old layout c.requires.at.found, refl, goes_on_same old)
@@ -70,14 +65,9 @@ returns g c =
 
 pub returns-in_err-receive : goal.returns-in_err-receive
 returns-in_err-receive g c =
-    let old = g.F.Flash.device c.args.flash.now in
-    let new = g.F.Flash.device c.receive.new.flash in
-    let side = c.args.layout.now.side in
-    let slot = c.args.place.now.slot in
-    let h = page_in_range old slot c.requires.free in
-    let is = err_from_is_err_and c.from_residual.result c.from_residual.ensures.1 in
-    let failed = c.from_residual.ensures.0 in
-    let cut = c.in_err-receive.ensures in
+    let old = g.F.Flash.device c.args.flash.now in let new = g.F.Flash.device c.receive.new.flash in let side = c.args.layout.now.side in
+    let slot = c.args.place.now.slot in let h = page_in_range old slot c.requires.free in
+    let is = err_from_is_err_and c.from_residual.result c.from_residual.ensures.1 in let failed = c.from_residual.ensures.0 in let cut = c.in_err-receive.ensures in
     record {
       fills = rw is.1 (record {
         keeps = cut.keeps;
@@ -92,21 +82,15 @@ returns-in_err-receive g c =
 
 pub returns-in_err-put_in : goal.returns-in_err-put_in
 returns-in_err-put_in g c =
-    let old = g.F.Flash.device c.args.flash.now in
-    let mid = g.F.Flash.device c.if-place-eq-HEADER_WORDS.flash in
-    let new = g.F.Flash.device c.put_in.new.flash in
-    let layout = c.args.layout.now in
-    let generation = layout.generation + 1 in
-    let slot = c.args.place.now.slot in
+    let old = g.F.Flash.device c.args.flash.now in let mid = g.F.Flash.device c.if-place-eq-HEADER_WORDS.flash in
+    let new = g.F.Flash.device c.put_in.new.flash in let layout = c.args.layout.now in let generation = layout.generation + 1 in let slot = c.args.place.now.slot in
     let first : OpensForSlot old mid layout.side generation slot × KeepsLiveSet old mid layout.side layout.generation × (mid.wear ≡ old.wear) × GoesOn old mid = elim c.if-place-eq-HEADER_WORDS.branch [
       | then-place-eq-HEADER_WORDS+in_ok-receive w ↦ rw w.flash-is (w.in_ok-receive.ensures.opens, w.receive.ensures.keeps, w.receive.ensures.wear, w.in_ok-receive.ensures.power.ok)
       | else-place-eq-HEADER_WORDS w ↦ rw w.flash-is (open_already old layout.side generation slot c.requires.at.filling (λ e. w.if-place-eq-HEADER_WORDS.false (omega (arith, c.requires.at.stands.at, e))), keeps_same old layout c.requires.at.found, refl, goes_on_same old)
     ] in
-    let formed = g.met.F.Flash.formed c.if-place-eq-HEADER_WORDS.flash in
-    let free = subst (λ size. slot < slot_count size) (sym first.0.sizes) c.requires.free in
+    let formed = g.met.F.Flash.formed c.if-place-eq-HEADER_WORDS.flash in let free = subst (λ size. slot < slot_count size) (sym first.0.sizes) c.requires.free in
     let is = err_from_is_err_and c.from_residual-in_err-put_in.result c.from_residual-in_err-put_in.ensures.1 in
-    let failed = c.from_residual-in_err-put_in.ensures.0 in
-    let cut = c.in_err-put_in.ensures in
+    let failed = c.from_residual-in_err-put_in.ensures.0 in let cut = c.in_err-put_in.ensures in
     record {
       fills = rw is.1 (record {
         keeps = keeps_both old mid new layout.side layout.generation first.1 cut.keeps;

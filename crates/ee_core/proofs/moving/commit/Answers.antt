@@ -15,9 +15,7 @@ use Rattle.ee_core.proofs.moving.commit.Goals as goal
 
 pub returns-in_err-mark : goal.returns-in_err-mark
 returns-in_err-mark g c =
-    let old = g.F.Flash.device c.args.flash.now in
-    let new = g.F.Flash.device c.mark.new.flash in
-    let side = other_of c.args.layout.now.side in
+    let old = g.F.Flash.device c.args.flash.now in let new = g.F.Flash.device c.mark.new.flash in let side = other_of c.args.layout.now.side in
     let formed = c.requires.layout.live.formed in
     let page : c.first_page-first.result ≡ first_page old.size side = c.first_page-first.ensures ∙ ap (first_page old.size) c.other.ensures in
     let cut = c.in_err-mark.ensures.cut in
@@ -38,13 +36,10 @@ returns-in_err-mark g c =
 
 pub returns : goal.returns
 returns g c =
-    let old = g.F.Flash.device c.args.flash.now in
-    let layout = c.args.layout.now in
+    let old = g.F.Flash.device c.args.flash.now in let layout = c.args.layout.now in
     let page : c.first_page-first.result ≡ first_page old.size (other_of layout.side) = c.first_page-first.ensures ∙ ap (first_page old.size) c.other.ensures in
     let unmarked = active_unmarked old old layout.side layout.generation _ c.requires.layout.live c.requires.generation c.requires.filling.1 _ page in
-    let on = c.in_ok-mark.ensures.on unmarked in
-    let done = c.in_ok-mark.ensures.done unmarked in
-    let formed = c.requires.layout.live.formed in
+    let on = c.in_ok-mark.ensures.on unmarked in let done = c.in_ok-mark.ensures.done unmarked in let formed = c.requires.layout.live.formed in
     let committed = active_done old _ layout.side layout.generation _ c.requires.layout.live c.requires.generation c.requires.filling.1 _ page on done in
     record {
       committed = committed;

@@ -17,11 +17,8 @@ use Rattle.ee_core.proofs.moving.open_set.Goals as goal
 
 pub returns-in_err-mark : goal.returns-in_err-mark
 returns-in_err-mark g c =
-    let old = g.F.Flash.device c.args.flash.now in
-    let new = g.F.Flash.device c.mark.new.flash in
-    let layout = c.args.layout.now in
-    let side = other_of layout.side in
-    let formed = c.requires.layout.live.formed in
+    let old = g.F.Flash.device c.args.flash.now in let new = g.F.Flash.device c.mark.new.flash in let layout = c.args.layout.now in
+    let side = other_of layout.side in let formed = c.requires.layout.live.formed in
     let page : c.first_page-first.result ≡ first_page old.size side = c.first_page-first.ensures ∙ ap (first_page old.size) c.other.ensures in
     let cut = c.in_err-mark.ensures.cut in
     let keeps = opening_keeps old new layout.side layout.generation c.requires.layout.live c.requires.generation c.requires.blank _ page (inr cut) in
@@ -41,15 +38,11 @@ returns-in_err-mark g c =
 
 pub returns : goal.returns
 returns g c =
-    let old = g.F.Flash.device c.args.flash.now in
-    let new = g.F.Flash.device c.mark.new.flash in
-    let layout = c.args.layout.now in
-    let side = other_of layout.side in
-    let formed = c.requires.layout.live.formed in
+    let old = g.F.Flash.device c.args.flash.now in let new = g.F.Flash.device c.mark.new.flash in let layout = c.args.layout.now in
+    let side = other_of layout.side in let formed = c.requires.layout.live.formed in
     let page : c.first_page-first.result ≡ first_page old.size side = c.first_page-first.ensures ∙ ap (first_page old.size) c.other.ensures in
     let unmarked = opening_unmarked old old layout.side layout.generation c.requires.layout.live c.requires.generation c.requires.blank _ page in
-    let on = c.in_ok-mark.ensures.on unmarked in
-    let done = c.in_ok-mark.ensures.done unmarked in
+    let on = c.in_ok-mark.ensures.on unmarked in let done = c.in_ok-mark.ensures.done unmarked in
     let keeps = opening_keeps old new layout.side layout.generation c.requires.layout.live c.requires.generation c.requires.blank _ page (inl (record { was_on = on; done = done })) in
     let opened = opening_done old new layout.side layout.generation c.requires.layout.live c.requires.generation c.requires.blank _ page on done in
     let sets = sets_mark_at _ (first_page old.size side) (Receive (layout.generation + 1)) old new formed

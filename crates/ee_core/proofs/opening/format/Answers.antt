@@ -4,9 +4,7 @@ use Rattle.ee_core.proofs.opening.format.Goals as goal
 
 pub returns-in-Ok-clause-formatted : goal.returns-in-Ok-clause-formatted
 returns-in-Ok-clause-formatted g c =
-    let old = g.F.Flash.device c.args.flash in
-    let new = g.F.Flash.device c.write_format.new.flash in
-    let ok = c.in-Ok.ensures in
+    let old = g.F.Flash.device c.args.flash in let new = g.F.Flash.device c.write_format.new.flash in let ok = c.in-Ok.ensures in
     let done : IsFormatted old new = formats c.in-Ok.layout old new ok.layout ok.first ok.marked ok.state ok.first_set ok.second_set ok.wear ok.power.ok in
     rw c.of.ensures done
 

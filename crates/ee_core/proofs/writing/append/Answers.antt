@@ -17,13 +17,8 @@ use Rattle.ee_core.proofs.writing.append.Goals as goal
 
 pub returns : goal.returns
 returns g c =
-    let old = g.F.Flash.device c.args.flash.now in
-    let mid = g.F.Flash.device c.open_page.new.flash in
-    let new = g.F.Flash.device c.push.new.flash in
-    let layout = c.args.layout.now in
-    let opened = c.open_page.ensures in
-    let keeps = opened.stays.keeps in
-    let takes = c.in_ok-page.ensures.takes in
+    let old = g.F.Flash.device c.args.flash.now in let mid = g.F.Flash.device c.open_page.new.flash in let new = g.F.Flash.device c.push.new.flash in
+    let layout = c.args.layout.now in let opened = c.open_page.ensures in let keeps = opened.stays.keeps in let takes = c.in_ok-page.ensures.takes in
     let grown = takes.one_more ∙ ap (λ n. n + 1) (keeps.same_fill ∙ sym c.requires.layout.fill) in
     record {
       takes = taken_after old mid new layout.side layout.generation _ _ keeps (ap (map_after (meant c.args.change)) (fun_ext keeps.same_map)) takes;
@@ -41,8 +36,7 @@ returns g c =
 
 pub returns-in_err-open_page : goal.returns-in_err-open_page
 returns-in_err-open_page g c =
-    let layout = c.args.layout.now in
-    let failed = c.from_residual.ensures.0 in
+    let layout = c.args.layout.now in let failed = c.from_residual.ensures.0 in
     record {
       takes = never_on_ok _ _ failed;
       layout = never_on_ok _ _ failed;
@@ -60,13 +54,8 @@ returns-in_err-open_page g c =
 
 pub returns-in_err-page : goal.returns-in_err-page
 returns-in_err-page g c =
-    let old = g.F.Flash.device c.args.flash.now in
-    let mid = g.F.Flash.device c.open_page.new.flash in
-    let new = g.F.Flash.device c.push.new.flash in
-    let layout = c.args.layout.now in
-    let side = layout.side in
-    let keeps = c.open_page.ensures.stays.keeps in
-    let failed = c.from_residual-in_err-page.ensures.0 in
+    let old = g.F.Flash.device c.args.flash.now in let mid = g.F.Flash.device c.open_page.new.flash in let new = g.F.Flash.device c.push.new.flash in
+    let layout = c.args.layout.now in let side = layout.side in let keeps = c.open_page.ensures.stays.keeps in let failed = c.from_residual-in_err-page.ensures.0 in
     record {
       takes = never_on_ok _ _ failed;
       layout = never_on_ok _ _ failed;

@@ -19,10 +19,8 @@ use Rattle.ee_core.proofs.writing.open_page.Goals as goal
 
 pub returns-then-layout-eq0 : goal.returns-then-layout-eq0
 returns-then-layout-eq0 g c =
-    let old = g.F.Flash.device c.args.flash.now in
-    let layout = c.args.layout.now in
-    let words = c.words-slots.ensures.value ∙ ap (λ (size : Size). size.words) c.shape.ensures in
-    let marked = c.requires.marked.live in
+    let old = g.F.Flash.device c.args.flash.now in let layout = c.args.layout.now in
+    let words = c.words-slots.ensures.value ∙ ap (λ (size : Size). size.words) c.shape.ensures in let marked = c.requires.marked.live in
     let ready : IsReady old layout.side layout.fill = elim c.then-layout-eq0.branch [
       | then-layout-eq0-via-then-layout-eq0 w ↦ ready_already old layout c.requires.layout c.requires.free _ words (inl w.if-layout-eq0.true) marked
       | then-layout-eq0-via-else-layout-eq0+then-layout-slots-ne0 w ↦ ready_already old layout c.requires.layout c.requires.free _ words (inr w.if-layout-slots-ne0.true) marked
@@ -38,23 +36,17 @@ returns-then-layout-eq0 g c =
 
 pub mark_live-requires-2-clause-behind : goal.mark_live-requires-2-clause-behind
 mark_live-requires-2-clause-behind g c =
-    let words = c.words-slots.ensures.value ∙ ap (λ (size : Size). size.words) c.shape.ensures in
-    let some : 0 < c.args.layout.now.fill = omega (arith, c.if-layout-eq0.false) in
+    let words = c.words-slots.ensures.value ∙ ap (λ (size : Size). size.words) c.shape.ensures in let some : 0 < c.args.layout.now.fill = omega (arith, c.if-layout-eq0.false) in
     next_behind (g.F.Flash.device c.args.flash.now) c.args.layout.now c.requires.layout c.requires.free _ words some c.if-layout-slots-ne0.false _ c.mark_live.ensures.stays
 
 pub returns-in_err-mark_live : goal.returns-in_err-mark_live
 returns-in_err-mark_live g c =
-    let old = g.F.Flash.device c.args.flash.now in
-    let new = g.F.Flash.device c.mark_live.new.flash in
-    let layout = c.args.layout.now in
+    let old = g.F.Flash.device c.args.flash.now in let new = g.F.Flash.device c.mark_live.new.flash in let layout = c.args.layout.now in
     let words = c.words-slots.ensures.value ∙ ap (λ (size : Size). size.words) c.shape.ensures in
-    let some : 0 < layout.fill = omega (arith, c.if-layout-eq0.false) in
-    let k = page_of_slot old.size (layout.fill - 1) in
+    let some : 0 < layout.fill = omega (arith, c.if-layout-eq0.false) in let k = page_of_slot old.size (layout.fill - 1) in
     let next : page_of_slot old.size layout.fill ≡ k + 1 = further old layout c.requires.layout c.requires.free _ words some c.if-layout-slots-ne0.false in
     let last = last_is old layout c.requires.layout c.requires.free _ words in
-    let here : layout.current ≡ first_page old.size layout.side + k = c.requires.layout.current in
-    let first = c.mark_live.ensures in
-    let failed = c.from_residual.ensures.0 in
+    let here : layout.current ≡ first_page old.size layout.side + k = c.requires.layout.current in let first = c.mark_live.ensures in let failed = c.from_residual.ensures.0 in
     record {
       stays = first.stays;
       other = first_other old layout c.requires.layout c.requires.free _ words _ first.stays first.others;
@@ -70,20 +62,13 @@ returns-in_err-mark_live g c =
 
 pub returns-in_err-mark_live-2 : goal.returns-in_err-mark_live-2
 returns-in_err-mark_live-2 g c =
-    let old = g.F.Flash.device c.args.flash.now in
-    let mid = g.F.Flash.device c.mark_live.new.flash in
-    let new = g.F.Flash.device c.mark_live-2.new.flash in
-    let layout = c.args.layout.now in
-    let words = c.words-slots.ensures.value ∙ ap (λ (size : Size). size.words) c.shape.ensures in
-    let some : 0 < layout.fill = omega (arith, c.if-layout-eq0.false) in
-    let k = page_of_slot old.size (layout.fill - 1) in
+    let old = g.F.Flash.device c.args.flash.now in let mid = g.F.Flash.device c.mark_live.new.flash in let new = g.F.Flash.device c.mark_live-2.new.flash in
+    let layout = c.args.layout.now in let words = c.words-slots.ensures.value ∙ ap (λ (size : Size). size.words) c.shape.ensures in
+    let some : 0 < layout.fill = omega (arith, c.if-layout-eq0.false) in let k = page_of_slot old.size (layout.fill - 1) in
     let next : page_of_slot old.size layout.fill ≡ k + 1 = further old layout c.requires.layout c.requires.free _ words some c.if-layout-slots-ne0.false in
-    let last = last_is old layout c.requires.layout c.requires.free _ words in
-    let here : layout.current ≡ first_page old.size layout.side + k = c.requires.layout.current in
-    let there : layout.current + 1 ≡ first_page old.size layout.side + (k + 1) = omega (arith, here) in
-    let first = c.mark_live.ensures in
-    let second = c.mark_live-2.ensures in
-    let same = first_other old layout c.requires.layout c.requires.free _ words _ first.stays first.others in
+    let last = last_is old layout c.requires.layout c.requires.free _ words in let here : layout.current ≡ first_page old.size layout.side + k = c.requires.layout.current in
+    let there : layout.current + 1 ≡ first_page old.size layout.side + (k + 1) = omega (arith, here) in let first = c.mark_live.ensures in
+    let second = c.mark_live-2.ensures in let same = first_other old layout c.requires.layout c.requires.free _ words _ first.stays first.others in
     let failed = c.from_residual-in_err-mark_live-2.ensures.0 in
     record {
       stays = stays_both _ _ _ _ _ first.stays second.stays;
@@ -102,20 +87,13 @@ returns-in_err-mark_live-2 g c =
 
 pub returns : goal.returns
 returns g c =
-    let old = g.F.Flash.device c.args.flash.now in
-    let mid = g.F.Flash.device c.mark_live.new.flash in
-    let new = g.F.Flash.device c.mark_live-2.new.flash in
-    let layout = c.args.layout.now in
-    let words = c.words-slots.ensures.value ∙ ap (λ (size : Size). size.words) c.shape.ensures in
-    let some : 0 < layout.fill = omega (arith, c.if-layout-eq0.false) in
-    let k = page_of_slot old.size (layout.fill - 1) in
+    let old = g.F.Flash.device c.args.flash.now in let mid = g.F.Flash.device c.mark_live.new.flash in let new = g.F.Flash.device c.mark_live-2.new.flash in
+    let layout = c.args.layout.now in let words = c.words-slots.ensures.value ∙ ap (λ (size : Size). size.words) c.shape.ensures in
+    let some : 0 < layout.fill = omega (arith, c.if-layout-eq0.false) in let k = page_of_slot old.size (layout.fill - 1) in
     let next : page_of_slot old.size layout.fill ≡ k + 1 = further old layout c.requires.layout c.requires.free _ words some c.if-layout-slots-ne0.false in
-    let last = last_is old layout c.requires.layout c.requires.free _ words in
-    let here : layout.current ≡ first_page old.size layout.side + k = c.requires.layout.current in
-    let there : layout.current + 1 ≡ first_page old.size layout.side + (k + 1) = omega (arith, here) in
-    let first = c.mark_live.ensures in
-    let second = c.mark_live-2.ensures in
-    let same = first_other old layout c.requires.layout c.requires.free _ words _ first.stays first.others in
+    let last = last_is old layout c.requires.layout c.requires.free _ words in let here : layout.current ≡ first_page old.size layout.side + k = c.requires.layout.current in
+    let there : layout.current + 1 ≡ first_page old.size layout.side + (k + 1) = omega (arith, here) in let first = c.mark_live.ensures in
+    let second = c.mark_live-2.ensures in let same = first_other old layout c.requires.layout c.requires.free _ words _ first.stays first.others in
     record {
       stays = stays_both _ _ _ _ _ first.stays second.stays;
       other = second_other old layout c.requires.layout c.requires.free _ words some c.if-layout-slots-ne0.false _ _ second.stays.keeps.live.formed first.stays second.stays.keeps.same_size same second.others;

@@ -17,35 +17,24 @@ use Rattle.ee_core.proofs.writing.push.Goals as goal
 
 pub program-requires-clause-page_in_range : goal.program-requires-clause-page_in_range
 program-requires-clause-page_in_range g c =
-    let words = c.words-slots.ensures.value ∙ ap (λ (size : Size). size.words) c.shape.ensures in
-    let layout = c.args.layout.now in
-    let found = c.requires.layout in
+    let words = c.words-slots.ensures.value ∙ ap (λ (size : Size). size.words) c.shape.ensures in let layout = c.args.layout.now in let found = c.requires.layout in
     slot_in_device layout.side layout.generation layout.fill _ _ (g.F.Flash.device c.args.flash.now) found.live found.fill c.requires.free c.first_page.ensures words
 
 pub program-requires-clause-place_in_range : goal.program-requires-clause-place_in_range
 program-requires-clause-place_in_range g c =
-    let words = c.words-slots.ensures.value ∙ ap (λ (size : Size). size.words) c.shape.ensures in
-    let layout = c.args.layout.now in
-    let found = c.requires.layout in
+    let words = c.words-slots.ensures.value ∙ ap (λ (size : Size). size.words) c.shape.ensures in let layout = c.args.layout.now in let found = c.requires.layout in
     slot_in_page layout.side layout.generation layout.fill _ _ (g.F.Flash.device c.args.flash.now) found.live found.fill c.requires.free c.first_page.ensures words
 
 pub program-requires-clause-erased : goal.program-requires-clause-erased
 program-requires-clause-erased g c =
-    let words = c.words-slots.ensures.value ∙ ap (λ (size : Size). size.words) c.shape.ensures in
-    let layout = c.args.layout.now in
-    let found = c.requires.layout in
+    let words = c.words-slots.ensures.value ∙ ap (λ (size : Size). size.words) c.shape.ensures in let layout = c.args.layout.now in let found = c.requires.layout in
     free_slot_erased layout.side layout.generation layout.fill _ _ (g.F.Flash.device c.args.flash.now) found.live found.fill c.requires.free c.first_page.ensures words
 
 pub returns-in_err-program : goal.returns-in_err-program
 returns-in_err-program g c =
-    let old = g.F.Flash.device c.args.flash.now in
-    let new = g.F.Flash.device c.program.new.self in
-    let words = c.words-slots.ensures.value ∙ ap (λ (size : Size). size.words) c.shape.ensures in
-    let found = c.requires.layout in
-    let side = c.args.layout.now.side in
-    let fill = c.args.layout.now.fill in
-    let cut = c.in_err-program.ensures.cut in
-    let failed = c.from_residual.ensures.0 in
+    let old = g.F.Flash.device c.args.flash.now in let new = g.F.Flash.device c.program.new.self in
+    let words = c.words-slots.ensures.value ∙ ap (λ (size : Size). size.words) c.shape.ensures in let found = c.requires.layout in
+    let side = c.args.layout.now.side in let fill = c.args.layout.now.fill in let cut = c.in_err-program.ensures.cut in let failed = c.from_residual.ensures.0 in
     let puts = cut_push_partly side c.args.layout.now.generation fill _ _ old found.live found.fill c.requires.free c.first_page.ensures words new (meant c.args.change) _ c.word.ensures.spells c.word.ensures.below_all_ones cut in
     record {
       page = IfOk-from_err _ _ failed;
@@ -63,14 +52,9 @@ returns-in_err-program g c =
 
 pub returns : goal.returns
 returns g c =
-    let old = g.F.Flash.device c.args.flash.now in
-    let new = g.F.Flash.device c.program.new.self in
-    let words = c.words-slots.ensures.value ∙ ap (λ (size : Size). size.words) c.shape.ensures in
-    let found = c.requires.layout in
-    let side = c.args.layout.now.side in
-    let fill = c.args.layout.now.fill in
-    let formed = found.live.formed in
-    let on = c.in_ok-program.ensures.on in
+    let old = g.F.Flash.device c.args.flash.now in let new = g.F.Flash.device c.program.new.self in
+    let words = c.words-slots.ensures.value ∙ ap (λ (size : Size). size.words) c.shape.ensures in let found = c.requires.layout in
+    let side = c.args.layout.now.side in let fill = c.args.layout.now.fill in let formed = found.live.formed in let on = c.in_ok-program.ensures.on in
     let done = c.in_ok-program.ensures.done in
     let page = slot_page side c.args.layout.now.generation fill _ _ old found.live found.fill c.requires.free c.first_page.ensures words in
     record {
