@@ -3,7 +3,7 @@ use Rattle.ee_pages.proofs.Scans.{first_live, none_live, second_live}
 use Rattle.ee_pages.proofs.find.live_set.Goals as goal
 
 pub returns-then-second-first-clause-live : goal.returns-then-second-first-clause-live
-returns-then-second-first-clause-live g c = first_live (g.F.Flash.device c.args.flash.now) c.in-Some-Some.first c.in-Some-Some.second c.in-Some-Some.ensures.generation c.in-Some-Some.ensures'.generation c.if-second-first.true
+returns-then-second-first-clause-live g c = search (first_live (g.F.Flash.device c.args.flash.now) c.in-Some-Some.first c.in-Some-Some.second c.in-Some-Some.ensures.generation c.in-Some-Some.ensures'.generation c.if-second-first.true)
 
 pub returns-else-second-first-clause-live : goal.returns-else-second-first-clause-live
 returns-else-second-first-clause-live g c =
