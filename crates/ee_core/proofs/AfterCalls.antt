@@ -1,10 +1,10 @@
 -- Steps that went on, one after another.
-use Rattle.std.proofs.Common.{◌≡◌, ◌≢◌, ◌⊎◌, inl, inr, ℕ, ap, false, true, refl, sym, ◌∙◌}
+use Rattle.std.proofs.Common.{◌≡◌, ◌≢◌, ◌⊎◌, inl, inr, ℕ, Bool, ap, false, true, refl, sym, ◌∙◌}
 use Rattle.std.specs.Prelude.{Result, Ok, Err, IsErr, OnOk}
 use Rattle.std.proofs.lemmas.Bool.{cases_Bool, true≢false}
 use Rattle.ee_flash.specs.Device.{Device, IsOff, IsOn, page_at}
 use Rattle.ee_flash.specs.Power.{Ends, GoesOn}
-use Rattle.ee_flash.specs.Step.{IsCutIn, IsUntouched, Step, device_after}
+use Rattle.ee_flash.specs.Step.{IsCutIn, IsUntouched, Program, Step, device_after}
 use Rattle.ee_pages.specs.Page.{is_marked, marking}
 use Rattle.ee_flash.specs.Laws.{IsStep}
 use Rattle.ee_pages.proofs.Public.{step_keeps_other_pages}
@@ -40,15 +40,22 @@ ends_in_step {old = old} {mid = mid} {new = new} step (Err error) is on (inl cut
 }
 ends_in_step {mid = mid} step (Err error) is on (inr none) = record { ok = tt; cut = λ was. absurd (not_both mid (on.same_power ∙ was) none.was_off); off = λ was. none.same ∙ on.same_while_off was }
 
--- a mark that was set
-pub goes_on_marked : {new : Device} (page : ℕ) (mark : Mark) (old : Device) → IsOn old → new ≡ device_after (marking page mark) old → GoesOn old new
-goes_on_marked page mark old on done = rw done (record { same_size = refl; same_power = refl; same_cuts = refl; same_cuts_left = refl; same_while_off = λ off. absurd (not_both old on off) })
+-- a word that was programmed
+pub goes_on_programmed : {new : Device} (page at value : ℕ) (old : Device) → IsOn old → new ≡ device_after (Program page at value) old → GoesOn old new
+goes_on_programmed page at value old on done = rw done (record { same_size = refl; same_power = refl; same_cuts = refl; same_cuts_left = refl; same_while_off = λ off. absurd (not_both old on off) })
 
 -- or was set before
 pub goes_on_mark : {new : Device} (page : ℕ) (mark : Mark) (old : Device) → (is_marked old page mark ≡ true → new ≡ old) → (is_marked old page mark ≡ false → IsOn old) → (is_marked old page mark ≡ false → new ≡ device_after (marking page mark) old) → GoesOn old new
 goes_on_mark page mark old present on done = elim (cases_Bool (is_marked old page mark)) [
   | inl set ↦ rw (present set) (goes_on_same old)
-  | inr unset ↦ goes_on_marked page mark old (on unset) (done unset)
+  | inr unset ↦ goes_on_programmed _ _ _ old (on unset) (done unset)
+]
+
+-- a mark wears no page
+pub mark_keeps_wear : {new : Device} (page : ℕ) (mark : Mark) (old : Device) → (is_marked old page mark ≡ true → new ≡ old) → (is_marked old page mark ≡ false → new ≡ device_after (marking page mark) old) → new.wear ≡ old.wear
+mark_keeps_wear page mark old present done = elim (cases_Bool (is_marked old page mark)) [
+  | inl set ↦ ap (λ (device : Device). device.wear) (present set)
+  | inr unset ↦ ap (λ (device : Device). device.wear) (done unset)
 ]
 
 -- the pages apart from that of a step
@@ -59,3 +66,7 @@ same_but page mark old new (inr taken) other apart = step_keeps_other_pages (mar
 -- no result is a success and an error
 pub not_ok : {T E : Type 0} {value : T} {error : E} {result : Result T E} → result ≡ Ok value → result ≡ Err error → ⊥
 not_ok is failed = absurd (cc (is, failed))
+
+-- nor two successes
+pub not_both_ok : {E : Type 0} (result : Result Bool E) → result ≡ Ok false → result ≡ Ok true → ⊥
+not_both_ok result first second = absurd (cc (first, second))

@@ -4,7 +4,7 @@ use Rattle.std.specs.Result.{OnErr}
 use Rattle.std.proofs.lemmas.Bool.{cases_eq}
 use Rattle.ee_flash.specs.Device.{Device, IsOn, all_ones, word_at}
 use Rattle.ee_flash.specs.Laws.{CanTake, IsStep}
-use Rattle.ee_flash.specs.Size.{slot_count}
+use Rattle.ee_flash.specs.Size.{page_count, slot_count}
 use Rattle.ee_flash.specs.Step.{Step, Program, IsCutIn, IsUntouched, MayFollow, device_after}
 use Rattle.ee_flash.specs.declared.word.Word.{Word}
 use Rattle.ee_flash.specs.declared.word.Word.TheVariants.{Erased, Held}
@@ -19,7 +19,8 @@ use Rattle.ee_pages.specs.declared.side.Side.{Side}
 use Rattle.ee_pages.proofs.Public.{erased_word, fill-front, slots_behind, step_keeps_other_pages, page_in_range, place_in_range, slot_at, push_takes, whole_push_takes, programmed_word}
 use Rattle.ee_core.proofs.Cuts.{program_partly}
 use Rattle.ee_core.specs.Cuts.{PutsPartly}
-use Rattle.ee_core.specs.Parts.{IsSameSet, KeepsMarks}
+use Rattle.ee_core.specs.Parts.{IsSameSet, KeepsMarks, map_in}
+use Rattle.ee_core.proofs.MovingFacts.{keeps_both}
 use Rattle.ee_core.proofs.SetPages.{page_in_device, page_of_set}
 use Rattle.ee_core.proofs.Marks.{place_below}
 
@@ -43,8 +44,7 @@ slot_keeps_marks page place value old new taken there mark was = search (rules, 
 -- the first free slot is erased
 pub slot_erased : (side : Side) (generation fill : ℕ) (old : Device) → IsLive old side generation → fill ≡ fill_of (slots_of (set_of side old)) → fill < slot_count old.size → word_at old (first_page old.size side + page_of_slot old.size fill) (place_of_slot old.size fill) ≡ Erased
 slot_erased side generation fill old live fill_is free =
-    let slots = slots_of (set_of side old) in
-    let front = fill-front side old generation live.formed live.allowed in
+    let slots = slots_of (set_of side old) in let front = fill-front side old generation live.formed live.allowed in
     let unwritten : is_written (get_or slots fill Erased) ≡ false = slots_behind side old generation live.formed live.allowed fill (omega (arith, front, fill_is)) in
     let there = page_of_set side old (page_of_slot old.size fill) (page_in_range old fill free) in
     ap (λ (words : List Word). get_or words (place_of_slot old.size fill) Erased) (sym there)
@@ -55,6 +55,18 @@ slot_erased side generation fill old live fill_is free =
 module _ (side : Side) (generation fill first words : ℕ) (old : Device) (live : IsLive old side generation) (fill_is : fill ≡ fill_of (slots_of (set_of side old))) (free : fill < slot_count old.size) (first_is : first ≡ first_page old.size side) (words_is : words ≡ old.size.words) where
   pub free_slot_erased : word_at old (first + fill / (words - 4)) (4 + fill % (words - 4)) ≡ Erased
   free_slot_erased = rw (first_is, words_is) (slot_erased side generation fill old live fill_is free)
+
+  pub slot_page : first + fill / (words - 4) ≡ first_page old.size side + page_of_slot old.size fill
+  slot_page = rw (first_is, words_is) refl
+
+  pub slot_place : 4 + fill % (words - 4) ≡ place_of_slot old.size fill
+  slot_place = rw words_is refl
+
+  pub slot_in_page : 4 + fill % (words - 4) < old.size.words
+  slot_in_page = rw slot_place (place_in_range old fill live.formed)
+
+  pub slot_in_device : first + fill / (words - 4) < page_count old.size
+  slot_in_device = rw slot_page (page_in_device old.size side (page_of_slot old.size fill) (page_in_range old fill free))
 
   -- a change in it
   module _ (new : Device) (change : Change) (number : ℕ) (spells : SpellsChange number change) (below : number < all_ones) where
@@ -113,3 +125,16 @@ module _ (side : Side) (generation fill first words : ℕ) (old : Device) (live 
 -- a change behind what keeps the live set
 pub taken_after : (old mid new : Device) (side : Side) (generation : ℕ) (now map : Map) → KeepsLiveSet old mid side generation → now ≡ map → TakesSlot mid new side generation now → TakesSlot old new side generation map
 taken_after old mid new side generation now map keeps same takes = search rules
+
+-- or behind that, where power was cut
+pub cut_after : (old mid new : Device) (side : Side) (generation : ℕ) (change : Change) → KeepsLiveSet old mid side generation → map_in side mid ≡ map_in side old
+    → KeepsLiveSet mid new side generation ⊎ TakesSlot mid new side generation (map_in side mid) ⊎ TakesSlot mid new side generation (map_after change (map_in side mid))
+    → KeepsLiveSet old new side generation ⊎ TakesSlot old new side generation (map_in side old) ⊎ TakesSlot old new side generation (map_after change (map_in side old))
+cut_after old mid new side generation change keeps same (inl kept) = inl (keeps_both old mid new side generation keeps kept)
+cut_after old mid new side generation change keeps same (inr (inl torn)) = inr (inl (taken_after old mid new side generation (map_in side mid) (map_in side old) keeps same torn))
+cut_after old mid new side generation change keeps same (inr (inr whole)) = inr (inr (taken_after old mid new side generation (map_after change (map_in side mid)) (map_after change (map_in side old)) keeps (ap (map_after change) same) whole))
+
+pub cut_size : {mid new : Device} {side : Side} {generation : ℕ} {torn whole : Map} → KeepsLiveSet mid new side generation ⊎ TakesSlot mid new side generation torn ⊎ TakesSlot mid new side generation whole → new.size ≡ mid.size
+cut_size (inl keeps) = keeps.same_size
+cut_size (inr (inl torn)) = torn.same_size
+cut_size (inr (inr whole)) = whole.same_size

@@ -234,8 +234,7 @@ then_all start map changes same address = elim (cases_Bool (names changes addres
 pub put_last : (changes : List Change) (map : Map) (named value : ℕ) → names changes named ≡ false
     → (address : ℕ) → map_after (Put named value) (changed_by changes (map_after (Forget named) map)) address ≡ changed_by changes (map_after (Put named value) map) address
 put_last changes map named value once address =
-    let without = map_after (Forget named) map in
-    let after = changed_by changes without in
+    let without = map_after (Forget named) map in let after = changed_by changes without in
     elim (cases_Bool (names changes address)) [
       | inl here ↦
           put-other after named value address (λ e. told_apart (names changes) named address here once (sym e))

@@ -1,23 +1,29 @@
 -- What is drawn where power was cut in setting marks, and in an append.
-use Rattle.std.proofs.Common.{rules, ◌≡◌, inl, inr, ℕ, ◌+◌, ◌<◌, ◌≤◌, Bool, true, refl, sym, subst, ap, arith}
-use Rattle.std.specs.Prelude.{◌&&◌, nat_lt}
+use Rattle.std.proofs.Common.{rules, ◌≡◌, inl, inr, ℕ, ◌+◌, ◌-◌, ◌<◌, ◌≤◌, Bool, false, true, List, refl, sym, subst, ap, ◌∙◌, arith}
+use Rattle.std.specs.Prelude.{◌&&◌, nat_lt, not}
 use Rattle.std.proofs.lemmas.Bool.{cases_eq, cases_lt, eq-eqb, le-ltb, lt-ltb, ne_eqb}
-use Rattle.ee_flash.specs.Device.{Device, IsFormed}
+use Rattle.ee_flash.specs.Device.{Device, IsFormed, page_at}
+use Rattle.ee_flash.specs.Power.{GoesOn}
 use Rattle.ee_flash.specs.Size.{Size}
 use Rattle.ee_flash.specs.declared.word.Word.{Word}
 use Rattle.ee_flash.specs.declared.word.Word.TheVariants.{Held}
-use Rattle.ee_pages.specs.Page.{is_marked}
+use Rattle.ee_pages.specs.Laws.{IsPageOf}
+use Rattle.ee_pages.specs.Legal.{IsLive}
+use Rattle.ee_pages.specs.Page.{is_blank, is_marked}
 use Rattle.ee_pages.specs.Sets.{first_page, other, page_of_slot, place_of_slot}
 use Rattle.ee_pages.specs.declared.side.Side.{Side}
 use Rattle.ee_pages.specs.declared.state.Mark.TheVariants.{Active, Erasing, Valid}
 use Rattle.ee_core.proofs.Cuts.{IsOnTheWay, drawn_before, drawn_between, drawn_whole, mark_drawn_partly, put_partly}
 use Rattle.ee_core.proofs.Drawings.{active_last, mark_drawn, drawn_as, retired_more, same_drawn, valid_drawn, valid_more, valid_to, with_mark, with_word-elsewhere}
-use Rattle.ee_core.proofs.MarkedSets.{retired_to}
-use Rattle.ee_core.proofs.SetPages.{same_page}
+use Rattle.ee_core.proofs.AfterCalls.{goes_on_both, goes_on_same}
+use Rattle.ee_core.proofs.LiveMarks.{IsPageDone, MarksPage, done_already, done_more, stays_both}
+use Rattle.ee_core.proofs.MarkedSets.{live_stays, retired_next, retired_start, retired_to}
+use Rattle.ee_core.proofs.Marks.{same_stays}
+use Rattle.ee_core.proofs.SetPages.{page_reached, same_page}
 use Rattle.ee_core.specs.Cuts.{IsDrawnPartly, PutsPartly, SetsPartly}
-use Rattle.ee_core.specs.Finished.{last_used}
+use Rattle.ee_core.specs.Finished.{IsOldMarked, last_used}
 use Rattle.ee_core.specs.Openings.{ShowsCutMarks}
-use Rattle.ee_core.specs.Parts.{IsSameSet, SetsMark}
+use Rattle.ee_core.specs.Parts.{IsSameBut, IsSameSet, KeepsMarks, SetsMark, Stays}
 use Rattle.ee_core.specs.Picture.{IsDrawn, Picture, is_used, marked_to, picture_of, retired_pages, with_change}
 
 -- ---- the marks that are set so far are on the way
@@ -52,7 +58,10 @@ valid_partly side mid new k last picture formed sizes h before sets drawn =
     (mark_drawn_partly side mid new k Valid (valid_to k picture) formed sizes h drawn sets)
 
 pub active_partly : (side : Side) (mid new : Device) (last : ℕ) (picture : Picture) → IsFormed mid → new.size ≡ mid.size → last < mid.size.pages → SetsPartly (first_page mid.size side + last) Active mid new → IsDrawn side mid (valid_to last picture) → IsDrawnPartly side new picture (marked_to last picture)
-active_partly side mid new last picture formed sizes h sets drawn = search (rules, drawn_between, valid_to, with_mark, valid_way, active_last, mark_drawn_partly)
+active_partly side mid new last picture formed sizes h sets drawn =
+    drawn_between side new picture (marked_to last picture) (valid_to last picture) (with_mark last Active (valid_to last picture))
+    (λ page at _ _. (valid_way last last picture page at (omega arith), inr (active_last last picture page at)))
+    (mark_drawn_partly side mid new last Active (valid_to last picture) formed sizes h drawn sets)
 
 pub retired_partly : (side : Side) (old mid new : Device) (k : ℕ) → IsFormed mid → new.size ≡ mid.size → k < mid.size.pages → is_used side old k ≡ true → SetsPartly (first_page mid.size side + k) Erasing mid new → IsDrawn side mid (retired_to side old k) → IsDrawnPartly side new (picture_of side old) (retired_pages (is_used side old) (picture_of side old))
 retired_partly side old mid new k formed sizes h waiting sets drawn =
@@ -109,10 +118,75 @@ pub cut_word : (side : Side) (old mid new : Device) (fill number : ℕ) → mid.
     → PutsPartly (first_page mid.size side + page_of_slot mid.size fill) (place_of_slot mid.size fill) (Held number) mid new
     → IsDrawnPartly side new (picture_of side old) (with_change old.size fill number (picture_of side old))
 cut_word side old mid new fill number first_sizes second_sizes h inside drawn puts =
-    let picture = picture_of side old in
-    let at = place_of_slot old.size fill in
-    let k = page_of_slot old.size fill in
+    let picture = picture_of side old in let at = place_of_slot old.size fill in let k = page_of_slot old.size fill in
     let there = subst (λ (size : Size). PutsPartly (first_page mid.size side + page_of_slot size fill) (place_of_slot size fill) (Held number) mid new) first_sizes puts in
     drawn_between side new picture (with_change old.size fill number picture) (marked_to k picture) (with_change old.size fill number picture)
     (λ page place _ _. (marks_way old.size fill number picture page place, inr refl))
     (put_partly side mid new k at (Held number) (marked_to k picture) second_sizes drawn (omega (arith, ap (λ (size : Size). size.pages) first_sizes)) (omega (arith, ap (λ (size : Size). size.words) first_sizes)) there)
+
+-- ---- the other set, whose pages are marked one after another
+
+-- what that leaves, up to a page
+pub record MarkedTo (old now : Device) (side : Side) (generation first page : ℕ) : Type 0 where
+  pub stays : Stays old now side generation
+  pub marks : KeepsMarks old now
+  pub done : (k : ℕ) → k < page - first → IsPageDone now (first + k)
+  pub no_step : IsOldMarked old (other side) → now ≡ old
+  pub drawn : IsDrawn (other side) now (retired_to (other side) old (page - first))
+  pub live : IsSameSet side old now
+  pub rest : (k : ℕ) → page ≤ k → page_at now k ≡ page_at old k
+  pub power : GoesOn old now
+
+module _ (side : Side) (generation : ℕ) (old : Device) (first pages : ℕ) (first_is : first ≡ first_page old.size (other side)) (pages_is : pages ≡ old.size.pages) where
+  pub marked_start : IsLive old side generation → MarkedTo old old side generation first first
+  marked_start live = record {
+    stays = same_stays old old side generation live refl;
+    marks = λ page mark was. was;
+    done = λ k below. absurd (omega (arith, below));
+    no_step = λ marked. refl;
+    drawn = retired_start (other side) old first first_is first refl;
+    live = refl;
+    rest = λ k h. refl;
+    power = goes_on_same old;
+  }
+
+  -- the whole set
+  pub marked_all : (new : Device) (page : ℕ) → first + pages ≤ page → MarkedTo old new side generation first page → IsOldMarked new (other side)
+  marked_all new page past all k below =
+      let sizes = all.stays.keeps.same_size in
+      subst (λ n. IsPageDone new (n + k)) (first_is ∙ sym (ap (λ (size : Size). first_page size (other side)) sizes)) (all.done k (omega (arith, past, pages_is, ap (λ (size : Size). size.pages) sizes, below)))
+
+  module _ (mid : Device) (page : ℕ) (formed : IsFormed mid) (from : first ≤ page) (below : page < first + pages) (so_far : MarkedTo old mid side generation first page) where
+    in_set : IsPageOf mid.size (other side) page
+    in_set = page_reached (other side) old mid first pages page first_is pages_is so_far.stays.keeps.same_size from below
+
+    within : page - first < mid.size.pages
+    within = omega (arith, pages_is, ap (λ (size : Size). size.pages) so_far.stays.keeps.same_size, from, below)
+
+    pub was_done : IsOldMarked old (other side) → IsPageDone mid page
+    was_done marked = subst (λ (device : Device). IsPageDone device page) (sym (so_far.no_step marked)) (done_already old (other side) page marked (omega (arith, first_is, from)) (omega (arith, first_is, pages_is, below)))
+
+    -- one page more
+    pub marked_next : (new : Device) → IsFormed new → MarksPage mid new side generation page → MarkedTo old new side generation first (page + 1)
+    marked_next new new_formed step = record {
+      stays = stays_both old mid new side generation so_far.stays step.stays;
+      marks = λ p mark was. step.marks p mark (so_far.marks p mark was);
+      done = done_more first page mid new from so_far.done step.others step.done;
+      no_step = λ marked. step.no_step (was_done marked) ∙ so_far.no_step marked;
+      drawn = retired_next (other side) old first first_is side generation mid new page formed so_far.stays.keeps.same_size from within (so_far.rest page (omega arith)) step so_far.drawn;
+      live = live_stays side old mid new page formed new_formed step.stays.keeps.same_size in_set step.others so_far.live;
+      rest = λ k h. step.others k (λ e. omega (arith, e, h)) ∙ so_far.rest k (omega (arith, h));
+      power = goes_on_both old mid new so_far.power step.power;
+    }
+
+    -- or power was cut in marking it
+    pub marked_cut : (new : Device) → IsFormed new → is_blank (page_at mid page) ≡ false → Stays mid new side generation → IsSameBut page mid new → SetsPartly page Erasing mid new
+        → IsDrawnPartly (other side) new (picture_of (other side) old) (retired_pages (is_used (other side) old) (picture_of (other side) old)) × IsSameSet side old new
+    marked_cut new new_formed written stays others begun =
+        let k = page - first in
+        let at : page ≡ first_page mid.size (other side) + k = omega (arith, first_is, ap (λ (size : Size). first_page size (other side)) so_far.stays.keeps.same_size, from) in
+        let there : first_page old.size (other side) + k ≡ page = omega (arith, first_is, from) in
+        let was : is_used (other side) old k ≡ true = ap (λ n. not (is_blank (page_at old n))) there ∙ ap (λ (words : List Word). not (is_blank words)) (sym (so_far.rest page (omega arith))) ∙ ap not written in (
+          retired_partly (other side) old mid new k formed stays.keeps.same_size within was (subst (λ n. SetsPartly n Erasing mid new) at begun) so_far.drawn,
+          live_stays side old mid new page formed new_formed stays.keeps.same_size in_set others so_far.live,
+        )

@@ -82,10 +82,8 @@ pub partly_longer : (old new : Device) (side : Side) (generation count : ℕ) (m
 partly_longer old new side generation count more rest formed adds = record {
   live_pages = adds.live_pages;
   new_pages = λ words long holds.
-      let all = words ++ more in
-      let some : 0 < new.size.words - 4 = omega (arith, formed.within_limits.some_words) in
-      let last = page_of_slot new.size (length all - 1) in
-      let later = page_of_slot new.size (length (all ++ rest) - 1) in
+      let all = words ++ more in let some : 0 < new.size.words - 4 = omega (arith, formed.within_limits.some_words) in
+      let last = page_of_slot new.size (length all - 1) in let later = page_of_slot new.size (length (all ++ rest) - 1) in
       let before : last ≤ later = page_later new.size (length all - 1) (length (all ++ rest) - 1) some (omega (arith, length-append all rest)) in
       let longer : FillsPartly new (other side) generation (all ++ rest) =
       drawn_between (other side) new blank (opened_set new.size generation later (all ++ rest)) blank (opened_set new.size generation last all)
@@ -110,9 +108,7 @@ pub receive_partly : (old new : Device) (side : Side) (generation count : ℕ) (
 receive_partly old new side generation count word formed sizes h live sets = record {
   live_pages = live;
   new_pages = λ words long holds.
-      let k = page_of_slot old.size count in
-      let last = page_of_slot old.size (count - 1) in
-      let all = words ++ (word ∷ []) in
+      let k = page_of_slot old.size count in let last = page_of_slot old.size (count - 1) in let all = words ++ (word ∷ []) in
       let some : 0 < old.size.words - 4 = omega (arith, formed.within_limits.some_words) in
       let before : IsDrawn (other side) old (opened_set old.size generation last words) = subst (λ n. IsDrawn (other side) old (opened_set old.size generation (page_of_slot old.size (n - 1)) words)) long holds in
       let drawn = mark_drawn_partly (other side) old new k (Receive generation) (opened_set old.size generation last words) formed sizes h before sets in
@@ -135,8 +131,7 @@ pub word_partly : (old new : Device) (side : Side) (generation count : ℕ) (wor
     → PutsPartly (first_page old.size (other side) + page_of_slot old.size count) (place_of_slot old.size count) word old new
     → (words : List Word) → length words ≡ count → IsDrawn (other side) old (opened_set old.size generation (page_of_slot old.size count) words) → FillsPartly new (other side) generation (words ++ (word ∷ []))
 word_partly old new side generation count word formed sizes h inside puts words long before =
-    let k = page_of_slot old.size count in
-    let all = words ++ (word ∷ []) in
+    let k = page_of_slot old.size count in let all = words ++ (word ∷ []) in
     let drawn = put_partly (other side) old new k (place_of_slot old.size count) word (opened_set old.size generation k words) sizes before h inside puts in
     let fills : IsDrawnPartly (other side) new blank (opened_set old.size generation k all) =
     drawn_between (other side) new blank (opened_set old.size generation k all) (opened_set old.size generation k words) _
@@ -159,8 +154,7 @@ filled_partly side new generation words fills =
 -- cut in the mark that commits it
 pub commit_partly : (side : Side) (old new : Device) (generation : ℕ) (words : List Word) → IsFormed old → new.size ≡ old.size → SetsPartly (first_page old.size side) Active old new → Holds old side generation words → IsDrawnPartly side new blank (filled_set old.size generation words)
 commit_partly side old new generation words formed sizes sets holds =
-    let e : first_page old.size side ≡ first_page old.size side + 0 = omega arith in
-    let there = subst (λ n. SetsPartly n Active old new) e sets in
+    let e : first_page old.size side ≡ first_page old.size side + 0 = omega arith in let there = subst (λ n. SetsPartly n Active old new) e sets in
     let before = opened_set old.size generation (page_of_slot old.size (length words - 1)) words in
     drawn_between side new blank (filled_set old.size generation words) before (with_mark 0 Active before)
     (λ page at _ _. (opened_way old.size generation words page at, committed_way old.size generation words page at))
@@ -169,11 +163,28 @@ commit_partly side old new generation words formed sizes sets holds =
 -- or in a mark behind that
 pub marked_partly : (side : Side) (mid new : Device) (generation last : ℕ) (words : List Word) → new.size ≡ mid.size → IsDrawn side mid (committed mid.size generation words) → last ≡ page_of_slot mid.size (length words - 1)
     → IsDrawnPartly side new (picture_of side mid) (marked_to last (picture_of side mid)) → IsDrawnPartly side new blank (filled_set mid.size generation words)
-marked_partly side mid new generation last words sizes held last_is drawn = search (rules, drawn_between, committed, all_marked, IsOnTheWay, committed_way)
+marked_partly side mid new generation last words sizes held last_is drawn =
+    let whole = filled_set mid.size generation words in
+    drawn_between side new blank whole (picture_of side mid) (marked_to last (picture_of side mid))
+    (λ page at h within.
+    let word = held page at (omega (arith, h, ap (λ (size : Size). size.pages) sizes)) (omega (arith, within, ap (λ (size : Size). size.words) sizes)) in (
+      subst (λ (found : Word). IsOnTheWay Erased (whole page at) found) (sym word) (committed_way mid.size generation words page at),
+      inr (ap (λ (found : Word). marked_to last (λ p a. found) page at) word ∙ ap (λ n. marked_to n (committed mid.size generation words) page at) last_is ∙ all_marked mid.size generation words page at),
+    )) drawn
 
 -- the first mark of blank pages
 pub open_partly : (side : Side) (old new : Device) (generation : ℕ) (words : List Word) → IsFormed old → new.size ≡ old.size → IsDrawn side old blank → SetsPartly (first_page old.size side) (Receive generation) old new → FillsPartly new side generation words
-open_partly side old new generation words formed sizes all sets = search (rules, page_later, drawn_between, with_mark, IsOnTheWay, first_opened, opened_front, mark_drawn_partly)
+open_partly side old new generation words formed sizes all sets =
+    let e : first_page old.size side ≡ first_page old.size side + 0 = omega arith in
+    let some : 0 < new.size.words - 4 = omega (arith, formed.within_limits.some_words, ap (λ (size : Size). size.words) sizes) in
+    let last = page_of_slot new.size (length words - 1) in
+    drawn_between side new blank (opened_set new.size generation last words) blank (with_mark 0 (Receive generation) blank)
+    (λ page at _ _. (
+      inl refl,
+      subst (λ (found : Word). IsOnTheWay Erased (opened_set new.size generation last words page at) found) (sym (first_opened new.size generation page at))
+          (opened_front new.size generation (page_of_slot new.size (0 - 1)) last [] words page at (page_later new.size (0 - 1) (length words - 1) some (omega arith))),
+    ))
+    (mark_drawn_partly side old new 0 (Receive generation) blank formed sizes (omega (arith, formed.within_limits.some_pages)) all (subst (λ n. SetsPartly n (Receive generation) old new) e sets))
 
 -- ---- a format
 

@@ -77,7 +77,10 @@ abbrev pub with_mark : ℕ → Mark → Picture → Picture
 with_mark k mark picture = picture_with_word k (place_of_mark mark) (marked_word mark (picture k (place_of_mark mark))) picture
 
 pub mark_drawn : (side : Side) (old new : Device) (k : ℕ) (mark : Mark) (picture : Picture) → IsFormed old → new.size ≡ old.size → k < old.size.pages → IsDrawn side old picture → SetsMark (first_page old.size side + k) mark old new → IsDrawn side new (with_mark k mark picture)
-mark_drawn side old new k mark picture formed sizes h drawn sets = search (rules, place_below, put_drawn)
+mark_drawn side old new k mark picture formed sizes h drawn sets =
+    let at = place_of_mark mark in
+    let word : word_at old (first_page old.size side + k) at ≡ picture k at = drawn k at h (omega (arith, place_below mark, formed.within_limits.some_words)) in
+    put_drawn side old new k at (marked_word mark (picture k at)) picture sizes drawn (subst (λ (was : Word). PutsWord (first_page old.size side + k) at (marked_word mark was) old new) word sets)
 
 -- a word that is written already stays
 pub marked-written : (mark : Mark) (word : Word) → is_written word ≡ true → marked_word mark word ≡ word
@@ -93,8 +96,7 @@ marked-erased mark Torn e = absurd (cc e)
 -- a program puts its word
 pub program_puts : (page at value : ℕ) (old : Device) → IsFormed old → page < page_count old.size → at < old.size.words → PutsWord page at (Held value) old (with_word_programmed page at value old)
 program_puts page at value old formed h inside =
-    let in_range : page < length old.image = omega (arith, formed.image_length) in
-    let words = page_at old page in
+    let in_range : page < length old.image = omega (arith, formed.image_length) in let words = page_at old page in
     let within : at < length words = omega (arith, length-page_at old page formed h) in
     record {
       there = ap (λ (found : List Word). get_or found at Erased) (get_or-set_same old.image page (set words at (Held value)) [] in_range) ∙ get_or-set_same words at (Held value) Erased within;
@@ -130,8 +132,7 @@ sets_mark page mark old new formed h present done =
           let same = present written in
           record { there = ap (λ (device : Device). word_at device page at) same ∙ sym (marked-written mark (word_at old page at) written); elsewhere = λ p k away. ap (λ (device : Device). word_at device p k) same }
       | inr erased ↦
-          let puts = program_puts page at (number_of_mark mark) old formed h (omega (arith, place_below mark, formed.within_limits.some_words)) in
-          let whole = done erased in
+          let puts = program_puts page at (number_of_mark mark) old formed h (omega (arith, place_below mark, formed.within_limits.some_words)) in let whole = done erased in
           record { there = ap (λ (device : Device). word_at device page at) whole ∙ puts.there ∙ sym (marked-erased mark (word_at old page at) erased); elsewhere = λ p k away. ap (λ (device : Device). word_at device p k) whole ∙ puts.elsewhere p k away }
     ]
 

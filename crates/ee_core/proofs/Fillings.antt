@@ -11,7 +11,7 @@ use Rattle.ee_flash.specs.declared.word.Word.{Word}
 use Rattle.ee_flash.specs.declared.word.Word.TheVariants.{Held}
 use Rattle.ee_pages.specs.Meaning.{Change, Forget, Map, Put, changed_by, map_after, live_in}
 use Rattle.ee_pages.specs.LiveOrder.{IsNextLive}
-use Rattle.ee_pages.specs.Sets.{other}
+use Rattle.ee_pages.specs.Sets.{other, set_of, slots_of}
 use Rattle.ee_pages.specs.declared.find.Layout.{Layout}
 use Rattle.ee_core.specs.Cuts.{AddsPartly}
 use Rattle.ee_core.specs.Parts.{AddsWords, map_in, replaced_map}
@@ -65,7 +65,14 @@ module _ (old : Device) (layout : Layout) (place : Place) (changes : List Change
   FilledTo above now slot = Filled old now layout place.slot (elements_to (others map changes) above) (so_far start map (names changes) above) slot
 
   pub none_filled : IsOpenAt old layout place → ((address : ℕ) → names changes address ≡ false → start address ≡ None) → FilledTo 0 old place.slot
-  none_filled at only = search (rules, keeps_same, at_first, meaning-zero, no_words, adds_none)
+  none_filled at only = record {
+    keeps = keeps_same old layout at.found;
+    filling = at.filling;
+    map_is = at_first start map (names changes) (meaning-zero (slots_of (set_of layout.side old))) only;
+    adds = subst (λ (words : List Word). AddsWords old old layout.side (layout.generation + 1) place.slot words) (sym (no_words map changes)) (adds_none old layout.side (layout.generation + 1) place.slot);
+    as_many = omega (arith, ap length (no_words map changes));
+    wear = refl;
+  }
 
   pub all_filled : (above : ℕ) (now : Device) (slot : ℕ) → FilledTo above now slot → above < 65535 → IsNextLive map above None → Filled old now layout place.slot (elements_of (others map changes)) (replaced_map start (names changes) map) slot
   all_filled above now slot filled below none =

@@ -50,8 +50,7 @@ module _ (side : Side) (old new : Device) (formed : IsFormed old) (sizes : new.s
 
   pub old_marks_stay : IsSameSet side old new → IsOldMarked old side → IsOldMarked new side
   old_marks_stay same was page h =
-      let within : page < old.size.pages = omega (arith, pages_are) in
-      let there = same_page side old new page sizes same within in
+      let within : page < old.size.pages = omega (arith, pages_are) in let there = same_page side old new page sizes same within in
       elim (was page within) [
         | inl blank ↦ inl (ap is_blank there ∙ blank)
         | inr marked ↦ inr (marked_so old new (first_page old.size side + page) (first_page new.size side + page) Erasing there marked)

@@ -41,4 +41,5 @@ mod Startable
 mod Cuts
 mod CutMarks
 mod CutMoves
+mod ClearedSets
 pub mod Public

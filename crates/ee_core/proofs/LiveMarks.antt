@@ -17,10 +17,11 @@ use Rattle.ee_pages.specs.declared.side.Side.{Side}
 use Rattle.ee_pages.specs.declared.state.Mark.{Mark}
 use Rattle.ee_pages.specs.declared.state.Mark.TheVariants.{Active, Valid, Erasing}
 use Rattle.ee_pages.proofs.Public.{page_in_range, slot_below}
+use Rattle.ee_core.proofs.SetPages.{first_below}
 use Rattle.ee_core.proofs.AfterCalls.{goes_on_same}
 use Rattle.ee_core.proofs.Marks.{same_stays}
 use Rattle.ee_core.specs.Finished.{IsLiveMarked, IsOldMarked, last_used}
-use Rattle.ee_core.specs.Parts.{IsSameBut, KeepsMarks, Stays}
+use Rattle.ee_core.specs.Parts.{IsSameBut, KeepsMarks, SetsMark, Stays}
 use Rattle.ee_core.proofs.KeptMarks.{fill_fits}
 
 -- after what keeps the live set, the layout is still right
@@ -39,17 +40,22 @@ last_in_range layout device is =
     let fill = fill_of (slots_of (set_of layout.side device)) in
     page_in_range device (fill - 1) (slot_below device fill is.live.formed (fill_fits layout.side device is.live.formed))
 
+pub current_below : (layout : Layout) (device : Device) → IsLayout device layout → layout.current < 128
+current_below layout device is = omega (arith, last_is layout device is, last_in_range layout device is, first_below device.size layout.side, is.live.formed.within_limits.few_pages)
+
 -- a page up to that one stands behind written slots
 mark_behind : (layout : Layout) (device : Device) (page : ℕ) (mark : Mark) → IsLayout device layout → page ≤ last_used device layout.side → (mark ≡ Active) ⊎ (mark ≡ Valid) → IsMarkBehind device layout.side page mark
-mark_behind layout device page mark is h kind = search (rules, last_in_range, mul-le-mul_right, div-mul-le_self)
+mark_behind layout device page mark is h kind =
+    let fill = fill_of (slots_of (set_of layout.side device)) in let row = device.size.words - 4 in
+    record { in_range = omega (arith, h, last_in_range layout device is); behind = omega (arith, mul-le-mul_right row h, div-mul-le_self (fill - 1) row); active_or_valid = kind }
 
 pub valid_behind : (layout : Layout) (device : Device) (page : ℕ) → IsLayout device layout → first_page device.size layout.side ≤ page → page < layout.current → IsMarkBehind device layout.side (page - first_page device.size layout.side) Valid
 valid_behind layout device page is from below =
     mark_behind layout device (page - first_page device.size layout.side) Valid is (omega (arith, last_is layout device is, from, below)) (inr refl)
 
-pub active_behind : (layout : Layout) (device : Device) → IsLayout device layout → IsMarkBehind device layout.side (layout.current - first_page device.size layout.side) Active
-active_behind layout device is =
-    mark_behind layout device (layout.current - first_page device.size layout.side) Active is (omega (arith, last_is layout device is)) (inl refl)
+pub last_behind : (layout : Layout) (device : Device) (mark : Mark) → IsLayout device layout → (mark ≡ Active) ⊎ (mark ≡ Valid) → IsMarkBehind device layout.side (layout.current - first_page device.size layout.side) mark
+last_behind layout device mark is kind =
+    mark_behind layout device (layout.current - first_page device.size layout.side) mark is (omega (arith, last_is layout device is)) kind
 
 -- where the live set is marked, each mark is set
 pub valid_already : (layout : Layout) (device : Device) (page : ℕ) → IsLayout device layout → IsLiveMarked device layout.side → first_page device.size layout.side ≤ page → page < layout.current → is_marked device page Valid ≡ true
@@ -98,8 +104,7 @@ IsPageDone device page = (is_blank (page_at device page) ≡ true) ⊎ (is_marke
 pub done_more : (first page : ℕ) (mid new : Device) → first ≤ page → ((k : ℕ) → k < page - first → IsPageDone mid (first + k)) → IsSameBut page mid new → IsPageDone new page → (k : ℕ) → k < page + 1 - first → IsPageDone new (first + k)
 done_more first page mid new from before same here k h = elim (cases_lt k (page - first)) [
   | inl earlier ↦
-      let apart : first + k ≢ page = λ e. omega (arith, e, from, earlier) in
-      let words = same (first + k) apart in
+      let apart : first + k ≢ page = λ e. omega (arith, e, from, earlier) in let words = same (first + k) apart in
       elim (before k earlier) [
         | inl blank ↦ inl (ap is_blank words ∙ blank)
         | inr marked ↦ inr (ap (λ page. is_written (slice_index_or page 3 Erased)) words ∙ marked)
@@ -115,14 +120,20 @@ pub record MarksPage (mid new : Device) (side : Side) (generation page : ℕ) : 
   pub done : IsPageDone new page
   pub no_step : IsPageDone mid page → new ≡ mid
   pub power : GoesOn mid new
+  pub waiting : is_blank (page_at mid page) ≡ false → SetsMark page Erasing mid new
+  pub passed : is_blank (page_at mid page) ≡ true → new ≡ mid
 
 pub marks_none : (device : Device) (side : Side) (generation page : ℕ) → IsLive device side generation → is_blank (page_at device page) ≡ true → MarksPage device device side generation page
-marks_none device side generation page live blank = record { stays = same_stays device device side generation live refl; marks = λ p mark was. was; others = λ p apart. refl; done = inl blank; no_step = λ done. refl; power = goes_on_same device }
+marks_none device side generation page live blank = record { stays = same_stays device device side generation live refl; marks = λ p mark was. was; others = λ p apart. refl; done = inl blank; no_step = λ done. refl; power = goes_on_same device; waiting = λ written. absurd (true≢false (sym blank ∙ written)); passed = λ is. refl }
 
 -- a page that is not blank is done only by its mark
 pub marked_from : (device : Device) (page : ℕ) → is_blank (page_at device page) ≡ false → IsPageDone device page → is_marked device page Erasing ≡ true
 marked_from device page written (inl blank) = absurd (true≢false (sym blank ∙ written))
 marked_from device page written (inr marked) = marked
+
+pub marks_one : (mid new : Device) (side : Side) (generation page : ℕ) → is_blank (page_at mid page) ≡ false → Stays mid new side generation → KeepsMarks mid new → IsSameBut page mid new → is_marked new page Erasing ≡ true → SetsMark page Erasing mid new → (is_marked mid page Erasing ≡ true → new ≡ mid) → GoesOn mid new → MarksPage mid new side generation page
+marks_one mid new side generation page written stays marks others marked sets no_step power =
+    record { stays = stays; marks = marks; others = others; done = inr marked; no_step = λ done. no_step (marked_from mid page written done); power = power; waiting = λ is. sets; passed = λ blank. absurd (true≢false (sym blank ∙ written)) }
 
 -- where the other set is marked, each page of it is done
 pub done_already : (device : Device) (side : Side) (page : ℕ) → IsOldMarked device side → first_page device.size side ≤ page → page < first_page device.size side + device.size.pages → IsPageDone device page

@@ -34,7 +34,7 @@ use Rattle.ee_core.proofs.Drawings.{drawn_as, same_drawn}
 use Rattle.ee_core.proofs.MovedSets.{used_where_full}
 use Rattle.ee_core.specs.Finished.{IsMarked, IsStore}
 use Rattle.ee_core.specs.Parts.{ForgetsHeld, HasMoved, IsSameSet, meant, number_written}
-use Rattle.ee_core.specs.State.{State, Wears, WearsFront, appended_state, capacity, moved_state, not_blank_in, pending_pages, pending_pages_in, torn_state, state_of, used_pages_in}
+use Rattle.ee_core.specs.State.{State, Wears, WearsFront, appended_state, capacity, moved_state, next_live, not_blank_in, pending_pages, pending_pages_in, torn_state, state_of, used_pages_in}
 use Rattle.ee_core.proofs.States.{same_states, state_is, state_kept, state_moved}
 use Rattle.ee_core.proofs.MovingFacts.{layout_kept}
 
@@ -143,7 +143,16 @@ module _ (old new : Device) (side : Side) (generation : ℕ) (live : IsLive old 
       state_moved old new side generation live changes has ∙ ap (λ n. moved_state n changes (state_of old)) (pending_left changes needed)
 
   pub moves : (changes : List Change) → Proceeds old changes → GoesOn old new → NeedsTransfer (capacity old) (state_of old) changes → HasMoved old new side generation changes → Wears (not_blank_in (other side) old) old new → ShowsMoved old changes new side generation → Moves old changes new
-  moves changes proceeds goes_on needed has wear shows = search (rules, pending_left, few_pending, state_is, state_left, pending_was)
+  moves changes proceeds goes_on needed has wear shows = record {
+    proceeds = proceeds;
+    goes_on = goes_on;
+    needed = needed;
+    few_left = subst (λ n. n ≤ old.size.pages) (pending_left changes needed) (few_pending old side live.formed);
+    state_is = state_left changes needed has;
+    live_is = has.live.live ∙ ap next_live (sym live.live);
+    image = (side, generation, live.live, shows);
+    wear = subst (λ pages. Wears pages old new) (sym pending_was) wear;
+  }
 
   cut_move : (changes : List Change) → NeedsTransfer (capacity old) (state_of old) changes → pending_of (set_of (other side) new) ≤ old.size.pages → KeepsLiveSet old new side generation ⊎ HasMoved old new side generation changes
       → IsCutMove old.size.pages (pages_left changes old) (state_of old) changes (state_of new)
@@ -231,7 +240,9 @@ generation_proper device side generation live = commit_proper (is_mark (mark_of 
 -- where a transfer is accepted, a generation is left for it
 module _ (device : Device) (side : Side) (generation : ℕ) (live : IsLive device side generation) where
   not_greatest : ((state_of device).generation ≡ greatest_generation → ⊥) → IsGeneration (generation + 1)
-  not_greatest left = search (rules, generation_proper, state_is)
+  not_greatest left =
+      let apart : generation ≢ greatest_generation = λ e. left (ap (λ (state : State). state.generation) (state_is device side generation live) ∙ e) in
+      (omega arith, omega (arith, generation_proper device side generation live, apart))
 
   pub generation_left : (changes : List Change) → NeedsTransfer (capacity device) (state_of device) changes → ¬ HaveNoGeneration (capacity device) (state_of device) changes → IsGeneration (generation + 1)
   generation_left [] needed left = absurd needed

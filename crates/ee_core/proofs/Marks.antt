@@ -44,8 +44,7 @@ written_stays image page at word p k h within written was =
 -- no outcome of a program makes a written word erased
 pub program_keeps_marks : (page at value : ℕ) (old new : Device) → IsStep (Program page at value) old new → KeepsMarks old new
 program_keeps_marks page at value old new taken p mark was =
-    let k = place_of_mark mark in
-    let in_range : page < length old.image = omega (arith, taken.formed.image_length, taken.may.0) in
+    let k = place_of_mark mark in let in_range : page < length old.image = omega (arith, taken.formed.image_length, taken.may.0) in
     let long = All-get_or (λ words. length words ≡ old.size.words) old.image page [] in_range taken.formed.page_lengths in
     let within : at < length (page_at old page) = omega (arith, long, taken.may.1) in
     elim (step_leaves_pages (Program page at value) old new taken) [
@@ -106,8 +105,7 @@ same_stays old new side generation live same = search rules
 pub live_mark_stays : (page : ℕ) (mark : Mark) (old new : Device) (side : Side) (generation : ℕ) → IsLive old side generation → first_page old.size side ≤ page → IsMarkBehind old side (page - first_page old.size side) mark → (new ≡ old) ⊎ IsStep (marking page mark) old new → Stays old new side generation
 live_mark_stays page mark old new side generation live from behind (inl same) = same_stays old new side generation live same
 live_mark_stays page mark old new side generation live from behind (inr taken) =
-    let place : page ≡ first_page old.size side + (page - first_page old.size side) = omega (arith, from) in
-    let step = subst (λ n. IsStep (marking n mark) old new) place taken in
+    let place : page ≡ first_page old.size side + (page - first_page old.size side) = omega (arith, from) in let step = subst (λ n. IsStep (marking n mark) old new) place taken in
     let kept = mark_keeps_live (page - first_page old.size side) mark old new side generation live behind step in
     record {
       keeps = kept.0;
@@ -154,3 +152,7 @@ marked_after page mark old new formed h proper same on done = elim (cases_Bool (
   | inl set ↦ ap (λ (device : Device). is_marked device page mark) (same set) ∙ set
   | inr unset ↦ marked_by page mark old new (mark_step page mark old new formed h proper unset (inl (record { was_on = on unset; done = done unset }))) (done unset)
 ]
+
+-- of the numbers that a receive word may have, this is the one
+pub one_receive : (number : ℕ) → IsGeneration number → (generation : ℕ) → Receive number ≡ Receive generation → IsGeneration generation
+one_receive number proper generation is = subst IsGeneration (cc is) proper

@@ -43,8 +43,7 @@ first_opened size generation page at = elim (cases_eq at 0) [
   | inl zeroth ↦ elim (cases_eq page 0) [
     | inl here ↦ with_word-there 0 0 _ blank page at here zeroth ∙ rw (zeroth, here, le-leb 0 (page_of_slot size (0 - 1)) (omega arith)) refl
     | inr away ↦
-        let last : page_of_slot size (0 - 1) ≡ 0 = zero-div (size.words - 4) in
-        let beyond : page_of_slot size (0 - 1) < page = omega (arith, last) in
+        let last : page_of_slot size (0 - 1) ≡ 0 = zero-div (size.words - 4) in let beyond : page_of_slot size (0 - 1) < page = omega (arith, last) in
         with_word-elsewhere 0 0 _ blank page at (inl away) ∙ rw (zeroth, lt-leb page (page_of_slot size (0 - 1)) beyond) refl
   ]
 ]
@@ -91,9 +90,7 @@ filled_up side mid new generation words sizes held fill drawn page at h within =
 -- where every slot is written, the first of each page is
 full_written : (side : Side) (device : Device) (generation page : ℕ) → IsLive device side generation → fill_of (slots_of (set_of side device)) ≡ slot_count device.size → page < device.size.pages → is_written (picture_of side device page 4) ≡ true
 full_written side device generation page live full h =
-    let pages = set_of side device in
-    let words = device.size.words in
-    let before = fill-front side device generation live.formed live.allowed in
+    let pages = set_of side device in let words = device.size.words in let before = fill-front side device generation live.formed live.allowed in
     let written : front (slots_of pages) ≡ device.size.pages * (words - 4) = omega (arith, before, full) in
     let some : 0 < words - 4 = omega (arith, live.formed.within_limits.some_words) in
     let row : page * (words - 4) + (words - 4) ≤ device.size.pages * (words - 4) = row_fits page (words - 4) device.size.pages (words - 4) h (omega arith) in
@@ -118,8 +115,7 @@ used_where_full side device generation page live full h =
 same_page_drawn : (side : Side) (old new : Device) (page : ℕ) → IsFormed old → IsFormed new → new.size ≡ old.size → IsDrawn side new (picture_of side old) → page < new.size.pages
     → page_at new (first_page new.size side + page) ≡ page_at old (first_page old.size side + page)
 same_page_drawn side old new page old_formed formed sizes drawn h =
-    let widths = ap (λ (size : Size). size.words) sizes in
-    let before : page < old.size.pages = omega (arith, ap (λ (size : Size). size.pages) sizes) in
+    let widths = ap (λ (size : Size). size.words) sizes in let before : page < old.size.pages = omega (arith, ap (λ (size : Size). size.pages) sizes) in
     let long = length-page_at new (first_page new.size side + page) formed (page_in_device new.size side page h) in
     let long_before = length-page_at old (first_page old.size side + page) old_formed (page_in_device old.size side page before) in
     ext_get_or Erased (page_at new (first_page new.size side + page)) (page_at old (first_page old.size side + page)) (omega (arith, long, long_before, widths)) (λ at within.
@@ -127,8 +123,7 @@ same_page_drawn side old new page old_formed formed sizes drawn h =
 
 pub same_set_drawn : (side : Side) (old new : Device) → IsFormed old → IsFormed new → new.size ≡ old.size → IsDrawn side new (picture_of side old) → set_of side new ≡ set_of side old
 same_set_drawn side old new old_formed formed sizes drawn =
-    let pages = ap (λ (size : Size). size.pages) sizes in
-    let long = length-set_of side new formed in
+    let pages = ap (λ (size : Size). size.pages) sizes in let long = length-set_of side new formed in
     ext_get_or [] (set_of side new) (set_of side old) (omega (arith, long, length-set_of side old old_formed, pages)) (λ page within.
     let h : page < new.size.pages = omega (arith, within, long) in
     page_of_set side new page h ∙ same_page_drawn side old new page old_formed formed sizes drawn h ∙ sym (page_of_set side old page (omega (arith, h, pages))))

@@ -1,5 +1,5 @@
 -- What calls in the other set leave together.
-use Rattle.std.proofs.Common.{rules, ◌≡◌, ◌≤◌, ◌<◌, ◌-◌, ℕ, ◌+◌, true, List, [], refl, ap, ◌∙◌, arith}
+use Rattle.std.proofs.Common.{rules, ◌≡◌, ◌≤◌, ◌<◌, ◌-◌, ◌/◌, ℕ, ◌+◌, true, List, [], refl, sym, subst, ap, ◌∙◌, arith}
 use Rattle.std.specs.List.{All}
 use Rattle.std.proofs.lemmas.List.Elements.{All-from_get_or}
 use Rattle.std.proofs.Math.Path.{fun_ext}
@@ -44,3 +44,10 @@ has_moved old opened filled new side generation count changes first second as_us
 
 pub moved_stays : (old moved new : Device) (side : Side) (generation : ℕ) (changes : List Change) → HasMoved old moved side generation changes → Stays moved new (other side) (generation + 1) → HasMoved old new side generation changes
 moved_stays old moved new side generation changes has stays = search (rules, as_many_not_blank, other_twice)
+
+-- the layout of the set that the map moved to, as the code says it
+pub layout_moved : (old new : Device) (layout : Layout) (changes : List Change) (side : Side) (count first last words : ℕ) → HasMoved old new layout.side layout.generation changes → side ≡ other layout.side → count ≡ live_in (changed_by changes (meaning (slots_of (set_of layout.side old))))
+    → first ≡ first_page new.size (other layout.side) → words ≡ new.size.words → last ≡ count - 1 → IsLayout new record { side = side; generation = layout.generation + 1; fill = count; current = first + last / (words - 4) }
+layout_moved old new layout changes side count first last words moved side_is count_is first_is words_is last_is =
+    let found : IsLayout new record { side = other layout.side; generation = layout.generation + 1; fill = count; current = first + last / (words - 4) } = record { live = moved.live; fill = count_is ∙ sym moved.fill_is; current = rw (first_is, words_is, last_is) refl } in
+    subst (λ (set : Side). IsLayout new record { side = set; generation = layout.generation + 1; fill = count; current = first + last / (words - 4) }) (sym side_is) found

@@ -1,5 +1,5 @@
 -- The page of the first free slot, and what marks it.
-use Rattle.std.proofs.Common.{rules, ◌≡◌, ◌≢◌, ◌⊎◌, inl, inr, ℕ, ◌+◌, ◌-◌, ◌*◌, ◌<◌, ◌/◌, ◌%◌, true, sym, subst, ap, ◌∙◌, arith}
+use Rattle.std.proofs.Common.{◌≡◌, ◌≢◌, ◌⊎◌, inl, inr, ℕ, ◌+◌, ◌-◌, ◌*◌, ◌<◌, ◌/◌, ◌%◌, true, refl, sym, subst, ap, ◌∙◌, arith}
 use Rattle.std.proofs.Math.Nat.{div-add-mod, div-mul-le_self}
 use Rattle.std.proofs.lemmas.Bool.{cases_lt}
 use Rattle.std.proofs.lemmas.Nat.{div-mul-add}
@@ -26,8 +26,7 @@ same_row n m q r e some below =
 pub same_place : (n m : ℕ) → 0 < m → (n ≡ 0) ⊎ (n % m ≢ 0) → n / m ≡ (n - 1) / m
 same_place n m some (inl none) = let e : n ≡ n - 1 = omega arith in ap (λ k. k / m) e
 same_place n m some (inr inside) =
-    let split : n ≡ n / m * m + n % m = omega (arith, div-add-mod n m) in
-    let below : n % m < m = omega (arith, some) in
+    let split : n ≡ n / m * m + n % m = omega (arith, div-add-mod n m) in let below : n % m < m = omega (arith, some) in
     sym (same_row n m (n / m) (n % m) split (omega (arith, inside)) below)
 
 -- the first slot of a page stands one page behind the slot before
@@ -44,13 +43,10 @@ next_place n m some many whole =
     let split : n ≡ n / m * m = omega (arith, div-add-mod n m, whole) in
     elim (cases_lt 0 (n / m)) [
       | inl positive ↦
-          let p : ℕ = n / m - 1 in
-          let quotient : n / m ≡ p + 1 = omega arith in
-          let rows : n ≡ (p + 1) * m = split ∙ ap (λ k. k * m) quotient in
+          let p : ℕ = n / m - 1 in let quotient : n / m ≡ p + 1 = omega arith in let rows : n ≡ (p + 1) * m = split ∙ ap (λ k. k * m) quotient in
           quotient ∙ ap (λ k. k + 1) (sym (after_row n m p (one_row_more n m p rows) some))
       | inr none ↦
-          let zero : n / m ≡ 0 = omega arith in
-          let nothing : n ≡ 0 * m = split ∙ ap (λ k. k * m) zero in
+          let zero : n / m ≡ 0 = omega arith in let nothing : n ≡ 0 * m = split ∙ ap (λ k. k * m) zero in
           absurd (omega (arith, nothing))
     ]
 
@@ -87,7 +83,15 @@ module _ (old : Device) (layout : Layout) (found : IsLayout old layout) (free : 
 
     -- the further page may be marked
     pub next_behind : (mid : Device) → Stays old mid layout.side layout.generation → IsMarkBehind mid layout.side (layout.current + 1 - first_page mid.size layout.side) Active
-    next_behind mid stays = search (rules, next_is, page_in_range, div-mul-le_self)
+    next_behind mid stays =
+        let size = stays.keeps.same_size in
+        let page : layout.current + 1 - first_page mid.size layout.side ≡ page_of_slot mid.size layout.fill =
+        omega (arith, next_is, ap (λ (size : Size). first_page size layout.side) size, ap (λ (size : Size). page_of_slot size layout.fill) size) in
+        subst (λ n. IsMarkBehind mid layout.side n Active) (sym page) (record {
+          in_range = page_in_range mid layout.fill (rw size free);
+          behind = omega (arith, div-mul-le_self layout.fill (mid.size.words - 4), found.fill, stays.keeps.same_fill);
+          active_or_valid = inl refl;
+        })
 
     -- both marks are set
     pub ready_now : (mid new : Device) → new.size ≡ old.size → IsLiveMarked old layout.side → KeepsMarks old mid → KeepsMarks mid new → is_marked mid layout.current Valid ≡ true → is_marked new (layout.current + 1) Active ≡ true → IsReady new layout.side layout.fill

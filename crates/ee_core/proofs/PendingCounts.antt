@@ -57,7 +57,11 @@ module _ (side : Side) (device : Device) (formed : IsFormed device) (first : ℕ
       ∙ ap (λ n. pending_of (take n (set_of side device))) next
 
   pub as_many : (page count : ℕ) → first ≤ page → page < first + device.size.pages → is_blank (page_at device page) ≡ true → count ≡ pending_of (take (page - first) (set_of side device)) → count ≡ pending_of (take (page + 1 - first) (set_of side device))
-  as_many page count from below here so_far = search (rules, count_blank, within, page_there)
+  as_many page count from below here so_far =
+      let next : page - first + 1 ≡ page + 1 - first = omega (arith, from) in
+      so_far
+      ∙ sym (count_blank (set_of side device) (page - first) (within page from below) (ap is_blank (page_there page from below) ∙ here))
+      ∙ ap (λ n. pending_of (take n (set_of side device))) next
 
   pub at_end : (page : ℕ) → page ≡ first + device.size.pages → pending_of (take (page - first) (set_of side device)) ≡ pending_of (set_of side device)
   at_end page e =
@@ -70,8 +74,7 @@ module _ (side : Side) (device : Device) (formed : IsFormed device) (first : ℕ
       let count = length-set_of side device formed in
       sym (ap pending_of (take-length (set_of side device)))
       ∙ count_none (set_of side device) (length (set_of side device)) (omega arith) (λ k h.
-      let in_set : k < device.size.pages = omega (arith, count) in
-      let e : first_page device.size side + k ≡ first + k = omega arith in
+      let in_set : k < device.size.pages = omega (arith, count) in let e : first_page device.size side + k ≡ first + k = omega arith in
       ap is_blank (page_of_set side device k in_set ∙ ap (page_at device) e) ∙ blank (first + k) (omega arith) (omega arith))
 
   -- one is not

@@ -35,8 +35,7 @@ waits device page = cond (is_blank (page_at device page)) 0 1
 -- a page is named once if it is one of the set and not blank
 pub times_in_set : (side : Side) (device : Device) (page : ℕ) → IsPageOf device.size side page → times page (not_blank_in side device) ≡ waits device page
 times_in_set side device page at =
-    let k = page - first_page device.size side in
-    let is : first_page device.size side + k ≡ page = omega (arith, at.from) in
+    let k = page - first_page device.size side in let is : first_page device.size side + k ≡ page = omega (arith, at.from) in
     let within : k < device.size.pages = omega (arith, at.from, at.below) in
     ap (λ n. times n (not_blank_in side device)) (sym is)
     ∙ times_here (set_of side device) (first_page device.size side) k
@@ -55,8 +54,7 @@ times_in_other Second device page at =
 pub same_not_blank : (side : Side) (old new : Device) (page : ℕ) → IsFormed old → IsFormed new → new.size ≡ old.size → IsPageOf old.size side page → IsSameBut page old new → is_blank (page_at new page) ≡ is_blank (page_at old page)
     → not_blank_in side new ≡ not_blank_in side old
 same_not_blank side old new page old_formed new_formed sizes at same blank =
-    let k = page - first_page old.size side in
-    let is : first_page old.size side + k ≡ page = omega (arith, at.from) in
+    let k = page - first_page old.size side in let is : first_page old.size side + k ≡ page = omega (arith, at.from) in
     let within : k < old.size.pages = omega (arith, at.from, at.below) in
     let there : get_or (set_of side old) k [] ≡ page_at old page = page_of_set side old k within ∙ ap (page_at old) is in
     ap (λ (size : Size). not_blank_from (first_page size side) (set_of side new)) sizes
@@ -68,8 +66,7 @@ pub lowest_blank : (side : Side) (old new : Device) (page : ℕ) → IsFormed ol
     → is_blank (page_at old page) ≡ false → ((lower : ℕ) → first_page old.size side ≤ lower → lower < page → is_blank (page_at old lower) ≡ true) → is_blank (page_at new page) ≡ true
     → not_blank_in side old ≡ page ∷ not_blank_in side new
 lowest_blank side old new page old_formed new_formed sizes at same written lower blank =
-    let k = page - first_page old.size side in
-    let is : first_page old.size side + k ≡ page = omega (arith, at.from) in
+    let k = page - first_page old.size side in let is : first_page old.size side + k ≡ page = omega (arith, at.from) in
     let within : k < old.size.pages = omega (arith, at.from, at.below) in
     let there : get_or (set_of side old) k [] ≡ page_at old page = page_of_set side old k within ∙ ap (page_at old) is in
     let in_list : k < length (set_of side old) = omega (arith, within, length-set_of side old old_formed) in

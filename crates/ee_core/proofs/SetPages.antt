@@ -28,6 +28,12 @@ page_of_device size side page at = omega (arith, first_below size side, at.below
 pub page_in_device : (size : Size) (side : Side) (k : ℕ) → k < size.pages → first_page size side + k < page_count size
 page_in_device size side k h = omega (arith, first_below size side)
 
+-- a page that a loop over a set came to
+pub page_reached : (side : Side) (old mid : Device) (first pages page : ℕ) → first ≡ first_page old.size side → pages ≡ old.size.pages → mid.size ≡ old.size → first ≤ page → page < first + pages → IsPageOf mid.size side page
+page_reached side old mid first pages page first_is pages_is sizes from below =
+    let start = ap (λ (size : Size). first_page size side) sizes in
+    record { from = omega (arith, start, first_is, from); below = omega (arith, start, first_is, pages_is, ap (λ (size : Size). size.pages) sizes, below) }
+
 -- a page of one set is none of the other
 pub apart : (size : Size) (side : Side) (page k : ℕ) → IsPageOf size (other side) page → k < size.pages → first_page size side + k ≢ page
 apart size First page k at h e = omega (arith, at.from)
@@ -56,10 +62,8 @@ same_other side old new page old_formed new_formed sizes at same =
 -- what changes one page of a set changes it in the list of its pages
 pub one_changed : (side : Side) (old new : Device) (page k : ℕ) → IsFormed old → IsFormed new → new.size ≡ old.size → first_page old.size side + k ≡ page → k < old.size.pages → IsSameBut page old new → set_of side new ≡ set (set_of side old) k (page_at new page)
 one_changed side old new page k old_formed new_formed sizes at within same =
-    let pages : new.size.pages ≡ old.size.pages = ap (λ (size : Size). size.pages) sizes in
-    let old_count = length-set_of side old old_formed in
-    let new_count : length (set_of side new) ≡ old.size.pages = length-set_of side new new_formed ∙ pages in
-    let long = length-set (set_of side old) k (page_at new page) in
+    let pages : new.size.pages ≡ old.size.pages = ap (λ (size : Size). size.pages) sizes in let old_count = length-set_of side old old_formed in
+    let new_count : length (set_of side new) ≡ old.size.pages = length-set_of side new new_formed ∙ pages in let long = length-set (set_of side old) k (page_at new page) in
     ext_get_or [] (set_of side new) (set (set_of side old) k (page_at new page)) (new_count ∙ sym old_count ∙ sym long) (λ j h.
     let below : j < old.size.pages = omega (arith, h, new_count) in
     let there : get_or (set_of side new) j [] ≡ page_at new (first_page old.size side + j) =

@@ -80,8 +80,7 @@ new_before (first ∷ puts) zero put each is =
     let same : first ≡ put = cc is in
     (subst (λ (found : listed.Put). IsAddress found.address) same each.0, refl)
 new_before (first ∷ puts) (suc place) put each is =
-    let later = new_before puts place put each.2 is in
-    let away = not_named puts place first.address put each.1 is in
+    let later = new_before puts place put each.2 is in let away = not_named puts place first.address put each.1 is in
     let here : (first.address == put.address) ≡ false = ne_eqb first.address put.address (λ e. apart put.address first.address away e) in
     (later.0, rw here later.1)
 
@@ -98,3 +97,9 @@ module _ (map : Map) (puts : List listed.Put) (each : AreApart (puts_of puts)) (
       ap live_in (map_with_more map puts place put within is)
       ∙ counts
       ∙ ap (λ (held : Option ℕ). live_in so_far + cond (is_some held) 0 1) as_before
+
+-- a list of one value
+pub one_listed : (puts : List listed.Put) (put : listed.Put) → length puts ≡ 1 → put ≡ get_or puts 0 put → puts ≡ put ∷ []
+one_listed [] put long is = absurd (omega (arith, long))
+one_listed (first ∷ []) put long is = ap (λ (one : listed.Put). one ∷ []) (sym is)
+one_listed (first ∷ second ∷ more) put long is = absurd (omega (arith, long))

@@ -30,6 +30,9 @@ use Rattle.ee_core.proofs.FirstSet.{alone, erased_commits, no_pending, opened, s
 use Rattle.ee_core.proofs.Powered.{legal_on, state_in_on}
 use Rattle.ee_core.proofs.States.{same_states, state_is}
 use Rattle.ee_core.specs.Points.{with_power_on}
+use Rattle.std.specs.Prelude.{IfOk, Result, Ok, Err}
+use Rattle.ee_pages.specs.declared.find.ScanFault.{ScanFault}
+use Rattle.ee_core.specs.Openings.{IsFormatted, OpenFails}
 use Rattle.ee_core.specs.Starts.{AreCutStarts, IsNew, IsStartable, IsStarting, StartFails, Starts, StartsEmpty}
 use Rattle.ee_core.specs.State.{formatted_state, state_of}
 use Rattle.ee_core.specs.declared.opening.OpenFault.{OpenFault}
@@ -58,10 +61,8 @@ held_before (Erase erased) old new page at number taken header behind held =
           ]
     ]
 held_before (Program programmed place value) old new page at number taken header behind held =
-    let differs = step_changes_one_page (Program programmed place value) old new taken in
-    let left = step_leaves_pages (Program programmed place value) old new taken in
-    let h : programmed < length old.image = omega (arith, taken.formed.image_length, taken.may.0) in
-    let other : at ≢ place = λ e. omega (arith, e, header, behind) in
+    let differs = step_changes_one_page (Program programmed place value) old new taken in let left = step_leaves_pages (Program programmed place value) old new taken in
+    let h : programmed < length old.image = omega (arith, taken.formed.image_length, taken.may.0) in let other : at ≢ place = λ e. omega (arith, e, header, behind) in
     elim (cases_eq page programmed) [
       | inr apart ↦ sym (elsewhere old new programmed page at differs apart) ∙ held
       | inl same ↦
@@ -75,8 +76,7 @@ none_or_gone after before (inr gone) none = gone
 -- a step that commits neither set, and is in no slot, leaves the device startable, in every outcome
 pub stays_startable : (step : Step) (old new : Device) → IsStep step old new → IsInHeader step → ((side : Side) → CannotCommit (first_page old.size side) step old) → IsStartable old → IsStartable new
 stays_startable step old new taken header cannot startable =
-    let differs = step_changes_one_page step old new taken in
-    let formed = step_keeps_formed step old new taken in
+    let differs = step_changes_one_page step old new taken in let formed = step_keeps_formed step old new taken in
     record {
       uncommitted = λ side.
           let first = first_page old.size side in
@@ -121,10 +121,8 @@ torn_commits Second mid new taken differs formed mark startable =
 
 torn_startable : (mid new : Device) → IsStep (marking 0 Active) mid new → new.image ≡ (with_word 0 1 Torn mid).image → IsStartable mid → IsStartable new
 torn_startable mid new taken torn startable =
-    let differs = step_changes_one_page (marking 0 Active) mid new taken in
-    let formed = step_keeps_formed (marking 0 Active) mid new taken in
-    let left = step_leaves_pages (marking 0 Active) mid new taken in
-    let some : 0 < length mid.image = omega (arith, taken.formed.image_length, taken.may.0) in
+    let differs = step_changes_one_page (marking 0 Active) mid new taken in let formed = step_keeps_formed (marking 0 Active) mid new taken in
+    let left = step_leaves_pages (marking 0 Active) mid new taken in let some : 0 < length mid.image = omega (arith, taken.formed.image_length, taken.may.0) in
     let long : 1 < length (page_at mid 0) = omega (arith, length-page_at mid 0 taken.formed taken.may.0, taken.formed.within_limits.some_words) in
     let mark : word_at new 0 1 ≡ Torn =
     ap (λ (image : List (List Word)). word_in (get_or image 0 []) 1) torn
@@ -182,6 +180,13 @@ legal_stays device legal startable = startable_not_live device legal.0 legal.1 s
 
 -- ---- what a start leaves, where the scan changed nothing
 
+pub scan_fails : (old new : Device) (fault : OpenFault) (found : ScanFault) → fault ≡ Scan found → OpenFails old fault new → IsScanFault old found × (new ≡ old)
+scan_fails old new fault found is = subst (λ (said : OpenFault). OpenFails old said new) is
+
+pub starts_anew : {E : Type 0} (old mid : Device) (result : Result Device E) → mid ≡ old → IsStartable mid → IfOk result (IsFormatted mid) → IfOk result (Starts old)
+starts_anew old mid (Ok new) same startable formatted = inl (subst IsStartable same startable, subst (λ (device : Device). IsFormatted device new) same formatted)
+starts_anew old mid (Err error) same startable formatted = tt
+
 -- a word past the end of its page is erased
 pub past_end : (device : Device) (page at number : ℕ) → IsFormed device → page < page_count device.size → device.size.words ≤ at → word_at device page at ≢ Held number
 past_end device page at number formed within past = is_held (word_at device page at) number (inl (get_or_past (page_at device page) at Erased (omega (arith, length-page_at device page formed within, past))))
@@ -221,10 +226,14 @@ one_left_less more left (Some n) e rest = let same : left ≡ n + 1 = same_Some 
 starts_end_from : (starts : ℕ) (old new : Device) → IsStarting old → AreCutStarts starts old new → StartsEmpty new × ((left : ℕ) → old.cuts_left ≡ Some left → starts ≤ left)
 starts_end_from zero old new starting same = (subst StartsEmpty (sym same) (starts_empty old starting), λ left _. omega arith)
 starts_end_from (suc more) old new starting run =
-    let between = run.0 in
-    let cut = cut_starting old between starting run.1 in
+    let between = run.0 in let cut = cut_starting old between starting run.1 in
     let rest = starts_end_from more (with_power_on between) new (powered_starting between cut.0) run.2 in
     (rest.0, λ left e. one_left_less more left between.cuts_left (sym e ∙ cut.1.one_less_left) rest.1)
 
 pub starts_end_lem : (starts : ℕ) (old new : Device) → IsUnformatted old → AreCutStarts starts old new → StartsEmpty new × ((left : ℕ) → old.cuts_left ≡ Some left → starts ≤ left)
 starts_end_lem starts old new blank run = starts_end_from starts old new (inl (blank_startable old blank)) run
+
+-- and so is one of a page past the last
+pub past_device : (device : Device) (page at number : ℕ) → IsFormed device → page_count device.size ≤ page → word_at device page at ≢ Held number
+past_device device page at number formed past =
+    is_held (word_at device page at) number (inl (ap (λ (words : List Word). get_or words at Erased) (get_or_past device.image page [] (omega (arith, formed.image_length, past)))))

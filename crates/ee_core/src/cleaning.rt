@@ -17,7 +17,6 @@ use ee_flash::{Cut, Flash};
 use ee_pages::{Layout, Side, first_page, is_blank as page_is_blank};
 
 /// Erases the lowest page of the other set that is not blank. `false` if there is none.
-#[tactic(auto, using(crate::proofs::LowestPending::erases_lowest, crate::proofs::LowestPending::keeps_all_but_lowest))]
 pub fn clean<F: Flash>(flash: &mut F, layout: &Layout) -> Result<bool, Cut>
     requires layout { IsLayout (F.device flash.old) layout.now }
     ensures keeps { KeepsLiveSet (F.device flash.old) (F.device flash.new)

@@ -138,9 +138,7 @@ pub put_among : (room count place address end : ℕ) (said : Option ℕ) (items 
     → take end new_items ≡ take end (insert items place (address, unwrap_or said 0)) → take end new_lives ≡ take end (insert lives place (is_some said))
     → with_said (take end new_items) (take end new_lives) ≡ take room (insert (with_said (take count items) (take count lives)) place (address, said))
 put_among room count place address end said items new_items lives new_lives within few short fits grows full put_items put_lives =
-    let all = with_said items lives in
-    let new : Named = (address, said) in
-    let whole = insert all place new in
+    let all = with_said items lives in let new : Named = (address, said) in let whole = insert all place new in
     let cut : take end whole ≡ take room (take (suc count) whole) = elim (cases_lt count room) [
       | inl less ↦ ap (λ n. take n whole) (let e : end ≡ suc count = omega (arith, grows less) in e) ∙ sym (take-take_high room (suc count) whole (omega arith))
       | inr more ↦ let same : count ≡ room = omega arith in ap (λ n. take n whole) (full same) ∙ sym (take-take_low room (suc count) whole (omega arith))

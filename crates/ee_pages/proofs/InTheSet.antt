@@ -44,16 +44,13 @@ slots-header (page ∷ pages) (suc k) at word h = ap (λ (words : List Word). dr
 pub slots-slot : (words : ℕ) (pages : List (List Word)) (k j slot : ℕ) (word : Word) → All (λ page. length page ≡ words) pages → k < length pages → j < words - 4 → slot ≡ k * (words - 4) + j → slots_of (with_word_in pages k (4 + j) word) ≡ set (slots_of pages) slot word
 slots-slot words [] k j slot word each h within is = absurd (omega arith)
 slots-slot words (page ∷ pages) zero j slot word each h within is =
-    let long : length page ≡ words = each 0 [] (omega arith) in
-    let inside : j < length (drop 4 page) = omega (arith, length-drop 4 page, long) in
+    let long : length page ≡ words = each 0 [] (omega arith) in let inside : j < length (drop 4 page) = omega (arith, length-drop 4 page, long) in
     let here : slot ≡ j = omega arith in
     ap (λ (first : List Word). first ++ slots_of pages) (drop-set-add 4 page j word)
     ∙ sym (ap (λ n. set (drop 4 page ++ slots_of pages) n word) here ∙ set-append_left (drop 4 page) (slots_of pages) j word inside)
 slots-slot words (page ∷ pages) (suc k) j slot word each h within is =
-    let long : length page ≡ words = each 0 [] (omega arith) in
-    let here : length (drop 4 page) ≡ words - 4 = omega (arith, length-drop 4 page, long) in
-    let before : words - 4 ≤ slot = omega arith in
-    let rest : slot - (words - 4) ≡ k * (words - 4) + j = omega arith in
+    let long : length page ≡ words = each 0 [] (omega arith) in let here : length (drop 4 page) ≡ words - 4 = omega (arith, length-drop 4 page, long) in
+    let before : words - 4 ≤ slot = omega arith in let rest : slot - (words - 4) ≡ k * (words - 4) + j = omega arith in
     ap (λ (next : List Word). drop 4 page ++ next) (slots-slot words pages k j (slot - (words - 4)) word (λ i none below. each (suc i) none (omega arith)) (omega arith) within rest)
     ∙ sym (set-append_right (drop 4 page) (slots_of pages) (words - 4) slot word here before)
 

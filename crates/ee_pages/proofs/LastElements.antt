@@ -1,12 +1,12 @@
 -- With no forgetting among the slots, the last element of an address says its value.
-use Rattle.std.proofs.Common.{rules, ◌≡◌, ◌≢◌, inl, inr, ℕ, Option, Some, None, List, [], ◌∷◌, refl, ap, ◌∙◌, arith, suc, zero}
+use Rattle.std.proofs.Common.{◌≡◌, ◌≢◌, inl, inr, ℕ, Option, Some, None, List, [], ◌∷◌, refl, ap, ◌∙◌, arith, suc, zero}
 use Rattle.std.proofs.lemmas.Bool.{cases_eq, eq-eqb, ne_eqb}
 use Rattle.ee_codec.specs.Reading.{slot_of}
 use Rattle.ee_codec.specs.declared.slot.Slot.{Slot}
 use Rattle.ee_codec.specs.declared.slot.Slot.TheVariants.{Free, Spoiled, Element, Forgotten, Foreign}
 use Rattle.ee_flash.specs.declared.word.Word.{Word}
 use Rattle.ee_pages.specs.Elements.{HasNoElement, HasNoForgetting, IsLastElement}
-use Rattle.ee_pages.specs.Meaning.{later, latest_in, meaning, says, slot_says}
+use Rattle.ee_pages.specs.Meaning.{later, latest_in, meaning, says, slot_says, value_said}
 
 -- a slot that is neither an element of the address nor a forgetting says nothing of it
 silent : (slot : Slot) (address : ℕ) → ((value : ℕ) → slot ≢ Element address value) → ((named value : ℕ) → slot ≢ Forgotten named value) → slot_says slot address ≡ None
@@ -43,4 +43,5 @@ last_said (slot ∷ slots) (suc number) address value no_forgetting last =
     ap (later (says slot address)) rest
 
 pub last_element_counts_lem : (slots : List Word) (address : ℕ) → HasNoForgetting slots → ((number value : ℕ) → IsLastElement slots number address value → meaning slots address ≡ Some value) × (HasNoElement slots address → meaning slots address ≡ None)
-last_element_counts_lem slots address no_forgetting = search (rules, last_said, none_said)
+last_element_counts_lem slots address no_forgetting =
+    (λ number value last. ap value_said (last_said slots number address value no_forgetting last), λ none. ap value_said (none_said slots address no_forgetting none))

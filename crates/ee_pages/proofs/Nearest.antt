@@ -326,8 +326,7 @@ module _ (room : ℕ) where
   -- where there is no room behind the others
   pub kept_full : (above : ℕ) (new : Named) (list : List Named) (place : ℕ) → length list ≤ room → above < new.0 → IsPlace new.0 list place → place ≤ length list → room ≤ place → list ≡ take room (noted_above above (Some new) list)
   kept_full above new list place few high at within full =
-      let same : place ≡ length list = omega arith in
-      let all : length list ≡ room = omega arith in
+      let same : place ≡ length list = omega arith in let all : length list ≡ room = omega arith in
       rw (lt-ltb above new.0 high) (sym (ap (λ n. take n (with_named new list)) (sym all) ∙ put_behind list new (subst (λ n. IsPlace new.0 list n) same at)))
 
   -- where there is no room, an address behind the last one is not taken
@@ -356,8 +355,7 @@ module _ (room : ℕ) where
   -- one slot more
   pub one_slot : (above : ℕ) (slots : List Word) (slot : ℕ) (word : Word) (named : Option Named) (list after : List Named) → slot < length slots → word ≡ get_or slots slot Erased → named ≡ slot_names (slot_of word) → list ≡ take room (with_each_named above (take slot slots) []) → after ≡ take room (noted_above above named list) → after ≡ take room (with_each_named above (take (slot + 1) slots) [])
   one_slot above slots slot word named list after within is names before noted =
-      let start = with_each_named above (take slot slots) [] in
-      let said = slot_names (slot_of (get_or slots slot Erased)) in
+      let start = with_each_named above (take slot slots) [] in let said = slot_names (slot_of (get_or slots slot Erased)) in
       noted
       ∙ ap (λ (new : Option Named). take room (noted_above above new list)) (names ∙ ap (λ (w : Word). slot_names (slot_of w)) is)
       ∙ ap (λ (l : List Named). take room (noted_above above said l)) before
@@ -376,8 +374,7 @@ module _ (room : ℕ) where
   -- so the living ones of the first that are gathered are the next live addresses
   batch_is : 0 < room → (slots : List Word) (above : ℕ) (list : List Named) (through : Option ℕ) → list ≡ take room (with_each_named above slots []) → IfNone through (length list < room) → IfSome through (λ last. length list ≡ room) → IfSome through (λ last. last ≡ last_named above list) → AreLiveThrough (meaning slots) above (living list) through
   batch_is some slots above list through e none full last =
-      let all = with_each_named above slots [] in
-      let rising = rising-gathered above slots [] tt in
+      let all = with_each_named above slots [] in let rising = rising-gathered above slots [] tt in
       let next = are_next slots above above room all (omega arith) (λ k more less. absurd (omega arith)) (λ k more. said_in-gathered above slots [] k more ∙ later-none (latest_in slots k)) rising in
       rw e (through_is some slots above all through rising next (rw e at none) (rw e at full) (rw e at last))
 

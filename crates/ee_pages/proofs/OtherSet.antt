@@ -71,14 +71,12 @@ commit_after (Erase page) old new first taken may = elim (cases_eq first page) [
       let differs = step_changes_one_page (Erase page) old new taken in
       weaker _ _ _ _ (inl (elsewhere old new page first 0 differs apart)) (inl (elsewhere old new page first 1 differs apart))
   | inl same ↦
-      let left = (step_leaves_pages (Erase page) old new taken).0 in
-      let receive : Weaker (word_at new first 0) (word_at old first 0) = rw same (left.each 0) in
+      let left = (step_leaves_pages (Erase page) old new taken).0 in let receive : Weaker (word_at new first 0) (word_at old first 0) = rw same (left.each 0) in
       let mark : Weaker (word_at new first 1) (word_at old first 1) = rw same (left.each 1) in
       weaker _ _ _ _ receive mark
 ]
 commit_after (Program page at value) old new first taken may =
-    let differs = step_changes_one_page (Program page at value) old new taken in
-    let left = step_leaves_pages (Program page at value) old new taken in
+    let differs = step_changes_one_page (Program page at value) old new taken in let left = step_leaves_pages (Program page at value) old new taken in
     let h : page < length old.image = omega (arith, taken.formed.image_length, taken.may.0) in
     elim (cases_eq first page) [
       | inr apart ↦ weaker _ _ _ _ (inl (elsewhere old new page first 0 differs apart)) (inl (elsewhere old new page first 1 differs apart))
@@ -150,9 +148,7 @@ pub other_set_keeps_live : (step : Step) (old new : Device) (side : Side) (gener
     → IsPageOf old.size (other side) (page_of step) → CannotCommit (first_page old.size (other side)) step old
     → KeepsLiveSet old new side generation × (set_of side new ≡ set_of side old)
 other_set_keeps_live step old new side generation live taken at may =
-    let differs = step_changes_one_page step old new taken in
-    let formed = step_keeps_formed step old new taken in
-    let same = same_set side old new (page_of step) differs at in
+    let differs = step_changes_one_page step old new taken in let formed = step_keeps_formed step old new taken in let same = same_set side old new (page_of step) differs at in
     let first : first_page new.size (other side) ≡ first_page old.size (other side) = ap (λ size. first_page size (other side)) differs.same_size in
     let new_commit : committed_generation (set_of (other side) new) ≡ commits (word_at new (first_page old.size (other side)) 0) (word_at new (first_page old.size (other side)) 1) =
     commits_by (other side) new formed ∙ ap (λ page. commits (word_at new page 0) (word_at new page 1)) first in

@@ -1,10 +1,12 @@
 -- What a scan has found out makes its answer.
-use Rattle.std.proofs.Common.{rules, ◌≡◌, ℕ, ◌+◌, ◌-◌, ◌<◌, ◌≤◌, Some, true, subst, ◌∙◌, arith}
+use Rattle.std.proofs.Common.{◌≡◌, ℕ, ◌+◌, ◌-◌, ◌/◌, ◌<◌, ◌≤◌, Bool, List, Option, Some, None, true, refl, sym, subst, ap, ◌∙◌, arith}
+use Rattle.std.proofs.lemmas.Bool.{le-ltb, lt-ltb, true≢false}
 use Rattle.ee_flash.specs.Device.{Device, IsFormed}
-use Rattle.ee_flash.specs.Size.{slot_count}
+use Rattle.ee_flash.specs.Size.{Size, slot_count}
+use Rattle.ee_flash.specs.declared.word.Word.{Word}
 use Rattle.ee_pages.specs.Layout.{IsFirstForeign, IsLayout, IsScanFault, IsUnformatted}
-use Rattle.ee_pages.specs.Legal.{is_allowed_at}
-use Rattle.ee_pages.specs.Sets.{first_page, front, live_of, page_of_slot, set_of, slots_of}
+use Rattle.ee_pages.specs.Legal.{IsLegal, is_allowed, is_allowed_at}
+use Rattle.ee_pages.specs.Sets.{committed_generation, first_page, front, greater, live_of, page_of_slot, set_of, slots_of, word_of}
 use Rattle.ee_pages.specs.declared.find.ScanFault.TheVariants.{Foreign}
 use Rattle.ee_pages.specs.declared.side.Side.{Side}
 use Rattle.ee_pages.specs.declared.side.Side.TheVariants.{First, Second}
@@ -31,4 +33,38 @@ first_below device Second = omega arith
 
 -- so a page's number fits the machine
 pub current_below : (device : Device) (side : Side) (written : ℕ) → IsFormed device → written ≤ slot_count device.size → first_page device.size side + page_of_slot device.size (written - 1) < 128
-current_below device side written formed h = search (rules, page_in_range, slot_below, first_below)
+current_below device side written formed h =
+    omega (arith, page_in_range device (written - 1) (slot_below device written formed h), first_below device side, formed.within_limits.few_pages)
+
+pub current_is : (device : Device) (side : Side) (start last words written : ℕ) → start ≡ first_page device.size side → last ≡ written - 1 → words ≡ device.size.words → start + last / (words - 4) ≡ first_page device.size side + page_of_slot device.size (written - 1)
+current_is device side start last words written start_is last_is words_is = rw (start_is, last_is, words_is) refl
+
+-- whether the live set allows a word there
+abbrev allowed_in : Device → ℕ → ℕ → Option (Side × ℕ) → Bool
+allowed_in device page at None = true
+allowed_in device page at (Some live) = is_allowed_at device.size live.1 (set_of live.0 device) page at
+
+-- an image with a foreign word is not legal
+pub foreign_not_legal : (device : Device) (side : Side) (generation page at : ℕ) → live_of device ≡ Some (side, generation) → IsFirstForeign device.size generation (set_of side device) page at → ¬ IsLegal device
+foreign_not_legal device side generation page at live foreign legal =
+    let same : Some (side, generation) ≡ Some (legal.0, legal.1) = sym live ∙ legal.2.live in let allowed = legal.2.allowed page at foreign.page_in_range foreign.place_in_range in
+    let here : is_allowed_at device.size generation (set_of side device) page at ≡ true = subst (λ (found : Option (Side × ℕ)). allowed_in device page at found ≡ true) (sym same) allowed in
+    true≢false (sym here ∙ foreign.foreign)
+
+-- whether a word may stand there, as the code finds it
+pub allowed_there : (size shape : Size) (generation written page at : ℕ) (pages : List (List Word)) (word : Word) (result : Bool) → result ≡ is_allowed shape generation written page at word → shape ≡ size → written ≡ front (slots_of pages) → word ≡ word_of pages page at → is_allowed_at size generation pages page at ≡ result
+allowed_there size shape generation written page at pages word result is shape_is written_is word_is = sym (is ∙ rw (shape_is, written_is, word_is) refl)
+
+-- of two sets that are committed the one with the greater generation is live
+module _ (device : Device) (first second : ℕ) (first_is : Some first ≡ committed_generation (set_of First device)) (second_is : Some second ≡ committed_generation (set_of Second device)) where
+  live_is : live_of device ≡ greater (Some first) (Some second)
+  live_is = ap (λ found. greater found (committed_generation (set_of Second device))) (sym first_is) ∙ ap (greater (Some first)) (sym second_is)
+
+  pub first_live : second < first → live_of device ≡ Some (First, first)
+  first_live h = live_is ∙ rw (lt-ltb second first h) refl
+
+  pub second_live : first < second → live_of device ≡ Some (Second, second)
+  second_live h = live_is ∙ rw (le-ltb second first (omega arith), lt-ltb first second h) refl
+
+  pub none_live : first ≡ second → live_of device ≡ None
+  none_live e = live_is ∙ rw (le-ltb second first (omega (arith, e)), le-ltb first second (omega (arith, e))) refl

@@ -33,20 +33,14 @@ module _ (side : Side) (device : Device) (generation : ℕ) (formed : IsFormed d
   -- a word that is written and fits, put into the first free slot
   pub slot_written : (slot : ℕ) (word : Word) → fill_of (slots_of (set_of side device)) ≡ slot → slot < slot_count device.size → is_written word ≡ true → fits generation InSlot word ≡ true → IsSlotWritten device generation slot word (set_of side device) (with_word_in (set_of side device) (page_of_slot device.size slot) (place_of_slot device.size slot) word)
   slot_written slot word filled room written fit =
-      let pages = set_of side device in
-      let k = slot / (device.size.words - 4) in
-      let j = slot % (device.size.words - 4) in
-      let some : 0 < device.size.words - 4 = omega (arith, formed.within_limits.some_words) in
-      let within : j < device.size.words - 4 = omega (arith, some) in
-      let count = length-set_of side device formed in
-      let below = page_in_range device slot room in
-      let in_range : k < length pages = subst (λ n. k < n) (sym count) below in
+      let pages = set_of side device in let k = slot / (device.size.words - 4) in let j = slot % (device.size.words - 4) in
+      let some : 0 < device.size.words - 4 = omega (arith, formed.within_limits.some_words) in let within : j < device.size.words - 4 = omega (arith, some) in
+      let count = length-set_of side device formed in let below = page_in_range device slot room in let in_range : k < length pages = subst (λ n. k < n) (sym count) below in
       let long = All-get_or (λ page. length page ≡ device.size.words) pages k [] in_range (pages-set_of side device formed) in
       let inside : 4 + j < length (get_or pages k []) = subst (λ n. 4 + j < n) (sym long) (place_in_range device slot formed) in
       let slots = slots-slot device.size.words pages k j slot word (pages-set_of side device formed) in_range within (split_by slot (device.size.words - 4)) in
       let first : front (slots_of pages) ≡ slot = fill-front side device generation formed obeyed ∙ filled in
-      let behind = slots_behind side device generation formed obeyed in
-      let free = behind slot (omega arith) in
+      let behind = slots_behind side device generation formed obeyed in let free = behind slot (omega arith) in
       let there : slot < length (slots_of pages) = subst (λ n. slot < n) (sym (length-slots side device formed)) room in
       let grows : front (slots_of pages) ≤ front (slots_of (with_word_in pages k (4 + j) word)) = subst (λ slots. front (slots_of pages) ≤ front slots) (sym slots) (prefix_len-set is_written word written (slots_of pages) slot) in
       record {

@@ -7,11 +7,8 @@ use Rattle.ee_core.proofs.changing.append_change.Goals as goal
 
 pub returns-in_err-append : goal.returns-in_err-append
 returns-in_err-append g c =
-    let old = g.F.Flash.device c.args.flash.now in
-    let new = g.F.Flash.device c.append.new.flash in
-    let layout = c.args.layout.now in
-    let cut = c.in_err-append.ensures.power.cut c.requires.proceeds.on in
-    let failed = c.from_residual.ensures.0 in
+    let old = g.F.Flash.device c.args.flash.now in let new = g.F.Flash.device c.append.new.flash in let layout = c.args.layout.now in
+    let cut = c.in_err-append.ensures.power.cut c.requires.proceeds.on in let failed = c.from_residual.ensures.0 in
     record {
       appended = never_on_ok _ _ failed;
       takes = never_on_ok _ _ failed;
@@ -30,10 +27,7 @@ returns-in_err-append g c =
 
 pub returns : goal.returns
 returns g c =
-    let old = g.F.Flash.device c.args.flash.now in
-    let new = g.F.Flash.device c.append.new.flash in
-    let layout = c.args.layout.now in
-    let done = c.in_ok-append.ensures in
+    let old = g.F.Flash.device c.args.flash.now in let new = g.F.Flash.device c.append.new.flash in let layout = c.args.layout.now in let done = c.in_ok-append.ensures in
     record {
       appended = appends old new layout.side layout.generation c.requires.layout.live (meant c.args.change) c.requires.proceeds done.power.ok
           (omega (arith, c.requires.free, c.requires.layout.fill)) done.takes done.other done.wear

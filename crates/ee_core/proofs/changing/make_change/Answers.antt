@@ -1,4 +1,4 @@
-use Rattle.std.proofs.Common.{rules, ◌≡◌, ap, ◌∙◌, arith, refl, subst}
+use Rattle.std.proofs.Common.{◌≡◌, ap, ◌∙◌, arith, refl, sym, subst}
 use Rattle.std.proofs.lemmas.Result.{err_from_is_err_and}
 use Rattle.std.specs.Prelude.{Result, Ok}
 use Rattle.ee_flash.specs.Size.{slot_count}
@@ -8,7 +8,7 @@ use Rattle.ee_core.specs.declared.variables.Written.TheVariants.{Appended, Moved
 use Rattle.ee_core.proofs.AfterCalls.{not_ok}
 use Rattle.ee_core.specs.State.{capacity}
 use Rattle.ee_core.specs.Changes.{IsCutMaking, Moves}
-use Rattle.ee_core.proofs.Making.{always_on_err, few_within}
+use Rattle.ee_core.proofs.Making.{always_on_err, few_within, fill_was}
 use Rattle.ee_core.proofs.changing.make_change.Goals as goal
 
 appended_not_moved : (result : Result Written Cut) → result ≡ Ok Appended → result ≡ Ok Moved → ⊥
@@ -16,11 +16,11 @@ appended_not_moved result first second = absurd (cc (first, second))
 
 pub move_unindexed-requires-clause-needed : goal.move_unindexed-requires-clause-needed
 move_unindexed-requires-clause-needed g c =
-    let old = g.F.Flash.device c.args.flash.now in
-    let slots : c.slots.result ≡ capacity old = c.slots.ensures.value ∙ ap slot_count c.shape.ensures in
+    let old = g.F.Flash.device c.args.flash.now in let slots : c.slots.result ≡ capacity old = c.slots.ensures.value ∙ ap slot_count c.shape.ensures in
     let used : c.args.layout.now.fill ≡ capacity old =
-    search (arith, slots, c.if-layout-slots.false, c.requires.layout.fill, few_within old c.args.layout.now.side (g.met.F.Flash.formed c.args.flash.now)) in
-    rw c.entry-put.ensures (search (rules, used))
+    omega (arith, slots, c.if-layout-slots.false, c.requires.layout.fill, few_within old c.args.layout.now.side (g.met.F.Flash.formed c.args.flash.now)) in
+    let found = c.requires.layout in
+    rw c.entry-put.ensures (fill_was old old c.args.layout.now.side c.args.layout.now.generation found.live ∙ sym found.fill ∙ used)
 
 pub returns-in_err-append_change : goal.returns-in_err-append_change
 returns-in_err-append_change g c =

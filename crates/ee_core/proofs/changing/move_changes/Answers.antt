@@ -7,26 +7,19 @@ use Rattle.ee_core.proofs.changing.move_changes.Goals as goal
 
 pub transfer-requires-clause-generation : goal.transfer-requires-clause-generation
 transfer-requires-clause-generation g c =
-    let old = g.F.Flash.device c.args.flash.now in
-    let layout = c.args.layout.now in
+    let old = g.F.Flash.device c.args.flash.now in let layout = c.args.layout.now in
     generation_left old layout.side layout.generation c.requires.layout.live (carried c.args.puts.now c.args.forgets) c.requires.needed c.requires.proceeds.accepted.not_spent
 
 pub transfer-requires-clause-fits : goal.transfer-requires-clause-fits
 transfer-requires-clause-fits g c =
-    let old = g.F.Flash.device c.args.flash.now in
-    let layout = c.args.layout.now in
+    let old = g.F.Flash.device c.args.flash.now in let layout = c.args.layout.now in
     changes_fit old layout.side layout.generation c.requires.layout.live (few_within old layout.side (g.met.F.Flash.formed c.args.flash.now)) (carried c.args.puts.now c.args.forgets) c.requires.apart c.requires.proceeds.accepted
 
 pub returns-in_err-transfer : goal.returns-in_err-transfer
 returns-in_err-transfer g c =
-    let old = g.F.Flash.device c.args.flash.now in
-    let new = g.F.Flash.device c.transfer.new.flash in
-    let layout = c.args.layout.now in
-    let changes = carried c.args.puts.now c.args.forgets in
-    let left = c.in_err-transfer.ensures.moves in
-    let cut = c.in_err-transfer.ensures.power.cut c.requires.proceeds.on in
-    let few = few_pending new (other layout.side) (g.met.F.Flash.formed c.transfer.new.flash) in
-    let failed = c.from_residual.ensures.0 in
+    let old = g.F.Flash.device c.args.flash.now in let new = g.F.Flash.device c.transfer.new.flash in let layout = c.args.layout.now in
+    let changes = carried c.args.puts.now c.args.forgets in let left = c.in_err-transfer.ensures.moves in let cut = c.in_err-transfer.ensures.power.cut c.requires.proceeds.on in
+    let few = few_pending new (other layout.side) (g.met.F.Flash.formed c.transfer.new.flash) in let failed = c.from_residual.ensures.0 in
     record {
       moved = never_on_ok _ _ failed;
       has_moved = never_on_ok _ _ failed;
@@ -43,11 +36,8 @@ returns-in_err-transfer g c =
 
 pub returns : goal.returns
 returns g c =
-    let old = g.F.Flash.device c.args.flash.now in
-    let new = g.F.Flash.device c.transfer.new.flash in
-    let layout = c.args.layout.now in
-    let changes = carried c.args.puts.now c.args.forgets in
-    let done = c.in_ok-transfer.ensures in
+    let old = g.F.Flash.device c.args.flash.now in let new = g.F.Flash.device c.transfer.new.flash in let layout = c.args.layout.now in
+    let changes = carried c.args.puts.now c.args.forgets in let done = c.in_ok-transfer.ensures in
     record {
       moved = moves old new layout.side layout.generation c.requires.layout.live changes c.requires.proceeds done.power.ok c.requires.needed done.moves.moved done.moves.wear
           (shows_moved old new layout.side layout.generation c.requires.layout.live changes c.requires.needed done.power.ok.same_size done.new_pages done.old_pages);

@@ -1,19 +1,62 @@
-use Rattle.std.proofs.Common.{refl, rules}
-use Rattle.ee_pages.specs.Sets.{other as other_of}
-use Rattle.ee_core.proofs.LowestPending.{erases_lowest}
+use Rattle.std.proofs.Common.{◌≡◌, ◌<◌, refl, subst}
+use Rattle.std.proofs.lemmas.Result.{err_from_is_err_and}
+use Rattle.ee_pages.specs.Laws.{IsPageOf}
+use Rattle.ee_pages.specs.Sets.{pending_of, set_of}
+use Rattle.ee_pages.specs.declared.side.Side.{Side}
+use Rattle.ee_core.proofs.AfterCalls.{ends_later, goes_on_same, never_on_ok, not_both_ok, not_ok}
+use Rattle.ee_core.proofs.LowestPending.{erases_lowest, keeps_all_but_lowest}
 use Rattle.ee_core.proofs.KeptMarks.{cleaned_marked}
+use Rattle.ee_core.proofs.Making.{always_on_err}
+use Rattle.ee_core.proofs.MovingFacts.{keeps_same}
 use Rattle.ee_core.proofs.cleaning.clean.Goals as goal
 
-pub returns-clause-marked : goal.returns-clause-marked
-returns-clause-marked g c =
-    let left = c.in_ok-erase_other.ensures in
-    cleaned_marked c.args.layout.now.side _ _ _ c.requires.layout.live.formed left.keeps.same_size left.same_set left.others left.blank
+pub returns-in_default : goal.returns-in_default
+returns-in_default g c =
+    let old = g.F.Flash.device c.args.flash.now in
+    record {
+      keeps = keeps_same old c.args.layout.now c.requires.layout;
+      none = λ is. (subst (λ (set : Side). pending_of (set_of set old) ≡ 0) c.other.ensures c.in_default.ensures.none, refl);
+      one = λ is. absurd (not_both_ok _ refl is);
+      lowest = λ is. absurd (not_both_ok _ refl is);
+      marked = λ marked. marked;
+      some = tt;
+      cut = tt;
+      others = tt;
+      power = record { ok = goes_on_same old; cut = tt; off = tt };
+    }
 
-pub returns-clause-lowest : goal.returns-clause-lowest
-returns-clause-lowest g c = λ ok.
-    let layout = c.args.layout.now in
-    erases_lowest _ _ layout.side (other_of layout.side) layout.generation c.in-Some.page c.requires.layout.live.live refl (search rules) (search rules) (search rules)
-    (search rules) (search rules) (search rules) c.requires.layout.live (search rules)
+pub erase_other-requires-clause-page : goal.erase_other-requires-clause-page
+erase_other-requires-clause-page g c = subst (λ (set : Side). IsPageOf (g.F.Flash.device c.args.flash.now).size set c.in-Some.page) c.other.ensures c.in-Some.ensures.page
 
-pub returns-in_default-clause-none : goal.returns-in_default-clause-none
-returns-in_default-clause-none g c = search rules
+pub returns : goal.returns
+returns g c =
+    let old = g.F.Flash.device c.args.flash.now in let new = g.F.Flash.device c.erase_other.new.flash in let layout = c.args.layout.now in
+    let found = c.in-Some.ensures in let left = c.in_ok-erase_other.ensures in let live = c.requires.layout.live in
+    record {
+      keeps = left.keeps;
+      none = λ is. absurd (not_both_ok _ is refl);
+      one = λ is. left.one_less;
+      lowest = λ is. erases_lowest old new layout.side c.other.result layout.generation c.in-Some.page live.live c.other.ensures found.page found.not_blank found.lowest left.others left.wear left.blank live left.keeps;
+      marked = cleaned_marked layout.side c.in-Some.page old new live.formed left.keeps.same_size left.same_set left.others left.blank;
+      some = tt;
+      cut = tt;
+      others = tt;
+      power = record { ok = left.power.ok; cut = tt; off = tt };
+    }
+
+pub returns-in_err-erase_other : goal.returns-in_err-erase_other
+returns-in_err-erase_other g c =
+    let old = g.F.Flash.device c.args.flash.now in let new = g.F.Flash.device c.erase_other.new.flash in let layout = c.args.layout.now in
+    let found = c.in-Some.ensures in let cut = c.in_err-erase_other.ensures in let failed = c.from_residual.ensures.0 in
+    let is_err = err_from_is_err_and c.from_residual.result c.from_residual.ensures.1 in
+    record {
+      keeps = cut.keeps;
+      none = λ is. absurd (not_ok is is_err.1);
+      one = λ is. absurd (not_ok is is_err.1);
+      lowest = λ is. absurd (not_ok is is_err.1);
+      marked = λ marked. never_on_ok _ _ failed;
+      some = always_on_err c.from_residual.result (subst (λ (set : Side). 0 < pending_of (set_of set old)) c.other.ensures found.some);
+      cut = always_on_err c.from_residual.result cut.cut;
+      others = always_on_err c.from_residual.result (λ on. keeps_all_but_lowest old new layout.side c.other.result layout.generation c.in-Some.page c.requires.layout.live.live c.other.ensures found.page found.not_blank found.lowest cut.others (cut.begun on) cut.partly);
+      power = ends_later _ failed (goes_on_same old) cut.power;
+    }

@@ -8,12 +8,8 @@ use Rattle.ee_core.proofs.cleaning.erase_other.Goals as goal
 
 pub returns-in_err-erase : goal.returns-in_err-erase
 returns-in_err-erase g c =
-    let old = g.F.Flash.device c.args.flash.now in
-    let new = g.F.Flash.device c.erase.new.self in
-    let live = c.requires.live in
-    let at = c.requires.page in
-    let cut = c.in_err-erase.ensures.cut in
-    let failed = c.from_residual.ensures.0 in
+    let old = g.F.Flash.device c.args.flash.now in let new = g.F.Flash.device c.erase.new.self in let live = c.requires.live in let at = c.requires.page in
+    let cut = c.in_err-erase.ensures.cut in let failed = c.from_residual.ensures.0 in
     record {
       keeps = cut_keeps c.args.page old new c.args.side c.args.generation live at cut;
       same_set = cut_same_set c.args.page old new c.args.side c.args.generation live at cut;
@@ -29,12 +25,8 @@ returns-in_err-erase g c =
 
 pub returns : goal.returns
 returns g c =
-    let old = g.F.Flash.device c.args.flash.now in
-    let new = g.F.Flash.device c.erase.new.self in
-    let live = c.requires.live in
-    let at = c.requires.page in
-    let on = c.in_ok-erase.ensures.on in
-    let done = c.in_ok-erase.ensures.done in
+    let old = g.F.Flash.device c.args.flash.now in let new = g.F.Flash.device c.erase.new.self in let live = c.requires.live in let at = c.requires.page in
+    let on = c.in_ok-erase.ensures.on in let done = c.in_ok-erase.ensures.done in
     let lowers = done_lowers c.args.page old new c.args.side c.args.generation live at on done c.requires.not_blank in
     record {
       keeps = done_keeps c.args.page old new c.args.side c.args.generation live at on done;

@@ -1,4 +1,4 @@
-use Rattle.std.proofs.Common.{◌≡◌, ◌<◌, inl, inr, false, None, ap, subst, sym, ◌∙◌, arith}
+use Rattle.std.proofs.Common.{◌≡◌, ◌<◌, inl, inr, false, None, ap, refl, subst, sym, ◌∙◌, arith}
 use Rattle.std.proofs.lemmas.Bool.{cases_Bool}
 use Rattle.std.proofs.lemmas.Result.{err_from_is_err_and}
 use Rattle.ee_flash.specs.Size.{slot_count}
@@ -7,9 +7,10 @@ use Rattle.ee_pages.specs.Meaning.{meaning}
 use Rattle.ee_pages.specs.LiveOrder.{IsNextLive}
 use Rattle.ee_core.proofs.Fillings.{all_filled, next_filled, next_partly, none_filled, room}
 use Rattle.ee_core.proofs.copying.copy_others.Goals as goal
-use Rattle.ee_core.proofs.AfterCalls.{goes_on_same}
+use Rattle.ee_core.proofs.AfterCalls.{ends_later, goes_on_same, not_ok}
 use Rattle.ee_core.proofs.Listed.{names-puts}
 use Rattle.ee_core.specs.Puts.{puts_of}
+use Rattle.ee_core.specs.declared.copying.Place.{Place}
 
 pub live-init : goal.live-init
 live-init g c =
@@ -18,44 +19,43 @@ live-init g c =
 
 pub copy_one-requires-clause-free : goal.copy_one-requires-clause-free
 copy_one-requires-clause-free g c apart =
-    let old = g.F.Flash.device c.args.flash.now in
-    let filled = c.live.invariant.filled in
-    let next = rw filled.keeps.same_slots at c.in-Some.ensures.next in
+    let old = g.F.Flash.device c.args.flash.now in let filled = c.live.invariant.filled in let next = rw filled.keeps.same_slots at c.in-Some.ensures.next in
     let carries_is = c.has_put-carries.ensures.found ∙ sym (names-puts c.args.puts.now _) in
     let free : c.live.place.slot < slot_count old.size = room old c.args.layout.now c.args.place (puts_of c.args.puts.now) (g.C.LiveCursor.behind c.live.cursor) _ _ (g.F.Flash.device c.live.flash) (g.F.Flash.device c.live.flash) c.live.place.slot next filled (sym carries_is ∙ apart) c.in-Some.ensures.proper.1 (slot_count old.size) c.requires.fits in
     omega (arith, ap slot_count filled.keeps.same_size)
 
 pub live-preserved : goal.live-preserved
 live-preserved g c =
-    let old = g.F.Flash.device c.args.flash.now in
-    let filled = c.live.invariant.filled in
-    let next = rw filled.keeps.same_slots at c.in-Some.ensures.next in
-    let carries_is = c.has_put-carries.ensures.found ∙ sym (names-puts c.args.puts.now _) in
-    let one = c.in_ok-copy_one.ensures in
+    let old = g.F.Flash.device c.args.flash.now in let filled = c.live.invariant.filled in let next = rw filled.keeps.same_slots at c.in-Some.ensures.next in
+    let carries_is = c.has_put-carries.ensures.found ∙ sym (names-puts c.args.puts.now _) in let one = c.in_ok-copy_one.ensures in
     rw c.in-Some.ensures.moved (record {
       at = one.at;
       filled = next_filled old c.args.layout.now c.args.place (puts_of c.args.puts.now) (g.C.LiveCursor.behind c.live.cursor) _ _ (g.F.Flash.device c.live.flash) (g.F.Flash.device c.copy_one.new.flash) c.live.place.slot next filled c.copy_one.new.place.slot
-          (λ same. (let e = (one.passed (carries_is ∙ same)).1 in cc, (one.passed (carries_is ∙ same)).2)) (λ apart. one.fills (carries_is ∙ apart));
+          (λ same. (ap (λ (at : Place). at.slot) (one.passed (carries_is ∙ same)).1, (one.passed (carries_is ∙ same)).2)) (λ apart. one.fills (carries_is ∙ apart));
       below = c.in-Some.ensures.proper.1;
       over = rw filled.keeps.same_slots at c.in-Some.ensures.over;
       goes = (calls_compose _ _ _ c.live.invariant.goes).0 one.power.ok;
     })
 
-pub returns-clause-fills : goal.returns-clause-fills
-returns-clause-fills g c =
+pub returns : goal.returns
+returns g c =
     let filled = c.live.invariant.filled in
     let none = subst (λ slots. IsNextLive (meaning slots) (g.C.LiveCursor.behind c.live.cursor) None) filled.keeps.same_slots c.in_default.ensures.next in
-    all_filled (g.F.Flash.device c.args.flash.now) c.args.layout.now c.args.place (puts_of c.args.puts.now) (g.C.LiveCursor.behind c.live.cursor) (g.F.Flash.device c.live.flash) c.live.place.slot filled c.live.invariant.below none
+    record {
+      fills = all_filled (g.F.Flash.device c.args.flash.now) c.args.layout.now c.args.place (puts_of c.args.puts.now) (g.C.LiveCursor.behind c.live.cursor) (g.F.Flash.device c.live.flash) c.live.place.slot filled c.live.invariant.below none;
+      power = record { ok = c.live.invariant.goes; cut = tt; off = tt };
+    }
 
-pub returns-in_err-copy_one-clause-fills : goal.returns-in_err-copy_one-clause-fills
-returns-in_err-copy_one-clause-fills g c =
-    let failed = err_from_is_err_and c.from_residual.result c.from_residual.ensures.1 in
-    let filled = c.live.invariant.filled in
-    let next = rw filled.keeps.same_slots at c.in-Some.ensures.next in
-    let carries_is = c.has_put-carries.ensures.found ∙ sym (names-puts c.args.puts.now _) in
+pub returns-in_err-copy_one : goal.returns-in_err-copy_one
+returns-in_err-copy_one g c =
+    let failed = err_from_is_err_and c.from_residual.result c.from_residual.ensures.1 in let filled = c.live.invariant.filled in
+    let next = rw filled.keeps.same_slots at c.in-Some.ensures.next in let carries_is = c.has_put-carries.ensures.found ∙ sym (names-puts c.args.puts.now _) in
     let one = c.in_err-copy_one.ensures in
     let apart : c.has_put-carries.result ≡ false = elim (cases_Bool c.has_put-carries.result) [
-      | inl same ↦ absurd (cc (one.passed same).0)
+      | inl same ↦ absurd (not_ok (one.passed same).0 refl)
       | inr other ↦ other
     ] in
-    rw failed.1 (next_partly (g.F.Flash.device c.args.flash.now) c.args.layout.now c.args.place (puts_of c.args.puts.now) (g.C.LiveCursor.behind c.live.cursor) _ _ (g.F.Flash.device c.live.flash) (g.F.Flash.device c.copy_one.new.flash) c.live.place.slot next filled (sym carries_is ∙ apart) c.in-Some.ensures.proper.1 (one.fills apart))
+    record {
+      fills = rw failed.1 (next_partly (g.F.Flash.device c.args.flash.now) c.args.layout.now c.args.place (puts_of c.args.puts.now) (g.C.LiveCursor.behind c.live.cursor) _ _ (g.F.Flash.device c.live.flash) (g.F.Flash.device c.copy_one.new.flash) c.live.place.slot next filled (sym carries_is ∙ apart) c.in-Some.ensures.proper.1 (one.fills apart));
+      power = ends_later _ c.from_residual.ensures.0 c.live.invariant.goes one.power;
+    }

@@ -2,7 +2,7 @@ use Rattle.std.proofs.Common.{◌≤◌, length, ap, arith}
 use Rattle.std.proofs.lemmas.Grind.{common_steps}
 use Rattle.ee_core.specs.Course.{last_given}
 use Rattle.ee_core.specs.Parts.{map_in}
-use Rattle.ee_core.proofs.Courses.{further, one_taken}
+use Rattle.ee_core.proofs.Courses.{further, none_further, one_taken}
 use Rattle.ee_core.proofs.copying.next_given.Goals as goal
 
 pub batches-preserved : goal.batches-preserved
@@ -12,7 +12,9 @@ batches-preserved g c =
     all_given c.in-Some.is c.batches.invariant c.next_batch.ensures.live c.next_batch.ensures.proper
 
 pub returns-in_default-clause-next : goal.returns-in_default-clause-next
-returns-in_default-clause-next g c = grind (arith, common_steps)
+returns-in_default-clause-next g c =
+    none_further (map_in c.args.layout.now.side (g.F.Flash.device c.args.flash.now)) (last_given c.args.batch.now.found.items c.args.given.now) c.batches.batch.found.items c.batches.batch.through c.batches.given
+    (omega (arith, ap length c.as_slice-found.ensures.value, c.if-given-found.false)) c.in_default.is c.batches.invariant
 
 pub returns-then-given-found : goal.returns-then-given-found
 returns-then-given-found g c =

@@ -1,10 +1,11 @@
 use Rattle.std.proofs.Common.{◌<◌, ap, arith, subst, sym}
-use Rattle.std.proofs.lemmas.Result.{err_from_is_err_and}
+use Rattle.std.proofs.lemmas.Result.{IfOk-from_err, err_from_is_err_and}
 use Rattle.ee_flash.specs.Size.{slot_count}
 use Rattle.ee_flash.proofs.Public.{calls_compose}
 use Rattle.ee_core.proofs.AfterCalls.{goes_on_same}
 use Rattle.ee_core.proofs.Fillings.{FilledBy, all_put, none_put, one_put, one_put_partly, put_room}
 use Rattle.ee_core.proofs.MovingFacts.{layout_kept}
+use Rattle.ee_core.proofs.AfterCalls.{ends_later}
 use Rattle.ee_core.proofs.copying.put_all.Goals as goal
 
 pub puts-init : goal.puts-init
@@ -23,32 +24,35 @@ stage-requires-clause-at g c =
 
 pub stage-requires-clause-free : goal.stage-requires-clause-free
 stage-requires-clause-free g c =
-    let old = g.F.Flash.device c.args.flash.now in
-    let mid = g.F.Flash.device c.puts.flash in
-    let filled = c.puts.invariant.filled in
+    let old = g.F.Flash.device c.args.flash.now in let mid = g.F.Flash.device c.puts.flash in let filled = c.puts.invariant.filled in
     let room : c.puts.place.slot < slot_count old.size =
     put_room old c.args.layout.now c.args.puts.now c.puts.put-index c.put-item.result mid mid c.puts.place.slot c.puts-test.true c.put-item.is filled (slot_count old.size) c.requires.fits in
     omega (arith, room, ap slot_count filled.keeps.same_size)
 
 pub puts-preserved : goal.puts-preserved
 puts-preserved g c =
-    let old = g.F.Flash.device c.args.flash.now in
-    let mid = g.F.Flash.device c.puts.flash in
-    let new = g.F.Flash.device c.stage.new.flash in
+    let old = g.F.Flash.device c.args.flash.now in let mid = g.F.Flash.device c.puts.flash in let new = g.F.Flash.device c.stage.new.flash in
     record {
       filled = one_put old c.args.layout.now c.args.puts.now c.puts.put-index c.put-item.result mid new c.puts.place.slot c.puts-test.true c.put-item.is c.puts.invariant.filled c.stage.new.place.slot c.in_ok-stage.ensures.fills;
       stands = c.in_ok-stage.ensures.stands;
       goes = (calls_compose _ _ _ c.puts.invariant.goes).0 c.in_ok-stage.ensures.power.ok;
     }
 
-pub returns-clause-fills : goal.returns-clause-fills
-returns-clause-fills g c =
-    all_put (g.F.Flash.device c.args.flash.now) c.args.layout.now c.args.puts.now c.puts.put-index (g.F.Flash.device c.puts.flash) c.puts.place.slot c.puts-test.false c.puts.invariant.filled
+pub returns : goal.returns
+returns g c =
+    let held = c.puts.invariant in
+    record {
+      fills = all_put (g.F.Flash.device c.args.flash.now) c.args.layout.now c.args.puts.now c.puts.put-index (g.F.Flash.device c.puts.flash) c.puts.place.slot c.puts-test.false held.filled;
+      stands = held.stands;
+      power = record { ok = held.goes; cut = tt; off = tt };
+    }
 
-pub returns-in_err-stage-clause-fills : goal.returns-in_err-stage-clause-fills
-returns-in_err-stage-clause-fills g c =
-    let old = g.F.Flash.device c.args.flash.now in
-    let mid = g.F.Flash.device c.puts.flash in
-    let new = g.F.Flash.device c.stage.new.flash in
-    let failed = err_from_is_err_and c.from_residual.result c.from_residual.ensures.1 in
-    rw failed.1 (one_put_partly old c.args.layout.now c.args.puts.now c.puts.put-index c.put-item.result mid new c.puts.place.slot c.puts-test.true c.put-item.is c.puts.invariant.filled c.in_err-stage.ensures.fills)
+pub returns-in_err-stage : goal.returns-in_err-stage
+returns-in_err-stage g c =
+    let old = g.F.Flash.device c.args.flash.now in let mid = g.F.Flash.device c.puts.flash in let new = g.F.Flash.device c.stage.new.flash in
+    let is = err_from_is_err_and c.from_residual.result c.from_residual.ensures.1 in
+    record {
+      fills = rw is.1 (one_put_partly old c.args.layout.now c.args.puts.now c.puts.put-index c.put-item.result mid new c.puts.place.slot c.puts-test.true c.put-item.is c.puts.invariant.filled c.in_err-stage.ensures.fills);
+      stands = IfOk-from_err _ _ c.from_residual.ensures.0;
+      power = ends_later _ c.from_residual.ensures.0 c.puts.invariant.goes c.in_err-stage.ensures.power;
+    }

@@ -6,6 +6,5 @@ use Rattle.ee_core.proofs.copying.put_all.Given as goal
 
 abbrev pub invariant-puts : goal.invariant-puts
 invariant-puts g l =
-    let old = g.F.Flash.device l.fn.flash in
-    let now = g.F.Flash.device l.flash in
+    let old = g.F.Flash.device l.fn.flash in let now = g.F.Flash.device l.flash in
     record { filled : FilledBy old l.layout l.puts l.put-index now l.place.slot; stands : Stands now.size (other l.layout.side) l.place; goes : GoesOn old now }

@@ -19,22 +19,17 @@ use Rattle.ee_core.proofs.formatting.erase_all.Goals as goal
 
 pub pages-preserved : goal.pages-preserved
 pages-preserved g c =
-    let old = g.F.Flash.device c.args.flash.now in
-    let mid = g.F.Flash.device c.pages.flash in
-    let new = g.F.Flash.device c.if-not-is_blank.flash in
-    let page = c.pages.page in
-    let pages = ap (λ size. size.pages) c.shape.ensures in
-    let same = ap page_count c.pages.invariant.power.same_size in
+    let old = g.F.Flash.device c.args.flash.now in let mid = g.F.Flash.device c.pages.flash in let new = g.F.Flash.device c.if-not-is_blank.flash in
+    let page = c.pages.page in let pages = ap (λ size. size.pages) c.shape.ensures in let same = ap page_count c.pages.invariant.power.same_size in
     let in_range : page < page_count old.size = omega (arith, c.pages-page-end.ensures.value, pages, c.pages-test.true) in
-    let now_in_range : page < page_count mid.size = omega (arith, in_range, same) in
-    let formed = g.met.F.Flash.formed c.args.flash.now in
+    let now_in_range : page < page_count mid.size = omega (arith, in_range, same) in let formed = g.met.F.Flash.formed c.args.flash.now in
     let within : page < length old.image = omega (arith, in_range, formed.image_length) in
     let step : BlanksPage mid new page = elim c.if-not-is_blank.branch [
       | then-not-is_blank+in_ok-erase w ↦
-          let written : is_blank (page_at mid page) ≡ false = cc in
+          let written : is_blank (page_at mid page) ≡ false = sym c.is_blank.ensures ∙ w.if-not-is_blank.true in
           rw w.flash-is (blanks_page page mid _ (g.met.F.Flash.formed c.pages.flash) now_in_range written w.in_ok-erase.ensures.on w.in_ok-erase.ensures.done)
       | else-not-is_blank w ↦
-          let blank : is_blank (page_at mid page) ≡ true = cc in
+          let blank : is_blank (page_at mid page) ≡ true = sym c.is_blank.ensures ∙ w.if-not-is_blank.false in
           rw w.flash-is (blank_already mid page blank)
     ] in
     let stays : IsStartable mid → IsStartable new = elim c.if-not-is_blank.branch [
@@ -42,8 +37,7 @@ pages-preserved g c =
           rw w.flash-is (erase_startable page mid _ (g.met.F.Flash.formed c.pages.flash) now_in_range (inl (record { was_on = w.in_ok-erase.ensures.on; done = w.in_ok-erase.ensures.done })))
       | else-not-is_blank w ↦ rw w.flash-is (λ before. before)
     ] in
-    let at : 0 + page ≡ page = omega arith in
-    let same_page = sym (c.pages.invariant.rest page (omega arith)) in
+    let at : 0 + page ≡ page = omega arith in let same_page = sym (c.pages.invariant.rest page (omega arith)) in
     record {
       blank = blank_more page mid new c.pages.invariant.blank step;
       rest = λ k h.
@@ -56,18 +50,13 @@ pages-preserved g c =
 
 pub returns-clause-blank : goal.returns-clause-blank
 returns-clause-blank g c =
-    let old = g.F.Flash.device c.args.flash.now in
-    let new = g.F.Flash.device c.pages.flash in
-    let pages = ap (λ size. size.pages) c.shape.ensures in
-    let same = ap page_count c.pages.invariant.power.same_size in
-    let formed = g.met.F.Flash.formed c.pages.flash in
+    let old = g.F.Flash.device c.args.flash.now in let new = g.F.Flash.device c.pages.flash in let pages = ap (λ size. size.pages) c.shape.ensures in
+    let same = ap page_count c.pages.invariant.power.same_size in let formed = g.met.F.Flash.formed c.pages.flash in
     all_blank new c.pages.page (omega (arith, c.pages-page-end.ensures.value, pages, same, formed.image_length, c.pages-test.false)) c.pages.invariant.blank
 
 pub returns-clause-wear : goal.returns-clause-wear
 returns-clause-wear g c =
-    let old = g.F.Flash.device c.args.flash.now in
-    let new = g.F.Flash.device c.pages.flash in
-    let pages = ap (λ size. size.pages) c.shape.ensures in
+    let old = g.F.Flash.device c.args.flash.now in let new = g.F.Flash.device c.pages.flash in let pages = ap (λ size. size.pages) c.shape.ensures in
     let formed = g.met.F.Flash.formed c.args.flash.now in
     let all : c.pages.page ≡ length old.image = omega (arith, c.pages-page-end.ensures.value, pages, formed.image_length, c.pages.auto.page-end, c.pages-test.false) in
     all_wear old.image 0 c.pages.page old new all c.pages.invariant.wear
@@ -77,20 +66,14 @@ pages-init g c = search rules fits 100 parts 0
 
 pub returns-in_err-erase : goal.returns-in_err-erase
 returns-in_err-erase g c =
-    let old = g.F.Flash.device c.args.flash.now in
-    let mid = g.F.Flash.device c.pages.flash in
-    let new = g.F.Flash.device c.erase.new.self in
-    let page = c.pages.page in
-    let cut = c.in_err-erase.ensures.cut in
-    let pages = ap (λ size. size.pages) c.shape.ensures in
-    let formed = g.met.F.Flash.formed c.args.flash.now in
-    let mid_formed = g.met.F.Flash.formed c.pages.flash in
+    let old = g.F.Flash.device c.args.flash.now in let mid = g.F.Flash.device c.pages.flash in let new = g.F.Flash.device c.erase.new.self in
+    let page = c.pages.page in let cut = c.in_err-erase.ensures.cut in let pages = ap (λ size. size.pages) c.shape.ensures in
+    let formed = g.met.F.Flash.formed c.args.flash.now in let mid_formed = g.met.F.Flash.formed c.pages.flash in
     let in_range : page < page_count old.size = omega (arith, c.pages-page-end.ensures.value, pages, c.pages-test.true) in
     let now_in_range : page < page_count mid.size = omega (arith, in_range, ap page_count c.pages.invariant.power.same_size) in
     let within : page < length old.image = omega (arith, in_range, formed.image_length) in
     let has_wear : page < length mid.wear = omega (arith, now_in_range, mid_formed.wear_length) in
-    let written : is_blank (page_at mid page) ≡ false = sym c.is_blank.ensures ∙ c.if-not-is_blank.true in
-    let at : 0 + page ≡ page = omega arith in
+    let written : is_blank (page_at mid page) ≡ false = sym c.is_blank.ensures ∙ c.if-not-is_blank.true in let at : 0 + page ≡ page = omega arith in
     let one : WearsFront (page ∷ []) mid new = front_begun (page ∷ []) mid new (cut_page_wears page mid new has_wear cut) (λ off. elim cut [ inl taken ↦ absurd (not_both mid taken.was_on off) | inr none ↦ none.same ]) in
     let others : IsSameBut page mid new = λ k apart. step_keeps_other_pages (Erase page) mid new k (record { formed = mid_formed; may = now_in_range; follows = inr cut }) apart in
     let failed = c.from_residual.ensures.0 in

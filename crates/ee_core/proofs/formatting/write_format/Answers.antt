@@ -2,7 +2,7 @@ use Rattle.std.proofs.Common.{◌≡◌, ◌<◌, inl, inr, ap, arith, refl, ◌
 use Rattle.std.proofs.lemmas.Result.{IfOk-from_err}
 use Rattle.ee_flash.specs.Device.{Device}
 use Rattle.ee_pages.specs.Page.{marking}
-use Rattle.ee_core.proofs.AfterCalls.{ends_in_step, ends_later, goes_on_both, goes_on_marked, goes_on_same, never_on_ok}
+use Rattle.ee_core.proofs.AfterCalls.{ends_in_step, ends_later, goes_on_both, goes_on_programmed, goes_on_same, never_on_ok}
 use Rattle.ee_core.specs.Openings.{not_blank_pages}
 use Rattle.ee_core.proofs.Wears.{front_all, wears_still}
 use Rattle.ee_core.proofs.Marks.{mark_step, program_keeps_wear}
@@ -20,27 +20,17 @@ use Rattle.ee_core.proofs.formatting.write_format.Goals as goal
 
 pub returns : goal.returns
 returns g c =
-    let old = g.F.Flash.device c.args.flash.now in
-    let blank = g.F.Flash.device c.erase_all.new.flash in
-    let mid = g.F.Flash.device c.mark.new.flash in
-    let new = g.F.Flash.device c.mark-2.new.flash in
-    let formed = g.met.F.Flash.formed c.erase_all.new.flash in
-    let all = c.in_ok-erase_all.ensures.blank in
-    let erased = c.in_ok-erase_all.ensures.wear in
-    let h : 0 < page_count blank.size = omega (arith, formed.within_limits.some_pages) in
-    let unset = unmarked blank 0 (Receive 1) formed all h in
-    let mid_formed = g.met.F.Flash.formed c.mark.new.flash in
-    let still : 0 < page_count mid.size = omega (arith, mid_formed.within_limits.some_pages) in
-    let on = c.in_ok-mark.ensures.on unset in
-    let whole = c.in_ok-mark.ensures.done unset in
-    let next = active_unset blank mid formed all on whole in
-    let on_still = goes_on_both old blank mid c.in_ok-erase_all.ensures.power.ok (goes_on_marked 0 (Receive 1) blank on whole) in
+    let old = g.F.Flash.device c.args.flash.now in let blank = g.F.Flash.device c.erase_all.new.flash in let mid = g.F.Flash.device c.mark.new.flash in
+    let new = g.F.Flash.device c.mark-2.new.flash in let formed = g.met.F.Flash.formed c.erase_all.new.flash in let all = c.in_ok-erase_all.ensures.blank in
+    let erased = c.in_ok-erase_all.ensures.wear in let h : 0 < page_count blank.size = omega (arith, formed.within_limits.some_pages) in
+    let unset = unmarked blank 0 (Receive 1) formed all h in let mid_formed = g.met.F.Flash.formed c.mark.new.flash in
+    let still : 0 < page_count mid.size = omega (arith, mid_formed.within_limits.some_pages) in let on = c.in_ok-mark.ensures.on unset in
+    let whole = c.in_ok-mark.ensures.done unset in let next = active_unset blank mid formed all on whole in
+    let on_still = goes_on_both old blank mid c.in_ok-erase_all.ensures.power.ok (goes_on_programmed _ _ _ blank on whole) in
     let sets = sets_mark 0 (Receive 1) blank mid formed h (λ set. (c.in_ok-mark.ensures.present set).1) c.in_ok-mark.ensures.done in
-    let on_then = c.in_ok-mark-2.ensures.on next in
-    let done = c.in_ok-mark-2.ensures.done next in
+    let on_then = c.in_ok-mark-2.ensures.on next in let done = c.in_ok-mark-2.ensures.done next in
     let sets_then = sets_mark 0 Active mid new mid_formed still (λ set. (c.in_ok-mark-2.ensures.present set).1) c.in_ok-mark-2.ensures.done in
-    let size = ap (λ (device : Device). device.size) whole in
-    let size_then = ap (λ (device : Device). device.size) done in
+    let size = ap (λ (device : Device). device.size) whole in let size_then = ap (λ (device : Device). device.size) done in
     let wear : new.wear ≡ blank.wear = ap (λ (device : Device). device.wear) done ∙ ap (λ (device : Device). device.wear) whole in
     record {
       layout = first_layout blank mid formed all on whole new on_then done;
@@ -53,7 +43,7 @@ returns g c =
       begun = tt;
       words = tt;
       starting = tt;
-      power = record { ok = goes_on_both old mid new on_still (goes_on_marked 0 Active mid on_then done); cut = tt; off = tt };
+      power = record { ok = goes_on_both old mid new on_still (goes_on_programmed _ _ _ mid on_then done); cut = tt; off = tt };
     }
 
 pub returns-in_err-erase_all : goal.returns-in_err-erase_all
@@ -75,18 +65,11 @@ returns-in_err-erase_all g c =
 
 pub returns-in_err-mark : goal.returns-in_err-mark
 returns-in_err-mark g c =
-    let old = g.F.Flash.device c.args.flash.now in
-    let blank = g.F.Flash.device c.erase_all.new.flash in
-    let mid = g.F.Flash.device c.mark.new.flash in
-    let formed = g.met.F.Flash.formed c.erase_all.new.flash in
-    let all = c.in_ok-erase_all.ensures.blank in
-    let erased = c.in_ok-erase_all.ensures.wear in
-    let h : 0 < page_count blank.size = omega (arith, formed.within_limits.some_pages) in
-    let unset = unmarked blank 0 (Receive 1) formed all h in
-    let cut = c.in_err-mark.ensures.cut in
-    let taken = mark_step 0 (Receive 1) blank mid formed h proper_first unset (inr cut) in
-    let same : mid.wear ≡ blank.wear = program_keeps_wear 0 0 _ blank mid (inr cut) in
-    let failed = c.from_residual-in_err-mark.ensures.0 in
+    let old = g.F.Flash.device c.args.flash.now in let blank = g.F.Flash.device c.erase_all.new.flash in let mid = g.F.Flash.device c.mark.new.flash in
+    let formed = g.met.F.Flash.formed c.erase_all.new.flash in let all = c.in_ok-erase_all.ensures.blank in let erased = c.in_ok-erase_all.ensures.wear in
+    let h : 0 < page_count blank.size = omega (arith, formed.within_limits.some_pages) in let unset = unmarked blank 0 (Receive 1) formed all h in
+    let cut = c.in_err-mark.ensures.cut in let taken = mark_step 0 (Receive 1) blank mid formed h proper_first unset (inr cut) in
+    let same : mid.wear ≡ blank.wear = program_keeps_wear 0 0 _ blank mid (inr cut) in let failed = c.from_residual-in_err-mark.ensures.0 in
     record {
       layout = IfOk-from_err _ _ failed;
       first = IfOk-from_err _ _ failed;
@@ -104,24 +87,15 @@ returns-in_err-mark g c =
 
 pub returns-in_err-mark-2 : goal.returns-in_err-mark-2
 returns-in_err-mark-2 g c =
-    let old = g.F.Flash.device c.args.flash.now in
-    let blank = g.F.Flash.device c.erase_all.new.flash in
-    let mid = g.F.Flash.device c.mark.new.flash in
-    let new = g.F.Flash.device c.mark-2.new.flash in
-    let formed = g.met.F.Flash.formed c.erase_all.new.flash in
-    let all = c.in_ok-erase_all.ensures.blank in
-    let erased = c.in_ok-erase_all.ensures.wear in
-    let h : 0 < page_count blank.size = omega (arith, formed.within_limits.some_pages) in
-    let unset = unmarked blank 0 (Receive 1) formed all h in
-    let mid_formed = g.met.F.Flash.formed c.mark.new.flash in
-    let still : 0 < page_count mid.size = omega (arith, mid_formed.within_limits.some_pages) in
-    let on = c.in_ok-mark.ensures.on unset in
-    let whole = c.in_ok-mark.ensures.done unset in
-    let next = active_unset blank mid formed all on whole in
-    let on_still = goes_on_both old blank mid c.in_ok-erase_all.ensures.power.ok (goes_on_marked 0 (Receive 1) blank on whole) in
+    let old = g.F.Flash.device c.args.flash.now in let blank = g.F.Flash.device c.erase_all.new.flash in let mid = g.F.Flash.device c.mark.new.flash in
+    let new = g.F.Flash.device c.mark-2.new.flash in let formed = g.met.F.Flash.formed c.erase_all.new.flash in let all = c.in_ok-erase_all.ensures.blank in
+    let erased = c.in_ok-erase_all.ensures.wear in let h : 0 < page_count blank.size = omega (arith, formed.within_limits.some_pages) in
+    let unset = unmarked blank 0 (Receive 1) formed all h in let mid_formed = g.met.F.Flash.formed c.mark.new.flash in
+    let still : 0 < page_count mid.size = omega (arith, mid_formed.within_limits.some_pages) in let on = c.in_ok-mark.ensures.on unset in
+    let whole = c.in_ok-mark.ensures.done unset in let next = active_unset blank mid formed all on whole in
+    let on_still = goes_on_both old blank mid c.in_ok-erase_all.ensures.power.ok (goes_on_programmed _ _ _ blank on whole) in
     let sets = sets_mark 0 (Receive 1) blank mid formed h (λ set. (c.in_ok-mark.ensures.present set).1) c.in_ok-mark.ensures.done in
-    let cut = c.in_err-mark-2.ensures.cut in
-    let taken = mark_step 0 Active mid new mid_formed still proper_active next (inr cut) in
+    let cut = c.in_err-mark-2.ensures.cut in let taken = mark_step 0 Active mid new mid_formed still proper_active next (inr cut) in
     let wear : new.wear ≡ blank.wear = program_keeps_wear 0 1 _ mid new (inr cut) ∙ ap (λ (device : Device). device.wear) whole in
     let failed = c.from_residual-in_err-mark-2.ensures.0 in
     record {

@@ -11,8 +11,7 @@ use Rattle.ee_core.proofs.marking.mark_live_set.Given as goal
 
 abbrev pub invariant-pages : goal.invariant-pages
 invariant-pages g l =
-    let old = g.F.Flash.device l.fn.flash in
-    let now = g.F.Flash.device l.flash in
+    let old = g.F.Flash.device l.fn.flash in let now = g.F.Flash.device l.flash in
     record {
       stays : Stays old now l.layout.side l.layout.generation;
       valid : (k : ℕ) → k < l.page - first_page old.size l.layout.side → is_marked now (first_page old.size l.layout.side + k) Valid ≡ true;

@@ -1,6 +1,6 @@
-use Rattle.std.proofs.Common.{◌≡◌, ◌+◌, ◌∙◌, ap, inl, inr, rules}
+use Rattle.std.proofs.Common.{◌≡◌, ◌+◌, ◌∙◌, ap, inl, inr}
 use Rattle.ee_pages.specs.Sets.{first_page, other as other_of}
-use Rattle.ee_core.proofs.AfterCalls.{ends_in_step, goes_on_marked, goes_on_same, never_on_ok}
+use Rattle.ee_core.proofs.AfterCalls.{ends_in_step, goes_on_programmed, goes_on_same, never_on_ok}
 use Rattle.ee_core.proofs.Marks.{program_keeps_wear}
 use Rattle.ee_core.proofs.OtherSteps.{active_commits, active_done, active_unmarked}
 use Rattle.ee_core.proofs.Cuts.{cut_size, mark_partly_at}
@@ -10,13 +10,12 @@ use Rattle.ee_core.proofs.Making.{always_on_err}
 use Rattle.ee_pages.specs.declared.state.Mark.TheVariants.{Active}
 use Rattle.ee_pages.proofs.Public.{first_in_set}
 use Rattle.ee_core.specs.Cuts.{SetsPartly}
+use Rattle.ee_core.proofs.Drawings.{sets_mark_at}
 use Rattle.ee_core.proofs.moving.commit.Goals as goal
 
 pub returns-in_err-mark : goal.returns-in_err-mark
 returns-in_err-mark g c =
-    let old = g.F.Flash.device c.args.flash.now in
-    let new = g.F.Flash.device c.mark.new.flash in
-    let side = other_of c.args.layout.now.side in
+    let old = g.F.Flash.device c.args.flash.now in let new = g.F.Flash.device c.mark.new.flash in let side = other_of c.args.layout.now.side in
     let formed = c.requires.layout.live.formed in
     let page : c.first_page-first.result ≡ first_page old.size side = c.first_page-first.ensures ∙ ap (first_page old.size) c.other.ensures in
     let cut = c.in_err-mark.ensures.cut in
@@ -37,20 +36,18 @@ returns-in_err-mark g c =
 
 pub returns : goal.returns
 returns g c =
-    let old = g.F.Flash.device c.args.flash.now in
-    let layout = c.args.layout.now in
+    let old = g.F.Flash.device c.args.flash.now in let layout = c.args.layout.now in
     let page : c.first_page-first.result ≡ first_page old.size (other_of layout.side) = c.first_page-first.ensures ∙ ap (first_page old.size) c.other.ensures in
     let unmarked = active_unmarked old old layout.side layout.generation _ c.requires.layout.live c.requires.generation c.requires.filling.1 _ page in
-    let on = c.in_ok-mark.ensures.on unmarked in
-    let done = c.in_ok-mark.ensures.done unmarked in
+    let on = c.in_ok-mark.ensures.on unmarked in let done = c.in_ok-mark.ensures.done unmarked in let formed = c.requires.layout.live.formed in
     let committed = active_done old _ layout.side layout.generation _ c.requires.layout.live c.requires.generation c.requires.filling.1 _ page on done in
     record {
       committed = committed;
       cut = tt;
       begun = tt;
       same_set = (active_commits old _ layout.side layout.generation _ c.requires.layout.live c.requires.generation c.requires.filling.1 _ page (inl (record { was_on = on; done = done }))).0;
-      sets = search rules;
+      sets = sets_mark_at _ (first_page old.size (other_of layout.side)) Active old _ formed (page_of_device old.size (other_of layout.side) (first_page old.size (other_of layout.side)) (first_in_set (other_of layout.side) old formed)) page (λ set. (c.in_ok-mark.ensures.present set).1) c.in_ok-mark.ensures.done;
       same_size = committed.same_size;
       wear = ap (λ device. device.wear) done;
-      power = record { ok = goes_on_marked _ Active old on done; cut = tt; off = tt };
+      power = record { ok = goes_on_programmed _ _ _ old on done; cut = tt; off = tt };
     }

@@ -9,7 +9,7 @@ use Rattle.ee_core.proofs.Drawings.{drawn_both, same_drawn}
 use Rattle.ee_core.proofs.MovedSets.{commits, same_set_drawn}
 use Rattle.ee_core.specs.Parts.{Holds, IsCommittedWith, map_in}
 use Rattle.ee_core.specs.Puts.{carried}
-use Rattle.ee_core.proofs.MovingFacts.{has_moved, keeps_both}
+use Rattle.ee_core.proofs.MovingFacts.{has_moved, keeps_both, layout_kept}
 use Rattle.ee_flash.specs.Size.{Size}
 use Rattle.ee_core.proofs.CutMoves.{filled_partly}
 use Rattle.ee_core.proofs.Wears.{front_all, wears_still}
@@ -17,10 +17,20 @@ use Rattle.ee_core.specs.State.{not_blank_in}
 use Rattle.ee_core.specs.Cuts.{AddsPartly, IsDrawnPartly}
 use Rattle.ee_core.proofs.moving.move_map.Goals as goal
 
+pub open_set-requires : goal.open_set-requires
+open_set-requires g c =
+    record { layout = layout_kept (g.F.Flash.device c.args.flash.now) (g.F.Flash.device c.clear.new.flash) c.args.layout.now c.requires.layout c.in_ok-clear.ensures.keeps; generation = c.requires.generation; blank = c.in_ok-clear.ensures.blank }
+
+pub commit-requires : goal.commit-requires
+commit-requires g c =
+    let old = g.F.Flash.device c.args.flash.now in let opened = g.F.Flash.device c.open_set.new.flash in let filled = g.F.Flash.device c.fill_set.new.flash in
+    let layout = c.args.layout.now in let fills = c.in_ok-count.ensures.fills in
+    let before = keeps_both old _ opened layout.side layout.generation c.in_ok-clear.ensures.keeps c.in_ok-open_set.ensures.keeps in
+    record { layout = layout_kept old filled layout c.requires.layout (keeps_both old opened filled layout.side layout.generation before fills.keeps); generation = c.requires.generation; filling = (_, fills.filling) }
+
 pub returns-in_err-clear : goal.returns-in_err-clear
 returns-in_err-clear g c =
-    let failed = err_from_is_err_and c.from_residual.result c.from_residual.ensures.1 in
-    let cut = c.in_err-clear.ensures in
+    let failed = err_from_is_err_and c.from_residual.result c.from_residual.ensures.1 in let cut = c.in_err-clear.ensures in
     record {
       moves = rw failed.1 (record { begun = cut.begun; words = inl cut.partly; cut = inl cut.keeps });
       each_once = IfOk-from_err _ _ c.from_residual.ensures.0;
@@ -31,16 +41,10 @@ returns-in_err-clear g c =
 
 pub returns-in_err-open_set : goal.returns-in_err-open_set
 returns-in_err-open_set g c =
-    let old = g.F.Flash.device c.args.flash.now in
-    let cleared = g.F.Flash.device c.clear.new.flash in
-    let new = g.F.Flash.device c.open_set.new.flash in
-    let side = c.args.layout.now.side in
-    let generation = c.args.layout.now.generation + 1 in
-    let pages = not_blank_in (other_of side) old in
-    let words = moved_words (carried c.args.puts.now c.args.forgets) (map_in side old) in
-    let clears = c.in_ok-clear.ensures in
-    let cut = c.in_err-open_set.ensures in
-    let keeps = keeps_both old cleared new side c.args.layout.now.generation clears.keeps cut.keeps in
+    let old = g.F.Flash.device c.args.flash.now in let cleared = g.F.Flash.device c.clear.new.flash in let new = g.F.Flash.device c.open_set.new.flash in
+    let side = c.args.layout.now.side in let generation = c.args.layout.now.generation + 1 in let pages = not_blank_in (other_of side) old in
+    let words = moved_words (carried c.args.puts.now c.args.forgets) (map_in side old) in let clears = c.in_ok-clear.ensures in
+    let cut = c.in_err-open_set.ensures in let keeps = keeps_both old cleared new side c.args.layout.now.generation clears.keeps cut.keeps in
     let failed = err_from_is_err_and c.from_residual-in_err-open_set.result c.from_residual-in_err-open_set.ensures.1 in
     record {
       moves = rw failed.1 (record {
@@ -60,20 +64,12 @@ returns-in_err-open_set g c =
 
 pub returns-in_err-count : goal.returns-in_err-count
 returns-in_err-count g c =
-    let old = g.F.Flash.device c.args.flash.now in
-    let cleared = g.F.Flash.device c.clear.new.flash in
-    let opened = g.F.Flash.device c.open_set.new.flash in
-    let new = g.F.Flash.device c.fill_set.new.flash in
-    let side = c.args.layout.now.side in
-    let generation = c.args.layout.now.generation + 1 in
-    let pages = not_blank_in (other_of side) old in
-    let words = moved_words (carried c.args.puts.now c.args.forgets) (map_in side old) in
-    let clears = c.in_ok-clear.ensures in
-    let opens = c.in_ok-open_set.ensures in
-    let cut = c.in_err-count.ensures.fills in
+    let old = g.F.Flash.device c.args.flash.now in let cleared = g.F.Flash.device c.clear.new.flash in let opened = g.F.Flash.device c.open_set.new.flash in
+    let new = g.F.Flash.device c.fill_set.new.flash in let side = c.args.layout.now.side in let generation = c.args.layout.now.generation + 1 in
+    let pages = not_blank_in (other_of side) old in let words = moved_words (carried c.args.puts.now c.args.forgets) (map_in side old) in
+    let clears = c.in_ok-clear.ensures in let opens = c.in_ok-open_set.ensures in let cut = c.in_err-count.ensures.fills in
     let before = keeps_both old cleared opened side c.args.layout.now.generation clears.keeps opens.keeps in
-    let keeps = keeps_both old opened new side c.args.layout.now.generation before cut.keeps in
-    let same : map_in side opened ≡ map_in side old = fun_ext before.same_map in
+    let keeps = keeps_both old opened new side c.args.layout.now.generation before cut.keeps in let same : map_in side opened ≡ map_in side old = fun_ext before.same_map in
     let adds = subst (λ (map : Map). AddsPartly opened new side generation 0 (moved_words (carried c.args.puts.now c.args.forgets) map)) same cut.begun in
     let failed = err_from_is_err_and c.from_residual-in_err-count.result c.from_residual-in_err-count.ensures.1 in
     record {
@@ -96,23 +92,12 @@ returns-in_err-count g c =
 
 pub returns-in_err-commit : goal.returns-in_err-commit
 returns-in_err-commit g c =
-    let old = g.F.Flash.device c.args.flash.now in
-    let cleared = g.F.Flash.device c.clear.new.flash in
-    let opened = g.F.Flash.device c.open_set.new.flash in
-    let filling = g.F.Flash.device c.fill_set.new.flash in
-    let new = g.F.Flash.device c.commit.new.flash in
-    let side = c.args.layout.now.side in
-    let generation = c.args.layout.now.generation in
-    let pages = not_blank_in (other_of side) old in
-    let changes = carried c.args.puts.now c.args.forgets in
-    let words = moved_words changes (map_in side old) in
-    let clears = c.in_ok-clear.ensures in
-    let opens = c.in_ok-open_set.ensures in
-    let fills = c.in_ok-count.ensures.fills in
-    let cut = c.in_err-commit.ensures in
-    let before = keeps_both old cleared opened side generation clears.keeps opens.keeps in
-    let filled = keeps_both old opened filling side generation before fills.keeps in
-    let same : map_in side opened ≡ map_in side old = fun_ext before.same_map in
+    let old = g.F.Flash.device c.args.flash.now in let cleared = g.F.Flash.device c.clear.new.flash in let opened = g.F.Flash.device c.open_set.new.flash in
+    let filling = g.F.Flash.device c.fill_set.new.flash in let new = g.F.Flash.device c.commit.new.flash in let side = c.args.layout.now.side in
+    let generation = c.args.layout.now.generation in let pages = not_blank_in (other_of side) old in let changes = carried c.args.puts.now c.args.forgets in
+    let words = moved_words changes (map_in side old) in let clears = c.in_ok-clear.ensures in let opens = c.in_ok-open_set.ensures in
+    let fills = c.in_ok-count.ensures.fills in let cut = c.in_err-commit.ensures in let before = keeps_both old cleared opened side generation clears.keeps opens.keeps in
+    let filled = keeps_both old opened filling side generation before fills.keeps in let same : map_in side opened ≡ map_in side old = fun_ext before.same_map in
     let drawn = drawn_both side old opened filling before.same_size fills.keeps.same_size
     (drawn_both side old cleared opened clears.keeps.same_size opens.keeps.same_size (same_drawn side old cleared clears.keeps.same_size clears.live_pages) opens.live_pages)
     fills.adds.live_pages in
@@ -141,20 +126,11 @@ returns-in_err-commit g c =
 
 pub returns : goal.returns
 returns g c =
-    let old = g.F.Flash.device c.args.flash.now in
-    let cleared = g.F.Flash.device c.clear.new.flash in
-    let opened = g.F.Flash.device c.open_set.new.flash in
-    let filling = g.F.Flash.device c.fill_set.new.flash in
-    let new = g.F.Flash.device c.commit.new.flash in
-    let side = c.args.layout.now.side in
-    let generation = c.args.layout.now.generation in
-    let changes = carried c.args.puts.now c.args.forgets in
-    let clears = c.in_ok-clear.ensures in
-    let opens = c.in_ok-open_set.ensures in
-    let fills = c.in_ok-count.ensures.fills in
-    let done = c.in_ok-commit.ensures in
-    let before = keeps_both old cleared opened side generation clears.keeps opens.keeps in
-    let filled = keeps_both old opened filling side generation before fills.keeps in
+    let old = g.F.Flash.device c.args.flash.now in let cleared = g.F.Flash.device c.clear.new.flash in let opened = g.F.Flash.device c.open_set.new.flash in
+    let filling = g.F.Flash.device c.fill_set.new.flash in let new = g.F.Flash.device c.commit.new.flash in let side = c.args.layout.now.side in
+    let generation = c.args.layout.now.generation in let changes = carried c.args.puts.now c.args.forgets in let clears = c.in_ok-clear.ensures in
+    let opens = c.in_ok-open_set.ensures in let fills = c.in_ok-count.ensures.fills in let done = c.in_ok-commit.ensures in
+    let before = keeps_both old cleared opened side generation clears.keeps opens.keeps in let filled = keeps_both old opened filling side generation before fills.keeps in
     let same : map_in side opened ≡ map_in side old = fun_ext before.same_map in
     let drawn = drawn_both side old opened filling before.same_size fills.keeps.same_size
     (drawn_both side old cleared opened clears.keeps.same_size opens.keeps.same_size (same_drawn side old cleared clears.keeps.same_size clears.live_pages) opens.live_pages)
@@ -174,11 +150,21 @@ returns g c =
       power = record { ok = goes_on_both old filling new (goes_on_both old opened filling (goes_on_both old cleared opened clears.power.ok opens.power.ok) c.in_ok-count.ensures.power.ok) done.power.ok; cut = tt; off = tt };
     }
 
-pub fill_set-requires : goal.fill_set-requires
-fill_set-requires g c =
-    let old = g.F.Flash.device c.args.flash.now in
-    let opened = g.F.Flash.device c.open_set.new.flash in
-    let side = c.args.layout.now.side in
+pub fill_set-requires-clause-opened : goal.fill_set-requires-clause-opened
+fill_set-requires-clause-opened g c = c.in_ok-open_set.ensures.opened
+
+pub fill_set-requires-clause-first : goal.fill_set-requires-clause-first
+fill_set-requires-clause-first g c = c.requires.first
+
+pub fill_set-requires-clause-over : goal.fill_set-requires-clause-over
+fill_set-requires-clause-over g c = rw (c.open_set.ensures.keeps.same_slots ∙ c.clear.ensures.keeps.same_slots) c.requires.over
+
+pub fill_set-requires-clause-apart : goal.fill_set-requires-clause-apart
+fill_set-requires-clause-apart g c = c.requires.apart
+
+pub fill_set-requires-clause-fits : goal.fill_set-requires-clause-fits
+fill_set-requires-clause-fits g c =
+    let old = g.F.Flash.device c.args.flash.now in let opened = g.F.Flash.device c.open_set.new.flash in let side = c.args.layout.now.side in
     let before = keeps_both old (g.F.Flash.device c.clear.new.flash) opened side c.args.layout.now.generation c.clear.ensures.keeps c.open_set.ensures.keeps in
     let same : map_in side opened ≡ map_in side old = fun_ext before.same_map in
-    record { opened = c.in_ok-open_set.ensures.opened; first = c.requires.first; over = rw before.same_slots c.requires.over; apart = c.requires.apart; fits = rw (same, before.same_size) c.requires.fits }
+    rw (same, before.same_size) c.requires.fits

@@ -1,11 +1,11 @@
-use Rattle.std.proofs.Common.{◌≡◌, ◌+◌, ap, inl, inr, rules}
+use Rattle.std.proofs.Common.{◌≡◌, ◌+◌, ◌∙◌, ap, inl, inr, rules}
 use Rattle.ee_pages.specs.declared.state.Mark.TheVariants.{Receive}
 use Rattle.ee_pages.specs.Sets.{first_page, other as other_of}
 use Rattle.ee_pages.proofs.Public.{first_in_set}
 use Rattle.ee_core.proofs.Drawings.{sets_mark_at}
 use Rattle.ee_core.proofs.MovedSets.{blank_drawn, opens_blank}
 use Rattle.ee_core.proofs.SetPages.{page_of_device}
-use Rattle.ee_core.proofs.AfterCalls.{ends_in_step, goes_on_marked, goes_on_same, never_on_ok}
+use Rattle.ee_core.proofs.AfterCalls.{ends_in_step, goes_on_programmed, goes_on_same, never_on_ok}
 use Rattle.ee_core.proofs.Marks.{program_keeps_wear}
 use Rattle.ee_core.proofs.OtherSteps.{opening_done, opening_keeps, opening_unmarked}
 use Rattle.ee_core.proofs.Cuts.{mark_partly_at, put_apart_partly}
@@ -17,12 +17,9 @@ use Rattle.ee_core.proofs.moving.open_set.Goals as goal
 
 pub returns-in_err-mark : goal.returns-in_err-mark
 returns-in_err-mark g c =
-    let old = g.F.Flash.device c.args.flash.now in
-    let new = g.F.Flash.device c.mark.new.flash in
-    let layout = c.args.layout.now in
-    let side = other_of layout.side in
-    let formed = c.requires.layout.live.formed in
-    let page : c.first_page-first.result ≡ first_page old.size side = cc (c.first_page-first.ensures, c.other.ensures) in
+    let old = g.F.Flash.device c.args.flash.now in let new = g.F.Flash.device c.mark.new.flash in let layout = c.args.layout.now in
+    let side = other_of layout.side in let formed = c.requires.layout.live.formed in
+    let page : c.first_page-first.result ≡ first_page old.size side = c.first_page-first.ensures ∙ ap (first_page old.size) c.other.ensures in
     let cut = c.in_err-mark.ensures.cut in
     let keeps = opening_keeps old new layout.side layout.generation c.requires.layout.live c.requires.generation c.requires.blank _ page (inr cut) in
     let sets : SetsPartly (first_page old.size side) (Receive (layout.generation + 1)) old new =
@@ -41,15 +38,11 @@ returns-in_err-mark g c =
 
 pub returns : goal.returns
 returns g c =
-    let old = g.F.Flash.device c.args.flash.now in
-    let new = g.F.Flash.device c.mark.new.flash in
-    let layout = c.args.layout.now in
-    let side = other_of layout.side in
-    let formed = c.requires.layout.live.formed in
-    let page : c.first_page-first.result ≡ first_page old.size side = cc (c.first_page-first.ensures, c.other.ensures) in
+    let old = g.F.Flash.device c.args.flash.now in let new = g.F.Flash.device c.mark.new.flash in let layout = c.args.layout.now in
+    let side = other_of layout.side in let formed = c.requires.layout.live.formed in
+    let page : c.first_page-first.result ≡ first_page old.size side = c.first_page-first.ensures ∙ ap (first_page old.size) c.other.ensures in
     let unmarked = opening_unmarked old old layout.side layout.generation c.requires.layout.live c.requires.generation c.requires.blank _ page in
-    let on = c.in_ok-mark.ensures.on unmarked in
-    let done = c.in_ok-mark.ensures.done unmarked in
+    let on = c.in_ok-mark.ensures.on unmarked in let done = c.in_ok-mark.ensures.done unmarked in
     let keeps = opening_keeps old new layout.side layout.generation c.requires.layout.live c.requires.generation c.requires.blank _ page (inl (record { was_on = on; done = done })) in
     let opened = opening_done old new layout.side layout.generation c.requires.layout.live c.requires.generation c.requires.blank _ page on done in
     let sets = sets_mark_at _ (first_page old.size side) (Receive (layout.generation + 1)) old new formed
@@ -61,5 +54,5 @@ returns g c =
       live_pages = search rules;
       begun = tt;
       wear = ap (λ device. device.wear) done;
-      power = record { ok = goes_on_marked _ (Receive (layout.generation + 1)) old on done; cut = tt; off = tt };
+      power = record { ok = goes_on_programmed _ _ _ old on done; cut = tt; off = tt };
     }

@@ -5,7 +5,7 @@ use Rattle.ee_pages.specs.Sets.{first_page, page_of_slot}
 use Rattle.ee_pages.specs.declared.state.Mark.TheVariants.{Active, Valid}
 use Rattle.ee_core.proofs.AfterCalls.{ends_later, goes_on_both, goes_on_same, never_on_ok}
 use Rattle.ee_core.proofs.Drawings.{marks_drawn}
-use Rattle.ee_core.proofs.LiveMarks.{stays_both}
+use Rattle.ee_core.proofs.LiveMarks.{current_below, last_behind, layout_stays, stays_both}
 use Rattle.ee_core.proofs.Marks.{same_stays}
 use Rattle.ee_core.proofs.MarkedSets.{opens_next}
 use Rattle.ee_core.specs.Parts.{IsReady, SetsMark}
@@ -19,10 +19,8 @@ use Rattle.ee_core.proofs.writing.open_page.Goals as goal
 
 pub returns-then-layout-eq0 : goal.returns-then-layout-eq0
 returns-then-layout-eq0 g c =
-    let old = g.F.Flash.device c.args.flash.now in
-    let layout = c.args.layout.now in
-    let words = c.words-slots.ensures.value ∙ ap (λ (size : Size). size.words) c.shape.ensures in
-    let marked = c.requires.marked.live in
+    let old = g.F.Flash.device c.args.flash.now in let layout = c.args.layout.now in
+    let words = c.words-slots.ensures.value ∙ ap (λ (size : Size). size.words) c.shape.ensures in let marked = c.requires.marked.live in
     let ready : IsReady old layout.side layout.fill = elim c.then-layout-eq0.branch [
       | then-layout-eq0-via-then-layout-eq0 w ↦ ready_already old layout c.requires.layout c.requires.free _ words (inl w.if-layout-eq0.true) marked
       | then-layout-eq0-via-else-layout-eq0+then-layout-slots-ne0 w ↦ ready_already old layout c.requires.layout c.requires.free _ words (inr w.if-layout-slots-ne0.true) marked
@@ -38,23 +36,17 @@ returns-then-layout-eq0 g c =
 
 pub mark_live-requires-2-clause-behind : goal.mark_live-requires-2-clause-behind
 mark_live-requires-2-clause-behind g c =
-    let words = c.words-slots.ensures.value ∙ ap (λ (size : Size). size.words) c.shape.ensures in
-    let some : 0 < c.args.layout.now.fill = omega (arith, c.if-layout-eq0.false) in
+    let words = c.words-slots.ensures.value ∙ ap (λ (size : Size). size.words) c.shape.ensures in let some : 0 < c.args.layout.now.fill = omega (arith, c.if-layout-eq0.false) in
     next_behind (g.F.Flash.device c.args.flash.now) c.args.layout.now c.requires.layout c.requires.free _ words some c.if-layout-slots-ne0.false _ c.mark_live.ensures.stays
 
 pub returns-in_err-mark_live : goal.returns-in_err-mark_live
 returns-in_err-mark_live g c =
-    let old = g.F.Flash.device c.args.flash.now in
-    let new = g.F.Flash.device c.mark_live.new.flash in
-    let layout = c.args.layout.now in
+    let old = g.F.Flash.device c.args.flash.now in let new = g.F.Flash.device c.mark_live.new.flash in let layout = c.args.layout.now in
     let words = c.words-slots.ensures.value ∙ ap (λ (size : Size). size.words) c.shape.ensures in
-    let some : 0 < layout.fill = omega (arith, c.if-layout-eq0.false) in
-    let k = page_of_slot old.size (layout.fill - 1) in
+    let some : 0 < layout.fill = omega (arith, c.if-layout-eq0.false) in let k = page_of_slot old.size (layout.fill - 1) in
     let next : page_of_slot old.size layout.fill ≡ k + 1 = further old layout c.requires.layout c.requires.free _ words some c.if-layout-slots-ne0.false in
     let last = last_is old layout c.requires.layout c.requires.free _ words in
-    let here : layout.current ≡ first_page old.size layout.side + k = c.requires.layout.current in
-    let first = c.mark_live.ensures in
-    let failed = c.from_residual.ensures.0 in
+    let here : layout.current ≡ first_page old.size layout.side + k = c.requires.layout.current in let first = c.mark_live.ensures in let failed = c.from_residual.ensures.0 in
     record {
       stays = first.stays;
       other = first_other old layout c.requires.layout c.requires.free _ words _ first.stays first.others;
@@ -70,20 +62,13 @@ returns-in_err-mark_live g c =
 
 pub returns-in_err-mark_live-2 : goal.returns-in_err-mark_live-2
 returns-in_err-mark_live-2 g c =
-    let old = g.F.Flash.device c.args.flash.now in
-    let mid = g.F.Flash.device c.mark_live.new.flash in
-    let new = g.F.Flash.device c.mark_live-2.new.flash in
-    let layout = c.args.layout.now in
-    let words = c.words-slots.ensures.value ∙ ap (λ (size : Size). size.words) c.shape.ensures in
-    let some : 0 < layout.fill = omega (arith, c.if-layout-eq0.false) in
-    let k = page_of_slot old.size (layout.fill - 1) in
+    let old = g.F.Flash.device c.args.flash.now in let mid = g.F.Flash.device c.mark_live.new.flash in let new = g.F.Flash.device c.mark_live-2.new.flash in
+    let layout = c.args.layout.now in let words = c.words-slots.ensures.value ∙ ap (λ (size : Size). size.words) c.shape.ensures in
+    let some : 0 < layout.fill = omega (arith, c.if-layout-eq0.false) in let k = page_of_slot old.size (layout.fill - 1) in
     let next : page_of_slot old.size layout.fill ≡ k + 1 = further old layout c.requires.layout c.requires.free _ words some c.if-layout-slots-ne0.false in
-    let last = last_is old layout c.requires.layout c.requires.free _ words in
-    let here : layout.current ≡ first_page old.size layout.side + k = c.requires.layout.current in
-    let there : layout.current + 1 ≡ first_page old.size layout.side + (k + 1) = omega (arith, here) in
-    let first = c.mark_live.ensures in
-    let second = c.mark_live-2.ensures in
-    let same = first_other old layout c.requires.layout c.requires.free _ words _ first.stays first.others in
+    let last = last_is old layout c.requires.layout c.requires.free _ words in let here : layout.current ≡ first_page old.size layout.side + k = c.requires.layout.current in
+    let there : layout.current + 1 ≡ first_page old.size layout.side + (k + 1) = omega (arith, here) in let first = c.mark_live.ensures in
+    let second = c.mark_live-2.ensures in let same = first_other old layout c.requires.layout c.requires.free _ words _ first.stays first.others in
     let failed = c.from_residual-in_err-mark_live-2.ensures.0 in
     record {
       stays = stays_both _ _ _ _ _ first.stays second.stays;
@@ -102,25 +87,18 @@ returns-in_err-mark_live-2 g c =
 
 pub returns : goal.returns
 returns g c =
-    let old = g.F.Flash.device c.args.flash.now in
-    let mid = g.F.Flash.device c.mark_live.new.flash in
-    let new = g.F.Flash.device c.mark_live-2.new.flash in
-    let layout = c.args.layout.now in
-    let words = c.words-slots.ensures.value ∙ ap (λ (size : Size). size.words) c.shape.ensures in
-    let some : 0 < layout.fill = omega (arith, c.if-layout-eq0.false) in
-    let k = page_of_slot old.size (layout.fill - 1) in
+    let old = g.F.Flash.device c.args.flash.now in let mid = g.F.Flash.device c.mark_live.new.flash in let new = g.F.Flash.device c.mark_live-2.new.flash in
+    let layout = c.args.layout.now in let words = c.words-slots.ensures.value ∙ ap (λ (size : Size). size.words) c.shape.ensures in
+    let some : 0 < layout.fill = omega (arith, c.if-layout-eq0.false) in let k = page_of_slot old.size (layout.fill - 1) in
     let next : page_of_slot old.size layout.fill ≡ k + 1 = further old layout c.requires.layout c.requires.free _ words some c.if-layout-slots-ne0.false in
-    let last = last_is old layout c.requires.layout c.requires.free _ words in
-    let here : layout.current ≡ first_page old.size layout.side + k = c.requires.layout.current in
-    let there : layout.current + 1 ≡ first_page old.size layout.side + (k + 1) = omega (arith, here) in
-    let first = c.mark_live.ensures in
-    let second = c.mark_live-2.ensures in
-    let same = first_other old layout c.requires.layout c.requires.free _ words _ first.stays first.others in
+    let last = last_is old layout c.requires.layout c.requires.free _ words in let here : layout.current ≡ first_page old.size layout.side + k = c.requires.layout.current in
+    let there : layout.current + 1 ≡ first_page old.size layout.side + (k + 1) = omega (arith, here) in let first = c.mark_live.ensures in
+    let second = c.mark_live-2.ensures in let same = first_other old layout c.requires.layout c.requires.free _ words _ first.stays first.others in
     record {
       stays = stays_both _ _ _ _ _ first.stays second.stays;
       other = second_other old layout c.requires.layout c.requires.free _ words some c.if-layout-slots-ne0.false _ _ second.stays.keeps.live.formed first.stays second.stays.keeps.same_size same second.others;
       ready = ready_now old layout c.requires.layout c.requires.free _ words some c.if-layout-slots-ne0.false mid new (second.stays.keeps.same_size ∙ first.stays.keeps.same_size) c.requires.marked.live
-          first.marks second.marks (cc c.in_ok-mark_live.ensures.marked) (cc c.in_ok-mark_live-2.ensures.marked);
+          first.marks second.marks c.in_ok-mark_live.ensures.marked c.in_ok-mark_live-2.ensures.marked;
       drawn = subst (λ n. IsDrawn layout.side new (marked_to n (picture_of layout.side old))) (sym next)
           (opens_next layout.side old mid new k c.requires.layout.live.formed first.stays.keeps.live.formed first.stays.keeps.same_size second.stays.keeps.same_size
           (omega (arith, next, page_in_range old layout.fill c.requires.free))
@@ -130,3 +108,15 @@ returns g c =
       begun = tt;
       power = record { ok = goes_on_both old mid new c.in_ok-mark_live.ensures.power.ok c.in_ok-mark_live-2.ensures.power.ok; cut = tt; off = tt };
     }
+
+pub mark_live-requires-clause-behind : goal.mark_live-requires-clause-behind
+mark_live-requires-clause-behind g c = last_behind c.args.layout.now (g.F.Flash.device c.args.flash.now) Valid c.requires.layout (inr refl)
+
+pub mark_live-requires-2-clause-from : goal.mark_live-requires-2-clause-from
+mark_live-requires-2-clause-from g c = omega (arith, c.requires.layout.current, ap (λ (size : Size). first_page size c.args.layout.now.side) c.mark_live.ensures.stays.keeps.same_size)
+
+pub mark_live-requires-2-clause-layout : goal.mark_live-requires-2-clause-layout
+mark_live-requires-2-clause-layout g c = layout_stays c.args.layout.now (g.F.Flash.device c.args.flash.now) _ c.requires.layout c.mark_live.ensures.stays
+
+pub overflow_add-layout : goal.overflow_add-layout
+overflow_add-layout g c = omega (arith, current_below c.args.layout.now (g.F.Flash.device c.args.flash.now) c.requires.layout)

@@ -20,11 +20,8 @@ note-requires-clause-few g c =
 
 pub loop-slot-preserved : goal.loop-slot-preserved
 loop-slot-preserved g c =
-    let device = g.F.Flash.device c.args.flash.now in
-    let slots = slots_of (set_of c.args.side device) in
-    let formed = g.met.F.Flash.formed c.args.flash.now in
-    let place = c.args.page * (device.size.words - 4) + c.loop-slot.slot in
-    let more : place + 1 ≡ c.args.page * (device.size.words - 4) + (c.loop-slot.slot + 1) = omega arith in
+    let device = g.F.Flash.device c.args.flash.now in let slots = slots_of (set_of c.args.side device) in let formed = g.met.F.Flash.formed c.args.flash.now in
+    let place = c.args.page * (device.size.words - 4) + c.loop-slot.slot in let more : place + 1 ≡ c.args.page * (device.size.words - 4) + (c.loop-slot.slot + 1) = omega arith in
     let few : c.loop-slot.slot < device.size.words - 4 = omega (arith, c.loop-slot-test.true, c.words-slot-end.ensures.value, ap (λ (size : Size). size.words) c.shape.ensures) in
     let within : place < length slots = omega (arith, length-slots c.args.side device formed, in_set c.args.page device.size.pages (device.size.words - 4) c.loop-slot.slot c.requires.page_in_range few) in
     subst (λ n. c.note.new.nearest.named ≡ take BATCH (with_each_named c.args.above (take n slots) [])) more

@@ -7,18 +7,12 @@ use Rattle.ee_pages.proofs.batch_items.keep.Goals as goal
 
 pub loop-place-preserved : goal.loop-place-preserved
 loop-place-preserved c =
-    let items = c.args.items.now in
-    let lives = c.args.lives.now in
-    let now = c.loop-place.items in
-    let place = c.loop-place.place in
-    let kept = c.loop-place.kept in
-    let so_far = c.loop-place.invariant in
-    let few : place < length items = omega (arith, c.loop-place-test.true, c.requires.items) in
+    let items = c.args.items.now in let lives = c.args.lives.now in let now = c.loop-place.items in let place = c.loop-place.place in
+    let kept = c.loop-place.kept in let so_far = c.loop-place.invariant in let few : place < length items = omega (arith, c.loop-place-test.true, c.requires.items) in
     let short : place < length lives = omega (arith, c.loop-place-test.true, c.requires.lives) in
     elim c.if-lives-place.branch [
       | then-lives-place w ↦
-          let item = w.index-items-place.result in
-          let is = w.index-items-place.is in
+          let item = w.index-items-place.result in let is = w.index-items-place.is in
           rw (w.items-is, w.put_at.ensures.items, w.kept-is) (record {
             living = one_lives items lives now place kept few short so_far.living so_far.rest so_far.as_long so_far.few item is w.if-lives-place.true;
             rest = rest_stays items lives now place kept few short so_far.living so_far.rest so_far.as_long so_far.few item is;

@@ -11,17 +11,13 @@ loop-slot-init g c =
 
 pub returns-in-Some : goal.returns-in-Some
 returns-in-Some g c =
-    let device = g.F.Flash.device c.args.flash.now in
-    let slots = slots_of (set_of c.args.side device) in
-    let before = c.args.page * (device.size.words - 4) in
+    let device = g.F.Flash.device c.args.flash.now in let slots = slots_of (set_of c.args.side device) in let before = c.args.page * (device.size.words - 4) in
     let within = row_within c.args.side device c.args.page c.args.used (g.met.F.Flash.formed c.args.flash.now) c.requires.page_in_range c.requires.used_in_range in
     sym (newest before c.args.used slots c.args.address within c.loop-slot.slot c.in-Some.said c.loop-slot-test.true (omega arith) c.loop-slot.invariant (search (rules, c.page_slot.ensures, c.says.ensures)))
 
 pub loop-slot-preserved : goal.loop-slot-preserved
 loop-slot-preserved g c =
-    let device = g.F.Flash.device c.args.flash.now in
-    let slots = slots_of (set_of c.args.side device) in
-    let before = c.args.page * (device.size.words - 4) in
+    let device = g.F.Flash.device c.args.flash.now in let slots = slots_of (set_of c.args.side device) in let before = c.args.page * (device.size.words - 4) in
     let within = row_within c.args.side device c.args.page c.args.used (g.met.F.Flash.formed c.args.flash.now) c.requires.page_in_range c.requires.used_in_range in
     one_lower before c.args.used slots c.args.address within c.loop-slot.slot c.loop-slot-test.true (omega arith) c.loop-slot.invariant
     ∙ search (rules, c.page_slot.ensures, c.says.ensures)

@@ -5,7 +5,6 @@ use Rattle.ee_pages.proofs.read.said_in_page.Given as goal
 
 abbrev pub invariant-loop-slot : goal.invariant-loop-slot
 invariant-loop-slot g l =
-    let device = g.F.Flash.device l.flash in
-    let before = l.page * (device.size.words - 4) in
+    let device = g.F.Flash.device l.flash in let before = l.page * (device.size.words - 4) in
     let row = take l.used (drop before (slots_of (set_of l.side device))) in
     latest_in (drop l.slot row) l.address ≡ None

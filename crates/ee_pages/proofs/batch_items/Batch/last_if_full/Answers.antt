@@ -7,11 +7,9 @@ use Rattle.ee_pages.proofs.batch_items.Batch.last_if_full.Goals as goal
 
 pub returns-clause-last : goal.returns-clause-last
 returns-clause-last c above =
-    let i = c.self.inside in
-    let few : i.len ≤ length i.items = omega (arith, c.self.invariant.0, c.self.invariant.1) in
+    let i = c.self.inside in let few : i.len ≤ length i.items = omega (arith, c.self.invariant.0, c.self.invariant.1) in
     let short : i.len ≤ length i.lives = omega (arith, c.self.invariant.0, c.self.invariant.2) in
-    let named = with_said (take i.len i.items) (take i.len i.lives) in
-    let none : Named = (0, None) in
+    let named = with_said (take i.len i.items) (take i.len i.lives) in let none : Named = (0, None) in
     let long : length named ≡ i.len = length_named i.len i.items i.lives few short in
     let last : length named - 1 ≡ BATCH - 1 = omega (arith, long, c.self.invariant.0, c.if-self-lt-BATCH.false) in
     rw (sym (ap (λ (b : Batch). b.named) c.self.view_is))

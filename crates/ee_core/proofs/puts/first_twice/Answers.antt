@@ -1,0 +1,9 @@
+use Rattle.std.proofs.Common.{subst, arith}
+use Rattle.std.specs.List.{All}
+use Rattle.std.proofs.lemmas.List.{take_all}
+use Rattle.ee_codec.specs.Words.{IsAddress}
+use Rattle.ee_core.specs.declared.change.Put.{Put}
+use Rattle.ee_core.proofs.puts.first_twice.Goals as goal
+
+pub returns-clause-proper : goal.returns-clause-proper
+returns-clause-proper c = subst (All (λ (put : Put). IsAddress put.address)) (take_all c.entries.place c.args.puts.now (omega (arith, c.entries-test.false))) c.entries.invariant.proper
