@@ -135,10 +135,7 @@ fn is_taken(rt: &impl Abort, memory: Global, words: &[&'static str]) -> bool {
         return false;
     };
     let (name, matches) = matches.subcommand().expect(rt, "no command");
-    let (_, ids) = ROWS
-        .iter()
-        .find(|row| row.0 == name)
-        .expect(rt, "no row");
+    let (_, ids) = ROWS.iter().find(|row| row.0 == name).expect(rt, "no row");
     job(words.get(1..).unwrap_or(&[])).is_some()
         && are_found(matches, ids, words.get(2..).unwrap_or(&[]))
 }
