@@ -1,6 +1,7 @@
 -- The call to make whenever a device is switched on: it opens a store, and makes the first one.
 use Rattle.std.specs.Prelude.{◌≡◌, ◌≢◌, ◌≤◌, ◌⊎◌, ℕ, Some, None, zero, suc}
 use Rattle.ee_flash.specs.Device.{Device, word_at}
+use Rattle.ee_flash.specs.Size.{header_words}
 use Rattle.ee_flash.specs.declared.word.Word.TheVariants.{Held}
 use Rattle.ee_pages.specs.Layout.{IsScanFault, IsUnformatted}
 use Rattle.ee_pages.specs.Legal.{IsLegal}
@@ -11,11 +12,10 @@ use Rattle.ee_core.specs.Openings.{IsCutFormat, IsCutOpening, IsFormatted, Opens
 use Rattle.ee_core.specs.State.{formatted_state, state_of}
 use Rattle.ee_core.specs.declared.opening.OpenFault.{OpenFault}
 use Rattle.ee_core.specs.declared.opening.OpenFault.TheVariants.{Scan, Cut}
-use Rattle.ee_flash.specs.declared.shape.TheConstants.{HEADER_WORDS}
 
 -- no word behind a page's header is held, whatever it would spell: each slot of both sets is erased or torn
 abbrev pub HoldsNone : Device → Type 0
-HoldsNone device = (page at number : ℕ) → HEADER_WORDS ≤ at → word_at device page at ≢ Held number
+HoldsNone device = (page at number : ℕ) → header_words ≤ at → word_at device page at ≢ Held number
 
 -- No set is committed, as a scan says by `Unformatted` or `NoLiveSet`, and no slot of either holds a word: no value was ever
 -- stored, or none is left.

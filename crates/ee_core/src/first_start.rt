@@ -1,8 +1,7 @@
 //! The call for whenever a device is switched on: it opens the store, or makes the first one.
 ghost use Rattle.std.specs.Prelude.{◌≡◌, ◌≢◌, ◌<◌, ◌≤◌, ℕ, IfErr, IfOk, false, true};
 ghost use Rattle.ee_flash.specs.Device.{IsOn, word_at};
-ghost use Rattle.ee_flash.specs.Size.{page_count};
-ghost use Rattle.ee_flash.specs.declared.shape.TheConstants.{HEADER_WORDS};
+ghost use Rattle.ee_flash.specs.Size.{header_words, page_count};
 ghost use Rattle.ee_pages.specs.Layout.{IsScanFault};
 ghost use Rattle.ee_core.specs.Openings.{IsFormatted};
 ghost use Rattle.ee_core.specs.Starts.{HoldsNone, IsCutStart, IsStartable, StartFails, Starts};
@@ -73,9 +72,9 @@ fn holds_none<F: Flash>(flash: &F) -> bool
 /// Whether a word behind the header of a page can be read.
 fn page_holds<F: Flash>(flash: &F, page: usize) -> bool
     requires { page < page_count (F.device flash.now).size }
-    ensures yes { result ≡ true → (at : ℕ) × (number : ℕ) × (HEADER_WORDS ≤ at)
+    ensures yes { result ≡ true → (at : ℕ) × (number : ℕ) × (header_words ≤ at)
         × (word_at (F.device flash.now) page at ≡ Word.Held number) }
-    ensures no { result ≡ false → (at number : ℕ) → HEADER_WORDS ≤ at
+    ensures no { result ≡ false → (at number : ℕ) → header_words ≤ at
         → at < (F.device flash.now).size.words
         → word_at (F.device flash.now) page at ≢ Word.Held number }
 {

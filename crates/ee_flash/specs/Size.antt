@@ -1,6 +1,5 @@
 -- How large a device is.
 use Rattle.std.specs.Prelude.{◌≤◌, ℕ, ◌-◌, ◌*◌}
-use Rattle.ee_flash.specs.declared.shape.TheConstants.{HEADER_WORDS}
 
 -- the pages of each of the two sets, and the words of a page
 pub record Size : Type 0 where
@@ -22,6 +21,10 @@ pub record IsWithinLimits (size : Size) : Type 0 where
 abbrev pub page_count : Size → ℕ
 page_count size = 2 * size.pages
 
--- the slots of a set: the words of its pages behind the four of each header
+-- the words of a page's header, below its slots
+abbrev pub header_words : ℕ
+header_words = 4
+
+-- the slots of a set: the words of its pages behind the header of each
 abbrev pub slot_count : Size → ℕ
-slot_count size = size.pages * (size.words - HEADER_WORDS)
+slot_count size = size.pages * (size.words - header_words)

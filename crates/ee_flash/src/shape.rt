@@ -4,7 +4,8 @@ ghost use Rattle.ee_flash.specs.Size.{IsWithinLimits, size_of, slot_count};
 
 use std::marker::Model;
 
-/// The words of a page's header, below its slots.
+/// The words of a page's header, below its slots. `Shape::slots` holds it to the definitions'
+/// `header_words`.
 ///
 /// Source: ours.
 pub const HEADER_WORDS: usize = 4;

@@ -1,8 +1,7 @@
 //! Looks through the slots of a set by which a kind of store is chosen. No clause says what they find: whatever it is,
 //! the store that is chosen by it keeps the contract of `Variables`.
 ghost use Rattle.std.specs.Prelude.{◌<◌, ◌≤◌, ◌-◌};
-ghost use Rattle.ee_flash.specs.Size.{page_count};
-ghost use Rattle.ee_flash.specs.declared.shape.TheConstants.{HEADER_WORDS};
+ghost use Rattle.ee_flash.specs.Size.{header_words, page_count};
 
 use ee_codec::{Address, Slot, ends_in, read_slot};
 use ee_flash::{Flash, HEADER_WORDS};
@@ -31,7 +30,7 @@ pub fn count_live<F: Flash, A: Allocator>(
 
 /// How many slots are used in the page behind so many pages of the live set.
 fn used_behind<F: Flash>(flash: &F, layout: &Layout, pages: usize) -> usize
-    ensures { result ≤ (F.device flash.now).size.words - HEADER_WORDS }
+    ensures { result ≤ (F.device flash.now).size.words - header_words }
 {
     let slots = flash.shape().words() - HEADER_WORDS;
     let before = pages.saturating_mul(slots);
@@ -46,7 +45,7 @@ fn count_in_page<F: Flash, A: Allocator>(
     told: &mut Told<A>,
 ) -> usize
     requires page_in_range { page < page_count (F.device flash.now).size }
-    requires used_in_range { used ≤ (F.device flash.now).size.words - HEADER_WORDS }
+    requires used_in_range { used ≤ (F.device flash.now).size.words - header_words }
 {
     let mut live: usize = 0;
     for at in (HEADER_WORDS..HEADER_WORDS + used).rev() {
@@ -107,7 +106,7 @@ pub fn looks_for<F: Flash>(flash: &F, layout: &Layout, address: Address) -> usiz
 /// How many used slots of a page it goes through, and whether it ends there.
 fn looks_in_page<F: Flash>(flash: &F, page: usize, used: usize, address: Address) -> (usize, bool)
     requires page_in_range { page < page_count (F.device flash.now).size }
-    requires used_in_range { used ≤ (F.device flash.now).size.words - HEADER_WORDS }
+    requires used_in_range { used ≤ (F.device flash.now).size.words - header_words }
 {
     let mut passed: usize = 0;
     for at in (HEADER_WORDS..HEADER_WORDS + used).rev() {

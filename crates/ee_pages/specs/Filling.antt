@@ -4,7 +4,7 @@ use Rattle.std.specs.Prelude.{◌≡◌, ◌<◌, ◌≤◌, ◌⊎◌, ℕ, ◌
 use Rattle.std.specs.List.{All}
 use Rattle.ee_flash.specs.Device.{Device, IsFormed}
 use Rattle.ee_flash.specs.Laws.{IsStep}
-use Rattle.ee_flash.specs.Size.{slot_count}
+use Rattle.ee_flash.specs.Size.{header_words, slot_count}
 use Rattle.ee_flash.specs.Step.{device_after}
 use Rattle.ee_flash.specs.declared.word.Word.TheVariants.{Erased, Held}
 use Rattle.ee_codec.specs.Words.{IsGeneration, receive}
@@ -16,7 +16,6 @@ use Rattle.ee_pages.specs.Pushing.{slot_step}
 use Rattle.ee_pages.specs.Sets.{committed_generation, fill_of, first_page, other, set_of, slots_of, word_of}
 use Rattle.ee_pages.specs.declared.side.Side.{Side}
 use Rattle.ee_pages.specs.declared.state.Mark.TheVariants.{Active, Receive}
-use Rattle.ee_flash.specs.declared.shape.TheConstants.{HEADER_WORDS}
 
 -- The set takes elements of this generation, and so many of its slots are written: each word may stand in its place, and
 -- nothing but the mark that commits it is missing.
@@ -38,7 +37,7 @@ OpensSet =
 abbrev pub OpensPage : Type 0
 OpensPage =
     (page : ℕ) (old new : Device) (side : Side) (generation count : ℕ) → IsGeneration generation → IsFilling old side generation count
-    → page < old.size.pages → page * (old.size.words - HEADER_WORDS) ≤ count
+    → page < old.size.pages → page * (old.size.words - header_words) ≤ count
     → let step = marking (first_page old.size side + page) (Receive generation) in IsStep step old new → new ≡ device_after step old
     → IsFilling new side generation count × (slots_of (set_of side new) ≡ slots_of (set_of side old))
 

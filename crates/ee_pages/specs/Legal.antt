@@ -1,7 +1,7 @@
 -- The images that a store can work on.
 use Rattle.std.specs.Prelude.{◌≡◌, ◌<◌, ℕ, ◌+◌, ◌*◌, ◌-◌, Bool, true, false, not, ◌&&◌, ◌||◌, ◌==◌, nat_lt, nat_le, if◌then◌else◌, Some, List}
 use Rattle.ee_flash.specs.Device.{Device, IsFormed}
-use Rattle.ee_flash.specs.Size.{Size}
+use Rattle.ee_flash.specs.Size.{Size, header_words}
 use Rattle.ee_flash.specs.declared.word.Word.{Word}
 use Rattle.ee_flash.specs.declared.word.Word.TheVariants.{Erased, Held, Torn}
 use Rattle.ee_codec.specs.Reading.{slot_of}
@@ -13,7 +13,6 @@ use Rattle.ee_pages.specs.Sets.{front, live_of, set_of, slots_of, word_of}
 use Rattle.ee_pages.specs.declared.table.Place.{Place}
 use Rattle.ee_pages.specs.declared.table.Place.TheVariants.{Committing, Receiving, Marking, Erasing, InSlot}
 use Rattle.ee_pages.specs.declared.side.Side.{Side}
-use Rattle.ee_flash.specs.declared.shape.TheConstants.{HEADER_WORDS}
 
 -- the place of a word of a set
 abbrev pub place_of : ℕ → ℕ → Place
@@ -53,7 +52,7 @@ fits generation InSlot (Held number) = is_element (slot_of (Held number))
 
 -- how many slots of the set stand before the word
 abbrev pub slots_before : Size → ℕ → ℕ → ℕ
-slots_before size page at = page * (size.words - HEADER_WORDS) + (at - HEADER_WORDS)
+slots_before size page at = page * (size.words - header_words) + (at - header_words)
 
 -- the word fits its place, and is erased if a slot before it is
 abbrev pub is_allowed : Size → ℕ → ℕ → ℕ → ℕ → Word → Bool

@@ -3,7 +3,7 @@
 use Rattle.std.specs.Prelude.{◌≡◌, ◌<◌, ◌≤◌, ◌⊎◌, ℕ, ◌+◌, ◌-◌, ◌*◌, slice_set}
 use Rattle.ee_flash.specs.Device.{Device}
 use Rattle.ee_flash.specs.Laws.{IsStep}
-use Rattle.ee_flash.specs.Size.{Size, slot_count}
+use Rattle.ee_flash.specs.Size.{Size, header_words, slot_count}
 use Rattle.ee_flash.specs.Step.{Step, Program, device_after}
 use Rattle.ee_flash.specs.declared.word.Word.TheVariants.{Held}
 use Rattle.ee_pages.specs.Laws.{KeepsLiveSet}
@@ -14,12 +14,11 @@ use Rattle.ee_pages.specs.Sets.{fill_of, first_page, other, page_of_slot, place_
 use Rattle.ee_pages.specs.declared.side.Side.{Side}
 use Rattle.ee_pages.specs.declared.state.Mark.{Mark}
 use Rattle.ee_pages.specs.declared.state.Mark.TheVariants.{Active, Valid}
-use Rattle.ee_flash.specs.declared.shape.TheConstants.{HEADER_WORDS}
 
 -- an active or valid mark of a page of the set, with every slot before that page written
 pub record IsMarkBehind (device : Device) (side : Side) (page : ℕ) (mark : Mark) : Type 0 where
   pub in_range : page < device.size.pages
-  pub behind : page * (device.size.words - HEADER_WORDS) ≤ fill_of (slots_of (set_of side device))
+  pub behind : page * (device.size.words - header_words) ≤ fill_of (slots_of (set_of side device))
   pub active_or_valid : (mark ≡ Active) ⊎ (mark ≡ Valid)
 
 -- every outcome of programming such a mark keeps the live set, and the other set as it was

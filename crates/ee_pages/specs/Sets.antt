@@ -2,7 +2,7 @@
 use Rattle.std.specs.Prelude.{ℕ, ◌+◌, ◌-◌, ◌/◌, ◌%◌, Bool, true, false, not, nat_lt, if◌then◌else◌, Option, Some, None, List, [], length, take, drop, slice_index_or}
 use Rattle.std.specs.List.{filter, flat_map, prefix_len}
 use Rattle.ee_flash.specs.Device.{Device}
-use Rattle.ee_flash.specs.Size.{Size}
+use Rattle.ee_flash.specs.Size.{Size, header_words}
 use Rattle.ee_flash.specs.declared.word.Word.{Word}
 use Rattle.ee_codec.specs.Reading.{mark_of, receive_of}
 use Rattle.ee_codec.specs.declared.header.MarkRead.{MarkRead}
@@ -10,7 +10,6 @@ use Rattle.ee_codec.specs.declared.header.MarkRead.TheVariants.{Absent, Present,
 use Rattle.ee_pages.specs.Page.{is_blank, is_torn, is_written, word_in}
 use Rattle.ee_pages.specs.declared.side.Side.{Side}
 use Rattle.ee_pages.specs.declared.side.Side.TheVariants.{First, Second}
-use Rattle.ee_flash.specs.declared.shape.TheConstants.{HEADER_WORDS}
 
 -- the pages of a set
 abbrev pub set_of : Side → Device → List (List Word)
@@ -56,7 +55,7 @@ live_of device = greater (committed_generation (set_of First device)) (committed
 
 -- the slots of a set: the words behind the headers of its pages, in order
 abbrev pub slots_of : List (List Word) → List Word
-slots_of pages = flat_map (drop HEADER_WORDS) pages
+slots_of pages = flat_map (drop header_words) pages
 
 -- how many slots were written, whole or torn
 abbrev pub fill_of : List Word → ℕ
@@ -72,10 +71,10 @@ front slots = prefix_len is_written slots
 
 -- the page, within its set, and the place of a slot
 abbrev pub page_of_slot : Size → ℕ → ℕ
-page_of_slot size slot = slot / (size.words - HEADER_WORDS)
+page_of_slot size slot = slot / (size.words - header_words)
 
 abbrev pub place_of_slot : Size → ℕ → ℕ
-place_of_slot size slot = HEADER_WORDS + slot % (size.words - HEADER_WORDS)
+place_of_slot size slot = header_words + slot % (size.words - header_words)
 
 -- how many pages of a set are not blank; of the set that is not live, those that wait to be erased
 abbrev pub pending_of : List (List Word) → ℕ

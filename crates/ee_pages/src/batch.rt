@@ -1,6 +1,6 @@
 //! The next live addresses, as many as are found in one look through the slots.
 ghost use Rattle.std.specs.Prelude.{◌≡◌, ◌≤◌, ◌<◌, ◌+◌, ◌-◌, ◌*◌, [], None, Some, length, take};
-ghost use Rattle.ee_flash.specs.declared.shape.TheConstants.{HEADER_WORDS};
+ghost use Rattle.ee_flash.specs.Size.{header_words};
 ghost use Rattle.std.specs.List.{All};
 ghost use Rattle.ee_codec.specs.Reading.{slot_of};
 ghost use Rattle.ee_codec.specs.Words.{IsAddress};
@@ -96,10 +96,10 @@ fn gather_page<F: Flash>(flash: &F, side: Side, page: usize, above: u16, nearest
     requires page_in_range { page < (F.device flash.now).size.pages }
     requires before { let device = F.device flash.now in nearest.old.named
         ≡ take BATCH (with_each_named above
-        (take (page * (device.size.words - HEADER_WORDS)) (slots_of (set_of side device))) []) }
+        (take (page * (device.size.words - header_words)) (slots_of (set_of side device))) []) }
     ensures { let device = F.device flash.now in nearest.new.named
         ≡ take BATCH (with_each_named above
-        (take ((page + 1) * (device.size.words - HEADER_WORDS)) (slots_of (set_of side device))) []) }
+        (take ((page + 1) * (device.size.words - header_words)) (slots_of (set_of side device))) []) }
 {
     for slot in 0..flash.shape().words() - HEADER_WORDS {
         note(above, page_slot(flash, side, page, slot), nearest);

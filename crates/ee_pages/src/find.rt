@@ -2,8 +2,7 @@
 ghost use Rattle.std.specs.Bool.{MatchBool};
 ghost use Rattle.std.specs.Prelude.{◌≡◌, ◌<◌, ◌≤◌, ◌↔◌, ℕ, ◌+◌, ◌*◌, ◌-◌, slice_index_or, IfErr, IfNone, IfOk, IfSome, IsTrue, None, Some, false, is_ok, true};
 ghost use Rattle.ee_codec.specs.Words.{IsGeneration};
-ghost use Rattle.ee_flash.specs.Size.{slot_count};
-ghost use Rattle.ee_flash.specs.declared.shape.TheConstants.{HEADER_WORDS};
+ghost use Rattle.ee_flash.specs.Size.{header_words, slot_count};
 ghost use Rattle.ee_pages.specs.Layout.{IsFirstForeign, IsLayout, IsScanFault, IsUnformatted};
 ghost use Rattle.ee_pages.specs.Legal.{IsLegal, is_allowed_at};
 ghost use Rattle.ee_pages.specs.Page.{is_written as written};
@@ -137,13 +136,13 @@ fn count_front<F: Flash>(flash: &F, side: Side) -> usize
 /// How many slots of a page of a set stand before the first erased one of them.
 fn front_of_page<F: Flash>(flash: &F, side: Side, page: usize) -> usize
     requires page_in_range { page < (F.device flash.now).size.pages }
-    ensures within { result ≤ (F.device flash.now).size.words - HEADER_WORDS }
+    ensures within { result ≤ (F.device flash.now).size.words - header_words }
     ensures before { let device = F.device flash.now in (k : ℕ) → k < result
         → written (slice_index_or (slots_of (set_of side device))
-        (page * (device.size.words - HEADER_WORDS) + k) Word.Erased) ≡ true }
-    ensures erased { let device = F.device flash.now in result < device.size.words - HEADER_WORDS
+        (page * (device.size.words - header_words) + k) Word.Erased) ≡ true }
+    ensures erased { let device = F.device flash.now in result < device.size.words - header_words
         → written (slice_index_or (slots_of (set_of side device))
-        (page * (device.size.words - HEADER_WORDS) + result) Word.Erased) ≡ false }
+        (page * (device.size.words - header_words) + result) Word.Erased) ≡ false }
 {
     let slots = flash.shape().words() - HEADER_WORDS;
     for slot in 0..slots {

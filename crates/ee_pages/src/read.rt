@@ -2,8 +2,7 @@
 ghost use Rattle.std.specs.Prelude.{◌≡◌, ◌<◌, ◌≤◌, ◌+◌, ◌-◌, ◌*◌, ℕ, IfSome, drop, slice_index_or, take, true};
 ghost use Rattle.ee_codec.specs.Reading.{ends_in as word_ends_in};
 ghost use Rattle.ee_codec.specs.Words.{IsAddress};
-ghost use Rattle.ee_flash.specs.Size.{slot_count};
-ghost use Rattle.ee_flash.specs.declared.shape.TheConstants.{HEADER_WORDS};
+ghost use Rattle.ee_flash.specs.Size.{header_words, slot_count};
 ghost use Rattle.ee_pages.specs.Layout.{IsLayout};
 ghost use Rattle.ee_pages.specs.Meaning.{latest_in, live_in, meaning, says as word_says};
 ghost use Rattle.ee_pages.specs.LiveOrder.{IsNextLive, above_of};
@@ -124,9 +123,9 @@ pub fn torn_slots<F: Flash>(flash: &F, layout: &Layout) -> usize
 fn torn_through<F: Flash>(flash: &F, side: Side, page: usize, before: usize) -> usize
     requires page_in_range { page < (F.device flash.now).size.pages }
     requires before { let device = F.device flash.now in before
-        ≡ torn_of (take (page * (device.size.words - HEADER_WORDS)) (slots_of (set_of side device))) }
+        ≡ torn_of (take (page * (device.size.words - header_words)) (slots_of (set_of side device))) }
     ensures { let device = F.device flash.now in result
-        ≡ torn_of (take ((page + 1) * (device.size.words - HEADER_WORDS)) (slots_of (set_of side device))) }
+        ≡ torn_of (take ((page + 1) * (device.size.words - header_words)) (slots_of (set_of side device))) }
 {
     let mut torn = before;
     for slot in 0..flash.shape().words() - HEADER_WORDS {
@@ -147,8 +146,8 @@ fn said_in_page<F: Flash>(
     address: Address,
 ) -> Option<Option<u32>>
     requires page_in_range { page < (F.device flash.now).size.pages }
-    requires used_in_range { used ≤ (F.device flash.now).size.words - HEADER_WORDS }
-    ensures { let before = page * ((F.device flash.now).size.words - HEADER_WORDS) in
+    requires used_in_range { used ≤ (F.device flash.now).size.words - header_words }
+    ensures { let before = page * ((F.device flash.now).size.words - header_words) in
         let slots = slots_of (set_of side (F.device flash.now)) in
         result ≡ latest_in (take used (drop before slots)) address }
 {

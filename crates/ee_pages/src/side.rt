@@ -1,8 +1,7 @@
 //! The two sets of a device, and the places of their pages, words and slots.
 ghost use Rattle.std.specs.Prelude.{◌≡◌, ◌<◌, ◌+◌, ◌-◌, ◌*◌, IfSome, slice_index_or};
 ghost use Rattle.ee_codec.specs.Words.{IsGeneration};
-ghost use Rattle.ee_flash.specs.Size.{slot_count};
-ghost use Rattle.ee_flash.specs.declared.shape.TheConstants.{HEADER_WORDS};
+ghost use Rattle.ee_flash.specs.Size.{header_words, slot_count};
 ghost use Rattle.ee_pages.specs.Sets.{committed_generation as commits, first_page as first, other as other_of, set_of, slots_of, word_of};
 
 use ee_codec::{MarkRead, read_mark, read_receive};
@@ -55,9 +54,9 @@ pub(crate) fn set_word<F: Flash>(flash: &F, side: Side, page: usize, at: usize) 
 /// The slot of this number of a page of a set, both counted from 0.
 pub(crate) fn page_slot<F: Flash>(flash: &F, side: Side, page: usize, slot: usize) -> Word
     requires page_in_range { page < (F.device flash.now).size.pages }
-    requires slot_in_range { slot < (F.device flash.now).size.words - HEADER_WORDS }
+    requires slot_in_range { slot < (F.device flash.now).size.words - header_words }
     ensures { let slots = slots_of (set_of side (F.device flash.now)) in
-        result ≡ slice_index_or slots (page * ((F.device flash.now).size.words - HEADER_WORDS) + slot) Word.Erased }
+        result ≡ slice_index_or slots (page * ((F.device flash.now).size.words - header_words) + slot) Word.Erased }
 {
     set_word(flash, side, page, HEADER_WORDS + slot)
 }
