@@ -13,10 +13,10 @@ use Rattle.ee_pages.specs.declared.side.Side.{Side}
 use Rattle.ee_pages.proofs.Public.{length-set_of}
 use Rattle.ee_core.specs.Cuts.{ErasesPartly}
 use Rattle.ee_core.specs.Parts.{IsSameBut, IsSameSet}
-use Rattle.ee_core.specs.State.{Wears, WearsFront, not_blank_from, not_blank_in}
+use Rattle.ee_core.specs.State.{Wears, not_blank_from, not_blank_in}
 use Rattle.ee_core.proofs.AfterCalls.{goes_on_both}
 use Rattle.ee_core.proofs.Cuts.{erases_partly}
-use Rattle.ee_core.proofs.ErasedPages.{all_wear, front_wears, wears_next}
+use Rattle.ee_core.proofs.ErasedPages.{all_wear, wears_next, wears_to}
 use Rattle.ee_core.proofs.FormatFacts.{BlanksPage}
 use Rattle.ee_core.proofs.MovingFacts.{all_blank, keeps_both}
 use Rattle.ee_core.proofs.PendingCounts.{page_there}
@@ -70,9 +70,8 @@ module _ (side : Side) (generation : ℕ) (old : Device) (first pages : ℕ) (fo
         }
 
     -- or power was cut in erasing it
-    pub cleared_cut : (new : Device) → is_blank (page_at mid page) ≡ false → WearsFront (page ∷ []) mid new → IsSameBut page mid new → IsPartlyErased (page_at mid page) (page_at new page)
-        → WearsFront (not_blank_in (other side) old) old new × (let start = first_page old.size (other side) in ErasesPartly start (start + old.size.pages) old new)
-    cleared_cut new written front others partly = (
-      subst (λ n. WearsFront (not_blank_from n (set_of (other side) old)) old new) first_is (front_wears (set_of (other side) old) first (page - first) page old mid new at within there so_far.wear written front),
-      subst (λ n. ErasesPartly n (n + old.size.pages) old new) first_is (erases_partly first (first + old.size.pages) page old mid new from (omega (arith, below, pages_is)) written so_far.blank so_far.rest others partly),
-    )
+    pub cleared_cut : (new : Device) → is_blank (page_at mid page) ≡ false → Wears (page ∷ []) mid new → IsSameBut page mid new → IsPartlyErased (page_at mid page) (page_at new page)
+        → ErasesPartly (first_page old.size (other side)) (set_of (other side) old) old new
+    cleared_cut new written now others partly =
+        let wear = wears_to (set_of (other side) old) first (page - first) page old mid new at within there so_far.wear written now in
+        subst (λ n. ErasesPartly n (set_of (other side) old) old new) first_is (erases_partly first page (set_of (other side) old) old mid new wear from so_far.blank so_far.rest others partly)

@@ -16,7 +16,8 @@ use Rattle.ee_pages.specs.Laws.{IsPageOf}
 use Rattle.ee_pages.specs.Page.{is_blank}
 use Rattle.std.specs.List.{All}
 use Rattle.std.proofs.lemmas.List.Elements.{All-drop, All-take}
-use Rattle.ee_core.specs.Openings.{ShowsCutFormat}
+use Rattle.ee_core.specs.Openings.{FormatsPartly, not_blank_pages}
+use Rattle.ee_core.specs.State.{Wears}
 use Rattle.ee_pages.specs.declared.state.Mark.TheVariants.{Active, Receive}
 use Rattle.ee_core.proofs.Cuts.{IsOnTheWay, drawn_between, mark_drawn_partly, put_apart_partly, put_partly}
 use Rattle.ee_core.proofs.Drawings.{drawn_both, page_of_its_set, put_apart, with_mark}
@@ -191,18 +192,20 @@ open_partly side old new generation words formed sizes all sets =
 first_page_of : (device : Device) → IsFormed device → IsPageOf device.size First 0
 first_page_of device formed = record { from = omega arith; below = omega (arith, formed.within_limits.some_pages) }
 
-pub format_cut : (old new : Device) → IsFormed old → new.size ≡ old.size → All (λ page. is_blank page ≡ true) old.image → SetsPartly 0 (Receive 1) old new → ShowsCutFormat new
-format_cut old new formed sizes all sets = record {
+pub format_cut : (start old new : Device) → Wears (not_blank_pages start) start new → IsFormed old → new.size ≡ old.size → All (λ page. is_blank page ≡ true) old.image → SetsPartly 0 (Receive 1) old new → FormatsPartly start new
+format_cut start old new wear formed sizes all sets = record {
+  wear = wear;
   first_set = filled_partly First new 1 [] (open_partly First old new 1 [] formed sizes (blank_drawn First old formed (All-take (λ (page : List Word). is_blank page ≡ true) old.size.pages old.image all)) sets);
   second_set = λ page at h within.
       put_apart_partly Second old new 0 0 _ sizes (first_page_of old formed) sets page at h within
       ∙ blank_drawn Second old formed (All-drop (λ (page : List Word). is_blank page ≡ true) old.size.pages old.image all) page at (omega (arith, ap (λ (size : Size). size.pages) sizes)) (omega (arith, ap (λ (size : Size). size.words) sizes));
 }
 
-pub format_cut_then : (old mid new : Device) → IsFormed old → IsFormed mid → mid.size ≡ old.size → new.size ≡ mid.size → All (λ page. is_blank page ≡ true) old.image → SetsMark 0 (Receive 1) old mid → SetsPartly 0 Active mid new → ShowsCutFormat new
-format_cut_then old mid new formed mid_formed first_sizes second_sizes all receives active =
+pub format_cut_then : (start old mid new : Device) → Wears (not_blank_pages start) start new → IsFormed old → IsFormed mid → mid.size ≡ old.size → new.size ≡ mid.size → All (λ page. is_blank page ≡ true) old.image → SetsMark 0 (Receive 1) old mid → SetsPartly 0 Active mid new → FormatsPartly start new
+format_cut_then start old mid new wear formed mid_formed first_sizes second_sizes all receives active =
     let holds = opens_blank First old mid 1 formed first_sizes (All-take (λ (page : List Word). is_blank page ≡ true) old.size.pages old.image all) receives in
     record {
+      wear = wear;
       first_set = subst (λ (size : Size). IsDrawnPartly First new blank (filled_set size 1 [])) (sym second_sizes) (commit_partly First mid new 1 [] mid_formed second_sizes active holds);
       second_set = λ page at h within.
           let below : page < old.size.pages = omega (arith, ap (λ (size : Size). size.pages) second_sizes, ap (λ (size : Size). size.pages) first_sizes) in

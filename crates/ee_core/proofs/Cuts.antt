@@ -1,5 +1,5 @@
 -- What a cut step leaves of the words, and how that goes together over a call.
-use Rattle.std.proofs.Common.{rules, ◌≡◌, ◌≢◌, ◌⊎◌, inl, inr, ℕ, ◌+◌, ◌<◌, ◌≤◌, true, false, List, [], length, get_or, set, refl, sym, subst, ap, ◌∙◌, arith}
+use Rattle.std.proofs.Common.{rules, ◌≡◌, ◌≢◌, ◌⊎◌, inl, inr, ℕ, ◌+◌, ◌<◌, ◌≤◌, true, List, [], length, get_or, set, refl, sym, subst, ap, ◌∙◌, arith}
 use Rattle.std.proofs.lemmas.Bool.{cases_Bool, cases_eq}
 use Rattle.std.proofs.lemmas.List.{get_or-set_other, get_or-set_same}
 use Rattle.ee_flash.specs.Device.{Device, IsFormed, page_at, word_at}
@@ -19,6 +19,7 @@ use Rattle.ee_core.proofs.Marks.{place_below}
 use Rattle.ee_core.specs.Cuts.{ErasesPartly, IsDrawnPartly, IsPartlyDone, PutsPartly, SetsPartly}
 use Rattle.ee_core.specs.Parts.{IsSameBut, PutsWord}
 use Rattle.ee_core.specs.Picture.{IsDrawn, Picture, marked_word, picture_of, picture_with_word}
+use Rattle.ee_core.specs.State.{WearsTo, not_blank_from}
 
 -- ---- a word
 
@@ -167,15 +168,13 @@ erase_partly page old new (inl cut) = cut.image.0
 erase_partly page old new (inr untouched) = record { as_long = ap (λ (device : Device). length (page_at device page)) untouched.same; each = λ at. inl (ap (λ (device : Device). word_at device page at) untouched.same) }
 
 -- in a look over pages, where those before it are blank and the others as before
-pub erases_partly : (first last page : ℕ) (old mid new : Device) → first ≤ page → page < last → is_blank (page_at mid page) ≡ false → ((k : ℕ) → first ≤ k → k < page → is_blank (page_at mid k) ≡ true) → ((k : ℕ) → (k < first) ⊎ (page ≤ k) → page_at mid k ≡ page_at old k)
-    → IsSameBut page mid new → IsPartlyErased (page_at mid page) (page_at new page) → ErasesPartly first last old new
-erases_partly first last page old mid new from below written blank rest others partly =
+pub erases_partly : (first page : ℕ) (pages : List (List Word)) (old mid new : Device) → WearsTo page (not_blank_from first pages) old new → first ≤ page → ((k : ℕ) → first ≤ k → k < page → is_blank (page_at mid k) ≡ true) → ((k : ℕ) → (k < first) ⊎ (page ≤ k) → page_at mid k ≡ page_at old k)
+    → IsSameBut page mid new → IsPartlyErased (page_at mid page) (page_at new page) → ErasesPartly first pages old new
+erases_partly first page pages old mid new wear from blank rest others partly =
     let here = rest page (inr (omega arith)) in
     record {
       page = page;
-      from = from;
-      below = below;
-      not_blank = ap is_blank (sym here) ∙ written;
+      wear = wear;
       before = λ k low high. ap is_blank (others k (λ e. omega (arith, e, high))) ∙ blank k low high;
       here = subst (λ (words : List Word). IsPartlyErased words (page_at new page)) here partly;
       others = λ k apart. elim apart [

@@ -1,12 +1,13 @@
 -- What a look over pages erases, which erases those that are not blank.
-use Rattle.std.proofs.Common.{◌≡◌, ℕ, ◌+◌, ◌<◌, ◌++◌, true, false, List, [], ◌∷◌, length, take, get_or, refl, sym, subst, ap, ◌∙◌}
+use Rattle.std.proofs.Common.{◌≡◌, ℕ, ◌+◌, ◌<◌, ◌++◌, true, false, List, [], ◌∷◌, length, take, drop, get_or, refl, sym, subst, ap, ◌∙◌}
 use Rattle.std.proofs.Math.Seq.{take-length}
+use Rattle.std.proofs.lemmas.List.{append_assoc}
 use Rattle.ee_flash.specs.Device.{Device, page_at}
 use Rattle.ee_flash.specs.declared.word.Word.{Word}
 use Rattle.ee_pages.specs.Page.{is_blank}
-use Rattle.ee_core.specs.State.{Wears, WearsFront, not_blank_from}
+use Rattle.ee_core.specs.State.{Wears, WearsTo, not_blank_from}
 use Rattle.ee_core.proofs.NotBlank.{named, not_blank_more, not_blank_rest}
-use Rattle.ee_core.proofs.Wears.{front_longer, front_more, wears_both, wears_none}
+use Rattle.ee_core.proofs.Wears.{wears_both, wears_none}
 
 pub none_wears : (pages : List (List Word)) (first k : ℕ) (device : Device) → k ≡ 0 → Wears (not_blank_from first (take k pages)) device device
 none_wears pages first k device e = rw e (wears_none device device refl)
@@ -28,12 +29,17 @@ module _ (pages : List (List Word)) (first k page : ℕ) (old mid new : Device) 
       let more = not_blank_more pages first k within ∙ ap (λ list. not_blank_from first (take k pages) ++ list) here in
       subst (λ (list : List ℕ). Wears list old new) (sym more) (wears_both (not_blank_from first (take k pages)) (named page (page_at mid page)) old mid new sooner now)
 
-  pub front_wears : is_blank (page_at mid page) ≡ false → WearsFront (page ∷ []) mid new → WearsFront (not_blank_from first pages) old new
-  front_wears written now =
+  -- power was cut in erasing it
+  pub wears_to : is_blank (page_at mid page) ≡ false → Wears (page ∷ []) mid new → WearsTo page (not_blank_from first pages) old new
+  wears_to written now =
       let one : named page (page_at mid page) ≡ page ∷ [] = rw written refl in
-      let begun : WearsFront (not_blank_from first (take k pages) ++ named (first + k) (get_or pages k [])) old new =
-      front_more (not_blank_from first (take k pages)) (page ∷ []) _ old mid new sooner now (ap (λ list. not_blank_from first (take k pages) ++ list) (here ∙ one)) in
-      front_longer _ _ _ old new begun (not_blank_rest pages first k within)
+      let before = not_blank_from first (take k pages) in let behind = not_blank_from (first + (k + 1)) (drop (k + 1) pages) in
+      record {
+        before = before;
+        behind = behind;
+        pages_are = not_blank_rest pages first k within ∙ ap (λ list. (before ++ list) ++ behind) (here ∙ one) ∙ append_assoc before (page ∷ []) behind;
+        wears = wears_both before (page ∷ []) old mid new sooner now;
+      }
 
 pub all_wear : (pages : List (List Word)) (first k : ℕ) (old new : Device) → k ≡ length pages → Wears (not_blank_from first (take k pages)) old new → Wears (not_blank_from first pages) old new
 all_wear pages first k old new e = subst (λ (list : List (List Word)). Wears (not_blank_from first list) old new) (ap (λ n. take n pages) e ∙ take-length pages)

@@ -208,8 +208,8 @@ forgets_map [] = refl
 forgets_map (put ∷ puts) = ap (changed_by (forgets_of puts)) (forgets_nothing put.address) ∙ forgets_map puts
 
 forgets_without : (puts : List listed.Put) (map : Map) → map_without (forgets_of puts) map ≡ map_without (puts_of puts) map
-forgets_without [] map = refl
-forgets_without (put ∷ puts) map = forgets_without puts (map_after (Forget put.address) map)
+forgets_without [] said = refl
+forgets_without (put ∷ puts) said = forgets_without puts (map_after (Forget put.address) said)
 
 forgets_names : (puts : List listed.Put) (address : ℕ) → names (forgets_of puts) address ≡ names (puts_of puts) address
 forgets_names [] address = refl
@@ -217,8 +217,8 @@ forgets_names (put ∷ puts) address = ap (λ (later : Bool). (put.address == ad
 
 -- either way the same addresses are not copied
 pub carried_without : (puts : List listed.Put) (forgets : Bool) (map : Map) → map_without (carried puts forgets) map ≡ map_without (puts_of puts) map
-carried_without puts true map = forgets_without puts map
-carried_without puts false map = refl
+carried_without puts true said = forgets_without puts said
+carried_without puts false said = refl
 
 pub carried_names : (puts : List listed.Put) (forgets : Bool) (address : ℕ) → names (carried puts forgets) address ≡ names (puts_of puts) address
 carried_names puts true address = forgets_names puts address

@@ -34,7 +34,7 @@ use Rattle.ee_core.proofs.Drawings.{drawn_as, same_drawn}
 use Rattle.ee_core.proofs.MovedSets.{used_where_full}
 use Rattle.ee_core.specs.Finished.{IsMarked, IsStore}
 use Rattle.ee_core.specs.Parts.{ForgetsHeld, HasMoved, IsSameSet, meant, number_written}
-use Rattle.ee_core.specs.State.{State, Wears, WearsFront, appended_state, capacity, moved_state, next_live, not_blank_in, pending_pages, pending_pages_in, torn_state, state_of, used_pages_in}
+use Rattle.ee_core.specs.State.{State, Wears, appended_state, capacity, moved_state, next_live, not_blank_in, pending_pages, pending_pages_in, torn_state, state_of, used_pages_in}
 use Rattle.ee_core.proofs.States.{same_states, state_is, state_kept, state_moved}
 use Rattle.ee_core.proofs.MovingFacts.{layout_kept}
 
@@ -108,10 +108,10 @@ module _ (old new : Device) (side : Side) (generation : ℕ) (live : IsLive old 
         (λ page at h within. ap (λ (waits : Bool). retired_pages (λ p. waits) (picture_of side old) page at) (used_are_left changes page needed (omega (arith, ap (λ (size : Size). size.pages) sizes))));
   }
 
-  pub shows_cut_move : (changes : List Change) → (let first = first_page old.size (other side) in ErasesPartly first (first + old.size.pages) old new ⊎ MovesPartly old new side generation (moved_words changes (meaning (slots_of (set_of side old))))) → ShowsCutMove old changes new side generation
+  pub shows_cut_move : (changes : List Change) → ErasesPartly (first_page old.size (other side)) (set_of (other side) old) old new ⊎ MovesPartly old new side generation (moved_words changes (meaning (slots_of (set_of side old)))) → ShowsCutMove old changes new side generation
   shows_cut_move changes left =
       let map : (state_of old).map ≡ meaning (slots_of (set_of side old)) = ap (λ (state : State). state.map) (state_is old side generation live) in
-      subst (λ (said : Map). let first = first_page old.size (other side) in ErasesPartly first (first + old.size.pages) old new ⊎ MovesPartly old new side generation (moved_words changes said)) (sym map) left
+      subst (λ (said : Map). ErasesPartly (first_page old.size (other side)) (set_of (other side) old) old new ⊎ MovesPartly old new side generation (moved_words changes said)) (sym map) left
 
   pub appends : (change : Change) → Proceeds old (change ∷ []) → GoesOn old new → fill_of (slots_of (set_of side old)) < capacity old → TakesSlot old new side generation (map_after change (meaning (slots_of (set_of side old)))) → IsSameSet (other side) old new → new.wear ≡ old.wear → ShowsAppended old change new side → Appends old change new
   appends change proceeds goes_on free takes same wear shows = search (rules, fill_was, state_is, state_appended, pending_stays)
@@ -135,7 +135,6 @@ module _ (old new : Device) (side : Side) (generation : ℕ) (live : IsLive old 
     free = λ _. cut_append change same left;
     all_used = λ all. absurd (omega (arith, fill_was));
     no_wear = λ _. wear;
-    wear = λ all. absurd (omega (arith, fill_was));
   }
 
   state_left : (changes : List Change) → NeedsTransfer (capacity old) (state_of old) changes → HasMoved old new side generation changes → state_of new ≡ moved_state (pages_left changes old) changes (state_of old)
@@ -159,10 +158,7 @@ module _ (old new : Device) (side : Side) (generation : ℕ) (live : IsLive old 
   cut_move changes needed few (inl keeps) = inl (pending_of (set_of (other side) new), few, state_kept old new side generation live keeps _ refl)
   cut_move changes needed few (inr has) = inr (state_left changes needed has)
 
-  module _ (cut : IsCut old new) (few : pending_of (set_of (other side) new) ≤ old.size.pages) (begun : WearsFront (not_blank_in (other side) old) old new) where
-    begun_pages : WearsFront (pending_pages old) old new
-    begun_pages = subst (λ pages. WearsFront pages old new) (sym pending_was) begun
-
+  module _ (cut : IsCut old new) (few : pending_of (set_of (other side) new) ≤ old.size.pages) where
     pub cut_in_move : (changes : List Change) → Proceeds old changes → NeedsTransfer (capacity old) (state_of old) changes
         → KeepsLiveSet old new side generation ⊎ HasMoved old new side generation changes → ShowsCutMove old changes new side generation → IsCutMaking old changes new
     cut_in_move [] proceeds needed left shows = absurd needed
@@ -175,9 +171,8 @@ module _ (old new : Device) (side : Side) (generation : ℕ) (live : IsLive old 
       free = λ less. absurd (omega (arith, needed));
       all_used = λ _. cut_move (change ∷ []) needed few left;
       no_wear = λ less. absurd (omega (arith, needed));
-      wear = λ _. begun_pages;
     }
-    cut_in_move (first ∷ second ∷ more) proceeds needed left shows = record { proceeds = proceeds; cut = cut; state_is = cut_move (first ∷ second ∷ more) needed few left; wear = begun_pages; words = (side, generation, live.live, shows) }
+    cut_in_move (first ∷ second ∷ more) proceeds needed left shows = record { proceeds = proceeds; cut = cut; state_is = cut_move (first ∷ second ∷ more) needed few left; words = (side, generation, live.live, shows) }
 
 -- the word of a change of a map, with the value that it forgets
 pub number_is : (change : declared.Change) (map : Map) → ForgetsHeld map change → number_written change ≡ number_of_change map (meant change)

@@ -1,14 +1,14 @@
 -- How wear rises over several steps, page by page and in all.
 use Rattle.std.proofs.Common.{rules, ◌≡◌, ◌⊎◌, inl, inr, ℕ, ◌+◌, ◌<◌, ◌++◌, List, [], ◌∷◌, ◌≤◌, Bool, true, false, cond, eqb, length, get_or, set, min, refl, sym, subst, ap, ◌∙◌, arith}
 use Rattle.std.specs.List.{All, sum}
-use Rattle.std.proofs.lemmas.Bool.{cases_Bool, cases_eq, cases_lt, eq-eqb, ne_eqb, true≢false}
-use Rattle.std.proofs.lemmas.List.{append-nil, append_assoc, get_or-set_other, get_or-set_same, get_or_past, length-append, length-set}
+use Rattle.std.proofs.lemmas.Bool.{cases_eq, cases_lt, eq-eqb, ne_eqb, true≢false}
+use Rattle.std.proofs.lemmas.List.{get_or-set_other, get_or-set_same, get_or_past, length-append, length-set}
 use Rattle.std.proofs.lemmas.List.Elements.{All-append, All-cons, All-from_get_or, All-get_or, All-head, All-nil, All-tail}
 use Rattle.std.proofs.lemmas.List.Sums.{sum_by-set}
-use Rattle.ee_flash.specs.Device.{Device, IsOff, IsOn, all_ones}
+use Rattle.ee_flash.specs.Device.{Device, IsOn, all_ones}
 use Rattle.ee_flash.specs.Step.{Erase, IsCutIn, IsUntouched, with_page_erased, one_more}
 use Rattle.ee_flash.specs.Wear.{total_wear_of}
-use Rattle.ee_core.specs.State.{CountsWear, WearRises, Wears, WearsFront, worn_by}
+use Rattle.ee_core.specs.State.{CountsWear, WearRises, Wears, worn_by}
 
 -- ---- wears as lists
 
@@ -110,33 +110,6 @@ wears_both pages more old mid new first second =
 -- what wears nothing more
 pub wears_still : (pages : List ℕ) (old mid new : Device) → Wears pages old mid → new.wear ≡ mid.wear → Wears pages old new
 wears_still pages old mid new wears same = record { there = wears.there; wear_is = same ∙ wears.wear_is }
-
--- none of them so far, or all
-pub front_none : (pages : List ℕ) (old new : Device) → new.wear ≡ old.wear → WearsFront pages old new
-front_none pages old new same = record { front = []; rest = pages; pages_are = refl; wears = wears_none old new same }
-
-pub front_all : (pages : List ℕ) (old new : Device) → Wears pages old new → WearsFront pages old new
-front_all pages old new wears = record { front = pages; rest = []; pages_are = sym (append-nil pages); wears = wears }
-
--- none of them with the power off, or all
-pub front_begun : (pages : List ℕ) (old new : Device) → (IsOn old → Wears pages old new) → (IsOff old → new ≡ old) → WearsFront pages old new
-front_begun pages old new on off = elim (cases_Bool old.on) [
-  | inl is_on ↦ front_all pages old new (on is_on)
-  | inr is_off ↦ front_none pages old new (ap (λ (device : Device). device.wear) (off is_off))
-]
-
--- some, and then a front of the others
-pub front_more : (pages more all : List ℕ) (old mid new : Device) → Wears pages old mid → WearsFront more mid new → all ≡ pages ++ more → WearsFront all old new
-front_more pages more all old mid new first second e = record {
-  front = pages ++ second.front;
-  rest = second.rest;
-  pages_are = e ∙ ap (λ list. pages ++ list) second.pages_are ∙ sym (append_assoc pages second.front second.rest);
-  wears = wears_both pages second.front old mid new first second.wears;
-}
-
--- and others that were not begun
-pub front_longer : (pages more all : List ℕ) (old new : Device) → WearsFront pages old new → all ≡ pages ++ more → WearsFront all old new
-front_longer pages more all old new some e = search (rules, append_assoc)
 
 -- ---- so many erases
 

@@ -6,7 +6,7 @@ use Rattle.ee_pages.specs.Meaning.{Change, Map, Put, Forget, changed_by, live_in
 use Rattle.ee_pages.specs.Sets.{live_of}
 use Rattle.ee_core.specs.Picture.{OfLive}
 use Rattle.ee_core.specs.Shown.{ShowsAppended, ShowsCutAppend, ShowsCutMove, ShowsMoved}
-use Rattle.ee_core.specs.State.{State, Wears, WearsFront, appended_state, capacity, moved_state, pending_pages, torn_state, state_of, next_live, used_pages_of, with_pending}
+use Rattle.ee_core.specs.State.{State, Wears, appended_state, capacity, moved_state, pending_pages, torn_state, state_of, next_live, used_pages_of, with_pending}
 
 -- the greatest generation: no transfer follows it
 abbrev pub greatest_generation : ℕ
@@ -98,8 +98,9 @@ IsCutAppend old change new = (new ≡ old) ⊎ (new ≡ torn_state old) ⊎ (new
 abbrev pub IsCutMove : ℕ → ℕ → State → List Change → State → Type 0
 IsCutMove pages left old changes new = ((pending : ℕ) × (pending ≤ pages) × (new ≡ with_pending pending old)) ⊎ (new ≡ moved_state left changes old)
 
--- Power was cut in a change. With a slot free no page was erased; with none free, a front of those that waited. No more
--- slots were used than there are, so it is the one or the other.
+-- Power was cut in a change. With a slot free no page was erased. With none free those that waited were, up to the one in
+-- whose erase power was cut, or all where that came behind the erases. No more slots were used than there are, so it is the
+-- one or the other.
 pub record IsCutChange (old : Device) (change : Change) (new : Device) : Type 0 where
   pub proceeds : Proceeds old (change ∷ [])
   pub cut : IsCut old new
@@ -107,16 +108,15 @@ pub record IsCutChange (old : Device) (change : Change) (new : Device) : Type 0 
   pub free : (state_of old).fill < capacity old → IsCutAppend (state_of old) change (state_of new)
   pub all_used : (state_of old).fill ≡ capacity old → IsCutMove old.size.pages old.size.pages (state_of old) (change ∷ []) (state_of new)
   pub no_wear : (state_of old).fill < capacity old → new.wear ≡ old.wear
-  pub wear : (state_of old).fill ≡ capacity old → WearsFront (pending_pages old) old new
   pub free_words : (state_of old).fill < capacity old → OfLive old (λ side generation. ShowsCutAppend old change new side)
   pub used_words : (state_of old).fill ≡ capacity old → OfLive old (λ side generation. ShowsCutMove old (change ∷ []) new side generation)
 
--- Power was cut in a transfer with several changes: the map is as it was, or has them all.
+-- Power was cut in a transfer with several changes: the map is as it was, or has them all. The pages that waited were erased
+-- up to the one in whose erase power was cut, or all.
 pub record IsCutTransfer (old : Device) (changes : List Change) (new : Device) : Type 0 where
   pub proceeds : Proceeds old changes
   pub cut : IsCut old new
   pub state_is : IsCutMove old.size.pages (pages_left changes old) (state_of old) changes (state_of new)
-  pub wear : WearsFront (pending_pages old) old new
   pub words : OfLive old (λ side generation. ShowsCutMove old changes new side generation)
 
 -- power was cut in making these changes

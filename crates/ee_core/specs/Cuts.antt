@@ -1,5 +1,5 @@
 -- What a cut leaves, word for word, of a call that would leave a picture.
-use Rattle.std.specs.Prelude.{◌≡◌, ◌≢◌, ◌<◌, ◌≤◌, ◌⊎◌, ℕ, ◌+◌, ◌-◌, false, true, List, ◌++◌, length}
+use Rattle.std.specs.Prelude.{◌≡◌, ◌≢◌, ◌<◌, ◌≤◌, ◌⊎◌, ℕ, ◌+◌, ◌-◌, true, List, ◌++◌, length}
 use Rattle.ee_flash.specs.Device.{Device, page_at, word_at}
 use Rattle.ee_flash.specs.Step.{IsPartlyErased}
 use Rattle.ee_flash.specs.declared.word.Word.{Word}
@@ -10,6 +10,7 @@ use Rattle.ee_pages.specs.declared.state.Mark.{Mark}
 use Rattle.ee_pages.specs.Sets.{other, page_of_slot}
 use Rattle.ee_core.specs.Parts.{Holds, opened_set}
 use Rattle.ee_core.specs.Picture.{IsDrawn, Picture, blank, filled_set, is_used, marked_word, picture_of, retired_pages}
+use Rattle.ee_core.specs.State.{Wears, WearsTo, not_blank_from, not_blank_in}
 
 -- A word, when power was cut in a call that programs words: it is as before, or as the whole call leaves it, or torn, where
 -- the whole call would have changed it.
@@ -21,22 +22,21 @@ abbrev pub IsDrawnPartly : Side → Device → Picture → Picture → Type 0
 IsDrawnPartly side device old whole =
     (page at : ℕ) → page < device.size.pages → at < device.size.words → IsPartlyDone (old page at) (whole page at) (picture_of side device page at)
 
--- Power was cut in erasing, by rising page, what is not blank of the pages from the first to the one before the last: at this
--- page, which was not blank. Those before it are blank; in it each word is as before, erased or torn; and each other page is
--- as before.
-pub record ErasesPartly (first last : ℕ) (old new : Device) : Type 0 where
+-- Power was cut in erasing, by rising page, those of these pages that are not blank, where the first has this number: at one
+-- of them. It has worn, and so have those of them before it, and no other. The pages before it are blank; in it each word is
+-- as before, erased or torn; and each other page is as before.
+pub record ErasesPartly (first : ℕ) (pages : List (List Word)) (old new : Device) : Type 0 where
   pub page : ℕ
-  pub from : first ≤ page
-  pub below : page < last
-  pub not_blank : is_blank (page_at old page) ≡ false
+  pub wear : WearsTo page (not_blank_from first pages) old new
   pub before : (lower : ℕ) → first ≤ lower → lower < page → is_blank (page_at new lower) ≡ true
   pub here : IsPartlyErased (page_at old page) (page_at new page)
   pub others : (other : ℕ) → (other < first) ⊎ (page < other) → page_at new other ≡ page_at old other
 
--- Power was cut in a transfer, behind its erases: in the other set each word is erased, as the whole transfer leaves it, or
--- torn; in the set that was live each mark that its page may be erased, if that isn't blank, is as before, set or torn, and
+-- Power was cut in a transfer, behind its erases: each page of the other set that was not blank has worn, and no other page;
+-- in that set each word is erased, as the whole transfer leaves it, or torn; in the set that was live each mark that its page may be erased, if that isn't blank, is as before, set or torn, and
 -- each other word is as before.
 pub record MovesPartly (old new : Device) (side : Side) (generation : ℕ) (words : List Word) : Type 0 where
+  pub wear : Wears (not_blank_in (other side) old) old new
   pub new_pages : IsDrawnPartly (other side) new blank (filled_set old.size (generation + 1) words)
   pub old_pages : IsDrawnPartly side new (picture_of side old) (retired_pages (is_used side old) (picture_of side old))
 
@@ -44,6 +44,7 @@ pub record MovesPartly (old new : Device) (side : Side) (generation : ℕ) (word
 
 -- in a transfer, before a mark of the set that was live
 pub record MovesMapPartly (old new : Device) (side : Side) (generation : ℕ) (words : List Word) : Type 0 where
+  pub wear : Wears (not_blank_in (other side) old) old new
   pub new_pages : IsDrawnPartly (other side) new blank (filled_set old.size (generation + 1) words)
   pub live_pages : IsDrawn side new (picture_of side old)
 

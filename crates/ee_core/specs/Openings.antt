@@ -2,7 +2,6 @@
 use Rattle.std.specs.Prelude.{◌≡◌, ◌⊎◌, ◌+◌, ℕ, Some, List, [], not}
 use Rattle.ee_flash.specs.Device.{Device, page_at}
 use Rattle.ee_flash.specs.Power.{GoesOn, IsCut}
-use Rattle.ee_flash.specs.Size.{page_count}
 use Rattle.ee_pages.specs.Layout.{IsScanFault}
 use Rattle.ee_pages.specs.Legal.{IsLegal}
 use Rattle.ee_pages.specs.Page.{is_blank}
@@ -12,7 +11,7 @@ use Rattle.ee_pages.specs.declared.side.Side.TheVariants.{First, Second}
 use Rattle.ee_core.specs.Finished.{IsFinished, IsStore, last_used}
 use Rattle.ee_core.specs.Cuts.{ErasesPartly, IsDrawnPartly}
 use Rattle.ee_core.specs.Picture.{IsDrawn, OfLive, blank, filled_set, marked_to, picture_of, retired_pages}
-use Rattle.ee_core.specs.State.{Wears, WearsFront, formatted_state, not_blank_from, pending_pages, state_of}
+use Rattle.ee_core.specs.State.{Wears, formatted_state, not_blank_from, pending_pages, state_of}
 use Rattle.ee_core.specs.declared.opening.OpenFault.{OpenFault}
 use Rattle.ee_core.specs.declared.opening.OpenFault.TheVariants.{Scan, Cut}
 
@@ -61,18 +60,17 @@ OpenFails old Cut new = IsCutOpening old new
 abbrev pub not_blank_pages : Device → List ℕ
 not_blank_pages device = not_blank_from 0 device.image
 
--- what is drawn when power was cut in a format, behind its erases: of the first set each word is erased, as the whole format
--- leaves it, or torn; the second set is blank
-pub record ShowsCutFormat (new : Device) : Type 0 where
+-- Power was cut in a format, behind its erases: each page that was not blank has worn, and no other; of the first set each
+-- word is erased, as the whole format leaves it, or torn; the second set is blank.
+pub record FormatsPartly (old new : Device) : Type 0 where
+  pub wear : Wears (not_blank_pages old) old new
   pub first_set : IsDrawnPartly First new blank (filled_set new.size 1 [])
   pub second_set : IsDrawn Second new blank
 
--- power was cut in a format: in erasing the pages that were not blank, of which a front was erased and no other, or behind
--- that
+-- power was cut in a format: in erasing the pages that were not blank, or behind that
 pub record IsCutFormat (old new : Device) : Type 0 where
   pub cut : IsCut old new
-  pub wear : WearsFront (not_blank_pages old) old new
-  pub words : ErasesPartly 0 (page_count old.size) old new ⊎ ShowsCutFormat new
+  pub words : ErasesPartly 0 old.image old new ⊎ FormatsPartly old new
 
 -- a store with nothing in it, whose live set is the first, with generation 1; each page that was not blank was
 -- erased, each once, and no other

@@ -2,7 +2,7 @@
 use Rattle.std.specs.Prelude.{◌⊎◌, ℕ, ◌+◌, Bool, true, List, [], ◌∷◌}
 use Rattle.ee_flash.specs.Device.{Device}
 use Rattle.ee_pages.specs.Meaning.{Change}
-use Rattle.ee_pages.specs.Sets.{first_page, other}
+use Rattle.ee_pages.specs.Sets.{first_page, other, set_of}
 use Rattle.ee_pages.specs.declared.side.Side.{Side}
 use Rattle.ee_core.specs.Cuts.{ErasesPartly, IsDrawnPartly, MovesPartly}
 use Rattle.ee_core.specs.Picture.{IsDrawn, filled_set, is_used, moved_words, number_of_change, picture_of, retired_pages, with_change}
@@ -34,5 +34,5 @@ pub record ShowsCutAppend (old : Device) (change : Change) (new : Device) (side 
 -- power was cut in a transfer: in erasing the pages of the other set, or behind that
 abbrev pub ShowsCutMove : Device → List Change → Device → Side → ℕ → Type 0
 ShowsCutMove old changes new side generation =
-    let first = first_page old.size (other side) in
-    ErasesPartly first (first + old.size.pages) old new ⊎ MovesPartly old new side generation (moved_words changes (state_of old).map)
+    ErasesPartly (first_page old.size (other side)) (set_of (other side) old) old new
+    ⊎ MovesPartly old new side generation (moved_words changes (state_of old).map)

@@ -127,12 +127,12 @@ pub record Wears (pages : List ℕ) (old new : Device) : Type 0 where
   pub there : All (λ page. page < length old.wear) pages
   pub wear_is : new.wear ≡ worn_by pages old.wear
 
--- So were those of a front of the list.
-pub record WearsFront (pages : List ℕ) (old new : Device) : Type 0 where
-  pub front : List ℕ
-  pub rest : List ℕ
-  pub pages_are : pages ≡ front ++ rest
-  pub wears : Wears front old new
+-- So were those of the list up to this page, or an erase of this one was begun; those behind it have not worn.
+pub record WearsTo (page : ℕ) (pages : List ℕ) (old new : Device) : Type 0 where
+  pub before : List ℕ
+  pub behind : List ℕ
+  pub pages_are : pages ≡ before ++ (page ∷ behind)
+  pub wears : Wears (before ++ (page ∷ [])) old new
 
 -- So were so many pages, one page perhaps several times.
 pub record WearRises (erases : ℕ) (old new : Device) : Type 0 where

@@ -1,7 +1,7 @@
 -- How a transfer fills the other set: what a part of it finds there, and what it leaves.
 use Rattle.std.specs.Prelude.{◌≡◌, ◌⊎◌, ℕ, ◌+◌, ◌-◌, None, Result, Ok, Err, List, [], ◌∷◌, ◌++◌, length, slice_set}
 use Rattle.ee_codec.specs.Words.{IsGeneration}
-use Rattle.ee_flash.specs.Device.{Device}
+use Rattle.ee_flash.specs.Device.{Device, IsOn}
 use Rattle.ee_flash.specs.declared.word.Word.{Word}
 use Rattle.ee_flash.specs.declared.word.Word.TheVariants.{Held}
 use Rattle.ee_pages.specs.Filling.{IsFilling}
@@ -14,7 +14,7 @@ use Rattle.ee_pages.specs.declared.side.Side.{Side}
 use Rattle.ee_core.specs.Cuts.{AddsPartly, ErasesPartly}
 use Rattle.ee_core.specs.Parts.{AddsWords, HasMoved, Stands, map_in, meant, number_written, opened_set}
 use Rattle.ee_core.specs.Picture.{IsDrawn, moved_words, picture_of}
-use Rattle.ee_core.specs.State.{Wears, WearsFront, not_blank_in}
+use Rattle.ee_core.specs.State.{Wears, not_blank_in}
 use Rattle.ee_core.specs.declared.change.Change as declared
 use Rattle.ee_core.specs.declared.copying.Place.{Place}
 
@@ -84,11 +84,11 @@ pub record MapMoved (old new : Device) (layout : Layout) (changes : List Change)
   pub as_many : count ≡ length (moved_words changes (map_in layout.side old))
   pub wear : Wears (not_blank_in (other layout.side) old) old new
 
--- Or power was cut on the way: a front of those pages was erased, and behind the erases the words are as is said; the live
--- set is as before, or the map has moved.
+-- Or power was cut on the way: in those erases, or behind them, and then the words are as is said; the live set is as
+-- before, or the map has moved.
 pub record MapMovedPartly (old new : Device) (layout : Layout) (changes : List Change) (Leaves : Device → Device → Side → ℕ → List Word → Type 0) : Type 0 where
-  pub begun : WearsFront (not_blank_in (other layout.side) old) old new
-  pub words : ErasesPartly (first_page old.size (other layout.side)) (first_page old.size (other layout.side) + old.size.pages) old new
+  pub words : IsOn old
+      → ErasesPartly (first_page old.size (other layout.side)) (set_of (other layout.side) old) old new
       ⊎ Leaves old new layout.side layout.generation (moved_words changes (map_in layout.side old))
   pub cut : KeepsLiveSet old new layout.side layout.generation ⊎ HasMoved old new layout.side layout.generation changes
 

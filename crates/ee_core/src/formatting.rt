@@ -3,16 +3,15 @@ ghost use Rattle.std.specs.Prelude.{◌≡◌, ◌⊎◌, IfOk, [], OnErr, OnOk,
 ghost use Rattle.std.specs.List.{All};
 ghost use Rattle.ee_flash.specs.Device.{IsOn};
 ghost use Rattle.ee_flash.specs.Power.{Ends};
-ghost use Rattle.ee_flash.specs.Size.{page_count};
 ghost use Rattle.ee_pages.specs.Layout.{IsLayout};
 ghost use Rattle.ee_pages.specs.Page.{is_blank};
 ghost use Rattle.ee_pages.specs.declared.side.Side.TheVariants.{First, Second};
 ghost use Rattle.ee_core.specs.Cuts.{ErasesPartly};
 ghost use Rattle.ee_core.specs.Finished.{IsMarked};
-ghost use Rattle.ee_core.specs.Openings.{ShowsCutFormat, not_blank_pages};
+ghost use Rattle.ee_core.specs.Openings.{FormatsPartly, not_blank_pages};
 ghost use Rattle.ee_core.specs.Picture.{IsDrawn, blank, filled_set};
 ghost use Rattle.ee_core.specs.Starts.{IsStartable, IsStarting};
-ghost use Rattle.ee_core.specs.State.{Wears, WearsFront, formatted_state, state_of};
+ghost use Rattle.ee_core.specs.State.{Wears, formatted_state, state_of};
 
 use ee_flash::{Cut, Flash};
 use ee_pages::{Layout, Mark, Side, is_blank as page_is_blank, mark};
@@ -29,12 +28,9 @@ pub(crate) fn write_format<F: Flash>(flash: &mut F) -> Result<Layout, Cut>
     ensures second_set { OnOk result (IsDrawn Second (F.device flash.new) blank) }
     ensures wear { OnOk result (Wears (not_blank_pages (F.device flash.old))
         (F.device flash.old) (F.device flash.new)) }
-    ensures begun { OnErr result (WearsFront (not_blank_pages (F.device flash.old))
-        (F.device flash.old) (F.device flash.new)) }
-    ensures words { OnErr result
-        (ErasesPartly 0 (page_count (F.device flash.old).size)
-        (F.device flash.old) (F.device flash.new)
-        ⊎ ShowsCutFormat (F.device flash.new)) }
+    ensures words { OnErr result (IsOn (F.device flash.old)
+        → ErasesPartly 0 (F.device flash.old).image (F.device flash.old) (F.device flash.new)
+        ⊎ FormatsPartly (F.device flash.old) (F.device flash.new)) }
     ensures starting { OnErr result
         (IsOn (F.device flash.old) → IsStartable (F.device flash.old)
         → IsStarting (F.device flash.new)) }
@@ -56,10 +52,8 @@ fn erase_all<F: Flash>(flash: &mut F) -> Result<(), Cut>
     ensures blank { OnOk result (All (λ page. is_blank page ≡ true) (F.device flash.new).image) }
     ensures wear { OnOk result (Wears (not_blank_pages (F.device flash.old))
         (F.device flash.old) (F.device flash.new)) }
-    ensures begun { OnErr result (WearsFront (not_blank_pages (F.device flash.old))
-        (F.device flash.old) (F.device flash.new)) }
-    ensures partly { OnErr result (ErasesPartly 0 (page_count (F.device flash.old).size)
-        (F.device flash.old) (F.device flash.new)) }
+    ensures partly { OnErr result (IsOn (F.device flash.old)
+        → ErasesPartly 0 (F.device flash.old).image (F.device flash.old) (F.device flash.new)) }
     ensures startable { IsStartable (F.device flash.old) → IsStartable (F.device flash.new) }
     ensures power { Ends result (F.device flash.old) (F.device flash.new) }
 {

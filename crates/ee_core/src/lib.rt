@@ -19,12 +19,12 @@
 //! and pending afterwards, or is refused exactly under its cause with nothing changed; values that
 //! are written at once are all there or none is; a clean step erases the lowest page that waits, a
 //! transfer those that wait, each once, and an append none, and each page's wear rises by that and
-//! by nothing else; after a cut the state is the old one or the new
-//! one, but for a torn slot or for pages that were erased, and those are a front of the pages that
-//! waited; and each word is as before, as the whole call leaves it, or torn where the whole call
-//! would have changed it, and in a page that was being erased as before, erased or torn
-//! (`IsCutChange`, `IsCutTransfer`, `IsCutClean`). `Store` keeps it on every device that keeps the contract of
-//! `Flash`, takes no memory, and leaves a legal image always. `open` (`opened`, `failed`) and
+//! by nothing else; after a cut the state is the old one or the new one, but for a torn slot or for
+//! pages that were erased, and those are the pages that waited up to the one in whose erase power
+//! was cut, or all; and each word is as before, as the whole call leaves it, or torn where the whole
+//! call would have changed it, and in a page that was being erased as before, erased or torn
+//! (`IsCutChange`, `IsCutTransfer`, `IsCutClean`). `Store` keeps it on every device that keeps the
+//! contract of `Flash`, takes no memory, and leaves a legal image always. `open` (`opened`, `failed`) and
 //! `format` (`formatted`, `cut`) say what they find and leave, word for word after a cut too, and
 //! `count_pending` says how many pages of a set are not blank, of any device. `start` is the call
 //! for each boot: a device in which no set is committed and no slot holds a word is formatted, and

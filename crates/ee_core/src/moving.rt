@@ -2,6 +2,7 @@
 ghost use Rattle.std.specs.Prelude.{◌≡◌, ◌<◌, ◌≤◌, ◌⊎◌, ℕ, ◌+◌, IfOk, List, [], OnErr, OnOk, true};
 ghost use Rattle.std.specs.List.{All};
 ghost use Rattle.ee_codec.specs.Words.{IsGeneration};
+ghost use Rattle.ee_flash.specs.Device.{IsOn};
 ghost use Rattle.ee_flash.specs.Power.{Ends};
 ghost use Rattle.ee_flash.specs.Size.{slot_count};
 ghost use Rattle.ee_pages.specs.Filling.{IsCommitted, IsFilling};
@@ -16,7 +17,7 @@ ghost use Rattle.ee_core.specs.Finished.{IsMarked};
 ghost use Rattle.ee_core.specs.Parts.{Holds, IsCommittedWith, IsSameSet, SetsMark, map_in};
 ghost use Rattle.ee_core.specs.Picture.{IsDrawn, blank, filled_set, is_used, moved_words, picture_of, retired_pages};
 ghost use Rattle.ee_core.specs.Puts.{AreApart, carried};
-ghost use Rattle.ee_core.specs.State.{Wears, WearsFront, not_blank_in};
+ghost use Rattle.ee_core.specs.State.{Wears, not_blank_in};
 ghost use Rattle.ee_core.specs.Transfers.{IsNewlyOpened, MovesMap};
 
 use crate::change::Put;
@@ -120,12 +121,9 @@ fn clear<F: Flash>(flash: &mut F, layout: &Layout) -> Result<(), Cut>
     ensures wear { OnOk result
         (Wears (not_blank_in (other_of layout.now.side) (F.device flash.old))
         (F.device flash.old) (F.device flash.new)) }
-    ensures begun { OnErr result
-        (WearsFront (not_blank_in (other_of layout.now.side) (F.device flash.old))
-        (F.device flash.old) (F.device flash.new)) }
-    ensures partly { let old = F.device flash.old in
-        let first = first_of old.size (other_of layout.now.side) in OnErr result
-        (ErasesPartly first (first + old.size.pages) old (F.device flash.new)) }
+    ensures partly { let old = F.device flash.old in let side = other_of layout.now.side in
+        OnErr result (IsOn old
+        → ErasesPartly (first_of old.size side) (set_of side old) old (F.device flash.new)) }
     ensures power { Ends result (F.device flash.old) (F.device flash.new) }
 {
     let first = first_page(flash, layout.side.other());

@@ -4,8 +4,7 @@ ghost use Rattle.ee_flash.specs.Size.{IsWithinLimits, size_of, slot_count};
 
 use std::marker::Model;
 
-/// The words of a page's header, below its slots. `Shape::slots` holds it to the definitions'
-/// `header_words`.
+/// The words of a page's header, below its slots.
 ///
 /// Source: ours.
 pub const HEADER_WORDS: usize = 4;
@@ -64,6 +63,7 @@ impl Shape {
 
     /// The slots of a set, 1 to 32512: the words of its pages, less the four of each page's header.
     pub fn slots(&self) -> usize
+        // So `HEADER_WORDS` is the definitions' `header_words`.
         ensures value { result ≡ slot_count self.now }
         ensures some { 1 ≤ result }
         ensures few { result ≤ 32512 }

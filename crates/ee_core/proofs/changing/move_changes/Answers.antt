@@ -28,8 +28,8 @@ returns-in_err-transfer g c =
       as_many = never_on_ok _ _ failed;
       new_pages = never_on_ok _ _ failed;
       cut = always_on_err _
-          (cut_in_move old new layout.side layout.generation c.requires.layout.live cut (omega (arith, few, ap (λ size. size.pages) cut.same_size)) left.begun
-          changes c.requires.proceeds c.requires.needed left.cut (shows_cut_move old new layout.side layout.generation c.requires.layout.live changes left.words));
+          (cut_in_move old new layout.side layout.generation c.requires.layout.live cut (omega (arith, few, ap (λ size. size.pages) cut.same_size))
+          changes c.requires.proceeds c.requires.needed left.cut (shows_cut_move old new layout.side layout.generation c.requires.layout.live changes (left.words c.requires.proceeds.on)));
       store = store_after_move old new layout.side layout.generation changes cut.is_off left.cut;
       layout = λ on. absurd (not_both new on cut.is_off);
     }

@@ -5,7 +5,7 @@ use Rattle.ee_core.proofs.first_start.start_anew.Goals as goal
 pub returns-in-Err : goal.returns-in-Err
 returns-in-Err g c =
     let failed = c.in-Err.ensures in
-    record { formatted = tt; fault = refl; cut = record { was_startable = c.requires.startable; cut = record { cut = failed.power.cut c.requires.on; wear = failed.begun; words = failed.words }; starting = failed.starting c.requires.on c.requires.startable } }
+    record { formatted = tt; fault = refl; cut = record { was_startable = c.requires.startable; cut = record { cut = failed.power.cut c.requires.on; words = failed.words c.requires.on }; starting = failed.starting c.requires.on c.requires.startable } }
 
 pub of-requires-clause-store : goal.of-requires-clause-store
 of-requires-clause-store g c = format_store c.in-Ok.layout (g.F.Flash.device c.write_format.new.flash) c.in-Ok.ensures.layout c.in-Ok.ensures.first c.in-Ok.ensures.marked

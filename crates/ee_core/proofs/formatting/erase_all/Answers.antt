@@ -1,19 +1,19 @@
-use Rattle.std.proofs.Common.{rules, ◌≡◌, ◌≢◌, ◌<◌, ◌+◌, inl, inr, true, false, length, ap, arith, ◌∙◌, sym, [], ◌∷◌}
-use Rattle.ee_flash.specs.Device.{page_at}
+use Rattle.std.proofs.Common.{rules, ◌≡◌, ◌≢◌, ◌<◌, ◌+◌, inl, inr, true, false, length, ap, arith, ◌∙◌, sym}
+use Rattle.ee_flash.specs.Device.{IsOn, page_at}
 use Rattle.ee_flash.specs.Size.{page_count}
 use Rattle.ee_pages.specs.Page.{is_blank}
-use Rattle.ee_core.proofs.AfterCalls.{ends_in_step, goes_on_both, never_on_ok, not_both}
+use Rattle.ee_core.proofs.AfterCalls.{ends_in_step, goes_on_both, never_on_ok}
 use Rattle.ee_core.proofs.FormatFacts.{BlanksPage, all_blank, blank_already, blank_more, blanks_page}
 use Rattle.ee_core.proofs.Startable.{erase_startable}
 use Rattle.ee_core.specs.Starts.{IsStartable}
-use Rattle.ee_core.proofs.ErasedPages.{all_wear, front_wears, wears_next}
+use Rattle.ee_core.proofs.ErasedPages.{all_wear, wears_next, wears_to}
 use Rattle.ee_core.proofs.Cuts.{erase_partly, erases_partly}
 use Rattle.ee_core.proofs.Making.{always_on_err}
 use Rattle.ee_pages.proofs.Public.{step_keeps_other_pages}
 use Rattle.ee_flash.specs.Step.{Erase}
+use Rattle.ee_core.specs.Cuts.{ErasesPartly}
 use Rattle.ee_core.specs.Parts.{IsSameBut}
-use Rattle.ee_core.proofs.Wears.{cut_page_wears, front_begun}
-use Rattle.ee_core.specs.State.{WearsFront}
+use Rattle.ee_core.proofs.Wears.{cut_page_wears}
 use Rattle.ee_core.proofs.formatting.erase_all.Goals.{then-not-is_blank+in_ok-erase, else-not-is_blank}
 use Rattle.ee_core.proofs.formatting.erase_all.Goals as goal
 
@@ -74,17 +74,18 @@ returns-in_err-erase g c =
     let within : page < length old.image = omega (arith, in_range, formed.image_length) in
     let has_wear : page < length mid.wear = omega (arith, now_in_range, mid_formed.wear_length) in
     let written : is_blank (page_at mid page) ≡ false = sym c.is_blank.ensures ∙ c.if-not-is_blank.true in let at : 0 + page ≡ page = omega arith in
-    let one : WearsFront (page ∷ []) mid new = front_begun (page ∷ []) mid new (cut_page_wears page mid new has_wear cut) (λ off. elim cut [ inl taken ↦ absurd (not_both mid taken.was_on off) | inr none ↦ none.same ]) in
     let others : IsSameBut page mid new = λ k apart. step_keeps_other_pages (Erase page) mid new k (record { formed = mid_formed; may = now_in_range; follows = inr cut }) apart in
     let failed = c.from_residual.ensures.0 in
+    let partly : IsOn old → ErasesPartly 0 old.image old new = λ on.
+    let now = cut_page_wears page mid new has_wear cut (c.pages.invariant.power.same_power ∙ on) in
+    let wear = wears_to old.image 0 page page old mid new at within (sym (c.pages.invariant.rest page (omega arith))) c.pages.invariant.wear written now in
+    erases_partly 0 page old.image old mid new wear (omega arith) (λ k low high. c.pages.invariant.blank k high)
+    (λ k either. elim either [ inl none ↦ absurd (omega (arith, none)) | inr high ↦ c.pages.invariant.rest k high ])
+    others (erase_partly page mid new cut) in
     record {
       blank = never_on_ok _ _ failed;
       wear = never_on_ok _ _ failed;
-      begun = always_on_err _ (front_wears old.image 0 page page old mid new at within (sym (c.pages.invariant.rest page (omega arith))) c.pages.invariant.wear written one);
-      partly = always_on_err _
-          (erases_partly 0 (page_count old.size) page old mid new (omega arith) in_range written (λ k low high. c.pages.invariant.blank k high)
-          (λ k either. elim either [ inl none ↦ absurd (omega (arith, none)) | inr high ↦ c.pages.invariant.rest k high ])
-          others (erase_partly page mid new cut));
+      partly = always_on_err _ partly;
       startable = λ before. erase_startable page mid new mid_formed now_in_range (inr cut) (c.pages.invariant.startable before);
       power = ends_in_step (Erase page) _ failed c.pages.invariant.power cut;
     }

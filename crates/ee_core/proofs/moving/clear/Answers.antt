@@ -1,8 +1,9 @@
-use Rattle.std.proofs.Common.{◌≡◌, ◌∷◌, [], ap, arith, false, refl, sym, ◌∙◌}
-use Rattle.ee_flash.specs.Device.{page_at}
+use Rattle.std.proofs.Common.{◌≡◌, ap, arith, false, refl, sym, ◌∙◌}
+use Rattle.ee_flash.specs.Device.{IsOn, page_at}
 use Rattle.ee_flash.specs.Size.{Size}
 use Rattle.ee_pages.specs.Page.{is_blank}
 use Rattle.ee_pages.specs.Sets.{first_page, other, set_of}
+use Rattle.ee_core.specs.Cuts.{ErasesPartly}
 use Rattle.ee_core.proofs.AfterCalls.{ends_later, goes_on_same, never_on_ok}
 use Rattle.ee_core.proofs.ClearedSets.{all_cleared, cleared_cut, cleared_next}
 use Rattle.ee_core.proofs.ErasedPages.{none_wears, written_wears}
@@ -10,7 +11,6 @@ use Rattle.ee_core.proofs.FormatFacts.{blank_already}
 use Rattle.ee_core.proofs.Making.{always_on_err}
 use Rattle.ee_core.proofs.MovingFacts.{keeps_both, keeps_same, layout_kept}
 use Rattle.ee_core.proofs.SetPages.{page_of_device, page_reached}
-use Rattle.ee_core.proofs.Wears.{front_begun}
 use Rattle.ee_core.proofs.moving.clear.Goals.{then-not-is_blank+in_ok-erase_other, else-not-is_blank}
 use Rattle.ee_core.proofs.moving.clear.Goals as goal
 
@@ -68,7 +68,7 @@ returns g c =
     let first : c.first_page-first.result ≡ first_page old.size (other side) = c.first_page-first.ensures ∙ ap (first_page old.size) c.other.ensures in
     let pages : c.pages-2.result ≡ old.size.pages = c.pages-2.ensures.value ∙ ap (λ (size : Size). size.pages) c.shape.ensures in
     let all = all_cleared side generation old _ _ (g.met.F.Flash.formed c.args.flash.now) first pages new c.pages.page (g.met.F.Flash.formed c.pages.flash) (omega (arith, c.pages-test.false, c.pages.auto.page-end)) left in
-    record { keeps = left.keeps; blank = all.0; live_pages = left.same; wear = all.1; begun = tt; partly = tt; power = record { ok = left.goes; cut = tt; off = tt } }
+    record { keeps = left.keeps; blank = all.0; live_pages = left.same; wear = all.1; partly = tt; power = record { ok = left.goes; cut = tt; off = tt } }
 
 pub returns-in_err-erase_other : goal.returns-in_err-erase_other
 returns-in_err-erase_other g c =
@@ -78,13 +78,13 @@ returns-in_err-erase_other g c =
     let pages : c.pages-2.result ≡ old.size.pages = c.pages-2.ensures.value ∙ ap (λ (size : Size). size.pages) c.shape.ensures in
     let written : is_blank (page_at mid page) ≡ false = sym c.is_blank.ensures ∙ c.if-not-is_blank.true in let cut = c.in_err-erase_other.ensures in
     let failed = c.from_residual.ensures.0 in
-    let left = cleared_cut side generation old _ _ (g.met.F.Flash.formed c.args.flash.now) first pages mid page c.pages.auto.page c.pages-test.true c.pages.invariant new written (front_begun (page ∷ []) mid new cut.begun cut.power.off) cut.others cut.partly in
+    let partly : IsOn old → ErasesPartly (first_page old.size (other side)) (set_of (other side) old) old new = λ on.
+    cleared_cut side generation old _ _ (g.met.F.Flash.formed c.args.flash.now) first pages mid page c.pages.auto.page c.pages-test.true c.pages.invariant new written (cut.begun (c.pages.invariant.goes.same_power ∙ on)) cut.others cut.partly in
     record {
       keeps = keeps_both old mid new side generation c.pages.invariant.keeps cut.keeps;
       blank = never_on_ok _ _ failed;
       live_pages = never_on_ok _ _ failed;
       wear = never_on_ok _ _ failed;
-      begun = always_on_err c.from_residual.result left.0;
-      partly = always_on_err c.from_residual.result left.1;
+      partly = always_on_err c.from_residual.result partly;
       power = ends_later _ failed c.pages.invariant.goes cut.power;
     }

@@ -12,7 +12,7 @@ use Rattle.ee_core.specs.Puts.{carried}
 use Rattle.ee_core.proofs.MovingFacts.{has_moved, keeps_both, layout_kept}
 use Rattle.ee_flash.specs.Size.{Size}
 use Rattle.ee_core.proofs.CutMoves.{filled_partly}
-use Rattle.ee_core.proofs.Wears.{front_all, wears_still}
+use Rattle.ee_core.proofs.Wears.{wears_still}
 use Rattle.ee_core.specs.State.{not_blank_in}
 use Rattle.ee_core.specs.Cuts.{AddsPartly, IsDrawnPartly}
 use Rattle.ee_core.proofs.moving.move_map.Goals as goal
@@ -32,7 +32,7 @@ pub returns-in_err-clear : goal.returns-in_err-clear
 returns-in_err-clear g c =
     let failed = err_from_is_err_and c.from_residual.result c.from_residual.ensures.1 in let cut = c.in_err-clear.ensures in
     record {
-      moves = rw failed.1 (record { begun = cut.begun; words = inl cut.partly; cut = inl cut.keeps });
+      moves = rw failed.1 (record { words = λ on. inl (cut.partly on); cut = inl cut.keeps });
       each_once = IfOk-from_err _ _ c.from_residual.ensures.0;
       new_pages = never_on_ok _ _ c.from_residual.ensures.0;
       live_pages = never_on_ok _ _ c.from_residual.ensures.0;
@@ -48,8 +48,8 @@ returns-in_err-open_set g c =
     let failed = err_from_is_err_and c.from_residual-in_err-open_set.result c.from_residual-in_err-open_set.ensures.1 in
     record {
       moves = rw failed.1 (record {
-        begun = front_all pages old new (wears_still pages old cleared new clears.wear cut.wear);
-        words = inr (record {
+        words = λ _. inr (record {
+          wear = wears_still pages old cleared new clears.wear cut.wear;
           new_pages = subst (λ (size : Size). IsDrawnPartly (other_of side) new blank (filled_set size generation words)) keeps.same_size
               (filled_partly (other_of side) new generation words (cut.begun words));
           live_pages = drawn_both side old cleared new clears.keeps.same_size cut.keeps.same_size (same_drawn side old cleared clears.keeps.same_size clears.live_pages) cut.live_pages;
@@ -74,8 +74,8 @@ returns-in_err-count g c =
     let failed = err_from_is_err_and c.from_residual-in_err-count.result c.from_residual-in_err-count.ensures.1 in
     record {
       moves = rw failed.1 (record {
-        begun = front_all pages old new (wears_still pages old cleared new clears.wear (cut.wear ∙ opens.wear));
-        words = inr (record {
+        words = λ _. inr (record {
+          wear = wears_still pages old cleared new clears.wear (cut.wear ∙ opens.wear);
           new_pages = subst (λ (size : Size). IsDrawnPartly (other_of side) new blank (filled_set size generation words)) keeps.same_size
               (filled_partly (other_of side) new generation words (adds.new_pages [] refl opens.holds));
           live_pages = drawn_both side old opened new before.same_size cut.keeps.same_size
@@ -107,8 +107,8 @@ returns-in_err-commit g c =
     let failed = err_from_is_err_and c.from_residual-in_err-commit.result c.from_residual-in_err-commit.ensures.1 in
     record {
       moves = rw failed.1 (record {
-        begun = front_all pages old new (wears_still pages old cleared new clears.wear (cut.wear ∙ fills.wear ∙ opens.wear));
-        words = inr (record {
+        words = λ _. inr (record {
+          wear = wears_still pages old cleared new clears.wear (cut.wear ∙ fills.wear ∙ opens.wear);
           new_pages = subst (λ (size : Size). IsDrawnPartly (other_of side) new blank (filled_set size (generation + 1) words)) filled.same_size (cut.begun words holds);
           live_pages = drawn_both side old filling new filled.same_size cut.same_size drawn
               (same_drawn side filling new cut.same_size cut.same_set);

@@ -11,7 +11,7 @@ use Rattle.ee_core.specs.Parts.{map_in}
 use Rattle.ee_core.specs.Puts.{carried}
 use Rattle.ee_core.proofs.LiveMarks.{layout_stays}
 use Rattle.ee_core.proofs.MovingFacts.{layout_moved, moved_stays}
-use Rattle.ee_core.proofs.Wears.{front_all, wears_still}
+use Rattle.ee_core.proofs.Wears.{wears_still}
 use Rattle.ee_core.specs.State.{not_blank_in}
 use Rattle.ee_core.proofs.Cuts.{drawn_before}
 use Rattle.ee_core.proofs.CutMoves.{marked_partly, retires_partly}
@@ -31,10 +31,9 @@ returns-in_err-count g c =
     let failed = err_from_is_err_and c.from_residual.result c.from_residual.ensures.1 in let partly = c.in_err-count.ensures.moves in
     record {
       moves = rw failed.1 (record {
-        begun = partly.begun;
-        words = elim partly.words [
+        words = λ on. elim (partly.words on) [
           | inl erasing ↦ inl erasing
-          | inr moving ↦ inr (record { new_pages = moving.new_pages; old_pages = drawn_before side new (picture_of side old) (retired_pages (is_used side old) (picture_of side old)) moving.live_pages })
+          | inr moving ↦ inr (record { wear = moving.wear; new_pages = moving.new_pages; old_pages = drawn_before side new (picture_of side old) (retired_pages (is_used side old) (picture_of side old)) moving.live_pages })
         ];
         cut = partly.cut;
       });
@@ -59,8 +58,8 @@ returns-in_err-finish g c =
     let failed = err_from_is_err_and c.from_residual-in_err-finish.result c.from_residual-in_err-finish.ensures.1 in
     record {
       moves = rw failed.1 (record {
-        begun = front_all pages old new (wears_still pages old mid new moves.wear stays.same_wear);
-        words = inr (record {
+        words = λ _. inr (record {
+          wear = wears_still pages old mid new moves.wear stays.same_wear;
           new_pages = subst (λ (size : Size). IsDrawnPartly (other_of side) new blank (filled_set size (c.args.layout.now.generation + 1) words)) moves.moved.same_size
               (marked_partly (other_of side) mid new (c.args.layout.now.generation + 1) (last_used mid (other_of side)) words stays.keeps.same_size c.in_ok-count.ensures.new_pages last shows.live_pages);
           old_pages = retires_partly side old mid new c.requires.layout.live.formed moves.moved.live.formed moves.moved.same_size stays.keeps.same_size

@@ -9,7 +9,7 @@ returns-in-Ok-clause-formatted g c =
     rw c.of.ensures done
 
 pub returns-in-Err-clause-cut : goal.returns-in-Err-clause-cut
-returns-in-Err-clause-cut g c = record { cut = c.in-Err.ensures.power.cut c.requires; wear = c.in-Err.ensures.begun; words = c.in-Err.ensures.words }
+returns-in-Err-clause-cut g c = record { cut = c.in-Err.ensures.power.cut c.requires; words = c.in-Err.ensures.words c.requires }
 
 pub of-requires-clause-store : goal.of-requires-clause-store
 of-requires-clause-store g c = format_store c.in-Ok.layout (g.F.Flash.device c.write_format.new.flash) c.in-Ok.ensures.layout c.in-Ok.ensures.first c.in-Ok.ensures.marked
