@@ -1,4 +1,4 @@
-/* The port for an STM32G4 against a model of its flash: registers, pages, the data cache, errors with their addresses, the NMI. */
+/* The port for an STM32G4 against a model of its flash: registers, pages, the data cache, addresses of errors, and the NMI. */
 #include "moves.h"
 
 static void set(volatile uint32_t *address, uint32_t value);
