@@ -66,11 +66,12 @@ static uint32_t cache_off(stm32g4_registers *registers) {
     return acr;
 }
 
-/* Empties the data cache, which is off, for whoever else read the pages. */
-static void empty_cache(stm32g4_registers *registers) {
-    uint32_t acr = STM32G4_GET(&registers->acr);
-    STM32G4_SET(&registers->acr, acr | ACR_DCRST);
+/* Empties the data cache, which is off, for whoever else reads the pages, and turns it on where it was on. */
+static void cache_as(stm32g4_registers *registers, uint32_t acr) {
+    STM32G4_SET(&registers->acr, (acr & ~ACR_DCEN) | ACR_DCRST);
+    STM32G4_SET(&registers->acr, acr & ~ACR_DCEN);
     STM32G4_SET(&registers->acr, acr);
+    STM32G4_BARRIER();
 }
 
 /* Clears those of the flags that stand. A flag is cleared by a 1, so the others are written with 0, and stay. */
@@ -151,8 +152,7 @@ static uint32_t program(void *context, uint32_t page, uint32_t place, uint64_t v
     stm32g4 *part = context;
     uint32_t acr = cache_off(part->registers);
     uint32_t status = programmed(part, page, place, value);
-    empty_cache(part->registers);
-    STM32G4_SET(&part->registers->acr, acr);
+    cache_as(part->registers, acr);
     return status;
 }
 
@@ -160,8 +160,7 @@ static uint32_t erase(void *context, uint32_t page) {
     stm32g4 *part = context;
     uint32_t acr = cache_off(part->registers);
     uint32_t status = erased(part, page);
-    empty_cache(part->registers);
-    STM32G4_SET(&part->registers->acr, acr);
+    cache_as(part->registers, acr);
     return status;
 }
 

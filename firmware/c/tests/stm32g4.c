@@ -225,7 +225,7 @@ static int is_as_before(void) {
 
 /* Writes go wrong in each of their steps; what was stored before is there. */
 static void failing(enum fault kind) {
-    for (uint32_t step = 1; step < 120; step += step < 40 ? 1 : 7) {
+    for (uint32_t step = 1; step < 120; step++) {
         ee_flash flash = new_part(1, 16, 2);
         ee_store store;
         uint32_t value, n, status = EE_OK;
@@ -294,6 +294,9 @@ static void torn(uint32_t page_words) {
         }
     }
     CHECK(is_as_before());
+    steps = 0, fails_in = 1, fault = SILENT;
+    CHECK(flash.erase(&part, 0) != 0); /* with no flag of the part */
+    fault = NONE;
     CHECK(flash.erase(&part, 0) == 0 && flash.word(&part, 0, 4, &value) == 0 && value == UINT64_MAX && is_as_before());
 }
 

@@ -297,6 +297,9 @@ static void torn(uint32_t cache_register) {
         }
     }
     CHECK(is_as_before());
+    steps = 0, fails_in = 1, fault = SILENT;
+    CHECK(flash.erase(&part, 0) != 0); /* with no flag of the part */
+    fault = NONE;
     CHECK(flash.erase(&part, 0) == 0 && flash.word(&part, 0, 4, &value) == 0 && value == UINT64_MAX && is_as_before());
 }
 
