@@ -5,6 +5,8 @@
 #ifndef STM32G4_SET
 #define STM32G4_SET(address, value) (*(address) = (value))
 #define STM32G4_GET(address) (*(address))
+/* A page takes 25 ms to be erased, and a turn of the loop some cycles of at most 170 MHz. */
+#define STM32G4_MOST_TURNS 4000000
 #ifdef __arm__
 #define STM32G4_BARRIER() __asm__ volatile("dsb\n\tisb" : : : "memory")
 #else
@@ -23,9 +25,7 @@ enum {
     CR_PNB_SHIFT = 3,
     CR_BKER_SHIFT = 11,
     CR_STRT = 1 << 16,
-    WIDE_PAGE_WORDS = 512, /* of a page of 4 KB: the flash is read by 128 bits */
-    /* A page takes 25 ms to be erased, and a turn of the loop some cycles of at most 170 MHz. */
-    MOST_TURNS = 4000000
+    WIDE_PAGE_WORDS = 512 /* of a page of 4 KB: the flash is read by 128 bits */
 };
 static const uint32_t ACR_DCEN = 1u << 10, ACR_DCRST = 1u << 12;
 static const uint32_t CR_LOCK = 1u << 31;
@@ -34,7 +34,7 @@ static const uint32_t ECCR_ECCC2 = 1u << 28, ECCR_ECCD2 = 1u << 29, ECCR_ECCC = 
 
 /* Whether the flash ends what it does. */
 static int is_ready(stm32g4_registers *registers) {
-    for (uint32_t turn = 0; turn < MOST_TURNS; turn++) {
+    for (uint32_t turn = 0; turn < STM32G4_MOST_TURNS; turn++) {
         if ((STM32G4_GET(&registers->sr) & SR_BSY) == 0) return 1;
     }
     return 0;

@@ -5,6 +5,8 @@
 #ifndef STM32U5_SET
 #define STM32U5_SET(address, value) (*(address) = (value))
 #define STM32U5_GET(address) (*(address))
+/* A page takes 3.5 ms to be erased, and a turn of the loop some cycles of at most 160 MHz. */
+#define STM32U5_MOST_TURNS 4000000
 #ifdef __arm__
 #define STM32U5_BARRIER() __asm__ volatile("dsb\n\tisb" : : : "memory")
 #else
@@ -24,9 +26,7 @@ enum {
     CR_BKER_SHIFT = 11,
     CR_STRT = 1 << 16,
     PAGE_WORDS = 512,
-    PARTS = 4, /* of a unit: 32 bits each */
-    /* A page takes 3.5 ms to be erased, and a turn of the loop some cycles of at most 160 MHz. */
-    MOST_TURNS = 4000000
+    PARTS = 4 /* of a unit: 32 bits each */
 };
 static const uint32_t CR_LOCK = 1u << 31;
 static const uint32_t ECCR_ADDR = 0x1fffff, ECCR_BK = 1u << 21, ECCR_SYSF = 1u << 22, ECCR_ECCIE = 1u << 24;
@@ -35,7 +35,7 @@ static const uint32_t CACHE_EN = 1u << 0, CACHE_CACHEINV = 1u << 1, CACHE_BUSYF 
 
 /* Whether the flash ends what it does. */
 static int is_ready(stm32u5_registers *registers) {
-    for (uint32_t turn = 0; turn < MOST_TURNS; turn++) {
+    for (uint32_t turn = 0; turn < STM32U5_MOST_TURNS; turn++) {
         if ((STM32U5_GET(&registers->nssr) & SR_BUSY) == 0) return 1;
     }
     return 0;
@@ -62,7 +62,7 @@ static int end(stm32u5_registers *registers) {
 
 /* Waits until the cache is empty that is being emptied. Whether that came. */
 static int is_emptied(stm32u5_cache *cache) {
-    for (uint32_t turn = 0; turn < MOST_TURNS; turn++) {
+    for (uint32_t turn = 0; turn < STM32U5_MOST_TURNS; turn++) {
         if (STM32U5_GET(&cache->sr) & CACHE_BUSYF) continue;
         STM32U5_SET(&cache->fcr, CACHE_BSYENDF);
         return 1;

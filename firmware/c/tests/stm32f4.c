@@ -22,6 +22,7 @@ static stm32f4 part = {
     .page_words = WORDS,
 };
 static uint32_t keys, steps, fails_in, busy_for, acr_after_reset;
+static int is_queued; /* a write to the flash isn't there yet */
 static int is_off, is_settled;
 static int updates; /* a program writes what was asked for into the data cache too; else it leaves an old line there */
 static enum fault fault;
@@ -45,7 +46,7 @@ static uint32_t fetched(uint32_t half) {
     return lines[i][half % LINE];
 }
 
-static void barrier(void) { is_settled = 1; }
+static void barrier(void) { is_settled = 1, is_queued = 0; }
 static void lock_model(void) { registers.cr |= 1u << 31, keys = 0; }
 
 /* A step begins, and takes some turns. Whether it is the one that fails: behind it power is off, and steps do nothing. */
@@ -114,6 +115,7 @@ static void set(volatile uint32_t *address, uint32_t value) {
     } else {
         size_t i = (size_t)(address - memory);
         CHECK(i < 2 * SECTOR && i % SECTOR < 4 * WORDS);
+        is_queued = 1;
         program_half((uint32_t)i, value);
     }
 }
@@ -124,6 +126,7 @@ static uint32_t get(volatile uint32_t *address) {
         return fetched((uint32_t)(address - memory));
     }
     if (address != &registers.sr) return *address;
+    CHECK(!is_queued);
     uint32_t busy = busy_for > 0;
     if (busy_for > 0 && busy_for != UINT32_MAX) busy_for--;
     return registers.sr | busy << 16;
@@ -151,7 +154,7 @@ static void power(void) {
     registers.acr = acr_after_reset; /* the program turned the caches on */
     lock_model();
     empty_cache();
-    busy_for = 0, is_off = 0, is_settled = 1, fault = NONE;
+    busy_for = 0, is_off = 0, is_queued = 0, is_settled = 1, fault = NONE;
 }
 
 static ee_flash new_part(uint32_t acr) {

@@ -7,6 +7,7 @@ static void barrier(void);
 #define STM32G4_SET(address, value) set(address, value)
 #define STM32G4_GET(address) get(address)
 #define STM32G4_BARRIER() barrier()
+#define STM32G4_MOST_TURNS 1000
 #include "../port/stm32g4.c"
 
 enum { FIRST = 60, MOST_WORDS = 1024, CACHE_LINES = 8, CACHE_WORDS = 4 /* of a line: 32 bytes */ };
@@ -19,6 +20,7 @@ static uint32_t memory[2 * MOST_WORDS];
 static uint8_t states[MOST_WORDS];
 static stm32g4 part = {.registers = &registers, .flash = memory, .first_page = FIRST};
 static uint32_t keys, first_half, steps, fails_in, busy_for, others;
+static int is_queued; /* a write to the flash isn't there yet */
 static int is_off, is_settled, is_raised, is_in_nmi;
 static int updates; /* a program writes what was asked for into the data cache too; else it leaves an old line there */
 static int hides;   /* while a flag stands no other error is told; else its flag is, with the address of before */
@@ -76,7 +78,7 @@ static uint32_t fetched(uint32_t half) {
 }
 
 static void barrier(void) {
-    is_settled = 1;
+    is_settled = 1, is_queued = 0;
     if (!is_raised || is_in_nmi) return;
     is_raised = 0, is_in_nmi = 1;
     others += stm32g4_nmi(&part) == 0; /* the product's own handler */
@@ -165,6 +167,7 @@ static void set(volatile uint32_t *address, uint32_t value) {
     } else {
         size_t i = (size_t)(address - memory);
         CHECK(i < 2 * part.pages * part.page_words && registers.cr == 1 && busy_for == 0 && (registers.acr >> 10 & 1) == 0);
+        is_queued = 1;
         if (i % 2 == 0) first_half = value;
         else program_word((uint32_t)(i / 2), first_half, value);
     }
@@ -176,6 +179,7 @@ static uint32_t get(volatile uint32_t *address) {
         return fetched((uint32_t)(address - memory));
     }
     if (address != &registers.sr) return *address;
+    CHECK(!is_queued);
     uint32_t busy = busy_for > 0;
     if (busy_for > 0 && busy_for != UINT32_MAX) busy_for--;
     return registers.sr | busy << 16;
@@ -205,7 +209,7 @@ static void power(void) {
     registers.eccr = 1u << 24;
     lock();
     empty_caches();
-    busy_for = 0, others = 0, is_off = 0, is_raised = 0, is_settled = 0, fault = NONE;
+    busy_for = 0, others = 0, is_off = 0, is_raised = 0, is_queued = 0, is_settled = 0, fault = NONE;
     part.error = part.corrected = 0;
 }
 

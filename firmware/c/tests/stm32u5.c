@@ -8,6 +8,7 @@ static void barrier(void);
 #define STM32U5_SET(address, value) set(address, value)
 #define STM32U5_GET(address) get(address)
 #define STM32U5_BARRIER() barrier()
+#define STM32U5_MOST_TURNS 1000
 #include "../port/stm32u5.c"
 
 enum { PAGES = 4, WORDS = 512, FIRST = 200, BANK = 1, UNITS = PAGES * WORDS, NO_UNIT = UNITS };
@@ -21,6 +22,7 @@ static uint32_t memory[4 * UNITS];
 static uint8_t states[UNITS];
 static stm32u5 part = {.registers = &registers, .cache = &cache, .flash = memory, .first_page = FIRST, .bank = BANK};
 static uint32_t keys, asked[3], filled, steps, fails_in, busy_for, cache_busy_for, others;
+static int is_queued; /* a write to the flash isn't there yet */
 static int is_off, is_settled, is_raised, is_in_nmi;
 static int empties; /* the cache is emptied as it is turned off */
 static int hides;   /* while a flag stands no other error is told; else its flag is, with the address of before */
@@ -68,7 +70,7 @@ static uint32_t fetched(uint32_t quarter) {
 }
 
 static void barrier(void) {
-    is_settled = 1;
+    is_settled = 1, is_queued = 0;
     if (!is_raised || is_in_nmi) return;
     is_raised = 0, is_in_nmi = 1;
     others += stm32u5_nmi(&part) == 0; /* the product's own handler */
@@ -154,6 +156,7 @@ static void set(volatile uint32_t *address, uint32_t value) {
         size_t i = (size_t)(address - memory);
         CHECK(i < 4 * part.pages * WORDS && registers.nscr == 1 && i % 4 == filled);
         CHECK(busy_for == 0 && (cache.cr & 1) == 0); /* a write while the cache is on is an error of the cache */
+        is_queued = 1;
         if (filled < 3) {
             asked[filled++] = value;
         } else {
@@ -181,6 +184,7 @@ static uint32_t get(volatile uint32_t *address) {
         return (cache.sr & ~1u) | is_busy;
     }
     if (address != &registers.nssr) return *address;
+    CHECK(!is_queued);
     return registers.nssr | turn(&busy_for) << 16 | (filled > 0 ? 1u << 17 : 0);
 }
 
@@ -212,7 +216,7 @@ static void power(void) {
     cache.cr = cache_after_reset; /* the program turned it on */
     lock();
     buffer_of = NO_UNIT;
-    busy_for = 0, cache_busy_for = 0, filled = 0, others = 0, is_off = 0, is_raised = 0, is_settled = 0, fault = NONE;
+    busy_for = 0, cache_busy_for = 0, filled = 0, others = 0, is_off = 0, is_raised = 0, is_queued = 0, is_settled = 0, fault = NONE;
     part.error = part.corrected = 0;
 }
 
