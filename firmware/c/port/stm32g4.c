@@ -104,10 +104,12 @@ static volatile uint32_t *word_at(const stm32g4 *part, uint32_t page, uint32_t p
 static uint32_t look(stm32g4 *part, uint32_t page, uint32_t place, uint64_t *value) {
     volatile uint32_t *at = word_at(part, page, place);
     note_corrected(part);
+    part->is_reading = 1;
     STM32G4_BARRIER(); /* the cache is off */
     uint32_t low = STM32G4_GET(&at[0]);
     uint32_t high = STM32G4_GET(&at[1]);
     STM32G4_BARRIER(); /* the NMI of the two reads has come */
+    part->is_reading = 0;
     *value = (uint64_t)high << 32 | low;
     return (uint32_t)has_error(part, page, place);
 }
@@ -178,6 +180,12 @@ ee_flash stm32g4_flash(stm32g4 *part, uint32_t pages) {
     return flash;
 }
 
+/* Whether the address is that of the error. Where the flag of a corrected error stands, that one may have been first, and the
+ * error anywhere; but while `word` reads it was not, since `word` took that flag away before. */
+static int is_its_address(const stm32g4 *part, uint32_t eccr) {
+    return part->is_reading || (eccr & (ECCR_ECCC | ECCR_ECCC2)) == 0;
+}
+
 /* Whether the error that ECCR tells is in the store's pages. */
 static int is_in_pages(const stm32g4 *part, uint32_t eccr) {
     uint32_t page = (eccr & ECCR_ADDR) / (8 * part->page_words) - part->first_page;
@@ -187,7 +195,7 @@ static int is_in_pages(const stm32g4 *part, uint32_t eccr) {
 
 int stm32g4_nmi(stm32g4 *part) {
     uint32_t eccr = STM32G4_GET(&part->registers->eccr);
-    if ((eccr & (ECCR_ECCD | ECCR_ECCD2)) == 0 || !is_in_pages(part, eccr)) return 0;
+    if ((eccr & (ECCR_ECCD | ECCR_ECCD2)) == 0 || !is_its_address(part, eccr) || !is_in_pages(part, eccr)) return 0;
     part->error = eccr;
     clear_flags(part->registers, eccr, ECCR_ECCD | ECCR_ECCD2);
     return 1;

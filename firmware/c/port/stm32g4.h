@@ -26,8 +26,8 @@ typedef struct stm32g4_registers {
     volatile uint32_t acr, pdkeyr, keyr, optkeyr, sr, cr, eccr;
 } stm32g4_registers;
 
-/* A part of the flash for a store: whole pages of one bank, that hold nothing else. The last three members begin as 0:
- * stm32g4_flash, the NMI and `word` write them. */
+/* A part of the flash for a store: whole pages of one bank, that hold nothing else. Those from `pages` on
+ * begin as 0, and the port writes them. */
 typedef struct stm32g4 {
     stm32g4_registers *registers; /* (stm32g4_registers *)0x40022000 */
     volatile uint32_t *flash;     /* where the first of the pages begins */
@@ -35,6 +35,7 @@ typedef struct stm32g4 {
     uint32_t bank;                /* 0, or 1 for the second bank of a part with two */
     uint32_t page_words;          /* 256 with pages of 2 KB, 512 with pages of 4 KB */
     uint32_t pages;               /* how many they are, of both sets */
+    volatile uint32_t is_reading; /* whether `word` reads */
     volatile uint32_t error;      /* ECCR at the last error in these pages that can't be corrected */
     uint32_t corrected;           /* ECCR when the flag of a corrected error was last taken away: yours to look at */
 } stm32g4;
@@ -43,7 +44,8 @@ typedef struct stm32g4 {
 ee_flash stm32g4_flash(stm32g4 *part, uint32_t pages);
 
 /* To be called by NMI_Handler, which an error raises that can't be corrected. 1 where one in the store's pages was the cause:
- * it is noted, and the handler returns. 0 for any other cause, as an error in the program's own code: nothing was done. */
+ * it is noted, and the handler returns. 0 for any other cause, as an error in the program's own code: nothing was done. It is 0
+ * too where the address may be that of a corrected error, whose flag stood before. */
 int stm32g4_nmi(stm32g4 *part);
 
 #ifdef __cplusplus

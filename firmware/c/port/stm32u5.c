@@ -114,6 +114,7 @@ static uint32_t word(void *context, uint32_t page, uint32_t place, uint64_t *val
     volatile uint32_t *at = unit_at(part, page, place);
     uint64_t half[2];
     note_corrected(part);
+    part->is_reading = 1;
     STM32U5_BARRIER(); /* the cache is on or off as it was told */
     for (int i = 0; i < 2; i++) {
         uint32_t low = STM32U5_GET(&at[2 * i]);
@@ -121,6 +122,7 @@ static uint32_t word(void *context, uint32_t page, uint32_t place, uint64_t *val
         half[i] = (uint64_t)high << 32 | low;
     }
     STM32U5_BARRIER(); /* the NMI of the reads has come */
+    part->is_reading = 0;
     *value = half[0];
     if (has_error(part, page, place)) return 1;
     return half[0] == UINT64_MAX ? half[1] != UINT64_MAX : half[1] != ~half[0];
@@ -188,6 +190,12 @@ ee_flash stm32u5_flash(stm32u5 *part, uint32_t pages) {
     return flash;
 }
 
+/* Whether the address is that of the error. Where the flag of a corrected error stands, that one may have been first, and the
+ * error anywhere; but while `word` reads it was not, since `word` took that flag away before. */
+static int is_its_address(const stm32u5 *part, uint32_t eccr) {
+    return part->is_reading || (eccr & ECCR_ECCC) == 0;
+}
+
 /* Whether the error that ECCR tells is in the store's pages. */
 static int is_in_pages(const stm32u5 *part, uint32_t eccr) {
     uint32_t page = (eccr & ECCR_ADDR) / (4 * PARTS * PAGE_WORDS) - part->first_page;
@@ -196,7 +204,7 @@ static int is_in_pages(const stm32u5 *part, uint32_t eccr) {
 
 int stm32u5_nmi(stm32u5 *part) {
     uint32_t eccr = STM32U5_GET(&part->registers->eccr);
-    if ((eccr & ECCR_ECCD) == 0 || !is_in_pages(part, eccr)) return 0;
+    if ((eccr & ECCR_ECCD) == 0 || !is_its_address(part, eccr) || !is_in_pages(part, eccr)) return 0;
     part->error = eccr;
     clear_flags(part->registers, eccr, ECCR_ECCD);
     (void)empty_cache(part->cache); /* the unit's line is in it: the next read of the unit raises the NMI again */

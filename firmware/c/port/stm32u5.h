@@ -32,8 +32,8 @@ typedef struct stm32u5_cache {
     volatile uint32_t cr, sr, ier, fcr;
 } stm32u5_cache;
 
-/* A part of the flash for a store: whole pages of one bank, that hold nothing else. The last three members begin as 0:
- * stm32u5_flash, the NMI and `word` write them. */
+/* A part of the flash for a store: whole pages of one bank, that hold nothing else. Those from `pages` on
+ * begin as 0, and the port writes them. */
 typedef struct stm32u5 {
     stm32u5_registers *registers; /* (stm32u5_registers *)0x40022000 */
     stm32u5_cache *cache;         /* (stm32u5_cache *)0x40030400 */
@@ -41,6 +41,7 @@ typedef struct stm32u5 {
     uint32_t first_page;          /* the number of that page in its bank */
     uint32_t bank;                /* 0, or 1 for the second bank */
     uint32_t pages;               /* how many they are, of both sets */
+    volatile uint32_t is_reading; /* whether `word` reads */
     volatile uint32_t error;      /* ECCR at the last error in these pages that can't be corrected */
     uint32_t corrected;           /* ECCR when the flag of a corrected error was last taken away: yours to look at */
 } stm32u5;
@@ -49,7 +50,8 @@ typedef struct stm32u5 {
 ee_flash stm32u5_flash(stm32u5 *part, uint32_t pages);
 
 /* To be called by NMI_Handler, which an error raises that can't be corrected. 1 where one in the store's pages was the cause:
- * it is noted, and the handler returns. 0 for any other cause, as an error in the program's own code: nothing was done. */
+ * it is noted, and the handler returns. 0 for any other cause, as an error in the program's own code: nothing was done. It is 0
+ * too where the address may be that of a corrected error, whose flag stood before. */
 int stm32u5_nmi(stm32u5 *part);
 
 #ifdef __cplusplus

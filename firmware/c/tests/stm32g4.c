@@ -193,6 +193,7 @@ static void read_by_others(void) {
         barrier();
         CHECK(fetched(half) == memory[half]);
         barrier();
+        if (others) registers.eccr &= ~FLAGS, others = 0; /* beside one that was corrected: the product's own handler */
     }
 }
 
@@ -265,8 +266,12 @@ static void addresses(void) {
     new_part(1, 256, 2);
     raised(d | 1u << 21 | begin, 1, 0);
     raised(d | 1u << 21 | (end - 8), 1, 0);
+    raised(d | c | 1u << 21 | begin, 0, d | c); /* the address may be that of the corrected one, and the error anywhere */
+    raised(d2 | 1u << 28 | 1u << 21 | begin, 0, d2 | 1u << 28);
+    part.is_reading = 1;
     raised(d | c | 1u << 21 | begin, 1, c);
     raised(d2 | 1u << 28 | 1u << 21 | begin, 1, 1u << 28);
+    part.is_reading = 0;
     raised(c | 1u << 21 | begin, 0, c); /* another cause */
     raised(1u << 21 | begin, 0, 0);
     uint32_t far[] = {0, begin - 8, end, 0x7fff8};

@@ -196,6 +196,7 @@ static void read_by_others(void) {
         barrier();
         CHECK(fetched(quarter) == memory[quarter]);
         barrier();
+        if (others) registers.eccr &= ~FLAGS, others = 0; /* beside one that was corrected: the product's own handler */
     }
 }
 
@@ -216,7 +217,8 @@ static void power(void) {
     cache.cr = cache_after_reset; /* the program turned it on */
     lock();
     buffer_of = NO_UNIT;
-    busy_for = 0, cache_busy_for = 0, filled = 0, others = 0, is_off = 0, is_raised = 0, is_queued = 0, is_settled = 0, fault = NONE;
+    busy_for = 0, cache_busy_for = 0, filled = 0, others = 0, fault = NONE;
+    is_off = 0, is_raised = 0, is_queued = 0, is_settled = 0;
     part.error = part.corrected = 0;
 }
 
@@ -273,7 +275,10 @@ static void addresses(void) {
     new_part(CACHE_ON, 2);
     raised(DETECTION | bank | begin, 1, 0);
     raised(DETECTION | bank | (end - 16), 1, 0);
-    raised(DETECTION | CORRECTION | bank | begin, 1, CORRECTION);
+    raised(FLAGS | bank | begin, 0, FLAGS); /* the address may be that of the corrected one, and the error anywhere */
+    part.is_reading = 1;
+    raised(FLAGS | bank | begin, 1, CORRECTION);
+    part.is_reading = 0;
     raised(CORRECTION | bank | begin, 0, CORRECTION); /* another cause */
     raised(bank | begin, 0, 0);
     uint32_t far[] = {0, begin - 16, end, 0x1ffff0};
