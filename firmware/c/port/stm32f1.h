@@ -2,8 +2,8 @@
  * It was tested on a computer against a model of the registers (tests/stm32f1.c), and never on a board. Nothing of it is
  * proved. The internal oscillator (HSI) is on while flash is written.
  *
- * From the reference manual (PM0075), and never tried on a part: there is no cache. The prefetch buffer is for instructions
- * alone, so a read of data is what the flash has. */
+ * It supposes this of the part, which was never tried (compare the reference manual, PM0075): there is no cache. The prefetch
+ * buffer is for instructions alone, so a read of data is what the flash has. */
 #ifndef STM32F1_H
 #define STM32F1_H
 

@@ -2,10 +2,10 @@
  * pairs of numbers. It was tested on a computer against a model of the registers and of the data cache (tests/stm32f4.c), and
  * never on a board. Nothing of it is proved. It programs by 32 bits, which takes a supply of 2.7 V at least.
  *
- * From the reference manual (RM0090), and never tried on a part: a program writes what was asked for into the data cache too,
- * and an erase leaves old lines there. So the port turns the data cache off in FLASH_ACR, and on again when what it wrote was
- * read back and the cache is empty: no interrupt writes that register during a call. The instruction cache stays as it is,
- * since the sectors hold no code. */
+ * It supposes this of the part, which was never tried (compare the reference manual, RM0090): a program writes what was asked
+ * for into the data cache too, and an erase leaves old lines there. So the port turns the data cache off in FLASH_ACR, and on
+ * again when what it wrote was read back and the cache is empty. No interrupt writes that register during a call. The
+ * instruction cache stays as it is, since the sectors hold no code. */
 #ifndef STM32F4_H
 #define STM32F4_H
 

@@ -1,7 +1,7 @@
 /* An example of a port: a store in the flash of an STM32G4. It was tested on a computer against a model of the registers, the
  * caches and the NMI (tests/stm32g4.c), and never on a board. Nothing of it is proved.
  *
- * From the reference manual (RM0440), and never tried on a part:
+ * It supposes this of the part, which was never tried. Compare the reference manual (RM0440):
  * - The data cache is on after a reset. Neither an erase nor a program takes old lines out of it.
  * - ECCR tells the address of an error in bytes from the beginning of its bank, and keeps the first one while a flag stands.
  *   With one bank of pages of 4 KB the flash is read by 128 bits, the address is from the beginning of the flash, and the upper
@@ -26,8 +26,8 @@ typedef struct stm32g4_registers {
     volatile uint32_t acr, pdkeyr, keyr, optkeyr, sr, cr, eccr;
 } stm32g4_registers;
 
-/* A part of the flash for a store: whole pages of one bank, that hold nothing else. Those from `pages` on
- * begin as 0, and the port writes them. */
+/* A part of the flash for a store: whole pages of one bank, that hold nothing else. The members from `pages`
+ * on begin as 0, and the port writes them. */
 typedef struct stm32g4 {
     stm32g4_registers *registers; /* (stm32g4_registers *)0x40022000 */
     volatile uint32_t *flash;     /* where the first of the pages begins */

@@ -3,7 +3,7 @@
  * (`pairs` is 0). It was tested on a computer against a model of the registers, the cache and the NMI (tests/stm32u5.c), and
  * never on a board. Nothing of it is proved. It uses the registers of a non-secure program.
  *
- * From the reference manual (RM0456), and never tried on a part:
+ * It supposes this of the part, which was never tried. Compare the reference manual (RM0456):
  * - ICACHE caches data that are read from the flash, in lines of 16 bytes, and takes a write while it is on for an error.
  *   DCACHE doesn't reach the flash.
  * - ECCR tells the address of an error in bytes from the beginning of its bank, and keeps the first one while a flag stands.
@@ -32,8 +32,8 @@ typedef struct stm32u5_cache {
     volatile uint32_t cr, sr, ier, fcr;
 } stm32u5_cache;
 
-/* A part of the flash for a store: whole pages of one bank, that hold nothing else. Those from `pages` on
- * begin as 0, and the port writes them. */
+/* A part of the flash for a store: whole pages of one bank, that hold nothing else. The members from `pages`
+ * on begin as 0, and the port writes them. */
 typedef struct stm32u5 {
     stm32u5_registers *registers; /* (stm32u5_registers *)0x40022000 */
     stm32u5_cache *cache;         /* (stm32u5_cache *)0x40030400 */
