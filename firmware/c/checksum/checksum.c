@@ -204,7 +204,8 @@ uint64_t checksum(void) {
     sum = 0;
     seed = 20261123;
     for (int shape = 0; shape < SHAPES; shape++) {
-        flash = (ee_flash){0, shapes[shape].pages, shapes[shape].page_words, word, program, erase, PAIRS};
+        flash = (ee_flash){.pages = shapes[shape].pages, .page_words = shapes[shape].page_words, .word = word, .program = program,
+                           .erase = erase, .pairs = PAIRS};
         if (!run()) return 0;
     }
     return sum;
