@@ -7,6 +7,7 @@ mod counted;
 mod cuts;
 mod formats;
 mod outside;
+mod prefixes;
 mod requests;
 mod saving;
 mod streams;
