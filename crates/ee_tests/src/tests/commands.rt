@@ -1,8 +1,9 @@
-//! The table of commands, built with `clap`: it takes the lines that `job` takes, and finds the same words in them.
+//! The table of commands, built with `clap`, which finds in each line the command and the values that `job` gives.
 use crate::tests::same;
 use clap::builder::ValueParser;
 use clap::{Arg, ArgAction, ArgMatches, Command};
-use ee_command_line::job;
+use ee_command_line::{Job, job};
+use ee_flash::Shape;
 use std::alloc::Global;
 use std::process::Abort;
 
@@ -107,46 +108,225 @@ fn table<'a>(rt: &impl Abort, memory: Global) -> Command<'a> {
     table
 }
 
-/// A word of a row as `clap` found it: a flag as it is spelled, another word as it was given.
-fn found<'a>(matches: &ArgMatches<'a>, id: &'a str) -> Option<&'a str> {
-    if id.starts_with("--") {
-        matches.get_flag(id).then_some(id)
-    } else {
-        matches.get_str(id)
+/// What a word of a row says.
+#[derive(Clone, Copy, Debug, PartialEq)]
+enum Said<'a> {
+    /// There is no such word, or it was left out.
+    No,
+    Flag(bool),
+    Number(u64),
+    Text(&'a str),
+}
+
+use Said::{Flag, No, Number, Text};
+
+/// A command, and what the words of its row say, in their order.
+type Told<'a> = (&'a str, [Said<'a>; 6]);
+
+/// The number that a word spells, or none if the word was left out.
+fn number_or_no<'a>(number: Option<u64>) -> Said<'a> {
+    match number {
+        Some(number) => Number(number),
+        None => No,
     }
 }
 
-/// Whether `clap` found these operands under the names of this row, each in its place, and no other.
-fn are_found(matches: &ArgMatches<'_>, ids: &[&'static str], operands: &[&str]) -> bool {
-    let mut operands = operands.iter().copied();
-    for id in ids {
-        let word = found(matches, id);
-        if word.is_some() && word != operands.next() {
-            return false;
+/// The text of a word, or none if it was left out.
+fn text_or_no<'a>(text: Option<&'a str>) -> Said<'a> {
+    match text {
+        Some(text) => Text(text),
+        None => No,
+    }
+}
+
+/// What `clap` found of a word of a row. A base is spelled in one of two ways here, and `clap` reads no hexadecimal.
+fn value<'a>(matches: &ArgMatches<'a>, id: &str) -> Said<'a> {
+    match id {
+        "--indexed" | "--pairs" | "--rust" => Flag(matches.get_flag(id)),
+        "P" | "W" | "VALUE" | "CYCLES" | "RUNS" => number_or_no(matches.get_one::<u64>(id)),
+        "BASE" => match matches.get_str(id) {
+            Some("0807F000" | "0807f000") => Number(0x0807_f000),
+            text => text_or_no(text),
+        },
+        _ => text_or_no(matches.get_str(id)),
+    }
+}
+
+/// What `clap` found of the words of a row.
+fn values<'a>(matches: &ArgMatches<'a>, ids: &[&str]) -> [Said<'a>; 6] {
+    let mut values = [No; 6];
+    for (place, id) in values.iter_mut().zip(ids) {
+        *place = value(matches, id);
+    }
+    values
+}
+
+/// What `clap` finds in these words of a line, if it takes them.
+fn found<'a>(rt: &impl Abort, memory: Global, words: &'a [&'a str]) -> Option<Told<'a>> {
+    let matches = table(rt, memory).try_get_matches_from(words).ok()?;
+    let (name, matches) = matches.subcommand()?;
+    let (_, ids) = ROWS.iter().find(|row| row.0 == name)?;
+    Some((name, values(matches, ids)))
+}
+
+// A number of pages or words.
+fn size<'a>(count: usize) -> Said<'a> {
+    Number(count as u64)
+}
+
+// So many values, and no more.
+fn row<'a>(values: &[Said<'a>]) -> [Said<'a>; 6] {
+    let mut row = [No; 6];
+    for (place, value) in row.iter_mut().zip(values) {
+        *place = *value;
+    }
+    row
+}
+
+/// What a job says.
+fn told(job: Job<'_>) -> Told<'_> {
+    match job {
+        Job::Try { shape } => ("try", row(&[size(shape.pages()), size(shape.words())])),
+        Job::Format { shape, image } => (
+            "format",
+            row(&[size(shape.pages()), size(shape.words()), Text(image)]),
+        ),
+        Job::Run {
+            indexed,
+            image,
+            script,
+        } => ("run", row(&[Flag(indexed), Text(image), Text(script)])),
+        Job::Plan { image, script } => ("plan", row(&[Text(image), Text(script)])),
+        Job::Check {
+            image,
+            script,
+            certificate,
+        } => (
+            "check",
+            row(&[Text(image), Text(script), Text(certificate)]),
+        ),
+        Job::Wear { image, before } => ("wear", row(&[Text(image), text_or_no(before)])),
+        Job::States { image } => ("states", row(&[Text(image)])),
+        Job::Clean { image } => ("clean", row(&[Text(image)])),
+        Job::Size {
+            words,
+            script,
+            cycles,
+            runs,
+        } => (
+            "size",
+            row(&[
+                Number(u64::from(words)),
+                Text(script),
+                Number(u64::from(cycles)),
+                Number(u64::from(runs)),
+            ]),
+        ),
+        _ => told_of_settings(job),
+    }
+}
+
+// What a job says that may take settings.
+fn told_of_settings(job: Job<'_>) -> Told<'_> {
+    match job {
+        Job::Get {
+            image,
+            settings,
+            name,
+        } => ("get", row(&[Text(image), Text(settings), Text(name)])),
+        Job::Set {
+            image,
+            settings,
+            name,
+            value,
+        } => (
+            "set",
+            row(&[
+                Text(image),
+                Text(settings),
+                Text(name),
+                Number(u64::from(value)),
+            ]),
+        ),
+        Job::Apply {
+            image,
+            settings,
+            values,
+        } => ("apply", row(&[Text(image), Text(settings), Text(values)])),
+        Job::Header { rust, settings } => ("header", row(&[Flag(rust), Text(settings)])),
+        Job::Stale { image, settings } => ("stale", row(&[Text(image), Text(settings)])),
+        Job::Tidy { image, settings } => ("tidy", row(&[Text(image), Text(settings)])),
+        Job::List { image, settings } => ("list", row(&[Text(image), text_or_no(settings)])),
+        _ => told_of_parts(job),
+    }
+}
+
+// What a job says that works on a part. A job without a row says nothing.
+fn told_of_parts(job: Job<'_>) -> Told<'_> {
+    match job {
+        Job::Import {
+            pairs,
+            shape,
+            dump,
+            image,
+        } => (
+            "import",
+            row(&[
+                Flag(pairs),
+                size(shape.pages()),
+                size(shape.words()),
+                Text(dump),
+                Text(image),
+            ]),
+        ),
+        Job::Export { pairs, image, dump } => {
+            ("export", row(&[Flag(pairs), Text(image), Text(dump)]))
         }
+        Job::ImportHex {
+            pairs,
+            shape,
+            base,
+            dump,
+            image,
+        } => (
+            "import-hex",
+            row(&[
+                Flag(pairs),
+                size(shape.pages()),
+                size(shape.words()),
+                Number(u64::from(base)),
+                Text(dump),
+                Text(image),
+            ]),
+        ),
+        Job::ExportHex {
+            pairs,
+            image,
+            base,
+            dump,
+        } => (
+            "export-hex",
+            row(&[
+                Flag(pairs),
+                Text(image),
+                Number(u64::from(base)),
+                Text(dump),
+            ]),
+        ),
+        Job::Inspect { image } => ("inspect", row(&[Text(image)])),
+        _ => ("", row(&[])),
     }
-    operands.next().is_none()
-}
-
-/// Whether `job` and `clap` both take these words of a line, and `clap` finds the command and its operands. That the job
-/// is of these very words its contract says.
-fn is_taken(rt: &impl Abort, memory: Global, words: &[&'static str]) -> bool {
-    let Ok(matches) = table(rt, memory).try_get_matches_from(words) else {
-        return false;
-    };
-    let (name, matches) = matches.subcommand().expect(rt, "no command");
-    let (_, ids) = ROWS.iter().find(|row| row.0 == name).expect(rt, "no row");
-    job(words.get(1..).unwrap_or(&[])).is_some()
-        && are_found(matches, ids, words.get(2..).unwrap_or(&[]))
 }
 
 #[test]
-fn clap_finds_the_same_words(rt: HostRuntime) {
+fn clap_finds_the_same_values(rt: HostRuntime) {
     for line in LINES.lines() {
         let words: Vec<&'static str> = line
             .split_whitespace()
             .collect(rt.alloc())
             .expect(&rt, "no room");
-        same(&rt, line, is_taken(&rt, rt.alloc(), words.as_slice()), true);
+        let job = job(words.get(1..).unwrap_or(&[])).expect(&rt, "no job");
+        let found = found(&rt, rt.alloc(), words.as_slice());
+        same(&rt, line, found, Some(told(job)));
     }
 }
