@@ -222,7 +222,7 @@ static int scan(const peer_flash *flash, peer_set *live) {
 }
 
 #if PEER_PAIRS
-/* Whether the numbers of a word have less bits together than a cut can leave: then no store wrote them. */
+/* Whether the two numbers of some word sum to less than all ones, which no cut leaves: then no store wrote them. */
 static int has_low(const peer_flash *flash) {
     for (uint32_t page = 0; page < 2 * PEER_PAGES; page++) {
         for (uint32_t place = 0; place < PEER_NUMBERS; place += 2) {

@@ -355,5 +355,5 @@ int main(int count, char **words) {
         if (seed % 8 == 1) damage();
     }
     printf("%lu cuts, %lu moves\n", cuts, moves);
-    return cuts == 0 || moves == 0;
+    return writes > SLOTS && (cuts == 0 || moves == 0);
 }
