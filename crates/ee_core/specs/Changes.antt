@@ -98,9 +98,8 @@ IsCutAppend old change new = (new ≡ old) ⊎ (new ≡ torn_state old) ⊎ (new
 abbrev pub IsCutMove : ℕ → ℕ → State → List Change → State → Type 0
 IsCutMove pages left old changes new = ((pending : ℕ) × (pending ≤ pages) × (new ≡ with_pending pending old)) ⊎ (new ≡ moved_state left changes old)
 
--- Power was cut in a change. With a slot free no page was erased. With none free those that waited were, up to the one in
--- whose erase power was cut, or all where that came behind the erases. No more slots were used than there are, so it is the
--- one or the other.
+-- Power was cut in a change. With a slot free no page was erased; with none free, the pages that waited up to one, or all of
+-- them. No more slots were used than there are, so it is the one or the other.
 pub record IsCutChange (old : Device) (change : Change) (new : Device) : Type 0 where
   pub proceeds : Proceeds old (change ∷ [])
   pub cut : IsCut old new
@@ -111,8 +110,7 @@ pub record IsCutChange (old : Device) (change : Change) (new : Device) : Type 0 
   pub free_words : (state_of old).fill < capacity old → OfLive old (λ side generation. ShowsCutAppend old change new side)
   pub used_words : (state_of old).fill ≡ capacity old → OfLive old (λ side generation. ShowsCutMove old (change ∷ []) new side generation)
 
--- Power was cut in a transfer with several changes: the map is as it was, or has them all. The pages that waited were erased
--- up to the one in whose erase power was cut, or all.
+-- Power was cut in a transfer with several changes: the map is as it was, or has them all.
 pub record IsCutTransfer (old : Device) (changes : List Change) (new : Device) : Type 0 where
   pub proceeds : Proceeds old changes
   pub cut : IsCut old new

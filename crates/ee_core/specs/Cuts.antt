@@ -22,9 +22,9 @@ abbrev pub IsDrawnPartly : Side → Device → Picture → Picture → Type 0
 IsDrawnPartly side device old whole =
     (page at : ℕ) → page < device.size.pages → at < device.size.words → IsPartlyDone (old page at) (whole page at) (picture_of side device page at)
 
--- Power was cut in erasing, by rising page, those of these pages that are not blank, where the first has this number: at one
--- of them. It has worn, and so have those of them before it, and no other. The pages before it are blank; in it each word is
--- as before, erased or torn; and each other page is as before.
+-- Power was cut in erasing pages by rising number: those of these that are not blank, where the first has this number. It was
+-- cut at one of them, which has worn, as those of them before it have, and no other has. The pages before it are blank; in it
+-- each word is as before, erased or torn; and each other page is as before.
 pub record ErasesPartly (first : ℕ) (pages : List (List Word)) (old new : Device) : Type 0 where
   pub page : ℕ
   pub wear : WearsTo page (not_blank_from first pages) old new
@@ -33,8 +33,8 @@ pub record ErasesPartly (first : ℕ) (pages : List (List Word)) (old new : Devi
   pub others : (other : ℕ) → (other < first) ⊎ (page < other) → page_at new other ≡ page_at old other
 
 -- Power was cut in a transfer, behind its erases: each page of the other set that was not blank has worn, and no other page;
--- in that set each word is erased, as the whole transfer leaves it, or torn; in the set that was live each mark that its page may be erased, if that isn't blank, is as before, set or torn, and
--- each other word is as before.
+-- in that set each word is erased, as the whole transfer leaves it, or torn; in the set that was live each mark that its page
+-- may be erased, if that isn't blank, is as before, set or torn, and each other word is as before.
 pub record MovesPartly (old new : Device) (side : Side) (generation : ℕ) (words : List Word) : Type 0 where
   pub wear : Wears (not_blank_in (other side) old) old new
   pub new_pages : IsDrawnPartly (other side) new blank (filled_set old.size (generation + 1) words)

@@ -127,7 +127,7 @@ pub record Wears (pages : List ℕ) (old new : Device) : Type 0 where
   pub there : All (λ page. page < length old.wear) pages
   pub wear_is : new.wear ≡ worn_by pages old.wear
 
--- So were those of the list up to this page, or an erase of this one was begun; those behind it have not worn.
+-- So were those before this page of the list, and an erase of this one was begun; those behind it have not worn.
 pub record WearsTo (page : ℕ) (pages : List ℕ) (old new : Device) : Type 0 where
   pub before : List ℕ
   pub behind : List ℕ

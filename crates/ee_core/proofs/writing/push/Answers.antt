@@ -1,4 +1,4 @@
-use Rattle.std.proofs.Common.{◌+◌, ap, inr, subst, ◌∙◌}
+use Rattle.std.proofs.Common.{arith, ◌+◌, ap, inr, subst, ◌∙◌}
 use Rattle.std.proofs.lemmas.Result.{IfOk-from_err}
 use Rattle.ee_flash.specs.Size.{Size}
 use Rattle.ee_pages.specs.Sets.{first_page, page_of_slot, place_of_slot}
@@ -23,12 +23,14 @@ program-requires-clause-page_in_range g c =
 pub program-requires-clause-place_in_range : goal.program-requires-clause-place_in_range
 program-requires-clause-place_in_range g c =
     let words = c.words-slots.ensures.value ∙ ap (λ (size : Size). size.words) c.shape.ensures in let layout = c.args.layout.now in let found = c.requires.layout in
-    slot_in_page layout.side layout.generation layout.fill _ _ (g.F.Flash.device c.args.flash.now) found.live found.fill c.requires.free c.first_page.ensures words
+    let within = slot_in_page layout.side layout.generation layout.fill _ _ (g.F.Flash.device c.args.flash.now) found.live found.fill c.requires.free c.first_page.ensures words in
+    omega (arith, within)
 
 pub program-requires-clause-erased : goal.program-requires-clause-erased
 program-requires-clause-erased g c =
     let words = c.words-slots.ensures.value ∙ ap (λ (size : Size). size.words) c.shape.ensures in let layout = c.args.layout.now in let found = c.requires.layout in
-    free_slot_erased layout.side layout.generation layout.fill _ _ (g.F.Flash.device c.args.flash.now) found.live found.fill c.requires.free c.first_page.ensures words
+    let free = free_slot_erased layout.side layout.generation layout.fill _ _ (g.F.Flash.device c.args.flash.now) found.live found.fill c.requires.free c.first_page.ensures words in
+    search free fits 100 parts 0
 
 pub returns-in_err-program : goal.returns-in_err-program
 returns-in_err-program g c =
