@@ -1,9 +1,9 @@
 //! The table of commands, built with `clap`, which finds in each line the command and the values that `job` gives.
 use crate::tests::same;
+use Said::{Flag, No, Number, Text};
 use clap::builder::ValueParser;
 use clap::{Arg, ArgAction, ArgMatches, Command};
 use ee_command_line::{Job, job};
-use ee_flash::Shape;
 use std::alloc::Global;
 use std::process::Abort;
 
@@ -118,8 +118,6 @@ enum Said<'a> {
     Text(&'a str),
 }
 
-use Said::{Flag, No, Number, Text};
-
 /// A command, and what the words of its row say, in their order.
 type Told<'a> = (&'a str, [Said<'a>; 6]);
 
@@ -152,21 +150,24 @@ fn value<'a>(matches: &ArgMatches<'a>, id: &str) -> Said<'a> {
     }
 }
 
-/// What `clap` found of the words of a row.
-fn values<'a>(matches: &ArgMatches<'a>, ids: &[&str]) -> [Said<'a>; 6] {
-    let mut values = [No; 6];
-    for (place, id) in values.iter_mut().zip(ids) {
-        *place = value(matches, id);
+/// What `clap` found of the word at this place of a row.
+fn value_at<'a>(matches: &ArgMatches<'a>, ids: &[&str], at: usize) -> Said<'a> {
+    match ids.get(at) {
+        Some(id) => value(matches, id),
+        None => No,
     }
-    values
 }
 
-/// What `clap` finds in these words of a line, if it takes them.
-fn found<'a>(rt: &impl Abort, memory: Global, words: &'a [&'a str]) -> Option<Told<'a>> {
-    let matches = table(rt, memory).try_get_matches_from(words).ok()?;
-    let (name, matches) = matches.subcommand()?;
-    let (_, ids) = ROWS.iter().find(|row| row.0 == name)?;
-    Some((name, values(matches, ids)))
+/// What `clap` found of the words of a row.
+fn values<'a>(matches: &ArgMatches<'a>, ids: &[&str]) -> [Said<'a>; 6] {
+    [
+        value_at(matches, ids, 0),
+        value_at(matches, ids, 1),
+        value_at(matches, ids, 2),
+        value_at(matches, ids, 3),
+        value_at(matches, ids, 4),
+        value_at(matches, ids, 5),
+    ]
 }
 
 // A number of pages or words.
@@ -174,40 +175,41 @@ fn size<'a>(count: usize) -> Said<'a> {
     Number(count as u64)
 }
 
-// So many values, and no more.
-fn row<'a>(values: &[Said<'a>]) -> [Said<'a>; 6] {
-    let mut row = [No; 6];
-    for (place, value) in row.iter_mut().zip(values) {
-        *place = *value;
-    }
-    row
-}
-
 /// What a job says.
-fn told(job: Job<'_>) -> Told<'_> {
-    match job {
-        Job::Try { shape } => ("try", row(&[size(shape.pages()), size(shape.words())])),
+fn told<'a>(job: &Job<'a>) -> Told<'a> {
+    match *job {
+        Job::Try { shape } => (
+            "try",
+            [size(shape.pages()), size(shape.words()), No, No, No, No],
+        ),
         Job::Format { shape, image } => (
             "format",
-            row(&[size(shape.pages()), size(shape.words()), Text(image)]),
+            [
+                size(shape.pages()),
+                size(shape.words()),
+                Text(image),
+                No,
+                No,
+                No,
+            ],
         ),
         Job::Run {
             indexed,
             image,
             script,
-        } => ("run", row(&[Flag(indexed), Text(image), Text(script)])),
-        Job::Plan { image, script } => ("plan", row(&[Text(image), Text(script)])),
+        } => (
+            "run",
+            [Flag(indexed), Text(image), Text(script), No, No, No],
+        ),
+        Job::Plan { image, script } => ("plan", [Text(image), Text(script), No, No, No, No]),
         Job::Check {
             image,
             script,
             certificate,
         } => (
             "check",
-            row(&[Text(image), Text(script), Text(certificate)]),
+            [Text(image), Text(script), Text(certificate), No, No, No],
         ),
-        Job::Wear { image, before } => ("wear", row(&[Text(image), text_or_no(before)])),
-        Job::States { image } => ("states", row(&[Text(image)])),
-        Job::Clean { image } => ("clean", row(&[Text(image)])),
         Job::Size {
             words,
             script,
@@ -215,25 +217,27 @@ fn told(job: Job<'_>) -> Told<'_> {
             runs,
         } => (
             "size",
-            row(&[
+            [
                 Number(u64::from(words)),
                 Text(script),
                 Number(u64::from(cycles)),
                 Number(u64::from(runs)),
-            ]),
+                No,
+                No,
+            ],
         ),
         _ => told_of_settings(job),
     }
 }
 
 // What a job says that may take settings.
-fn told_of_settings(job: Job<'_>) -> Told<'_> {
-    match job {
+fn told_of_settings<'a>(job: &Job<'a>) -> Told<'a> {
+    match *job {
         Job::Get {
             image,
             settings,
             name,
-        } => ("get", row(&[Text(image), Text(settings), Text(name)])),
+        } => ("get", [Text(image), Text(settings), Text(name), No, No, No]),
         Job::Set {
             image,
             settings,
@@ -241,29 +245,37 @@ fn told_of_settings(job: Job<'_>) -> Told<'_> {
             value,
         } => (
             "set",
-            row(&[
+            [
                 Text(image),
                 Text(settings),
                 Text(name),
                 Number(u64::from(value)),
-            ]),
+                No,
+                No,
+            ],
         ),
         Job::Apply {
             image,
             settings,
             values,
-        } => ("apply", row(&[Text(image), Text(settings), Text(values)])),
-        Job::Header { rust, settings } => ("header", row(&[Flag(rust), Text(settings)])),
-        Job::Stale { image, settings } => ("stale", row(&[Text(image), Text(settings)])),
-        Job::Tidy { image, settings } => ("tidy", row(&[Text(image), Text(settings)])),
-        Job::List { image, settings } => ("list", row(&[Text(image), text_or_no(settings)])),
+        } => (
+            "apply",
+            [Text(image), Text(settings), Text(values), No, No, No],
+        ),
+        Job::Header { rust, settings } => ("header", [Flag(rust), Text(settings), No, No, No, No]),
+        Job::Stale { image, settings } => ("stale", [Text(image), Text(settings), No, No, No, No]),
+        Job::Tidy { image, settings } => ("tidy", [Text(image), Text(settings), No, No, No, No]),
+        Job::List { image, settings } => (
+            "list",
+            [Text(image), text_or_no(settings), No, No, No, No],
+        ),
         _ => told_of_parts(job),
     }
 }
 
-// What a job says that works on a part. A job without a row says nothing.
-fn told_of_parts(job: Job<'_>) -> Told<'_> {
-    match job {
+// What a job says that works on an image or a part alone. A job without a row says nothing.
+fn told_of_parts<'a>(job: &Job<'a>) -> Told<'a> {
+    match *job {
         Job::Import {
             pairs,
             shape,
@@ -271,16 +283,17 @@ fn told_of_parts(job: Job<'_>) -> Told<'_> {
             image,
         } => (
             "import",
-            row(&[
+            [
                 Flag(pairs),
                 size(shape.pages()),
                 size(shape.words()),
                 Text(dump),
                 Text(image),
-            ]),
+                No,
+            ],
         ),
         Job::Export { pairs, image, dump } => {
-            ("export", row(&[Flag(pairs), Text(image), Text(dump)]))
+            ("export", [Flag(pairs), Text(image), Text(dump), No, No, No])
         }
         Job::ImportHex {
             pairs,
@@ -290,14 +303,14 @@ fn told_of_parts(job: Job<'_>) -> Told<'_> {
             image,
         } => (
             "import-hex",
-            row(&[
+            [
                 Flag(pairs),
                 size(shape.pages()),
                 size(shape.words()),
                 Number(u64::from(base)),
                 Text(dump),
                 Text(image),
-            ]),
+            ],
         ),
         Job::ExportHex {
             pairs,
@@ -306,16 +319,40 @@ fn told_of_parts(job: Job<'_>) -> Told<'_> {
             dump,
         } => (
             "export-hex",
-            row(&[
+            [
                 Flag(pairs),
                 Text(image),
                 Number(u64::from(base)),
                 Text(dump),
-            ]),
+                No,
+                No,
+            ],
         ),
-        Job::Inspect { image } => ("inspect", row(&[Text(image)])),
-        _ => ("", row(&[])),
+        Job::Wear { image, before } => ("wear", [Text(image), text_or_no(before), No, No, No, No]),
+        Job::States { image } => ("states", [Text(image), No, No, No, No, No]),
+        Job::Clean { image } => ("clean", [Text(image), No, No, No, No, No]),
+        Job::Inspect { image } => ("inspect", [Text(image), No, No, No, No, No]),
+        _ => ("", [No, No, No, No, No, No]),
     }
+}
+
+// What the job says that these words ask for.
+fn told_of<'a>(words: &[&'a str]) -> Option<Told<'a>> {
+    match job(words) {
+        Some(job) => Some(told(&job)),
+        None => None,
+    }
+}
+
+// Looks whether `clap` finds in the words of a line what `job` gives.
+fn compare(rt: &impl Abort, memory: Global, line: &str, words: &[&'static str]) {
+    let Ok(matches) = table(rt, memory).try_get_matches_from(words) else {
+        panic!(rt; "not taken: {line}");
+    };
+    let (name, matches) = matches.subcommand().expect(rt, "no command");
+    let (_, ids) = ROWS.iter().find(|row| row.0 == name).expect(rt, "no row");
+    let wanted = told_of(words.get(1..).unwrap_or(&[]));
+    same(rt, line, Some((name, values(matches, ids))), wanted);
 }
 
 #[test]
@@ -325,8 +362,6 @@ fn clap_finds_the_same_values(rt: HostRuntime) {
             .split_whitespace()
             .collect(rt.alloc())
             .expect(&rt, "no room");
-        let job = job(words.get(1..).unwrap_or(&[])).expect(&rt, "no job");
-        let found = found(&rt, rt.alloc(), words.as_slice());
-        same(&rt, line, found, Some(told(job)));
+        compare(&rt, rt.alloc(), line, words.as_slice());
     }
 }

@@ -1,7 +1,4 @@
 //! Each call that allocates: its answer with ample memory, and want of memory wherever one of its requests is refused.
-//!
-//! A command passes its allocator on to each call of the libraries that it makes, and tells their want of memory. So of
-//! those here are the ones alone that no command makes.
 mod certificates;
 mod commands;
 mod indexes;

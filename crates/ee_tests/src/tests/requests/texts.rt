@@ -1,7 +1,7 @@
 //! Devices and dumps, Intel HEX, scripts, and what is put behind other bytes.
 use super::commands::{BASE, DUMP, gives};
 use crate::tests::streams::LastValue;
-use crate::tests::{device, shape, text_of};
+use crate::tests::{device, shape};
 use ee_check::{Certificate, read_certificate, write_certificate};
 use ee_dump::intel_hex::{HexFault, read_hex, write_hex};
 use ee_dump::{DumpFault, Form, WriteFault, read_dump, write_dump};
@@ -52,8 +52,9 @@ pub fn device_made(
     memory: Global,
     image: &[u8],
 ) -> Option<bool> {
+    let mut text = Vec::new(memory);
     match device_of(what, alloc, shape(rt, 1, 6)) {
-        Ok(flash) => Some(text_of(rt, memory, &flash).as_slice() == image),
+        Ok(flash) => Some(write_image(&flash, &mut text).is_ok() && text.as_slice() == image),
         Err(ReplayFault::Memory) => None,
         Err(_) => Some(false),
     }
