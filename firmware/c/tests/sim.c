@@ -35,13 +35,14 @@ static void cut_program(sim_tear tear, uint64_t value) {
 /* Fills a page with words, torn ones and erased ones, erases it, and cuts power in that. */
 static void cut_erase(sim_tear tear) {
     static const sim_tear mixed[3] = {SIM_NOTHING, SIM_DONE, SIM_TORN};
+    static const uint64_t almost_erased[2][2] = {{UINT64_MAX, UINT64_MAX - 32}, {UINT64_MAX - 1, UINT64_MAX - 32}};
     ee_flash flash = sim_flash(&part);
     for (uint32_t place = 0; place < WORDS; place++) {
         static const char *const texts[4] = {"-", "?", "0000000000000001", "fffffffffffffffe"};
         CHECK(read_word(&part, 1, place, texts[picked(&part) & 3]));
     }
-    part.words[1][2 * WORDS - 2] = UINT64_MAX - 1; /* almost erased */
-    part.words[1][2 * WORDS - 1] = UINT64_MAX - 32;
+    memcpy(&part.words[1][2 * 8], almost_erased, sizeof almost_erased[0]);
+    memcpy(&part.words[1][2 * 11], almost_erased[1], sizeof almost_erased[1]);
     before = part;
     sim_cut(&part, 1, tear);
     CHECK(flash.erase(&part, 1) != 0 && part.wear[1] == 1);
