@@ -41,7 +41,7 @@ static void cut_erase(sim_tear tear) {
         static const char *const texts[4] = {"-", "?", "0000000000000001", "fffffffffffffffe"};
         CHECK(read_word(&part, 1, place, texts[picked(&part) & 3]));
     }
-    memcpy(&part.words[1][2 * 8], almost_erased, sizeof almost_erased[0]);
+    memcpy(&part.words[1][2 * 8], almost_erased[0], sizeof almost_erased[0]);
     memcpy(&part.words[1][2 * 11], almost_erased[1], sizeof almost_erased[1]);
     before = part;
     sim_cut(&part, 1, tear);
