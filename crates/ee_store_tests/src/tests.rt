@@ -4,6 +4,7 @@
 //! and each such path costs the prover time.
 mod counted;
 mod cuts;
+mod driving;
 mod formats;
 mod outside;
 
