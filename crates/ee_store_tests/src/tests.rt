@@ -7,6 +7,7 @@ mod cuts;
 mod driving;
 mod formats;
 mod outside;
+mod tidying;
 
 use ee_codec::Address;
 use ee_fakes::{same, shape};
