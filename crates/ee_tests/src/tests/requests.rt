@@ -4,7 +4,6 @@ mod commands;
 mod indexes;
 mod plans;
 mod schemas;
-mod settings;
 mod stores;
 mod texts;
 
@@ -34,7 +33,6 @@ enum Call {
     WriteIndexed,
     WriteAllIndexed,
     CheckThousand,
-    Settings,
     ReadWhole,
     SizeParts,
     FaultLine(Fault, &'static [u8]),
@@ -65,7 +63,6 @@ const CALLS: &[(Call, u64)] = &[
     (Call::WriteIndexed, 2),
     (Call::WriteAllIndexed, 2),
     (Call::CheckThousand, 2),
-    (Call::Settings, 3),
     (Call::ReadWhole, 2),
     (Call::SizeParts, 6),
     (Call::FaultLine(UNREAD, b"ee: cannot read script\n"), 1),
@@ -113,6 +110,7 @@ const CALLS: &[(Call, u64)] = &[
     (Call::Plans(Task::Ledger), 1),
     (Call::Plans(Task::Since), 1),
     (Call::Schema(schemas::Task::Read), 1),
+    (Call::Schema(schemas::Task::Entries), 1),
     (Call::Schema(schemas::Task::Stale), 1),
     (Call::Schema(schemas::Task::List), 1),
     (Call::Device(Device::Blank, BLANK), 2),
@@ -146,7 +144,6 @@ fn answer(rt: &impl Abort, memory: Global, call: Call, alloc: &Refusing<Global>)
         Call::WriteIndexed => stores::index_written(alloc, rt, memory),
         Call::WriteAllIndexed => stores::index_written_at_once(alloc, rt, memory),
         Call::CheckThousand => certificates::thousand_checked(alloc, rt, memory),
-        Call::Settings => settings::settings_kept(alloc, rt, memory),
         Call::ReadWhole => script_read(alloc),
         Call::SizeParts => commands::sizes_given(alloc),
         Call::FaultLine(fault, line) => commands::fault_told(alloc, fault, line),

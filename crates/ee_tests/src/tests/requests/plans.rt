@@ -126,6 +126,15 @@ fn planned(
     }
 }
 
+/// Whether a check gave this count, or none for want of memory.
+pub fn counts(checked: Result<u64, CheckFault>, wanted: u64) -> Option<bool> {
+    match checked {
+        Ok(count) => Some(count == wanted),
+        Err(CheckFault::Memory) => None,
+        Err(_) => Some(false),
+    }
+}
+
 fn checked(
     alloc: &Refusing<Global>,
     rt: &impl Abort,
@@ -134,11 +143,8 @@ fn checked(
 ) -> Option<bool> {
     let certificate = read_certificate(memory, worked.certificate).expect(rt, "no certificate");
     let start = start(rt, memory, worked);
-    match check(alloc, &start, &trace(rt, memory, worked), &certificate) {
-        Ok(count) => Some(count == worked.moments.len() as u64),
-        Err(CheckFault::Memory) => None,
-        Err(_) => Some(false),
-    }
+    let checked = check(alloc, &start, &trace(rt, memory, worked), &certificate);
+    counts(checked, worked.moments.len() as u64)
 }
 
 fn read(alloc: &Refusing<Global>, memory: Global, text: &[u8]) -> Option<bool> {
@@ -215,8 +221,8 @@ const WORN: &[u8] = b"ee 1 5\n3 - - - - -\n5 - - - - -\n";
 
 const LESS_WORN: &[u8] = b"ee 1 5\n1 - - - - -\n5 - - - - -\n";
 
-// Whether a ledger of two pages has these counts.
-fn counts<A: Allocator>(ledger: &Ledger<A>, total: u128, least: u64, greatest: u64) -> bool {
+// Whether a ledger of two pages has this wear.
+fn has_wear<A: Allocator>(ledger: &Ledger<A>, total: u128, least: u64, greatest: u64) -> bool {
     ledger.pages() == 2
         && ledger.total() == total
         && ledger.least() == least
@@ -230,13 +236,13 @@ fn ledger(rt: &impl Abort, memory: Global, image: &[u8]) -> Ledger {
 
 fn ledger_given(alloc: &Refusing<Global>, rt: &impl Abort, memory: Global) -> Option<bool> {
     let ledger = Ledger::of(alloc, &device(rt, memory, WORN)).ok()?;
-    Some(counts(&ledger, 8, 3, 5))
+    Some(has_wear(&ledger, 8, 3, 5))
 }
 
 fn difference_given(alloc: &Refusing<Global>, rt: &impl Abort, memory: Global) -> Option<bool> {
     let before = ledger(rt, memory, LESS_WORN);
     match ledger(rt, memory, WORN).since(alloc, &before) {
-        Ok(since) => Some(counts(&since, 2, 0, 2)),
+        Ok(since) => Some(has_wear(&since, 2, 0, 2)),
         Err(SinceFault::Memory) => None,
         Err(_) => Some(false),
     }

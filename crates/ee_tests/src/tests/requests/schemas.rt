@@ -12,6 +12,7 @@ use toml::Table;
 #[derive(Clone, Copy)]
 pub enum Task {
     Read,
+    Entries,
     Stale,
     List,
 }
@@ -20,6 +21,15 @@ pub enum Task {
 fn table(rt: &impl Abort, memory: Global) -> Table {
     let table = toml::table_from_slice(memory, VOLUME);
     table.ok().expect(rt, "no table")
+}
+
+// Whether the first entry alone is stale, or none was found for want of memory.
+fn is_first<A: Allocator>(found: Result<Vec<u64, A>, StaleFault>) -> Option<bool> {
+    match found {
+        Ok(entries) => Some(entries.as_slice() == [1].as_slice()),
+        Err(StaleFault::Memory) => None,
+        Err(_) => Some(false),
+    }
 }
 
 // Whether the setting alone is stale, with 13, or none was found for want of memory.
@@ -83,6 +93,7 @@ pub fn done(task: Task, alloc: &Refusing<Global>, rt: &impl Abort, memory: Globa
     let schema = Schema::from_table(memory, &table).expect(rt, "no schema");
     match task {
         Task::List => are_both(rt, schema.list(alloc, &store)),
+        Task::Entries => is_first(schema.stale(alloc, &store)),
         _ => is_stale(schema.stale_values(alloc, &store)),
     }
 }

@@ -91,7 +91,7 @@ fn in_pieces<'a>(
     Ok(report)
 }
 
-// What is given as bytes.
+// What is given as bytes. A fault that the call can't meet here is told as any that is no want of memory.
 fn bytes_of<'a>(
     what: Bytes,
     alloc: &'a Refusing<Global>,
@@ -147,7 +147,7 @@ pub enum Pushed {
 /// What stands before it.
 const FRONT: &[u8] = b"end\n";
 
-/// The image after two moves and its certificate behind that.
+/// The image after two moves behind that, and their certificate.
 pub const END_AND_IMAGE: &[u8] = b"end
 ee 1 6
 1 aaaaaaaa00000003 aaaaaaaaaaaaaaaa - - 0000000d00000001 0000000500000002
