@@ -15,6 +15,8 @@ use crate::error::{
 ///
 /// When its driver fails, in a step or in a read, the store is off: each call answers so, until the driver is taken and
 /// opened again.
+///
+/// It may go to another thread, but no two share it: a call that only reads notes where its driver failed.
 pub struct Store<D: Driver> {
     store: proved::Store<Part<D>>,
 }
