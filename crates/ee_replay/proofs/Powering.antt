@@ -33,7 +33,7 @@ use Rattle.ee_replay.specs.declared.either.Beside.{Beside}
 use Rattle.ee_replay.specs.declared.either.Beside.TheVariants.{Layout, Index}
 use Rattle.ee_script.specs.declared.answer.Answer.{Answer}
 use Rattle.ee_script.specs.declared.answer.Answer.TheVariants.{Cut, Opened}
-use Rattle.ee_replay.specs.Serving.{ArmsItsFuse, IsArmed, IsSound, Powers, with_cut_to_come}
+use Rattle.ee_replay.specs.Serving.{ArmsItsFuse, IsSound, Powers, with_cut_to_come}
 
 pub state_armed : (device : Device) → state_of (with_cut_to_come device) ≡ state_of device
 state_armed device = state_in_powered device.cuts (Some 1) device.on device (live_of device)
@@ -91,10 +91,11 @@ module _ (old new : Memory) (fuse : Fuse) (armed : new ≡ with_fuse fuse old) w
   pub arms_stand : (point : Point) (serving : Bool) → old.device ≡ point.device → serving ≡ point.serving
       → ArmsItsFuse point fuse (record { point = record { serving = serving; device = new.device }; memory = Some new })
   arms_stand point serving at serves = record {
-    kept = new;
-    at_hand = refl;
-    arms = subst (λ (device : Device). IsArmed device fuse new) at (record { device_is = device_armed; has_fuse = ap (λ (kept : Memory). kept.fuse) armed });
-    point_is = ap (λ (serves : Bool). record { serving = serves; device = new.device }) serves;
+    before = old;
+    before_is = at;
+    at_hand = ap Some armed;
+    point_is =
+        ap (λ (serves : Bool). record { serving = serves; device = new.device }) serves ∙ ap (λ (device : Device). record { serving = point.serving; device = device }) device_armed;
   }
 
   pub arms_open : (point : Point) → open_point old.device ≡ point → ArmsItsFuse point fuse (record { point = open_point new.device; memory = Some new })
@@ -109,7 +110,7 @@ module _ (old new : Memory) (fuse : Fuse) (armed : new ≡ with_fuse fuse old) w
 
 -- what a line that arms a cut makes of a point
 pub now_armed : (old : Point) (new : Stand) (fuse : Fuse) → ArmsItsFuse old fuse new → new.point ≡ record old { device = with_cut_to_come old.device }
-now_armed old new fuse line = line.point_is ∙ ap (λ (d : Device). record old { device = d }) line.arms.device_is
+now_armed old new fuse line = line.point_is ∙ ap (λ (device : Device). record old { device = with_cut_to_come device }) line.before_is
 
 -- an open store is on, and no mark is left to set
 pub store_sound : (device : Device) → IsStore device → IsSound (open_point device)

@@ -2,7 +2,7 @@
 use Rattle.std.specs.Prelude.{◌≡◌, ◌≤◌, ◌+◌, ◌*◌, zero, ℕ, Bool, List, [], ◌∷◌, ◌++◌, length, Option, Some, None, Ok, Err, true, false, IsSomeAnd}
 use Rattle.std.specs.List.{list_any}
 use Rattle.ee_flash.specs.Device.{Device, IsOn}
-use Rattle.ee_flash.specs.Memory.{Memory}
+use Rattle.ee_flash.specs.Memory.{Memory, with_fuse}
 use Rattle.ee_flash.specs.Size.{slot_count}
 use Rattle.ee_flash.specs.declared.fuse.Fuse.{Fuse}
 use Rattle.ee_pages.specs.Legal.{IsLegal}
@@ -79,15 +79,6 @@ abbrev pub is_armed : Option ℕ → Bool
 is_armed (Some zero) = false
 is_armed left = true
 
--- the fuse of a device in memory is this one
-abbrev pub HasFuse : Fuse → Memory → Type 0
-HasFuse fuse kept = kept.fuse ≡ Some fuse
-
--- a device in memory is that device, but for its fuse, which is this one
-pub record IsArmed (old : Device) (fuse : Fuse) (kept : Memory) : Type 0 where
-  pub device_is : kept.device ≡ with_cut_to_come old
-  pub has_fuse : HasFuse fuse kept
-
 -- An open store makes the call of the command, and none is open once power is cut in it; where none is open, the answer is
 -- `off`, and nothing is done.
 abbrev pub Asks : Bool → Device → Command → Answer → Point → Type 0
@@ -103,13 +94,13 @@ Powers false old Opened new = Opens (with_power_on old) new.device × (new.servi
 Powers false old Cut new = IsCutOpening (with_power_on old) new.device × (new.serving ≡ false)
 Powers serving old answer new = ⊥
 
--- A line arms its fuse: the device in memory is at hand behind it, its fuse is the line's, and a store is open on it if one
--- was.
+-- A line arms its fuse: behind it the device in memory is at hand, and is the one before it with the line's fuse; a store is
+-- open on it if one was.
 pub record ArmsItsFuse (old : Point) (fuse : Fuse) (new : Stand) : Type 0 where
-  pub kept : Memory
-  pub at_hand : new.memory ≡ Some kept
-  pub arms : IsArmed old.device fuse kept
-  pub point_is : new.point ≡ record old { device = kept.device }
+  pub before : Memory
+  pub before_is : before.device ≡ old.device
+  pub at_hand : new.memory ≡ Some (with_fuse fuse before)
+  pub point_is : new.point ≡ record old { device = (with_fuse fuse before).device }
 
 -- From this stand the command is answered so, and the desk has that one afterwards.
 abbrev pub Attends : Stand → Command → Answer → Stand → Type 0
