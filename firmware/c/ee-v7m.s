@@ -1,7 +1,7 @@
 /* ee: variables in flash, the library of ee.h as one file, for Cortex-M3, M4, M7 and M33.
  *
- * sum of sources: f5b6940b7a2a1b419308716eb87b491184a5ba337ec3637e175b7db2ca125914
- * sum of the text below: 033bea15b895cfac50f6a862b36ee13d742eb2588b30e72194c33df50345b5e0
+ * sum of sources: abb28a526ce8367c6f2c6249ec48feb1b008cabaf22bf35dc3fe6a6664378d82
+ * sum of the text below: f97c38b028c3243a1ea1b1bca9ce7e9822b9498879b613981864b64c9bbb69b0
  * made by: firmware/c/assemble
  * compiler: rustc 1.96.0 (ac68faa20 2026-05-25) (built from a source tarball), LLVM 22.1.8
  * words: --target thumbv7m-none-eabi -C panic=abort -C embed-bitcode=yes -C opt-level=s -C llvm-args=--inline-threshold=40 -C codegen-units=1 -C lto=fat --emit asm,link
@@ -1851,8 +1851,7 @@ shim_Device_ee_flash_device_Flash_word:
 	ldr	r1, [r1]
 	mov	r4, r0
 	cbz	r1, .LBB20_5
-	cmp	r3, #3
-	bhi	.LBB20_3
+	cbnz	r3, .LBB20_3
 	ldr	r0, [r1, #4]
 	cmp.w	r2, r0, lsl #1
 	bhs	.LBB20_5

@@ -1,7 +1,7 @@
 /* ee: variables in flash, the library of ee.h as one file, for Linux on x86-64.
  *
- * sum of sources: f5b6940b7a2a1b419308716eb87b491184a5ba337ec3637e175b7db2ca125914
- * sum of the text below: 105b7ece296d81bef5fff5af0200c47406e54ffa3b439c59cd507710477f447c
+ * sum of sources: abb28a526ce8367c6f2c6249ec48feb1b008cabaf22bf35dc3fe6a6664378d82
+ * sum of the text below: 57a1bb0b8bd98474c321e2fc4dc2c50e7ac24db1dac2c1594776eb9bda289a74
  * made by: firmware/c/assemble
  * compiler: rustc 1.96.0 (ac68faa20 2026-05-25) (built from a source tarball), LLVM 22.1.8
  * words: --target x86_64-unknown-linux-gnu -C panic=abort -C embed-bitcode=yes -C opt-level=s -C llvm-args=--inline-threshold=40 -C codegen-units=1 -C lto=fat --emit asm,link
@@ -2212,8 +2212,8 @@ shim_Device_ee_flash_device_Flash_word:
 	movq	(%rdi), %rax
 	testq	%rax, %rax
 	je	.LBB20_10
-	cmpq	$3, %rdx
-	ja	.LBB20_3
+	testq	%rdx, %rdx
+	jne	.LBB20_3
 	movl	8(%rax), %ecx
 	addq	%rcx, %rcx
 	cmpq	%rcx, %rsi

@@ -1,7 +1,7 @@
 /* ee: variables in flash, the library of ee.h as one file, for every Cortex-M.
  *
- * sum of sources: f5b6940b7a2a1b419308716eb87b491184a5ba337ec3637e175b7db2ca125914
- * sum of the text below: fa7db17c9953f8bf8ceb70ffb11d5fdf3ac62f04eb70e42d9f6e68b676760687
+ * sum of sources: abb28a526ce8367c6f2c6249ec48feb1b008cabaf22bf35dc3fe6a6664378d82
+ * sum of the text below: 939d3670e7cdf03015b4624a0113a5676937ad340361145a32de60048bb0a9d2
  * made by: firmware/c/assemble
  * compiler: rustc 1.96.0 (ac68faa20 2026-05-25) (built from a source tarball), LLVM 22.1.8
  * words: --target thumbv6m-none-eabi -C panic=abort -C embed-bitcode=yes -C opt-level=s -C llvm-args=--inline-threshold=40 -C codegen-units=1 -C lto=fat --emit asm,link
@@ -2191,8 +2191,8 @@ shim_Device_ee_flash_device_Flash_word:
 	ldr	r1, [r1]
 	cmp	r1, #0
 	beq	.LBB20_5
-	cmp	r3, #3
-	bhi	.LBB20_3
+	cmp	r3, #0
+	bne	.LBB20_3
 	ldr	r0, [r1, #4]
 	lsls	r0, r0, #1
 	cmp	r2, r0

@@ -5,7 +5,7 @@ use core::cell::Cell;
 use core::ffi::c_void;
 use core::mem::MaybeUninit;
 use core::ptr::null;
-use ee_store::proved::{self, Cut, Flash as _, Pairs, HEADER_WORDS};
+use ee_store::proved::{self, Cut, Flash as _, Pairs};
 use ee_store::{Shape, Word};
 
 type WordCall = unsafe extern "C" fn(*mut c_void, u32, u32, *mut u64) -> u32;
@@ -175,10 +175,10 @@ impl proved::Flash for Device {
     }
 
     fn word(&self, page: usize, at: usize) -> Word {
-        // Slots are looked for in the pages of a set. Only a place that goes on from page to page, as far as words say that
-        // change from look to look, asks for the header of a page that isn't there.
+        // Slots and pages are looked through within the shape. Only a move goes on from page to page, as far as words say that
+        // change from look to look, and it asks for the first word of each page first.
         let flash = match self.flash() {
-            Some(flash) if at >= HEADER_WORDS || flash.has(page) => flash,
+            Some(flash) if at != 0 || flash.has(page) => flash,
             _ => {
                 self.turn_off();
                 return Word::Torn;

@@ -51,7 +51,6 @@ pub mod proved {
     pub use crate::ee_core::{
         format, open, start, ForgetFault, OpenFault, Store, Variables, WriteAllFault, WriteFault,
     };
-    pub use crate::ee_flash::{Cut, Flash, HEADER_WORDS};
+    pub use crate::ee_flash::{Cut, Flash};
     pub use crate::ee_pairs::{Nor, Pairs};
-    pub use crate::store::holds_more;
 }

@@ -49,9 +49,9 @@ pub fn start<D: Driver>(driver: D) -> Result<Store<D>, Failed<D>> {
     opened(proved::start(part))
 }
 
-/// Whether a word is written that a first start doesn't program: any but the first two of page 0. Where erased words stay
-/// so in a cut erase, a first start that was cut leaves no other.
-pub fn holds_more<F: Flash>(flash: &F) -> bool {
+// Whether a word is written that a first start doesn't program: any but the first two of page 0. Where erased words stay so
+// in a cut erase, a first start that was cut leaves no other.
+fn holds_more<F: Flash>(flash: &F) -> bool {
     let shape = flash.shape();
     (2..shape.words()).any(|at| flash.word(0, at) != Word::Erased)
         || (1..2 * shape.pages()).any(|page| !is_blank(flash, page))
