@@ -1,6 +1,9 @@
 use Rattle.std.proofs.Common.{rules}
 use Rattle.ee_core.proofs.copying.copy_one.Goals as goal
 
+pub returns-clause-passed : goal.returns-clause-passed
+returns-clause-passed g c = search rules
+
 pub stage-requires-clause-free : goal.stage-requires-clause-free
 stage-requires-clause-free g c = search rules fits 100 parts 0
 
@@ -9,9 +12,6 @@ returns-clause-keeps g c = search rules fits 100 parts 0
 
 pub returns-clause-at : goal.returns-clause-at
 returns-clause-at g c = search rules fits 100 parts 0
-
-pub returns-clause-passed : goal.returns-clause-passed
-returns-clause-passed g c = search rules
 
 pub returns-clause-fills : goal.returns-clause-fills
 returns-clause-fills g c = search rules fits 100 parts 0

@@ -24,7 +24,8 @@ loop-slot-preserved g c =
       | then-is_torn w ↦
           let yes = ap {B = ℕ} (λ b. cond b 1 0) (sym is ∙ w.if-is_torn.true) in
           let one : c.loop-slot.torn + 1 ≡ torn_of (take (place + 1) slots) = omega (arith, more, yes, c.loop-slot.invariant) in
-          rw w.torn-is (subst (λ n. c.loop-slot.torn + 1 ≡ torn_of (take n slots)) next one)
+          let kept = subst (λ n. c.loop-slot.torn + 1 ≡ torn_of (take n slots)) next one in
+          rw w.torn-is (search kept fits 100 parts 0)
       | else-is_torn w ↦
           let no = ap {B = ℕ} (λ b. cond b 1 0) (sym is ∙ w.if-is_torn.false) in
           let one : c.loop-slot.torn ≡ torn_of (take (place + 1) slots) = omega (arith, more, no, c.loop-slot.invariant) in
