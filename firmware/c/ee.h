@@ -8,7 +8,8 @@
  * numbers, a value beside its complement, which takes twice the flash. A cut number is told by its other half.
  *
  * The library allocates nothing. It keeps what it knows in the `ee_store` that the caller lends, and reads and writes the
- * flash by the three functions of an `ee_flash`.
+ * flash by the three functions of an `ee_flash`. Whatever these answer, none is asked for a page or a word that the flash does
+ * not have.
  *
  * Every call answers a status. Pointers that are NULL are refused with EE_NULL; all others must be good. No call may be
  * made from inside one of the three functions, nor from an interrupt or a thread that may break into a call on the same
@@ -51,8 +52,10 @@ typedef struct ee_flash {
     void *context; /* given to each of the three functions; the library does not look at it */
     uint32_t pages;
     uint32_t page_words;
-    /* Reads a word. 0, and the word in `value`: all ones is an erased word. Any other number where the word can't be read
-     * (an uncorrectable ECC error). A word reads the same until it is written. */
+    /* Reads a word. 0, and the word in `value`: all ones is an erased word. EE_READ_FAILED where the read itself failed, as on a
+     * bus that isn't up, and nothing is known of the word: the call makes no step after that and answers EE_DRIVER, and the
+     * store is off. Any other number where the word can't be read (an uncorrectable ECC error). A word reads the same until it
+     * is written. */
     uint32_t (*word)(void *context, uint32_t page, uint32_t place, uint64_t *value);
     /* Programs a word that is erased, with a value that is not all ones. 0 once it reads back; any other number where it
      * failed. */
@@ -66,13 +69,17 @@ typedef struct ee_flash {
      * while a page is erased. So a cut in `program` leaves a number with every bit of the one asked for, and a cut in `erase`
      * leaves each number of the page with every bit that it had. A number may be programmed by parts, in any order.
      *
-     * A number reads the same until it is written, and `word` answers 0. Where it answers another number, that number of the
-     * flash counts as 0, which stands in no word of a store: the word is torn, or is none of the store's, and the next opening
+     * A number reads the same until it is written, and `word` answers 0. Where it answers another number than EE_READ_FAILED,
+     * that number of the flash counts as 0, which stands in no word of a store: the word is torn, or is none of the store's, and the next opening
      * may say EE_FOREIGN. */
     uint32_t pairs;
 } ee_flash;
 
-/* A store, in memory that the caller lends. ee_start, ee_open or ee_format comes before every other call on it. */
+/* What `word` answers where the read itself failed. */
+enum { EE_READ_FAILED = 0x00ee00ee };
+
+/* A store, in memory that the caller lends, which stays where it is. ee_start, ee_open or ee_format comes before every other
+ * call on it; one of zeros is off. */
 typedef struct ee_store {
     uintptr_t words[8];
 } ee_store;
@@ -89,10 +96,10 @@ enum {
     EE_NO_LIVE_SET = 6,    /* no set is live */
     EE_TWO_LIVE = 7,       /* both sets are */
     EE_FOREIGN = 8,        /* a word of the live set is not the store's; with `pairs`, a word of either set */
-    /* A function of the flash failed, and the store is off: the change was made or was not, a list of values as a whole, and all
-     * else is as before. */
+    /* A function of the flash failed, and the store is off: a change was made or was not, a list of values as a whole, and all
+     * else is as before. Also where words that changed from look to look led to a page that the flash does not have. */
     EE_DRIVER = 9,
-    /* The store is off, or was never opened. Open it. */
+    /* The store is off, or was never opened. Open it. It comes before all refusals but that of `store` as a NULL pointer. */
     EE_OFF = 10,
     /* Refusals of the call itself. Nothing was written. */
     EE_WRONG_SHAPE = 11,   /* `pages`, `page_words` or `pairs` is out of range */
@@ -119,16 +126,18 @@ typedef struct ee_numbers {
 } ee_numbers;
 
 /* The call to make at each start. Opens the store that the flash holds, as ee_open, or makes the first one: where no set is
- * live and no word behind the header of a page can be read. A first start in which power was cut is made again; no stored
- * value is erased. EE_OK; EE_NO_LIVE_SET, EE_TWO_LIVE, EE_FOREIGN, EE_DRIVER. */
+ * live and no word behind the header of a page can be read; with `pairs`, where every number is all ones but the first four of
+ * page 0. A first start in which power was cut is made again; no stored value is erased. EE_OK; EE_NO_LIVE_SET, EE_TWO_LIVE,
+ * EE_FOREIGN, EE_DRIVER. */
 uint32_t ee_start(ee_store *store, const ee_flash *flash);
 
 /* Opens the store that the flash holds. Where power was cut it sets the marks that were left to set, else it writes nothing.
  * EE_OK; EE_UNFORMATTED, EE_NO_LIVE_SET, EE_TWO_LIVE, EE_FOREIGN, EE_DRIVER. */
 uint32_t ee_open(ee_store *store, const ee_flash *flash);
 
-/* Makes a store with nothing in it, whatever the flash held: each page that is not blank is erased. Where it is cut the flash
- * may hold no store: format again. EE_OK; EE_DRIVER. */
+/* Makes a store with nothing in it, whatever the flash held: each page that is not blank is erased. Where it is cut on a flash
+ * that held values, that may hold no store, or one with a part of those values, or with older ones: format again. EE_OK;
+ * EE_DRIVER. */
 uint32_t ee_format(ee_store *store, const ee_flash *flash);
 
 /* Gives an address a value. Where no slot is free all variables move to the other set. EE_OK; EE_FULL, EE_SPENT, EE_DRIVER. */
@@ -146,14 +155,14 @@ uint32_t ee_forget(ee_store *store, uint16_t address);
 /* Erases one page that waits for it, so that a later move finds less to do. EE_OK, EE_NOTHING; EE_DRIVER. */
 uint32_t ee_clean(ee_store *store);
 
-/* The value of an address. EE_OK, EE_NOTHING; `value` is written with EE_OK alone. */
+/* The value of an address. EE_OK, EE_NOTHING; EE_DRIVER. `value` is written with EE_OK alone. */
 uint32_t ee_read(const ee_store *store, uint16_t address, uint32_t *value);
 
 /* The next address above `*address` that has a value, with the value; the first of all where `*address` is 0. EE_OK,
- * EE_NOTHING; both are written with EE_OK alone. */
+ * EE_NOTHING; EE_DRIVER. Both are written with EE_OK alone. */
 uint32_t ee_next(const ee_store *store, uint16_t *address, uint32_t *value);
 
-/* How the store stands. EE_OK. */
+/* How the store stands. EE_OK; EE_DRIVER. `numbers` is written with EE_OK alone. */
 uint32_t ee_counts(const ee_store *store, ee_numbers *numbers);
 
 #ifdef __cplusplus

@@ -56,6 +56,13 @@ impl<F: Flash + Drop> Store<F> {
         Store { flash, layout }
     }
 
+    /// The device, to be looked at.
+    pub fn flash(&self) -> &F
+        ensures { F.device result.now ≡ self.now }
+    {
+        &self.flash
+    }
+
     /// The device, as it is.
     pub fn into_flash(self) -> F
         ensures device { F.device result ≡ self }

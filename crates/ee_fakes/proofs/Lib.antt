@@ -1,3 +1,4 @@
 mod Walking
 mod Asking
 mod Leaving
+mod Numbering

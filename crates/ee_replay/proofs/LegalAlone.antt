@@ -8,7 +8,7 @@ use Rattle.ee_pages.specs.Sets.{live_of}
 use Rattle.ee_pages.specs.declared.side.Side.{Side}
 use Rattle.ee_replay.specs.Desk.{HasLegalImage, IsLegalDesk, IsLegalSo}
 use Rattle.ee_replay.specs.declared.desk.Desk.{Desk}
-use Rattle.ee_replay.specs.declared.desk.Desk.TheVariants.{Open, Bare, Gone}
+use Rattle.ee_replay.specs.declared.desk.Desk.TheVariants.{Open, Armed, Bare, Gone}
 
 has_image : (device : Device) → IsLegal device → HasLegalImage device
 has_image device legal = search rules
@@ -19,10 +19,12 @@ found device (Some live) e has = (live.0, live.1, has.1 live.0 live.1 e)
 
 pub legal_there : {A : Type 0} (desk : Desk A) → IsLegalSo desk → IsLegalDesk desk
 legal_there (Open store) so = tt
+legal_there (Armed apart) so = tt
 legal_there (Bare flash) so = found (device_of flash) (live_of (device_of flash)) refl (so.alone flash refl)
 legal_there Gone so = so.there refl
 
 pub legal_so : {A : Type 0} (desk : Desk A) → IsLegalDesk desk → IsLegalSo desk
 legal_so (Open store) legal = record { there = λ e. absurd (cc e); alone = λ flash e. absurd (cc e) }
+legal_so (Armed apart) legal = record { there = λ e. absurd (cc e); alone = λ flash e. absurd (cc e) }
 legal_so {A} (Bare flash) legal = search (rules, has_image)
 legal_so Gone legal = absurd legal

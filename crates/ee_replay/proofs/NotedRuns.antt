@@ -36,13 +36,13 @@ use Rattle.ee_core.specs.declared.variables.ForgetFault.{ForgetFault}
 use Rattle.ee_core.specs.declared.variables.ForgetFault.TheVariants as forgetting
 use Rattle.ee_core.specs.declared.variables.WriteFault.{WriteFault}
 use Rattle.ee_core.specs.declared.variables.WriteFault.TheVariants as fault
-use Rattle.ee_replay.specs.Desk.{CallsAtDesk, SaysTheSame}
+use Rattle.ee_replay.specs.Desk.{CallsAtDesk, SaysTheSame, Stand}
 use Rattle.ee_image_store.specs.Machine.{is_cut_answer, was_cut}
-use Rattle.ee_replay.specs.Serving.{Attends, IsCounted, IsTraced, Noted, Notes, Records, Serves, claim_noted, no_notes, notes_after, serving_on}
+use Rattle.ee_replay.specs.Serving.{Attends, IsCounted, IsTraced, Noted, Notes, Records, Serves, claim_noted, no_notes, notes_after, serving_on, stand_on}
 use Rattle.ee_image_store.specs.Trace.{accepted_commands, moved_at, trace_of}
 use Rattle.ee_replay.proofs.Powering.{state_armed}
 use Rattle.ee_replay.proofs.Runs.{neither}
-use Rattle.ee_replay.proofs.UncutRuns.{at_open, served_open}
+use Rattle.ee_replay.proofs.UncutRuns.{at_open, from_point, served_open}
 
 -- ---- a store that stays open
 
@@ -57,7 +57,7 @@ record IsHeld (old : Held) (command : Command) (answer : Answer) (new : Held) : 
   notes_are : new.notes ≡ notes_after answer (state_of new.device).fill old.notes
 
 abbrev held_at : Noted → Held
-held_at noted = record { device = noted.point.device; notes = noted.notes }
+held_at noted = record { device = noted.stand.point.device; notes = noted.notes }
 
 -- ---- one change
 
@@ -237,7 +237,7 @@ noted_tight old new commands answers start are fresh run is proper =
     whole_tight start trace record { now = last.now; from = new.notes.from; stretches = new.notes.stretches } (claim_noted start new.notes) last.made refl header
 
 -- a run at a desk in which no line was cut is one of a store that stays open
-held_run : (device : Device) (old new : Noted) (commands : List Command) (answers : List Answer) → was_cut answers ≡ false → old.point ≡ serving_on device
+held_run : (device : Device) (old new : Noted) (commands : List Command) (answers : List Answer) → was_cut answers ≡ false → old.stand.point ≡ serving_on device
     → Run Records old commands answers new → Run IsHeld (record { device = device; notes = old.notes }) commands answers (held_at new)
 held_run device old new [] [] plain still run = search (rules, there)
 held_run device old new [] (answer ∷ answers) plain still run = absurd run
@@ -245,15 +245,16 @@ held_run device old new (command ∷ commands) [] plain still run = absurd run
 held_run device old new (command ∷ commands) (answer ∷ answers) plain still run =
     let parts = neither (is_cut_answer answer) (was_cut answers) plain in
     let mid = run.0 in
-    let here = served_open device command answer mid.point parts.0 (subst (λ point. Attends point command answer mid.point) still run.1.attends) in
-    (held_at mid, record { serves = here.serves; notes_are = run.1.notes_are }, held_run mid.point.device mid new commands answers parts.1 (at_open mid.point here.still) run.2)
+    let point = mid.stand.point in
+    let here = served_open device command answer mid.stand parts.0 (from_point old.stand (stand_on device) command answer mid.stand still run.1.attends) in
+    (held_at mid, record { serves = here.serves; notes_are = run.1.notes_are }, held_run point.device mid new commands answers parts.1 (at_open point here.still) run.2)
 
 -- without what is noted
-run_attended : (old new : Noted) (commands : List Command) (answers : List Answer) → Run Records old commands answers new → Run Attends old.point commands answers new.point
-run_attended old new [] [] run = ap (λ (n : Noted). n.point) run
+run_attended : (old new : Noted) (commands : List Command) (answers : List Answer) → Run Records old commands answers new → Run Attends old.stand commands answers new.stand
+run_attended old new [] [] run = ap (λ (n : Noted). n.stand) run
 run_attended old new [] (answer ∷ answers) run = absurd run
 run_attended old new (command ∷ commands) [] run = absurd run
-run_attended old new (command ∷ commands) (answer ∷ answers) run = (run.0.point, run.1.attends, run_attended run.0 new commands answers run.2)
+run_attended old new (command ∷ commands) (answer ∷ answers) run = (run.0.stand, run.1.attends, run_attended run.0 new commands answers run.2)
 
 -- each answer `moved` ends a stretch
 one_stretch : (answer : Answer) (fill n : ℕ) (notes : Notes) (answers : List Answer)
@@ -268,7 +269,7 @@ stretches_are old new [] [] n run = let same = ap (λ (noted : Noted). length no
 stretches_are old new [] (answer ∷ answers) n run = absurd run
 stretches_are old new (command ∷ commands) [] n run = absurd run
 stretches_are old new (command ∷ commands) (answer ∷ answers) n run =
-    let one = one_stretch answer (state_of run.0.point.device).fill n old.notes answers in
+    let one = one_stretch answer (state_of run.0.stand.point.device).fill n old.notes answers in
     let rest = stretches_are run.0 new commands answers one.0 run.2 in
     let same = ap (λ (notes : Notes). length notes.stretches) run.1.notes_are in
     omega (arith, one.1, rest, same)
@@ -284,28 +285,30 @@ cuts_are old new [] (answer ∷ answers) run = absurd run
 cuts_are old new (command ∷ commands) [] run = absurd run
 cuts_are old new (command ∷ commands) (answer ∷ answers) run =
     let was = was_cut answers in
-    let kept = ap (λ (notes : Notes). was || notes.cut) run.1.notes_are ∙ ap (λ (cut : Bool). was || cut) (one_cut answer (state_of run.0.point.device).fill old.notes) in
+    let kept = ap (λ (notes : Notes). was || notes.cut) run.1.notes_are ∙ ap (λ (cut : Bool). was || cut) (one_cut answer (state_of run.0.stand.point.device).fill old.notes) in
     cuts_are run.0 new commands answers run.2 ∙ kept ∙ sym (or_assoc was (is_cut_answer answer) old.notes.cut) ∙ ap (λ (cut : Bool). cut || old.notes.cut) (or_comm was (is_cut_answer answer))
 
 -- what serves, as its desk and its notes are seen
 pub is_traced : {S : Type 0} (see : S → Noted) (device : Device) (old new : S) (text lines : List ℕ) → IsAnswered (λ from command answer to. Records (see from) command answer (see to)) old text new lines
-    → (see old).point ≡ serving_on device → (see old).notes ≡ no_notes (state_of device).fill → IsTraced device text (see new).point (see new).notes lines
+    → (see old).stand ≡ stand_on device → (see old).notes ≡ no_notes (state_of device).fill → IsTraced device text (see new).stand.point (see new).notes lines
 is_traced see device old new text lines answered still fresh =
     let seen = IsAnswered-seen see Records old new text lines answered in
     let attended = run_attended (see old) (see new) seen.commands seen.answers seen.run in
     record {
+      last = (see new).stand;
+      last_is = refl;
       answered = record {
         commands = seen.commands;
         answers = seen.answers;
         is_script = seen.is_script;
-        run = subst (λ point. Run Attends point seen.commands seen.answers (see new).point) still attended;
+        run = subst (λ stand. Run Attends stand seen.commands seen.answers (see new).stand) still attended;
         report_is = seen.report_is;
       };
       transfers = omega (arith, stretches_are (see old) (see new) seen.commands seen.answers 0 seen.run, ap (λ (notes : Notes). length notes.stretches) fresh);
       cut = cuts_are (see old) (see new) seen.commands seen.answers seen.run ∙ ap (λ (notes : Notes). was_cut seen.answers || notes.cut) fresh ∙ or-false (was_cut seen.answers);
       tight = λ plain start is proper.
           noted_tight (record { device = device; notes = (see old).notes }) (held_at (see new)) seen.commands seen.answers start seen.is_script.proper fresh
-          (held_run device (see old) (see new) seen.commands seen.answers plain still seen.run) is proper;
+          (held_run device (see old) (see new) seen.commands seen.answers plain (ap (λ (stand : Stand). stand.point) still) seen.run) is proper;
     }
 
 -- ---- how many changes are counted

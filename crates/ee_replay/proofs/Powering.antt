@@ -1,13 +1,13 @@
 -- What a device's image says stays as power comes on and a cut is armed.
-use Rattle.std.proofs.Common.{◌≡◌, ◌∙◌, ◌≤◌, ℕ, Bool, Some, ap, false, refl, subst, sym, rules}
+use Rattle.std.proofs.Common.{◌≡◌, ◌∙◌, ◌≤◌, ℕ, Bool, Err, Ok, Result, Some, ap, false, refl, subst, sym, true, rules}
 use Rattle.ee_flash.specs.Device.{Device, all_ones}
-use Rattle.ee_flash.specs.Memory.{Memory, device_of, memory_of, with_device}
+use Rattle.ee_flash.specs.Memory.{Memory, device_of, memory_of, with_device, with_fuse}
 use Rattle.ee_flash.specs.declared.memory.MemFlash.{MemFlash}
 use Rattle.ee_pages.proofs.Public.{legal_is_good}
 use Rattle.ee_pages.specs.Layout.{IsLayout}
 use Rattle.ee_pages.specs.Legal.{IsLegal}
 use Rattle.ee_pages.specs.Sets.{fill_of, live_of, set_of, slots_of}
-use Rattle.ee_pages.specs.declared.find.Layout.{Layout}
+use Rattle.ee_pages.specs.declared.find.Layout as pages
 use Rattle.ee_pages.specs.declared.find.ScanFault.{ScanFault}
 use Rattle.ee_pages.specs.declared.side.Side.{Side}
 use Rattle.ee_pages.specs.declared.side.Side.TheVariants.{First, Second}
@@ -18,14 +18,22 @@ use Rattle.ee_core.specs.Openings.{IsCutOpening, OpenFails, Opens}
 use Rattle.ee_core.specs.declared.opening.OpenFault.{OpenFault}
 use Rattle.ee_core.specs.declared.opening.OpenFault.TheVariants as opening
 use Rattle.ee_core.specs.State.{state_of}
+use Rattle.ee_core.specs.Calls.{Writes}
+use Rattle.ee_core.specs.Runs.{Wrote}
+use Rattle.ee_core.specs.declared.variables.WriteFault.{WriteFault}
+use Rattle.ee_core.specs.declared.variables.WriteFault.TheVariants as fault
+use Rattle.ee_core.specs.declared.variables.Written.{Written}
+use Rattle.ee_core.specs.declared.variables.Written.TheVariants as written
 use Rattle.ee_flash.specs.declared.fuse.Fuse.{Fuse}
 use Rattle.ee_index.specs.Kept.{IsKeptBeside}
 use Rattle.ee_index.specs.declared.indexed.Kept.{Kept}
-use Rattle.ee_replay.specs.Desk.{SaysTheSame}
+use Rattle.ee_replay.specs.Desk.{CallsAtDesk, SaysTheSame, Stand}
+use Rattle.ee_replay.specs.Either.{IsBeside}
+use Rattle.ee_replay.specs.declared.either.Beside.{Beside}
+use Rattle.ee_replay.specs.declared.either.Beside.TheVariants.{Layout, Index}
 use Rattle.ee_script.specs.declared.answer.Answer.{Answer}
 use Rattle.ee_script.specs.declared.answer.Answer.TheVariants.{Cut, Opened}
-use Rattle.ee_script.specs.declared.command.Command.TheVariants.{PowerOn}
-use Rattle.ee_replay.specs.Serving.{ArmsDevice, ArmsItsFuse, Attends, IsArmed, IsSound, with_cut_to_come}
+use Rattle.ee_replay.specs.Serving.{ArmsItsFuse, IsSound, Powers, with_cut_to_come}
 
 pub state_armed : (device : Device) → state_of (with_cut_to_come device) ≡ state_of device
 state_armed device = state_in_powered device.cuts (Some 1) device.on device (live_of device)
@@ -53,7 +61,7 @@ set_armed : (device : Device) (side : Side) → set_of side (with_cut_to_come de
 set_armed device First = refl
 set_armed device Second = refl
 
-layout_armed : (device : Device) (layout : Layout) → IsLayout device layout → IsLayout (with_cut_to_come device) layout
+layout_armed : (device : Device) (layout : pages.Layout) → IsLayout device layout → IsLayout (with_cut_to_come device) layout
 layout_armed device layout is = record {
   live = live_powered device.cuts (Some 1) device.on device is.live.formed.cuts_fit few_cuts layout.side layout.generation is.live;
   fill = is.fill ∙ sym (ap (λ set. fill_of (slots_of set)) (set_armed device layout.side));
@@ -65,43 +73,44 @@ kept_armed device kept is = record { found = layout_armed device kept.layout is.
 
 -- ---- a device that is armed
 
-pub armed_is : (old new : Device) (fuse : Fuse) → ArmsDevice old fuse new → new ≡ with_cut_to_come old
-armed_is old new fuse armed = armed.new_is ∙ armed.arms.device_is
+module _ (old new : Memory) (fuse : Fuse) (armed : new ≡ with_fuse fuse old) where
+  device_armed : new.device ≡ with_cut_to_come old.device
+  device_armed = ap (λ (kept : Memory). kept.device) armed
 
-pub store_with_fuse : (old new : Device) (fuse : Fuse) → ArmsDevice old fuse new → IsStore old → IsStore new
-store_with_fuse old new fuse armed store = subst IsStore (sym (armed_is old new fuse armed)) (store_armed old store)
+  pub legal_with_fuse : IsLegal old.device → IsLegal new.device
+  legal_with_fuse legal = subst IsLegal (sym device_armed) (legal_armed old.device legal)
 
-pub layout_with_fuse : (layout : Layout) (old new : Device) (fuse : Fuse) → ArmsDevice old fuse new → IsLayout old layout → IsLayout new layout
-layout_with_fuse layout old new fuse armed is = subst (λ device. IsLayout device layout) (sym (armed_is old new fuse armed)) (layout_armed old layout is)
+  pub store_with_fuse : IsStore old.device → IsStore new.device
+  store_with_fuse store = subst IsStore (sym device_armed) (store_armed old.device store)
 
-pub kept_with_fuse : {A : Type 0} (kept : Kept A) (old new : Device) (fuse : Fuse) → ArmsDevice old fuse new → IsKeptBeside old kept → IsKeptBeside new kept
-kept_with_fuse kept old new fuse armed is = subst (λ device. IsKeptBeside device kept) (sym (armed_is old new fuse armed)) (kept_armed old kept is)
+  pub beside_with_fuse : {A : Type 0} (beside : Beside A) → IsBeside old.device beside → IsBeside new.device beside
+  beside_with_fuse (Layout layout) is = subst (λ (device : Device). IsLayout device layout) (sym device_armed) (layout_armed old.device layout is)
+  beside_with_fuse (Index kept) is = subst (λ (device : Device). IsKeptBeside device kept) (sym device_armed) (kept_armed old.device kept is)
+
+  -- a desk on which a cut was armed, with a store open on it or without
+  pub arms_stand : (point : Point) (serving : Bool) → old.device ≡ point.device → serving ≡ point.serving
+      → ArmsItsFuse point fuse (record { point = record { serving = serving; device = new.device }; memory = Some new })
+  arms_stand point serving at serves = record {
+    before = old;
+    before_is = at;
+    at_hand = ap Some armed;
+    point_is =
+        ap (λ (serves : Bool). record { serving = serves; device = new.device }) serves ∙ ap (λ (device : Device). record { serving = point.serving; device = device }) device_armed;
+  }
+
+  pub arms_open : (point : Point) → open_point old.device ≡ point → ArmsItsFuse point fuse (record { point = open_point new.device; memory = Some new })
+  arms_open point is =
+      arms_stand point new.device.on (ap (λ (at : Point). at.device) is)
+      (ap (λ (device : Device). device.on) device_armed ∙ ap (λ (at : Point). at.serving) is)
+
+  pub armed_same : (device : Device) → old.device ≡ device → SaysTheSame device new.device
+  armed_same device is =
+      subst (λ (at : Device). SaysTheSame at new.device) is
+      (record { same_size = ap (λ (at : Device). at.size) device_armed; state_is = ap state_of device_armed ∙ state_armed old.device })
 
 -- what a line that arms a cut makes of a point
-pub now_armed : (old new : Point) (fuse : Fuse) → ArmsItsFuse old fuse new → new ≡ record old { device = with_cut_to_come old.device }
-now_armed old new fuse line = line.new_is ∙ ap (λ (d : Device). record old { device = d }) line.arms.device_is
-
--- a desk on which a cut was armed, with a store open on it or without
-pub arms_point : (old new : Point) (found : Device) (fuse : Fuse) → found ≡ old.device → new.serving ≡ old.serving → ArmsDevice found fuse new.device → ArmsItsFuse old fuse new
-arms_point old new found fuse is serving armed = record {
-  kept = armed.kept;
-  arms = subst (λ (device : Device). IsArmed device fuse armed.kept) is armed.arms;
-  new_is =
-      ap (λ (serves : Bool). record { serving = serves; device = new.device }) serving ∙ ap (λ (device : Device). record { serving = old.serving; device = device }) armed.new_is;
-}
-
-pub arms_open : (old : Point) (found new : Device) (fuse : Fuse) → open_point found ≡ old → ArmsDevice found fuse new → ArmsItsFuse old fuse (open_point new)
-arms_open old found new fuse is armed =
-    arms_point old (open_point new) found fuse (ap (λ (point : Point). point.device) is)
-    (ap (λ (device : Device). device.on) (armed_is found new fuse armed) ∙ ap (λ (point : Point). point.serving) is) armed
-
-pub armed_same : (old found new : Device) (fuse : Fuse) → found ≡ old → ArmsDevice found fuse new → SaysTheSame old new
-armed_same old found new fuse is armed =
-    let now = armed_is found new fuse armed in
-    subst (λ (device : Device). SaysTheSame device new) is (record { same_size = ap (λ (device : Device). device.size) now; state_is = ap state_of now ∙ state_armed found })
-
-pub arm_legal : (old new : Device) → new ≡ with_cut_to_come old → IsLegal old → IsLegal new
-arm_legal old new is legal = subst IsLegal (sym is) (legal_armed old legal)
+pub now_armed : (old : Point) (new : Stand) (fuse : Fuse) → ArmsItsFuse old fuse new → new.point ≡ record old { device = with_cut_to_come old.device }
+now_armed old new fuse line = line.point_is ∙ ap (λ (device : Device). record old { device = with_cut_to_come device }) line.before_is
 
 -- an open store is on, and no mark is left to set
 pub store_sound : (device : Device) → IsStore device → IsSound (open_point device)
@@ -126,11 +135,11 @@ module _ (old : Point) (found powered : Device) (at : found ≡ old.device) (on 
   there : powered ≡ with_power_on old.device
   there = on ∙ ap with_power_on at
 
-  pub power_opens : (new : Point) (store : Device) (answer : Answer) → old.serving ≡ false → Opens powered store → (answer ≡ Opened) × (new ≡ open_point store) → Attends old PowerOn answer new
+  pub power_opens : (new : Point) (store : Device) (answer : Answer) → old.serving ≡ false → Opens powered store → (answer ≡ Opened) × (new ≡ open_point store) → Powers old.serving old.device answer new
   power_opens new store answer off opens done =
       rw (off, done.0, done.1) (subst (λ (device : Device). Opens device store) there opens, opens.goes_on.same_power ∙ ap (λ (device : Device). device.on) on)
 
-  pub power_cut : (new : Device) (fault : OpenFault) → old.serving ≡ false → fault ≡ opening.Cut → OpenFails powered fault new → Attends old PowerOn Cut (closed_point new)
+  pub power_cut : (new : Device) (fault : OpenFault) → old.serving ≡ false → fault ≡ opening.Cut → OpenFails powered fault new → Powers old.serving old.device Cut (closed_point new)
   power_cut new fault off told fails =
       rw off (subst (λ (device : Device). IsCutOpening device new) there (subst (λ (why : OpenFault). OpenFails powered why new) told fails), refl)
 
@@ -142,3 +151,16 @@ module _ (old : Point) (found powered : Device) (at : found ≡ old.device) (on 
 
   pub cut_same : (new : Device) (fault : OpenFault) → fault ≡ opening.Cut → OpenFails powered fault new → SaysTheSame old.device new
   cut_same new fault told fails = let cut = subst (λ (why : OpenFault). OpenFails powered why new) told fails in said new cut.cut.same_size cut.state_is
+
+-- ---- a write, where the device is on or off
+
+pub wrote_at : (on : Bool) (old new : Device) (address value : ℕ) (result : Result Written WriteFault) → old.on ≡ on → Writes old address value result new
+    → CallsAtDesk on old (Wrote address value result) (open_point new)
+wrote_at true old new address value result at writes = (at, writes, refl)
+wrote_at false old new address value (Ok written.Appended) at writes = absurd (cc (at, writes.proceeds.on))
+wrote_at false old new address value (Ok written.Moved) at writes = absurd (cc (at, writes.proceeds.on))
+wrote_at false old new address value (Err fault.Off) at writes = (tt, rw writes.1 (ap (λ (serves : Bool). record { serving = serves; device = old }) at))
+wrote_at false old new address value (Err fault.Full) at writes = absurd (cc (at, writes.0))
+wrote_at false old new address value (Err fault.Spent) at writes = absurd (cc (at, writes.0))
+wrote_at false old new address value (Err fault.Memory) at writes = absurd (cc (at, writes.0.on))
+wrote_at false old new address value (Err fault.Cut) at writes = absurd (cc (at, writes.proceeds.on))

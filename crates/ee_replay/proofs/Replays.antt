@@ -3,9 +3,11 @@ use Rattle.std.proofs.Common.{◌≡◌, ℕ, List, ap, subst, arith}
 use Rattle.ee_flash.specs.Device.{Device, blank_device}
 use Rattle.ee_flash.specs.Size.{Size}
 use Rattle.ee_core.specs.Points.{Point}
+use Rattle.ee_core.specs.Runs.{WearsAtMost}
 use Rattle.ee_core.specs.State.{State, formatted_state, state_of}
 use Rattle.ee_image_store.specs.Erases.{ErasesRise, erases_of_all}
 use Rattle.ee_image_store.specs.Opening.{IsNewStore, IsOpened, SpellsDevice}
+use Rattle.ee_image_store.specs.Trace.{moves}
 use Rattle.ee_replay.specs.Replaying.{IsReplayed, IsScriptRun, IsRunOn, IsTried}
 use Rattle.ee_replay.specs.Serving.{IsMade, IsServed, IsSound}
 use Rattle.ee_image_store.proofs.Public.{both, wear_since}
@@ -49,7 +51,9 @@ is_replayed old_image text image reported store opened on =
       erases = λ plain.
           let further = subst (λ (size : Size). ErasesRise (erases_of_all size answers) store there.0.last.device) opened.same_size (there.1.erases plain) in
           both opened.device store there.0.last.device 0 pages pages opened.erases further (omega arith);
-      wears = λ plain. wears_since_opening opened.device store there.0.last there.0.report.commands answers opened.opens plain there.1.lines;
+      wears = λ plain page.
+          subst (λ (point : Point). WearsAtMost (moves answers) page opened.device point.device) there.1.last_is
+          (wears_since_opening opened.device store there.1.last there.0.report.commands answers opened.opens plain there.1.lines page);
     }
 
 -- a run from what was formatted

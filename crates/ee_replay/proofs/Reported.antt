@@ -15,16 +15,16 @@ use Rattle.ee_core.specs.Points.{Point}
 use Rattle.ee_script.specs.Run.{Run}
 use Rattle.ee_image_store.specs.Machine.{Desk, DeskStep, desk_with, was_cut}
 use Rattle.ee_replay.specs.Report.{IsReported, cut_report_text, desk_line, end_line}
-use Rattle.ee_replay.specs.Serving.{IsServed, IsTraced, Notes, claim_noted, desk_of, serving_on}
+use Rattle.ee_replay.specs.Serving.{IsServed, IsTraced, Notes, claim_noted, desk_of, serving_on, stand_on}
 use Rattle.ee_image_store.specs.Opening.{StaysOn}
 use Rattle.ee_image_store.specs.Trace.{accepted_commands, moves, trace_of}
 use Rattle.ee_plan.proofs.Public.{fewest_transfers_wear_lem}
-use Rattle.ee_replay.proofs.Desks.{desk_run}
+use Rattle.ee_replay.proofs.Desks.{IsDeskRun, desk_run}
 use Rattle.ee_replay.proofs.Kept.{keeps_all}
 use Rattle.ee_replay.proofs.Late.{all_put, run_fewest, run_room, values_are}
 use Rattle.ee_replay.proofs.Runs.{machine_run}
 use Rattle.ee_replay.proofs.ScriptWears.{made_of}
-use Rattle.ee_replay.proofs.UncutRuns.{run_open}
+use Rattle.ee_replay.proofs.UncutRuns.{IsRunOpen, run_open}
 
 -- a name and a number written behind what was written before them
 further : (old mid new before name number : List ℕ) → mid ≡ old ++ before → new ≡ mid ++ (name ++ number) → new ≡ old ++ (before ++ name ++ number)
@@ -66,7 +66,7 @@ module _ (old : Device) (new : Point) (text lines : List ℕ) (notes : Notes) (r
         let answers = run.answered.answers in
         let are = run.answered.is_script.proper in
         let claim = claim_noted start notes in
-        let whole = run_open old new commands answers plain run.answered.run in
+        let whole = subst (IsRunOpen old commands answers) run.last_is (run_open old run.last commands answers plain run.answered.run) in
         let machine = machine_run old new.device commands answers whole.run in
         let tight = run.tight plain start is proper in
         let line = line_is ended machine.same_size end in
@@ -99,7 +99,7 @@ pub is_served : (old : Device) (new : Point) (text lines : List ℕ) (notes : No
 is_served old new text lines notes start run is proper stays ended reported end cut plain =
     let commands = run.answered.commands in
     let answers = run.answered.answers in
-    let desk = desk_run (serving_on old) new commands answers (inl stays.never_cut) run.answered.run in
+    let desk = subst (IsDeskRun (serving_on old) commands answers) run.last_is (desk_run (stand_on old) run.last commands answers (inl stays.never_cut) run.answered.run) in
     let machine = subst (λ (state : Desk). Run (DeskStep old.size) state commands answers (desk_of new)) (unarmed old stays) desk.run in
     record {
       report = record {
@@ -111,7 +111,7 @@ is_served old new text lines notes start run is proper stays ended reported end 
         uncut = λ e. uncut_report old new text lines notes run start is proper e ended reported end (plain (run.cut ∙ e));
         cut = λ e. cut_report old new text lines notes run ended reported desk.same_size end (cut (run.cut ∙ e));
       };
-      made = made_of old new commands answers run.answered.run;
+      made = made_of old new run.last commands answers run.last_is run.answered.run;
       same_size = desk.same_size;
     }
 

@@ -20,7 +20,8 @@ use Rattle.ee_script.specs.declared.command.Command.{Command}
 use Rattle.ee_script.specs.declared.command.Command.TheVariants.{Write, Read, Forget, Clean, Arm, PowerOn}
 use Rattle.ee_image_store.specs.Machine.{was_cut}
 use Rattle.ee_image_store.specs.Trace.{moved_at, moves}
-use Rattle.ee_replay.specs.Serving.{Attends, IsMade, Serves, with_cut_to_come, serving_on}
+use Rattle.ee_replay.specs.Desk.{Stand}
+use Rattle.ee_replay.specs.Serving.{Attends, IsMade, Serves, stand_on, with_cut_to_come}
 use Rattle.ee_replay.proofs.Runs.{machine_run, whole_run}
 use Rattle.ee_replay.proofs.UncutRuns.{run_open}
 
@@ -84,20 +85,26 @@ lines_wear : (old new : Device) (commands : List Command) (answers : List Answer
 lines_wear old new commands answers run = λ page. wears_at_most (moves answers) page old new (lines_age old new commands answers run)
 
 -- all that the lines made of it
-pub made_of : (old : Device) (new : Point) (commands : List Command) (answers : List Answer) → Run Attends (serving_on old) commands answers new → IsMade old commands answers new
-made_of old new commands answers run = record {
+made_at : (old : Device) (last : Stand) (commands : List Command) (answers : List Answer) → Run Attends (stand_on old) commands answers last → IsMade old commands answers last.point
+made_at old last commands answers run = record {
+  last = last;
+  last_is = refl;
   lines = run;
-  erases = λ plain. (machine_run old new.device commands answers (run_open old new commands answers plain run).run).erases;
-  wears = λ plain. lines_wear old new.device commands answers (run_open old new commands answers plain run).run;
-  calls = λ plain unarmed. whole_run old new.device commands answers unarmed (run_open old new commands answers plain run).run;
+  erases = λ plain. (machine_run old last.point.device commands answers (run_open old last commands answers plain run).run).erases;
+  wears = λ plain. lines_wear old last.point.device commands answers (run_open old last commands answers plain run).run;
+  calls = λ plain unarmed. whole_run old last.point.device commands answers unarmed (run_open old last commands answers plain run).run;
 }
 
+pub made_of : (old : Device) (new : Point) (last : Stand) (commands : List Command) (answers : List Answer) → last.point ≡ new → Run Attends (stand_on old) commands answers last
+    → IsMade old commands answers new
+made_of old new last commands answers is run = subst (IsMade old commands answers) is (made_at old last commands answers run)
+
 -- on the store that was opened of a device
-pub wears_since_opening : (old store : Device) (last : Point) (commands : List Command) (answers : List Answer) → Opens old store → was_cut answers ≡ false
-    → Run Attends (serving_on store) commands answers last → (page : ℕ) → WearsAtMost (moves answers) page old last.device
+pub wears_since_opening : (old store : Device) (last : Stand) (commands : List Command) (answers : List Answer) → Opens old store → was_cut answers ≡ false
+    → Run Attends (stand_on store) commands answers last → (page : ℕ) → WearsAtMost (moves answers) page old last.point.device
 wears_since_opening old store last commands answers opens plain run = λ page.
-    let later = lines_age store last.device commands answers (run_open store last commands answers plain run).run in
+    let end = last.point.device in
+    let later = lines_age store end commands answers (run_open store last commands answers plain run).run in
     let opening = stays old store opens.goes_on.same_size opens.live_is opens.same_pending opens.no_wear in
     let none : 0 + moves answers ≡ moves answers = omega arith in
-    wears_at_most (moves answers) page old last.device
-    (subst (λ (count : ℕ). Aged count old last.device) none (one_more false (moves answers) old store last.device opening later))
+    wears_at_most (moves answers) page old end (subst (λ (count : ℕ). Aged count old end) none (one_more false (moves answers) old store end opening later))

@@ -1,7 +1,7 @@
 -- Where a desk is: its device, and whether a store is open on it.
-use Rattle.std.specs.Prelude.{◌≡◌, ℕ, Bool, true, false, IsTrue, Some, Err, is_some}
+use Rattle.std.specs.Prelude.{◌≡◌, ℕ, Bool, true, false, IsTrue, Option, Some, None, Err, is_some}
 use Rattle.ee_flash.specs.Device.{Device, IsOn, blank_device}
-use Rattle.ee_flash.specs.Memory.{device_of}
+use Rattle.ee_flash.specs.Memory.{Memory, device_of, memory_of}
 use Rattle.ee_flash.specs.declared.memory.MemFlash.{MemFlash}
 use Rattle.ee_pages.specs.Legal.{IsLegal, IsLive}
 use Rattle.ee_pages.specs.Sets.{live_of}
@@ -13,11 +13,12 @@ use Rattle.ee_core.specs.declared.variables.ForgetFault.TheVariants as forgettin
 use Rattle.ee_core.specs.declared.variables.WriteFault.TheVariants as fault
 use Rattle.ee_replay.specs.Either.{device_of_either}
 use Rattle.ee_replay.specs.declared.desk.Desk.{Desk}
-use Rattle.ee_replay.specs.declared.desk.Desk.TheVariants.{Open, Bare, Gone}
+use Rattle.ee_replay.specs.declared.desk.Desk.TheVariants.{Open, Armed, Bare, Gone}
 
 -- the desk is there, and a device alone on it has a legal image; a store sees to its own
 abbrev pub IsLegalDesk : {A : Type 0} → Desk A → Type 0
 IsLegalDesk (Open store) = Unit {0}
+IsLegalDesk (Armed apart) = Unit {0}
 IsLegalDesk (Bare flash) = IsLegal (device_of flash)
 IsLegalDesk Gone = ⊥
 
@@ -51,5 +52,27 @@ pub record SaysTheSame (old new : Device) : Type 0 where
 
 abbrev pub point_of_desk : {A : Type 0} → Desk A → Point
 point_of_desk (Open store) = open_point (device_of_either store)
+point_of_desk (Armed apart) = open_point apart.device
 point_of_desk (Bare flash) = closed_point (device_of flash)
 point_of_desk Gone = closed_point (blank_device (record { pages = 0; words = 0 }))
+
+-- no store on the desk is taken apart
+abbrev pub IsWhole : {A : Type 0} → Desk A → Type 0
+IsWhole (Armed apart) = ⊥
+IsWhole desk = Unit {0}
+
+-- where a desk is, and the device in memory, with its fuse, where that is at hand: behind a line that armed it, and where
+-- there is no store
+pub record Stand : Type 0 where
+  pub point : Point
+  pub memory : Option Memory
+
+-- the device in memory that is at hand
+abbrev pub memory_at_hand : {A : Type 0} → Desk A → Option Memory
+memory_at_hand (Open store) = None
+memory_at_hand (Armed apart) = Some apart
+memory_at_hand (Bare flash) = Some (memory_of flash)
+memory_at_hand Gone = None
+
+abbrev pub stand_of : {A : Type 0} → Desk A → Stand
+stand_of desk = record { point = point_of_desk desk; memory = memory_at_hand desk }

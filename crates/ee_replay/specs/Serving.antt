@@ -2,7 +2,7 @@
 use Rattle.std.specs.Prelude.{◌≡◌, ◌≤◌, ◌+◌, ◌*◌, zero, ℕ, Bool, List, [], ◌∷◌, ◌++◌, length, Option, Some, None, Ok, Err, true, false, IsSomeAnd}
 use Rattle.std.specs.List.{list_any}
 use Rattle.ee_flash.specs.Device.{Device, IsOn}
-use Rattle.ee_flash.specs.Memory.{Memory}
+use Rattle.ee_flash.specs.Memory.{Memory, with_fuse}
 use Rattle.ee_flash.specs.Size.{slot_count}
 use Rattle.ee_flash.specs.declared.fuse.Fuse.{Fuse}
 use Rattle.ee_pages.specs.Legal.{IsLegal}
@@ -29,6 +29,7 @@ use Rattle.ee_script.specs.Run.{Run}
 use Rattle.ee_script.specs.Whole.{IsAnswered}
 use Rattle.ee_image_store.specs.Erases.{ErasesRise, erases_of_all}
 use Rattle.ee_image_store.specs.Machine.{Desk, is_arming, was_cut}
+use Rattle.ee_replay.specs.Desk.{Stand}
 use Rattle.ee_replay.specs.Report.{IsDeskReported}
 use Rattle.ee_image_store.specs.Trace.{accepted_commands, moves, trace_of}
 
@@ -78,21 +79,6 @@ abbrev pub is_armed : Option ℕ → Bool
 is_armed (Some zero) = false
 is_armed left = true
 
--- the fuse of a device in memory is this one
-abbrev pub HasFuse : Fuse → Memory → Type 0
-HasFuse fuse kept = kept.fuse ≡ Some fuse
-
--- a device in memory is that device, but for its fuse, which is this one
-pub record IsArmed (old : Device) (fuse : Fuse) (kept : Memory) : Type 0 where
-  pub device_is : kept.device ≡ with_cut_to_come old
-  pub has_fuse : HasFuse fuse kept
-
--- a device in memory became that one by this fuse
-pub record ArmsDevice (old : Device) (fuse : Fuse) (new : Device) : Type 0 where
-  pub kept : Memory
-  pub arms : IsArmed old fuse kept
-  pub new_is : new ≡ kept.device
-
 -- An open store makes the call of the command, and none is open once power is cut in it; where none is open, the answer is
 -- `off`, and nothing is done.
 abbrev pub Asks : Bool → Device → Command → Answer → Point → Type 0
@@ -108,17 +94,19 @@ Powers false old Opened new = Opens (with_power_on old) new.device × (new.servi
 Powers false old Cut new = IsCutOpening (with_power_on old) new.device × (new.serving ≡ false)
 Powers serving old answer new = ⊥
 
--- A line arms its fuse: on the desk is a device in memory whose fuse is the line's, and a store is open on it if one was.
-pub record ArmsItsFuse (old : Point) (fuse : Fuse) (new : Point) : Type 0 where
-  pub kept : Memory
-  pub arms : IsArmed old.device fuse kept
-  pub new_is : new ≡ record old { device = kept.device }
+-- A line arms its fuse: behind it the device in memory is at hand, and is the one before it with the line's fuse; a store is
+-- open on it if one was.
+pub record ArmsItsFuse (old : Point) (fuse : Fuse) (new : Stand) : Type 0 where
+  pub before : Memory
+  pub before_is : before.device ≡ old.device
+  pub at_hand : new.memory ≡ Some (with_fuse fuse before)
+  pub point_is : new.point ≡ record old { device = (with_fuse fuse before).device }
 
--- From this point the command is answered so, and the desk is at that one afterwards.
-abbrev pub Attends : Point → Command → Answer → Point → Type 0
-Attends old (Arm fuse) answer new = (answer ≡ Armed) × ArmsItsFuse old fuse new
-Attends old PowerOn answer new = Powers old.serving old.device answer new
-Attends old command answer new = Asks old.serving old.device command answer new
+-- From this stand the command is answered so, and the desk has that one afterwards.
+abbrev pub Attends : Stand → Command → Answer → Stand → Type 0
+Attends old (Arm fuse) answer new = (answer ≡ Armed) × ArmsItsFuse old.point fuse new
+Attends old PowerOn answer new = Powers old.point.serving old.point.device answer new.point
+Attends old command answer new = Asks old.point.serving old.point.device command answer new.point
 
 -- the desk, as the report machine knows it
 abbrev pub desk_of : Point → Desk
@@ -127,6 +115,10 @@ desk_of point = record { state = state_of point.device; serving = point.serving;
 -- a store of this device is open
 abbrev pub serving_on : Device → Point
 serving_on device = record { serving = true; device = device }
+
+-- and the device in memory is not at hand
+abbrev pub stand_on : Device → Stand
+stand_on device = record { point = serving_on device; memory = None }
 
 -- whether a line arms a cut
 abbrev pub is_armed_by : List Command → Bool
@@ -137,7 +129,9 @@ is_armed_by commands = list_any is_arming commands
 -- page was erased more often than at every second move, by where it stood; and where no cut was armed either, it is a whole
 -- run of calls.
 pub record IsMade (old : Device) (commands : List Command) (answers : List Answer) (new : Point) : Type 0 where
-  pub lines : Run Attends (serving_on old) commands answers new
+  pub last : Stand
+  pub last_is : last.point ≡ new
+  pub lines : Run Attends (stand_on old) commands answers last
   pub erases : was_cut answers ≡ false → ErasesRise (erases_of_all old.size answers) old new.device
   pub wears : was_cut answers ≡ false → (page : ℕ) → WearsAtMost (moves answers) page old new.device
   pub calls : was_cut answers ≡ false → is_armed_by commands ≡ false → IsWholeRun (calls_of commands answers) old new.device
@@ -193,16 +187,16 @@ claim_noted start notes = record {
 
 -- where a desk is, and what is noted
 pub record Noted : Type 0 where
-  pub point : Point
+  pub stand : Stand
   pub notes : Notes
 
-abbrev pub with_notes : Point → Notes → Noted
-with_notes point notes = record { point = point; notes = notes }
+abbrev pub with_notes : Stand → Notes → Noted
+with_notes stand notes = record { stand = stand; notes = notes }
 
 -- A line is served, and its answer is noted.
 pub record Records (old : Noted) (command : Command) (answer : Answer) (new : Noted) : Type 0 where
-  pub attends : Attends old.point command answer new.point
-  pub notes_are : new.notes ≡ notes_after answer (state_of new.point.device).fill old.notes
+  pub attends : Attends old.stand command answer new.stand
+  pub notes_are : new.notes ≡ notes_after answer (state_of new.stand.point.device).fill old.notes
 
 -- The count of the changes stays far below 64 bits: between two moves there are no more of them than slots.
 pub record IsCounted (device : Device) (notes : Notes) : Type 0 where
@@ -220,7 +214,9 @@ pub record IsSound (point : Point) : Type 0 where
 -- power was cut, and where it was not, the tight certificate of the changes that were accepted, from each start that is the
 -- old state's.
 pub record IsTraced (old : Device) (text : List ℕ) (new : Point) (notes : Notes) (lines : List ℕ) : Type 0 where
-  pub answered : IsAnswered Attends (serving_on old) text new lines
+  pub last : Stand
+  pub last_is : last.point ≡ new
+  pub answered : IsAnswered Attends (stand_on old) text last lines
   pub transfers : length notes.stretches ≡ moves answered.answers
   pub cut : notes.cut ≡ was_cut answered.answers
   pub tight : was_cut answered.answers ≡ false → (start : Situation) → IsStartOf (slot_count old.size) (state_of old) start

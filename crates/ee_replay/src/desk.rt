@@ -3,26 +3,28 @@ ghost use Rattle.std.specs.Prelude.{◌≡◌, IfOk, true};
 ghost use Rattle.ee_flash.specs.Device.{IsOn};
 ghost use Rattle.ee_flash.specs.Memory.{device_of};
 ghost use Rattle.ee_script.specs.declared.answer.Answer.TheVariants.{Opened};
-ghost use Rattle.ee_script.specs.declared.command.Command.TheVariants.{PowerOn};
 ghost use Rattle.ee_core.specs.Points.{open_point};
 ghost use Rattle.ee_core.specs.Runs.{Cleaned, DidRead, Forgot, Wrote};
 ghost use Rattle.ee_core.specs.State.{state_of};
-ghost use Rattle.ee_replay.specs.Desk.{CallsAtDesk, IsLegalDesk, IsLegalSo, SaysTheSame, point_of_desk};
+ghost use Rattle.ee_replay.specs.Desk.{CallsAtDesk, IsLegalDesk, IsLegalSo, IsWhole, SaysTheSame, point_of_desk, stand_of};
 ghost use Rattle.ee_replay.specs.Either.{device_of_either};
-ghost use Rattle.ee_replay.specs.Serving.{ArmsItsFuse, Attends, IsSound};
+ghost use Rattle.ee_replay.specs.Serving.{ArmsItsFuse, IsSound, Powers};
 
-use super::either::{EitherStore, Kind, armed, with_fuse};
+use super::either::{Apart, EitherStore, Kind, armed};
 use ee_codec::Address;
 use ee_core::{ForgetFault, Off, OpenFault, Store, Variables, WriteFault, Written, open};
 use ee_flash::{Flash, Fuse, MemFlash};
 use ee_script::Answer;
 use std::alloc::{AllocError, Allocator, Global};
+use std::mem::replace;
 
 /// A device, with a store open on it or without.
 #[derive(Drop)]
 pub(crate) enum Desk<A: Allocator = Global> {
     /// A store. It is open as long as its device is on.
     Open(EitherStore<MemFlash<A>, A>),
+    /// A store, taken apart since its device was armed. It is open.
+    Armed(Apart<A>),
     /// The device alone.
     Bare(MemFlash<A>),
     /// Nothing, while a call has taken what is there.
@@ -36,6 +38,7 @@ impl<A: Allocator + Copy> Desk<A> {
     {
         match self {
             Desk::Open(store) => store.is_on(),
+            Desk::Armed(apart) => apart.is_on(),
             Desk::Bare(_) | Desk::Gone => false,
         }
     }
@@ -48,6 +51,7 @@ impl<A: Allocator + Copy> Desk<A> {
     {
         match self {
             Desk::Open(store) => store.into_flash(),
+            Desk::Armed(apart) => apart.into_flash(),
             Desk::Bare(flash) => flash,
             Desk::Gone => unreachable!("it is there"),
         }
@@ -58,9 +62,12 @@ impl<A: Allocator + Copy> Desk<A> {
         ensures calls { let old = point_of_desk self.old in CallsAtDesk old.serving old.device
             (Wrote address value result) (point_of_desk self.new) }
         ensures legal { IsLegalSo self.old → IsLegalSo self.new }
+        ensures whole { IsWhole self.new }
     {
+        self.make_whole();
         match self {
             Desk::Open(store) => store.write(address, value),
+            Desk::Armed(_) => unreachable!("it is whole"),
             Desk::Bare(_) | Desk::Gone => Err(WriteFault::Off),
         }
     }
@@ -70,9 +77,12 @@ impl<A: Allocator + Copy> Desk<A> {
         ensures calls { let old = point_of_desk self.old in CallsAtDesk old.serving old.device
             (Forgot address result) (point_of_desk self.new) }
         ensures legal { IsLegalSo self.old → IsLegalSo self.new }
+        ensures whole { IsWhole self.new }
     {
+        self.make_whole();
         match self {
             Desk::Open(store) => store.forget(address),
+            Desk::Armed(_) => unreachable!("it is whole"),
             Desk::Bare(_) | Desk::Gone => Err(ForgetFault::Off),
         }
     }
@@ -83,31 +93,38 @@ impl<A: Allocator + Copy> Desk<A> {
             (Cleaned result) (point_of_desk self.new) }
         ensures legal { IsLegalSo self.old → IsLegalSo self.new }
     {
+        self.make_whole();
         match self {
             Desk::Open(store) => store.clean_step(),
+            Desk::Armed(_) => unreachable!("it is whole"),
             Desk::Bare(_) | Desk::Gone => Err(WriteFault::Off),
         }
     }
 
     /// Reads.
-    pub(crate) fn read(&self, address: Address) -> Result<Option<u32>, Off>
-        ensures { let point = point_of_desk self.now in CallsAtDesk point.serving point.device
-            (DidRead address result) point }
+    pub(crate) fn read(&mut self, address: Address) -> Result<Option<u32>, Off>
+        ensures calls { let old = point_of_desk self.old in CallsAtDesk old.serving old.device
+            (DidRead address result) (point_of_desk self.new) }
+        ensures legal { IsLegalSo self.old → IsLegalSo self.new }
+        ensures same { point_of_desk self.new ≡ point_of_desk self.old }
     {
+        self.make_whole();
         match self {
             Desk::Open(store) => store.read(address),
+            Desk::Armed(_) => unreachable!("it is whole"),
             Desk::Bare(_) | Desk::Gone => Err(Off),
         }
     }
 
     /// How many slots are used.
     pub(crate) fn fill(&self) -> usize
-        requires { (point_of_desk self.now).serving ≡ true }
+        requires serving { (point_of_desk self.now).serving ≡ true }
+        requires whole { IsWhole self.now }
         ensures { result ≡ (state_of (point_of_desk self.now).device).fill }
     {
         match self {
             Desk::Open(store) => store.fill(),
-            Desk::Bare(_) | Desk::Gone => unreachable!("a store is open"),
+            Desk::Armed(_) | Desk::Bare(_) | Desk::Gone => unreachable!("a whole store is open"),
         }
     }
 
@@ -118,6 +135,7 @@ impl<A: Allocator + Copy> Desk<A> {
     {
         match self {
             Desk::Open(store) => store,
+            Desk::Armed(apart) => apart.whole(),
             Desk::Bare(_) | Desk::Gone => unreachable!("a store is open"),
         }
     }
@@ -125,15 +143,41 @@ impl<A: Allocator + Copy> Desk<A> {
     /// Arms a cut. A store that is open stays so, with all that it keeps in memory.
     pub(crate) fn arm(self, fuse: Fuse) -> Desk<A>
         requires { IsLegalDesk self }
-        ensures arms { ArmsItsFuse (point_of_desk self) fuse
-            (point_of_desk result) }
+        // The device in memory is at hand until the next call, and its fuse is this one.
+        ensures arms { ArmsItsFuse (point_of_desk self) fuse (stand_of result) }
         ensures legal { IsLegalDesk result }
         ensures same { SaysTheSame (point_of_desk self).device (point_of_desk result).device }
     {
         if !self.is_open() {
             return Desk::Bare(armed(self.into_flash(), fuse));
         }
-        Desk::Open(with_fuse(self.into_open(), fuse))
+        Desk::Armed(Apart::of(self.into_open()).armed(fuse))
+    }
+
+    /// Puts a store together that was taken apart.
+    #[inline(always)]
+    fn make_whole(&mut self)
+        ensures whole { IsWhole self.new }
+        ensures point { point_of_desk self.new ≡ point_of_desk self.old }
+        ensures legal { IsLegalSo self.old → IsLegalSo self.new }
+    {
+        if let Desk::Armed(_) = self {
+            let desk = replace(self, Desk::Gone);
+            *self = desk.whole();
+        }
+    }
+
+    /// The same desk. A store on it that was taken apart is put together.
+    #[inline(never)]
+    fn whole(self) -> Desk<A>
+        ensures whole { IsWhole result }
+        ensures point { point_of_desk result ≡ point_of_desk self }
+        ensures legal { IsLegalSo self → IsLegalSo result }
+    {
+        match self {
+            Desk::Armed(apart) => Desk::Open(apart.whole()),
+            desk => desk,
+        }
     }
 
     /// Takes note of what a line took, and says whether the store is to be settled now.
@@ -144,7 +188,7 @@ impl<A: Allocator + Copy> Desk<A> {
     {
         match self {
             Desk::Open(store) => store.note(answer),
-            Desk::Bare(_) | Desk::Gone => false,
+            Desk::Armed(_) | Desk::Bare(_) | Desk::Gone => false,
         }
     }
 
@@ -160,14 +204,16 @@ impl<A: Allocator + Copy> Desk<A> {
         Desk::Open(self.into_open().settled(alloc, address))
     }
 
-    /// A store that is open, and whose kind may change, in the kind that counts its variables sooner.
+    /// A store that is open, and whose kind may change, in the kind that counts its variables sooner. One that was
+    /// taken apart is put together.
     pub(crate) fn settled_to_count(self, alloc: A, kind: Kind) -> Desk<A>
         requires { IsLegalDesk self }
         ensures point { point_of_desk result ≡ point_of_desk self }
         ensures legal { IsLegalDesk result }
+        ensures whole { IsWhole result }
     {
         if !self.is_open() || !matches!(kind, Kind::AsPays) {
-            return self;
+            return self.whole();
         }
         Desk::Open(self.into_open().settled_to_count(alloc))
     }
@@ -176,8 +222,8 @@ impl<A: Allocator + Copy> Desk<A> {
     /// says that memory ran out.
     pub(crate) fn power_on(self, alloc: A, kind: Kind) -> (Desk<A>, Result<Answer, AllocError>)
         requires { IsLegalDesk self }
-        ensures attends { IfOk result.1 (λ answer. Attends (point_of_desk self)
-            PowerOn answer (point_of_desk result.0)) }
+        ensures powers { let old = point_of_desk self in IfOk result.1
+            (λ answer. Powers old.serving old.device answer (point_of_desk result.0)) }
         ensures legal { IsLegalDesk result.0 }
         ensures same { SaysTheSame (point_of_desk self).device (point_of_desk result.0).device }
     {

@@ -2,11 +2,10 @@
 //! looking through the slots has cost more than that, and gives it back when looking would cost less.
 ghost use Rattle.std.specs.Prelude.{◌≡◌, IfErr, IfOk};
 ghost use Rattle.ee_flash.specs.Device.{IsOn};
-ghost use Rattle.ee_flash.specs.Memory.{device_of, memory_of};
+ghost use Rattle.ee_flash.specs.Memory.{device_of, memory_of, with_fuse};
 ghost use Rattle.ee_core.specs.Finished.{IsStore};
 ghost use Rattle.ee_image_store.specs.Opening.{IsOpenFault, IsOpened};
 ghost use Rattle.ee_replay.specs.Either.{device_of_either};
-ghost use Rattle.ee_replay.specs.Serving.{ArmsDevice, IsArmed};
 
 use ee_codec::Address;
 use ee_core::{
@@ -16,10 +15,12 @@ use ee_core::{
 use ee_faults::ReplayFault;
 use ee_flash::{Flash, Fuse, MemFlash};
 use ee_image_store::open_image;
-use ee_index::inner::{Costs, count_live, looks_for};
+use ee_index::inner::{Costs, Kept, count_live, looks_for};
 use ee_index::{IndexedStore, inner as indexed};
+use ee_pages::Layout;
 use ee_script::Answer;
 use std::alloc::{Allocator, Global};
+use std::marker::Model;
 
 /// In which kind of store the variables are kept.
 #[derive(Clone, Copy)]
@@ -146,13 +147,115 @@ impl<F: Flash + Drop, A: Allocator + Copy> Variables for EitherStore<F, A> {
 
 /// The device, with this fuse.
 pub(crate) fn armed<A: Allocator>(flash: MemFlash<A>, fuse: Fuse) -> MemFlash<A>
-    // The fuse that stands in memory is this one, with its step and its tear.
-    ensures memory { IsArmed (device_of flash) fuse (memory_of result) }
-    ensures device { ArmsDevice (device_of flash) fuse (device_of result) }
+    ensures { memory_of result ≡ with_fuse fuse (memory_of flash) }
 {
     let mut flash = flash;
     flash.arm(fuse);
     flash
+}
+
+/// What a store of either kind keeps beside its device.
+#[derive(Drop)]
+pub(crate) enum Beside<A: Allocator = Global> {
+    /// Without an index.
+    Layout(Layout),
+    /// With one.
+    Index(Kept<A>),
+}
+
+/// A store of either kind, taken apart, so that its device is at hand.
+#[derive(Drop)]
+pub(crate) struct Apart<A: Allocator = Global> {
+    flash: MemFlash<A>,
+    beside: Beside<A>,
+    costs: Costs,
+}
+
+impl<A: Allocator> Model for Apart<A> {
+    ghost use Rattle.ee_flash.specs.Memory.{Memory, device_of, memory_of};
+    ghost use Rattle.ee_core.specs.Finished.{IsStore};
+    ghost use Rattle.ee_replay.specs.Either.{IsBeside};
+
+    ghost Value = { Memory };
+
+    ghost view = { λ apart. memory_of apart.flash };
+
+    ghost invariant = { λ apart. IsStore (device_of apart.flash)
+        × IsBeside (device_of apart.flash) apart.beside };
+}
+
+impl<A: Allocator> Apart<A> {
+    /// This store, taken apart.
+    pub(crate) fn of(store: EitherStore<MemFlash<A>, A>) -> Apart<A>
+        requires { IsOn (device_of_either store) }
+        ensures { result.device ≡ device_of_either store }
+    {
+        match store {
+            EitherStore::Plain { store, costs } => {
+                let (flash, layout) = plain::parts_of(store);
+                Apart {
+                    flash,
+                    beside: Beside::Layout(layout),
+                    costs,
+                }
+            }
+            EitherStore::Indexed { store, costs } => {
+                let (flash, kept) = indexed::parts_of(store);
+                Apart {
+                    flash,
+                    beside: Beside::Index(kept),
+                    costs,
+                }
+            }
+        }
+    }
+
+    /// Whether the device is on.
+    pub(crate) fn is_on(&self) -> bool
+        ensures { result ≡ self.now.device.on }
+    {
+        self.flash.is_on()
+    }
+
+    /// The device.
+    pub(crate) fn into_flash(self) -> MemFlash<A>
+        ensures device { device_of result ≡ self.device }
+        ensures store { IsStore self.device }
+    {
+        self.flash
+    }
+
+    /// The same, with this fuse on its device.
+    pub(crate) fn armed(self, fuse: Fuse) -> Apart<A>
+        ensures { result ≡ with_fuse fuse self }
+    {
+        Apart {
+            flash: armed(self.flash, fuse),
+            beside: self.beside,
+            costs: self.costs,
+        }
+    }
+
+    /// The store, put together. It takes no step and no memory.
+    pub(crate) fn whole(self) -> EitherStore<MemFlash<A>, A>
+        ensures { device_of_either result ≡ self.device }
+    {
+        let Apart {
+            flash,
+            beside,
+            costs,
+        } = self;
+        match beside {
+            Beside::Layout(layout) => EitherStore::Plain {
+                store: plain::store_of(flash, layout),
+                costs,
+            },
+            Beside::Index(kept) => EitherStore::Indexed {
+                store: indexed::store_of(flash, kept),
+                costs,
+            },
+        }
+    }
 }
 
 /// The store of the image that a text spells, of this kind.
@@ -259,28 +362,6 @@ impl<F: Flash + Drop, A: Allocator + Copy> EitherStore<F, A> {
         match self {
             EitherStore::Plain { store, .. } => store.into_flash(),
             EitherStore::Indexed { store, .. } => store.into_flash(),
-        }
-    }
-}
-
-/// A store with this fuse on its device. It takes no step and no memory.
-pub(crate) fn with_fuse<A: Allocator + Copy>(
-    store: EitherStore<MemFlash<A>, A>,
-    fuse: Fuse,
-) -> EitherStore<MemFlash<A>, A>
-    requires { IsOn (device_of_either store) }
-    ensures { ArmsDevice (device_of_either store) fuse (device_of_either result) }
-{
-    match store {
-        EitherStore::Plain { store, costs } => {
-            let (flash, layout) = plain::parts_of(store);
-            let store = plain::store_of(armed(flash, fuse), layout);
-            EitherStore::Plain { store, costs }
-        }
-        EitherStore::Indexed { store, costs } => {
-            let (flash, kept) = indexed::parts_of(store);
-            let store = indexed::store_of(armed(flash, fuse), kept);
-            EitherStore::Indexed { store, costs }
         }
     }
 }

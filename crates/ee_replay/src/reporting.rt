@@ -7,7 +7,7 @@ ghost use Rattle.ee_flash.specs.Device.{Device, IsOn};
 ghost use Rattle.ee_flash.specs.Size.{slot_count};
 ghost use Rattle.ee_plan.specs.Start.{IsStartOf};
 ghost use Rattle.ee_core.specs.State.{state_of};
-ghost use Rattle.ee_replay.specs.Desk.{point_of_desk};
+ghost use Rattle.ee_replay.specs.Desk.{IsWhole, point_of_desk};
 ghost use Rattle.ee_replay.specs.Report.{desk_line, end_line};
 ghost use Rattle.ee_replay.specs.Serving.{IsServed, IsTraced, claim_noted};
 ghost use Rattle.ee_image_store.specs.Opening.{StaysOn};
@@ -27,6 +27,7 @@ pub(crate) fn report_on<A: Allocator + Copy, B: Allocator>(
     desk: &Desk<A>,
     lines: Vec<u8, A>,
 ) -> Result<Vec<u8, A>, AllocError>
+    requires { IsWhole desk.now }
     ensures { IfOk result (λ report. (old : Device) (script : List ℕ)
         → IsTraced old script (point_of_desk desk.now) notes lines.items
         → IsStartOf (slot_count old.size) (state_of old) start.now → IsProper start.now
@@ -63,6 +64,7 @@ fn push_desk<A: Allocator + Copy>(
     transfers: u64,
     report: &mut Vec<u8, A>,
 ) -> Result<(), AllocError>
+    requires { IsWhole desk.now }
     ensures { let point = point_of_desk desk.now in OnOk result (report.new.items
         ≡ report.old.items ++ desk_line (slot_count point.device.size) point.serving
         (state_of point.device) transfers) }
@@ -74,6 +76,7 @@ fn push_desk<A: Allocator + Copy>(
             }
             push_off(transfers, report)
         }
+        Desk::Armed(_) => unreachable!("it is whole"),
         Desk::Bare(_) | Desk::Gone => push_off(transfers, report),
     }
 }

@@ -3,9 +3,9 @@ ghost use Rattle.std.specs.Prelude.{◌≡◌, IfOk};
 ghost use Rattle.ee_script.specs.declared.command.Command.TheVariants.{Write, Read, Forget, Clean, Arm, PowerOn};
 ghost use Rattle.ee_core.specs.Finished.{IsStore};
 ghost use Rattle.ee_core.specs.State.{state_of};
-ghost use Rattle.ee_replay.specs.Desk.{IsLegalSo, point_of_desk};
+ghost use Rattle.ee_replay.specs.Desk.{IsLegalSo, point_of_desk, stand_of};
 ghost use Rattle.ee_replay.specs.Either.{device_of_either};
-ghost use Rattle.ee_replay.specs.Serving.{IsCounted, no_notes, serving_on};
+ghost use Rattle.ee_replay.specs.Serving.{IsCounted, no_notes, stand_on};
 ghost use Rattle.ee_image_store.specs.Opening.{StaysOn};
 
 use super::desk::Desk;
@@ -39,7 +39,7 @@ impl<A: Allocator + Copy> Server<A> {
     pub(crate) fn new(alloc: A, store: EitherStore<MemFlash<A>, A>, kind: Kind) -> Server<A>
         requires on { StaysOn (device_of_either store) }
         requires legal { IsStore (device_of_either store) }
-        ensures point { point_of_desk result.desk ≡ serving_on (device_of_either store) }
+        ensures stand { stand_of result.desk ≡ stand_on (device_of_either store) }
         ensures notes { result.notes ≡ no_notes (state_of (device_of_either store)).fill }
     {
         let notes = Notes::new(alloc, store.fill() as u64);
@@ -54,8 +54,8 @@ impl<A: Allocator + Copy> Server<A> {
     /// Writes, as a line of a script says. An error says that memory ran out.
     fn write(&mut self, address: Address, value: u32) -> Result<Answer, AllocError>
         ensures { IfOk result (λ answer. Records
-            (with_notes (point_of_desk self.old.desk) self.old.notes) (Write address value)
-            answer (with_notes (point_of_desk self.new.desk) self.new.notes)) }
+            (with_notes (stand_of self.old.desk) self.old.notes) (Write address value)
+            answer (with_notes (stand_of self.new.desk) self.new.notes)) }
     {
         match self.desk.write(address, value) {
             Ok(written) => {
@@ -73,8 +73,8 @@ impl<A: Allocator + Copy> Server<A> {
     /// Forgets, as a line of a script says. An error says that memory ran out.
     fn forget(&mut self, address: Address) -> Result<Answer, AllocError>
         ensures { IfOk result (λ answer. Records
-            (with_notes (point_of_desk self.old.desk) self.old.notes) (Forget address)
-            answer (with_notes (point_of_desk self.new.desk) self.new.notes)) }
+            (with_notes (stand_of self.old.desk) self.old.notes) (Forget address)
+            answer (with_notes (stand_of self.new.desk) self.new.notes)) }
     {
         match self.desk.forget(address) {
             Ok(written) => {
@@ -89,10 +89,10 @@ impl<A: Allocator + Copy> Server<A> {
     }
 
     /// Reads.
-    fn read(&self, address: Address) -> Answer
+    fn read(&mut self, address: Address) -> Answer
         ensures { Records
-            (with_notes (point_of_desk self.now.desk) self.now.notes) (Read address)
-            result (with_notes (point_of_desk self.now.desk) self.now.notes) }
+            (with_notes (stand_of self.old.desk) self.old.notes) (Read address)
+            result (with_notes (stand_of self.new.desk) self.new.notes) }
     {
         match self.desk.read(address) {
             Ok(Some(value)) => Answer::Value(value),
@@ -104,8 +104,8 @@ impl<A: Allocator + Copy> Server<A> {
     /// Takes a clean step.
     fn clean(&mut self) -> Answer
         ensures { Records
-            (with_notes (point_of_desk self.old.desk) self.old.notes) Clean
-            result (with_notes (point_of_desk self.new.desk) self.new.notes) }
+            (with_notes (stand_of self.old.desk) self.old.notes) Clean
+            result (with_notes (stand_of self.new.desk) self.new.notes) }
     {
         match self.desk.clean_step() {
             Ok(true) => Answer::Cleaned,
@@ -119,8 +119,8 @@ impl<A: Allocator + Copy> Server<A> {
     /// Arms a cut.
     fn arm(&mut self, fuse: Fuse) -> Answer
         ensures { Records
-            (with_notes (point_of_desk self.old.desk) self.old.notes) (Arm fuse)
-            result (with_notes (point_of_desk self.new.desk) self.new.notes) }
+            (with_notes (stand_of self.old.desk) self.old.notes) (Arm fuse)
+            result (with_notes (stand_of self.new.desk) self.new.notes) }
     {
         let desk = replace(&mut self.desk, Desk::Gone);
         self.desk = desk.arm(fuse);
@@ -130,8 +130,8 @@ impl<A: Allocator + Copy> Server<A> {
     /// Turns power on and opens the store. An error says that memory ran out.
     fn power_on(&mut self) -> Result<Answer, AllocError>
         ensures { IfOk result (λ answer. Records
-            (with_notes (point_of_desk self.old.desk) self.old.notes) PowerOn
-            answer (with_notes (point_of_desk self.new.desk) self.new.notes)) }
+            (with_notes (stand_of self.old.desk) self.old.notes) PowerOn
+            answer (with_notes (stand_of self.new.desk) self.new.notes)) }
     {
         let desk = replace(&mut self.desk, Desk::Gone);
         let (desk, answer) = desk.power_on(self.alloc, self.kind);
@@ -168,8 +168,8 @@ impl<A: Allocator + Copy> Serve for Server<A> {
     ghost use Rattle.ee_replay.specs.Serving.{Records, with_notes};
 
     ghost serves = { λ old command answer new.
-        Records (with_notes (point_of_desk old.desk) old.notes) command answer
-        (with_notes (point_of_desk new.desk) new.notes) };
+        Records (with_notes (stand_of old.desk) old.notes) command answer
+        (with_notes (stand_of new.desk) new.notes) };
 
     fn serve(&mut self, command: Command) -> Result<Answer, AllocError> {
         match command {

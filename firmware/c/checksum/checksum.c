@@ -1,4 +1,4 @@
-/* Two and a half thousand calls on flash in an array: writes for the most part, and some of each other call, of ee_write_all
+/* Each call on a store of zeros, and then two and a half thousand calls on flash in an array: writes for the most part, and some of each other call, of ee_write_all
  * but with LISTS 0. One step in
  * fifty or so is cut, torn in some way, and the store opened again. Then each word of the flash is damaged in turn, and a
  * variable is read. With PAIRS the flash has numbers, two for each word, and a cut leaves some of their bits. */
@@ -200,11 +200,27 @@ static int run(void) {
     return 1;
 }
 
+/* Whether each call on a store of zeros answers that it is off. */
+static int is_off(void) {
+    static ee_store never;
+    ee_numbers numbers;
+    uint32_t value;
+    uint16_t address = 0;
+#if LISTS
+    if (ee_write_all(&never, list, 2) != EE_OFF) return 0;
+#endif
+    return ee_write(&never, 1, 1) == EE_OFF && ee_forget(&never, 1) == EE_OFF && ee_clean(&never) == EE_OFF &&
+           ee_read(&never, 1, &value) == EE_OFF && ee_next(&never, &address, &value) == EE_OFF &&
+           ee_counts(&never, &numbers) == EE_OFF;
+}
+
 uint64_t checksum(void) {
+    if (!is_off()) return 0;
     sum = 0;
     seed = 20261123;
     for (int shape = 0; shape < SHAPES; shape++) {
-        flash = (ee_flash){0, shapes[shape].pages, shapes[shape].page_words, word, program, erase, PAIRS};
+        flash = (ee_flash){.pages = shapes[shape].pages, .page_words = shapes[shape].page_words, .word = word, .program = program,
+                           .erase = erase, .pairs = PAIRS};
         if (!run()) return 0;
     }
     return sum;

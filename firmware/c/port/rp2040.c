@@ -93,6 +93,14 @@ static uint32_t erase(void *context, uint32_t page) {
 }
 
 ee_flash rp2040_flash(rp2040 *part, uint32_t pages) {
-    ee_flash flash = {part, pages, NUMBERS / 2, word, program, erase, 1};
+    ee_flash flash = {
+        .context = part,
+        .pages = pages,
+        .page_words = NUMBERS / 2,
+        .word = word,
+        .program = program,
+        .erase = erase,
+        .pairs = 1,
+    };
     return flash;
 }

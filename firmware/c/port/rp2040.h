@@ -1,10 +1,11 @@
 /* An example of a port: a store in the flash of an RP2040's board, which has no error correction, so its words are pairs of
- * numbers. It was tested on a computer against a model of the boot ROM's functions and of the flash (tests/rp2040.c), and
- * never on a board: rp2040_find_rom was never run. Nothing of it is proved. A flash chip that has error correction of its own
- * doesn't fit, since 32 numbers are programmed into the same 256 bytes one after the other.
+ * numbers. It was tested on a computer against a model of the boot ROM's functions, of the flash and of the XIP cache
+ * (tests/rp2040.c), and never on a board: rp2040_find_rom was never run. Nothing of it is proved. A flash chip that has error
+ * correction of its own doesn't fit, since 32 numbers are programmed into the same 256 bytes one after the other.
  *
  * While flash is written nothing is read from it: the port turns interrupts off, and what runs then stands in RAM, in the
- * section .time_critical, which the linker scripts of the Pico SDK put there. The other core is yours to hold off flash. */
+ * section .time_critical, which the linker scripts of the Pico SDK put there. The other core is yours to hold off flash. The
+ * XIP cache, by which flash is read, is emptied behind each write by the boot ROM's flush_cache (RP2040 Datasheet). */
 #ifndef RP2040_H
 #define RP2040_H
 
@@ -12,6 +13,10 @@
 #include <stdint.h>
 
 #include "../ee.h"
+
+#ifdef __cplusplus
+extern "C" {
+#endif
 
 /* The boot ROM's functions for flash (RP2040 Datasheet, "Flash Access Functions"). An offset is from the beginning of flash. */
 typedef struct rp2040_rom {
@@ -35,5 +40,9 @@ rp2040_rom rp2040_find_rom(void);
 
 /* The flash of the store: two sets of so many pages of 256 words, each a sector. */
 ee_flash rp2040_flash(rp2040 *part, uint32_t pages);
+
+#ifdef __cplusplus
+}
+#endif
 
 #endif

@@ -1,11 +1,19 @@
 #include "stm32f1.h"
 
-/* What a test puts in place of the part. On the part these are plain reads and writes, of registers and of half words. */
+/* What a test puts in place of the part. On the part these are plain reads and writes, of registers and of half words, and a
+ * barrier behind which all of them are done. */
 #ifndef STM32F1_SET
 #define STM32F1_SET(address, value) (*(address) = (value))
 #define STM32F1_GET(address) (*(address))
 #define STM32F1_SET_HALF(address, value) (*(address) = (value))
 #define STM32F1_GET_HALF(address) (*(address))
+/* A page takes 40 ms to be erased, and a turn of the loop some cycles of at most 72 MHz. */
+#define STM32F1_MOST_TURNS 4000000
+#ifdef __arm__
+#define STM32F1_BARRIER() __asm__ volatile("dsb\n\tisb" : : : "memory")
+#else
+#define STM32F1_BARRIER() ((void)0)
+#endif
 #endif
 
 enum {
@@ -18,14 +26,12 @@ enum {
     CR_PER = 1 << 1,
     CR_STRT = 1 << 6,
     CR_LOCK = 1 << 7,
-    HALVES = 4, /* of a number */
-    /* A page takes 40 ms to be erased, and a turn of the loop some cycles of at most 72 MHz. */
-    MOST_TURNS = 4000000
+    HALVES = 4 /* of a number */
 };
 
 /* Whether the flash ends what it does. */
 static int is_ready(stm32f1_registers *registers) {
-    for (uint32_t turn = 0; turn < MOST_TURNS; turn++) {
+    for (uint32_t turn = 0; turn < STM32F1_MOST_TURNS; turn++) {
         if ((STM32F1_GET(&registers->sr) & SR_BSY) == 0) return 1;
     }
     return 0;
@@ -70,6 +76,7 @@ static int program_halves(stm32f1_registers *registers, volatile uint16_t *at, u
         uint16_t half = (uint16_t)(value >> 16 * i);
         if (half == UINT16_MAX) continue;
         STM32F1_SET_HALF(&at[i], half);
+        STM32F1_BARRIER(); /* the flash is busy */
         if (!is_done(registers)) return 0;
     }
     return 1;
@@ -102,6 +109,14 @@ static uint32_t erase(void *context, uint32_t page) {
 }
 
 ee_flash stm32f1_flash(stm32f1 *part, uint32_t pages) {
-    ee_flash flash = {part, pages, part->page_words, word, program, erase, 1};
+    ee_flash flash = {
+        .context = part,
+        .pages = pages,
+        .page_words = part->page_words,
+        .word = word,
+        .program = program,
+        .erase = erase,
+        .pairs = 1,
+    };
     return flash;
 }

@@ -1,12 +1,19 @@
 /* An example of a port: a store in the flash of an STM32F1, which has no error correction, so its words are pairs of numbers.
  * It was tested on a computer against a model of the registers (tests/stm32f1.c), and never on a board. Nothing of it is
- * proved. The internal oscillator (HSI) is on while flash is written. */
+ * proved. The internal oscillator (HSI) is on while flash is written.
+ *
+ * It supposes this of the part, which was never tried (compare the reference manual, PM0075): there is no cache. The prefetch
+ * buffer is for instructions alone, so a read of data is what the flash has. */
 #ifndef STM32F1_H
 #define STM32F1_H
 
 #include <stdint.h>
 
 #include "../ee.h"
+
+#ifdef __cplusplus
+extern "C" {
+#endif
 
 /* The registers of the flash, at 0x40022000 (PM0075, "Flash memory programming"); those of the second bank of an XL-density
  * part begin at 0x40022040. */
@@ -23,5 +30,9 @@ typedef struct stm32f1 {
 
 /* The flash of the store: two sets of so many pages. */
 ee_flash stm32f1_flash(stm32f1 *part, uint32_t pages);
+
+#ifdef __cplusplus
+}
+#endif
 
 #endif

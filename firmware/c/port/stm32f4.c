@@ -1,18 +1,22 @@
 #include "stm32f4.h"
 
-/* What a test puts in place of the part. On the part these are plain reads and writes. */
+/* What a test puts in place of the part. On the part these are plain reads and writes, and a barrier behind which all of them
+ * are done. */
 #ifndef STM32F4_SET
 #define STM32F4_SET(address, value) (*(address) = (value))
 #define STM32F4_GET(address) (*(address))
 /* A sector of 128 KB takes 2 s to be erased, and a turn of the loop some cycles of at most 180 MHz. */
 #define STM32F4_MOST_TURNS 100000000
+#ifdef __arm__
+#define STM32F4_BARRIER() __asm__ volatile("dsb\n\tisb" : : : "memory")
+#else
+#define STM32F4_BARRIER() ((void)0)
+#endif
 #endif
 
 enum {
     KEY_1 = 0x45670123,
     KEY_2 = (int32_t)0xcdef89ab,
-    ACR_DCEN = 1 << 10,
-    ACR_DCRST = 1 << 12,
     SR_EOP = 1 << 0,
     SR_ERRORS = 0x1f2, /* OPERR, WRPERR, PGAERR, PGPERR, PGSERR, RDERR */
     SR_BSY = 1 << 16,
@@ -22,6 +26,7 @@ enum {
     CR_PSIZE_32 = 2 << 8,
     CR_STRT = 1 << 16
 };
+static const uint32_t ACR_DCEN = 1u << 10, ACR_DCRST = 1u << 12;
 static const uint32_t CR_LOCK = 1u << 31;
 
 /* Whether the flash ends what it does. */
@@ -54,14 +59,20 @@ static void lock(stm32f4_registers *registers) {
     STM32F4_SET(&registers->cr, CR_LOCK);
 }
 
-/* Empties the data cache, which may have what stood in a sector before its erase. It is off while that is done. */
-static void empty_cache(stm32f4_registers *registers) {
+/* Turns the data cache off: what is read then is what the flash has. What the register was. */
+static uint32_t cache_off(stm32f4_registers *registers) {
     uint32_t acr = STM32F4_GET(&registers->acr);
-    if ((acr & ACR_DCEN) == 0) return;
-    STM32F4_SET(&registers->acr, acr & ~(uint32_t)ACR_DCEN);
-    STM32F4_SET(&registers->acr, (acr & ~(uint32_t)ACR_DCEN) | ACR_DCRST);
-    STM32F4_SET(&registers->acr, acr & ~(uint32_t)ACR_DCEN);
+    STM32F4_SET(&registers->acr, acr & ~ACR_DCEN);
+    STM32F4_BARRIER();
+    return acr;
+}
+
+/* Empties the data cache, which is off, and turns it on where it was on. */
+static void cache_as(stm32f4_registers *registers, uint32_t acr) {
+    STM32F4_SET(&registers->acr, (acr & ~ACR_DCEN) | ACR_DCRST);
+    STM32F4_SET(&registers->acr, acr & ~ACR_DCEN);
     STM32F4_SET(&registers->acr, acr);
+    STM32F4_BARRIER();
 }
 
 static volatile uint32_t *number_at(const stm32f4 *part, uint32_t page, uint32_t place) {
@@ -82,23 +93,22 @@ static int program_halves(stm32f4_registers *registers, volatile uint32_t *at, u
         uint32_t half = (uint32_t)(value >> 32 * i);
         if (half == UINT32_MAX) continue;
         STM32F4_SET(&at[i], half);
+        STM32F4_BARRIER(); /* the flash is busy */
         if (!is_done(registers)) return 0;
     }
     return 1;
 }
 
-static uint32_t program(void *context, uint32_t page, uint32_t place, uint64_t value) {
-    stm32f4 *part = context;
+static uint32_t programmed(stm32f4 *part, uint32_t page, uint32_t place, uint64_t value) {
     uint64_t found;
     if (!begin(part->registers)) return 1;
     STM32F4_SET(&part->registers->cr, CR_PSIZE_32 | CR_PG);
     int is_well = program_halves(part->registers, number_at(part, page, place), value);
     lock(part->registers);
-    return !is_well || word(context, page, place, &found) != 0 || found != value;
+    return !is_well || word(part, page, place, &found) != 0 || found != value;
 }
 
-static uint32_t erase(void *context, uint32_t page) {
-    stm32f4 *part = context;
+static uint32_t erased(stm32f4 *part, uint32_t page) {
     uint64_t found;
     if (!begin(part->registers)) return 1;
     uint32_t which = CR_PSIZE_32 | CR_SER | part->sectors[page].number << CR_SNB_SHIFT;
@@ -106,15 +116,39 @@ static uint32_t erase(void *context, uint32_t page) {
     STM32F4_SET(&part->registers->cr, which | CR_STRT);
     int is_well = is_done(part->registers);
     lock(part->registers);
-    empty_cache(part->registers);
     if (!is_well) return 1;
     for (uint32_t place = 0; place < 2 * part->page_words; place++) {
-        if (word(context, page, place, &found) != 0 || found != UINT64_MAX) return 1;
+        if (word(part, page, place, &found) != 0 || found != UINT64_MAX) return 1;
     }
     return 0;
 }
 
+/* The cache is off from before the write until it was emptied behind it. */
+static uint32_t program(void *context, uint32_t page, uint32_t place, uint64_t value) {
+    stm32f4 *part = context;
+    uint32_t acr = cache_off(part->registers);
+    uint32_t status = programmed(part, page, place, value);
+    cache_as(part->registers, acr);
+    return status;
+}
+
+static uint32_t erase(void *context, uint32_t page) {
+    stm32f4 *part = context;
+    uint32_t acr = cache_off(part->registers);
+    uint32_t status = erased(part, page);
+    cache_as(part->registers, acr);
+    return status;
+}
+
 ee_flash stm32f4_flash(stm32f4 *part) {
-    ee_flash flash = {part, 1, part->page_words, word, program, erase, 1};
+    ee_flash flash = {
+        .context = part,
+        .pages = 1,
+        .page_words = part->page_words,
+        .word = word,
+        .program = program,
+        .erase = erase,
+        .pairs = 1,
+    };
     return flash;
 }

@@ -1,12 +1,21 @@
 /* An example of a port: a store in two sectors of the flash of an STM32F4, which has no error correction, so its words are
- * pairs of numbers. It was tested on a computer against a model of the registers (tests/stm32f4.c), and never on a board.
- * Nothing of it is proved. It programs by 32 bits, which takes a supply of 2.7 V at least. */
+ * pairs of numbers. It was tested on a computer against a model of the registers and of the data cache (tests/stm32f4.c), and
+ * never on a board. Nothing of it is proved. It programs by 32 bits, which takes a supply of 2.7 V at least.
+ *
+ * It supposes this of the part, which was never tried (compare the reference manual, RM0090): a program writes what was asked
+ * for into the data cache too, and an erase leaves old lines there. So the port turns the data cache off in FLASH_ACR, and on
+ * again when what it wrote was read back and the cache is empty. No interrupt writes that register during a call. The
+ * instruction cache stays as it is, since the sectors hold no code. */
 #ifndef STM32F4_H
 #define STM32F4_H
 
 #include <stdint.h>
 
 #include "../ee.h"
+
+#ifdef __cplusplus
+extern "C" {
+#endif
 
 /* The registers of the flash, at 0x40023c00 (RM0090, "Embedded Flash memory interface"). */
 typedef struct stm32f4_registers {
@@ -28,5 +37,9 @@ typedef struct stm32f4 {
 
 /* The flash of the store: two sets of one page. */
 ee_flash stm32f4_flash(stm32f4 *part);
+
+#ifdef __cplusplus
+}
+#endif
 
 #endif

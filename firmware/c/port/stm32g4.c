@@ -1,9 +1,17 @@
 #include "stm32g4.h"
 
-/* What a test puts in place of the part. On the part these are plain reads and writes. */
+/* What a test puts in place of the part. On the part these are plain reads and writes, and a barrier behind which all of them
+ * are done, and an NMI that they raise has come. */
 #ifndef STM32G4_SET
 #define STM32G4_SET(address, value) (*(address) = (value))
 #define STM32G4_GET(address) (*(address))
+/* A page takes 25 ms to be erased, and a turn of the loop some cycles of at most 170 MHz. */
+#define STM32G4_MOST_TURNS 4000000
+#ifdef __arm__
+#define STM32G4_BARRIER() __asm__ volatile("dsb\n\tisb" : : : "memory")
+#else
+#define STM32G4_BARRIER() ((void)0)
+#endif
 #endif
 
 enum {
@@ -17,14 +25,16 @@ enum {
     CR_PNB_SHIFT = 3,
     CR_BKER_SHIFT = 11,
     CR_STRT = 1 << 16,
-    /* A page takes 25 ms to be erased, and a turn of the loop some cycles of at most 170 MHz. */
-    MOST_TURNS = 4000000
+    WIDE_PAGE_WORDS = 512 /* of a page of 4 KB: the flash is read by 128 bits */
 };
-static const uint32_t CR_LOCK = 1u << 31, ECCR_ECCD = 1u << 31;
+static const uint32_t ACR_DCEN = 1u << 10, ACR_DCRST = 1u << 12;
+static const uint32_t CR_LOCK = 1u << 31;
+static const uint32_t ECCR_ADDR = 0x7ffff, ECCR_BK = 1u << 21, ECCR_SYSF = 1u << 22, ECCR_ECCIE = 1u << 24;
+static const uint32_t ECCR_ECCC2 = 1u << 28, ECCR_ECCD2 = 1u << 29, ECCR_ECCC = 1u << 30, ECCR_ECCD = 1u << 31;
 
 /* Whether the flash ends what it does. */
 static int is_ready(stm32g4_registers *registers) {
-    for (uint32_t turn = 0; turn < MOST_TURNS; turn++) {
+    for (uint32_t turn = 0; turn < STM32G4_MOST_TURNS; turn++) {
         if ((STM32G4_GET(&registers->sr) & SR_BSY) == 0) return 1;
     }
     return 0;
@@ -49,34 +59,82 @@ static int end(stm32g4_registers *registers) {
     return is_well;
 }
 
+/* Turns the data cache off: what is read then is what the flash has. What the register was. */
+static uint32_t cache_off(stm32g4_registers *registers) {
+    uint32_t acr = STM32G4_GET(&registers->acr);
+    STM32G4_SET(&registers->acr, acr & ~ACR_DCEN);
+    return acr;
+}
+
+/* Empties the data cache, which is off, for whoever else reads the pages, and turns it on where it was on. */
+static void cache_as(stm32g4_registers *registers, uint32_t acr) {
+    STM32G4_SET(&registers->acr, (acr & ~ACR_DCEN) | ACR_DCRST);
+    STM32G4_SET(&registers->acr, acr & ~ACR_DCEN);
+    STM32G4_SET(&registers->acr, acr);
+    STM32G4_BARRIER();
+}
+
+/* Clears those of the flags that stand. A flag is cleared by a 1, so the others are written with 0, and stay. */
+static void clear_flags(stm32g4_registers *registers, uint32_t eccr, uint32_t flags) {
+    STM32G4_SET(&registers->eccr, (eccr & ECCR_ECCIE) | (eccr & flags));
+    STM32G4_BARRIER();
+}
+
+/* Takes the flag of a corrected error away: while it stands the part tells no other error's address. */
+static void note_corrected(stm32g4 *part) {
+    uint32_t eccr = STM32G4_GET(&part->registers->eccr);
+    if ((eccr & (ECCR_ECCC | ECCR_ECCC2)) == 0) return;
+    part->corrected = eccr;
+    clear_flags(part->registers, eccr, ECCR_ECCC | ECCR_ECCC2);
+}
+
+/* Whether the last error was in this word. It is kept until an erase, since a second read may raise no NMI. */
+static int has_error(const stm32g4 *part, uint32_t page, uint32_t place) {
+    uint32_t address = 8 * ((part->first_page + page) * part->page_words + place);
+    int is_wide = part->page_words == WIDE_PAGE_WORDS, is_upper = is_wide && place % 2 == 1;
+    uint32_t line = ECCR_ADDR & ~(is_wide ? 15u : 7u), error = part->error;
+    return (error & line) == (address & line) && (error & (is_upper ? ECCR_ECCD2 : ECCR_ECCD)) != 0;
+}
+
 static volatile uint32_t *word_at(const stm32g4 *part, uint32_t page, uint32_t place) {
     return part->flash + 2 * (page * part->page_words + place);
 }
 
-static uint32_t word(void *context, uint32_t page, uint32_t place, uint64_t *value) {
-    stm32g4 *part = context;
+/* Reads a word while the data cache is off. */
+static uint32_t look(stm32g4 *part, uint32_t page, uint32_t place, uint64_t *value) {
     volatile uint32_t *at = word_at(part, page, place);
-    part->unreadable = 0;
+    note_corrected(part);
+    part->is_reading = 1;
+    STM32G4_BARRIER(); /* the cache is off */
     uint32_t low = STM32G4_GET(&at[0]);
     uint32_t high = STM32G4_GET(&at[1]);
+    STM32G4_BARRIER(); /* the NMI of the two reads has come */
+    part->is_reading = 0;
     *value = (uint64_t)high << 32 | low;
-    return part->unreadable; /* the NMI came in one of the two reads */
+    return (uint32_t)has_error(part, page, place);
 }
 
-static uint32_t program(void *context, uint32_t page, uint32_t place, uint64_t value) {
+static uint32_t word(void *context, uint32_t page, uint32_t place, uint64_t *value) {
     stm32g4 *part = context;
+    uint32_t acr = cache_off(part->registers);
+    uint32_t status = look(part, page, place, value);
+    STM32G4_SET(&part->registers->acr, acr);
+    return status;
+}
+
+static uint32_t programmed(stm32g4 *part, uint32_t page, uint32_t place, uint64_t value) {
     volatile uint32_t *at = word_at(part, page, place);
     uint64_t found;
     if (!begin(part->registers)) return 1;
     STM32G4_SET(&part->registers->cr, CR_PG);
     STM32G4_SET(&at[0], (uint32_t)value);
     STM32G4_SET(&at[1], (uint32_t)(value >> 32));
+    STM32G4_BARRIER(); /* the flash is busy */
     if (!end(part->registers)) return 1;
-    return word(context, page, place, &found) != 0 || found != value;
+    return look(part, page, place, &found) != 0 || found != value;
 }
 
-static uint32_t erase(void *context, uint32_t page) {
-    stm32g4 *part = context;
+static uint32_t erased(stm32g4 *part, uint32_t page) {
     uint32_t number = part->first_page + page;
     uint64_t found;
     if (!begin(part->registers)) return 1;
@@ -84,20 +142,61 @@ static uint32_t erase(void *context, uint32_t page) {
     STM32G4_SET(&part->registers->cr, which);
     STM32G4_SET(&part->registers->cr, which | CR_STRT);
     if (!end(part->registers)) return 1;
+    part->error = 0;
     for (uint32_t place = 0; place < part->page_words; place++) {
-        if (word(context, page, place, &found) != 0 || found != UINT64_MAX) return 1;
+        if (look(part, page, place, &found) != 0 || found != UINT64_MAX) return 1;
     }
     return 0;
 }
 
+/* The cache is off from before the write until it was emptied behind it. */
+static uint32_t program(void *context, uint32_t page, uint32_t place, uint64_t value) {
+    stm32g4 *part = context;
+    uint32_t acr = cache_off(part->registers);
+    uint32_t status = programmed(part, page, place, value);
+    cache_as(part->registers, acr);
+    return status;
+}
+
+static uint32_t erase(void *context, uint32_t page) {
+    stm32g4 *part = context;
+    uint32_t acr = cache_off(part->registers);
+    uint32_t status = erased(part, page);
+    cache_as(part->registers, acr);
+    return status;
+}
+
 ee_flash stm32g4_flash(stm32g4 *part, uint32_t pages) {
-    ee_flash flash = {part, pages, part->page_words, word, program, erase, 0};
+    ee_flash flash = {
+        .context = part,
+        .pages = pages,
+        .page_words = part->page_words,
+        .word = word,
+        .program = program,
+        .erase = erase,
+        .pairs = 0,
+    };
+    part->pages = 2 * pages;
     return flash;
 }
 
+/* Whether the address is that of the error. Where the flag of a corrected error stands, that one may have been first, and the
+ * error anywhere; but while `word` reads it was not, since `word` took that flag away before. */
+static int is_its_address(const stm32g4 *part, uint32_t eccr) {
+    return part->is_reading || (eccr & (ECCR_ECCC | ECCR_ECCC2)) == 0;
+}
+
+/* Whether the error that ECCR tells is in the store's pages. */
+static int is_in_pages(const stm32g4 *part, uint32_t eccr) {
+    uint32_t page = (eccr & ECCR_ADDR) / (8 * part->page_words) - part->first_page;
+    int is_in_bank = part->page_words == WIDE_PAGE_WORDS || ((eccr & ECCR_BK) != 0) == part->bank;
+    return (eccr & ECCR_SYSF) == 0 && is_in_bank && page < part->pages;
+}
+
 int stm32g4_nmi(stm32g4 *part) {
-    if ((STM32G4_GET(&part->registers->eccr) & ECCR_ECCD) == 0) return 0;
-    STM32G4_SET(&part->registers->eccr, STM32G4_GET(&part->registers->eccr) | ECCR_ECCD); /* written with 1 it is cleared */
-    part->unreadable = 1;
+    uint32_t eccr = STM32G4_GET(&part->registers->eccr);
+    if ((eccr & (ECCR_ECCD | ECCR_ECCD2)) == 0 || !is_its_address(part, eccr) || !is_in_pages(part, eccr)) return 0;
+    part->error = eccr;
+    clear_flags(part->registers, eccr, ECCR_ECCD | ECCR_ECCD2);
     return 1;
 }

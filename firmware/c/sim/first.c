@@ -1,5 +1,5 @@
 /* A first test with the flash in memory: power is cut in each step of a few writes, in each way, and the store opened again.
- * Each variable then has the value before the write that was cut, or the one behind it. */
+ * Each variable then has the value before the write that was cut, or the one behind it. So it is of words, and of pairs. */
 #include <stdlib.h>
 
 #include "sim.h"
@@ -40,9 +40,11 @@ static uint32_t wanted(uint16_t address, int count) {
 static int is_as_after(int count) { return value_of(1) == wanted(1, count) && value_of(2) == wanted(2, count); }
 
 /* Makes the writes on a new part with room for two changes, and cuts power in one step. How many were made before that. */
-static int writes_made(uint32_t step, sim_tear leaves) {
+static int writes_made(int pairs, uint32_t step, sim_tear leaves) {
     int made = 0;
-    sim_new(&part, 1, 6);
+    if (pairs) sim_new_pairs(&part, 1, 6);
+    else sim_new(&part, 1, 6);
+    part.seed = step;
     flash = sim_flash(&part);
     check(ee_start(&store, &flash) == EE_OK, "a new part was not started");
     sim_cut(&part, step, leaves);
@@ -50,22 +52,25 @@ static int writes_made(uint32_t step, sim_tear leaves) {
     return made;
 }
 
+/* Cuts power in each step in a way. How many steps there are. */
+static unsigned cut_each_step(int pairs, sim_tear leaves) {
+    for (uint32_t step = 1;; step++) {
+        int made = writes_made(pairs, step, leaves);
+        if (part.cuts == 0) return step - 1;
+        sim_power(&part);
+        check(ee_start(&store, &flash) == EE_OK, "the store was not opened after a cut");
+        check(is_as_after(made) || is_as_after(made + 1), "a value was lost");
+    }
+}
+
 int main(void) {
     static const sim_tear ways[4] = {SIM_NOTHING, SIM_DONE, SIM_TORN, SIM_MIXED};
-    unsigned cuts = 0;
-    for (int way = 0; way < 4; way++) {
-        for (uint32_t step = 1;; step++) {
-            int made = writes_made(step, ways[way]);
-            if (part.cuts == 0) break; /* there is no further step */
-            sim_power(&part);
-            check(ee_start(&store, &flash) == EE_OK, "the store was not opened after a cut");
-            check(is_as_after(made) || is_as_after(made + 1), "a value was lost");
-            cuts++;
-        }
-    }
-    printf("%u cuts, and no value was lost\n", cuts);
-    writes_made(9, SIM_TORN);
-    printf("power cut in the ninth step, which left this:\n");
+    unsigned cuts[2] = {0, 0};
+    for (int pairs = 0; pairs < 2; pairs++)
+        for (int way = 0; way < 4; way++) cuts[pairs] += cut_each_step(pairs, ways[way]);
+    printf("%u cuts of words and %u of pairs, and no value was lost\n", cuts[0], cuts[1]);
+    writes_made(0, 9, SIM_TORN);
+    printf("power cut in the ninth step of words, which left this:\n");
     sim_write(&part, stdout);
     sim_power(&part);
     check(ee_start(&store, &flash) == EE_OK, "the store was not opened");

@@ -1,7 +1,12 @@
-//! C's driver: a flash of words, or of numbers.
+//! C's flash, of words or of pairs of numbers, as the device that the proved store works on.
 
+use crate::numbers::Numbers;
+use core::cell::Cell;
 use core::ffi::c_void;
-use ee_store::{Driver, NumberDriver, Pairs, Word};
+use core::mem::MaybeUninit;
+use core::ptr::null;
+use ee_store::proved::{self, Cut, Flash as _, Pairs};
+use ee_store::{Shape, Word};
 
 type WordCall = unsafe extern "C" fn(*mut c_void, u32, u32, *mut u64) -> u32;
 type ProgramCall = unsafe extern "C" fn(*mut c_void, u32, u32, u64) -> u32;
@@ -19,100 +24,197 @@ pub struct Flash {
     pub pairs: u32,
 }
 
-/// The functions of a driver in C, none of which is null, and what they are called with.
-pub struct Calls {
-    pub flash: *const Flash,
+impl Flash {
+    fn has(&self, page: usize) -> bool {
+        page < 2 * self.pages as usize
+    }
 }
 
-impl Calls {
+/// What `word` answers where the read itself failed: `EE_READ_FAILED` of `ee.h`.
+const READ_FAILED: u32 = 0x00ee_00ee;
+
+/// A flash in C while it is on, and null from a read, a step or a place on that failed: then it is asked for nothing, and
+/// what the proved store says counts for nothing. It stands in the memory that C lends.
+pub type Power = Cell<*const Flash>;
+
+/// The device of words, which are pairs of numbers where the flash has those.
+#[derive(Clone, Copy)]
+pub struct Device {
+    power: *const Power,
+    pub(crate) shape: Shape,
+}
+
+impl Device {
+    /// The device on a flash of this shape, none of whose functions is null. The pointer is good while the device is used,
+    /// and what it shows is null or such a flash.
+    pub unsafe fn new(power: *const Power, shape: Shape) -> Device {
+        Device { power, shape }
+    }
+
+    fn power(&self) -> &Power {
+        // SAFETY: as of `new`.
+        unsafe { &*self.power }
+    }
+
+    /// C's flash, while it is on.
+    fn flash(&self) -> Option<&Flash> {
+        // SAFETY: as of `new`; and C keeps what it shows while the store is open.
+        unsafe { self.power().get().as_ref() }
+    }
+
+    fn turn_off(&self) {
+        self.power().set(null());
+    }
+
+    /// Its numbers, while it is on and has some.
+    pub fn numbers(&self) -> Option<Numbers<'_>> {
+        let flash = self.flash().filter(|flash| flash.pairs != 0)?;
+        Some(self.numbers_of(flash))
+    }
+
+    fn numbers_of<'a>(&self, flash: &'a Flash) -> Numbers<'a> {
+        Numbers {
+            device: *self,
+            flash,
+        }
+    }
+
     /// The word or the number of a page, `None` if it can't be read.
-    fn found(&self, page: usize, at: usize) -> Option<u64> {
-        let mut value = 0;
-        // SAFETY: `opened` found the function, and C keeps what the pointer shows while the store is open.
+    #[inline(always)]
+    pub(crate) fn found(&self, flash: &Flash, page: usize, at: usize) -> Option<u64> {
+        let mut value = MaybeUninit::uninit();
+        // SAFETY: as of `new`.
         let failed = unsafe {
-            let flash = &*self.flash;
             let call = flash.word.unwrap_unchecked();
-            call(flash.context, page as u32, at as u32, &mut value)
+            call(flash.context, page as u32, at as u32, value.as_mut_ptr())
         };
-        (failed == 0).then_some(value)
+        if failed != 0 {
+            self.unread(failed);
+            return None;
+        }
+        // SAFETY: C says that it wrote the value.
+        Some(unsafe { value.assume_init() })
     }
 
-    fn programmed(&self, page: usize, at: usize, value: u64) -> Result<(), ()> {
-        // SAFETY: as in `found`.
-        done(unsafe {
-            let flash = &*self.flash;
-            let call = flash.program.unwrap_unchecked();
-            call(flash.context, page as u32, at as u32, value)
-        })
+    /// A read ended with this number: whether the read itself failed.
+    #[cold]
+    #[inline(never)]
+    pub(crate) fn unread(&self, failed: u32) {
+        if failed == READ_FAILED {
+            self.turn_off();
+        }
     }
 
-    fn erased(&self, page: usize) -> Result<(), ()> {
-        // SAFETY: as in `found`.
-        done(unsafe {
-            let flash = &*self.flash;
+    /// A word that is two numbers, of a flash that is on. It stays out of the reading of words, which is short.
+    #[inline(never)]
+    fn pair(&self, page: usize, at: usize) -> Word {
+        // SAFETY: as of `flash`; and it is on.
+        let flash = unsafe { &*self.power().get() };
+        Pairs::known(self.numbers_of(flash)).word(page, at)
+    }
+
+    /// C's flash, while it is on and has this page. Where it has not the device goes off.
+    #[inline(always)]
+    fn flash_with(&self, page: usize) -> Result<&Flash, Cut> {
+        match self.flash() {
+            Some(flash) if flash.has(page) => Ok(flash),
+            _ => self.ended(1).and(Err(Cut)),
+        }
+    }
+
+    /// A step ended with this number.
+    #[inline(always)]
+    fn ended(&self, failed: u32) -> Result<(), Cut> {
+        if failed != 0 {
+            self.turn_off();
+            return Err(Cut);
+        }
+        Ok(())
+    }
+
+    /// Erases a page.
+    #[inline(never)]
+    pub(crate) fn erased(&self, page: usize) -> Result<(), Cut> {
+        let flash = self.flash_with(page)?;
+        // SAFETY: as of `new`.
+        self.ended(unsafe {
             let call = flash.erase.unwrap_unchecked();
             call(flash.context, page as u32)
         })
     }
-}
 
-fn done(failed: u32) -> Result<(), ()> {
-    match failed {
-        0 => Ok(()),
-        _ => Err(()),
+    /// Programs a word or a number of a page that the flash has.
+    #[inline(always)]
+    pub(crate) fn write(
+        &self,
+        flash: &Flash,
+        page: usize,
+        at: usize,
+        value: u64,
+    ) -> Result<(), Cut> {
+        // SAFETY: as of `new`.
+        self.ended(unsafe {
+            let call = flash.program.unwrap_unchecked();
+            call(flash.context, page as u32, at as u32, value)
+        })
     }
 }
 
-/// C's driver, of words or of pairs of numbers, as its `pairs` says.
-pub struct Given(pub Pairs<Calls>);
-
-impl Given {
-    fn has_pairs(&self) -> bool {
-        // SAFETY: as in `found`.
-        unsafe { (*self.0.driver().flash).pairs != 0 }
+impl proved::Flash for Device {
+    fn shape(&self) -> Shape {
+        self.shape
     }
-}
 
-impl Driver for Given {
-    type Error = ();
+    // A count at its end, to which no erase adds: nothing asks for one.
+    fn wear(&self, _page: usize) -> u64 {
+        u64::MAX
+    }
+
+    fn is_on(&self) -> bool {
+        self.flash().is_some()
+    }
 
     fn word(&self, page: usize, at: usize) -> Word {
-        if self.has_pairs() {
-            return self.0.word(page, at);
+        // Slots and pages are looked through within the shape. Only a move goes on from page to page, as far as words say that
+        // change from look to look, and it asks for the first word of each page first.
+        let flash = match self.flash() {
+            Some(flash) if at != 0 || flash.has(page) => flash,
+            _ => {
+                self.turn_off();
+                return Word::Torn;
+            }
+        };
+        if flash.pairs != 0 {
+            return self.pair(page, at);
         }
-        self.0
-            .driver()
-            .found(page, at)
-            .map_or(Word::Torn, Word::from)
+        self.found(flash, page, at).map_or(Word::Torn, Word::from)
     }
 
-    fn program(&mut self, page: usize, at: usize, value: u64) -> Result<(), ()> {
-        if self.has_pairs() {
-            return self.0.program(page, at, value);
-        }
-        self.0.driver().programmed(page, at, value)
-    }
-
-    fn erase(&mut self, page: usize) -> Result<(), ()> {
-        // A page is erased the same whatever it has.
-        self.0.erase(page)
-    }
-}
-
-impl NumberDriver for Calls {
-    type Error = ();
-
-    /// A number that can't be read is taken as 0: no word of a store is 0, so none is made of it.
+    // Steps stay out of the calls that make them: a call costs nothing beside a step of flash, and there are several.
     #[inline(never)]
-    fn read(&self, page: usize, at: usize) -> u64 {
-        self.found(page, at).unwrap_or(0)
+    fn program(&mut self, page: usize, at: usize, value: u64) -> Result<(), Cut> {
+        let flash = self.flash_with(page)?;
+        if flash.pairs != 0 {
+            return Pairs::known(self.numbers_of(flash)).program(page, at, value);
+        }
+        self.write(flash, page, at, value)
     }
 
-    fn program(&mut self, page: usize, at: usize, number: u64) -> Result<(), ()> {
-        self.programmed(page, at, number)
-    }
-
-    fn erase(&mut self, page: usize) -> Result<(), ()> {
+    fn erase(&mut self, page: usize) -> Result<(), Cut> {
+        // A page is erased the same whatever it has.
         self.erased(page)
     }
+
+    // As of `wear`: a cut adds nothing.
+    fn cuts(&self) -> u64 {
+        u64::MAX
+    }
+
+    // A function of C's may fail in any step.
+    fn cuts_left(&self) -> Option<u64> {
+        None
+    }
+
+    // No call turns it on again: C opens the store anew.
+    fn power_on(&mut self) {}
 }

@@ -1,18 +1,23 @@
 //! The store for C: `ee.h` says what each function does, and what C owes. The files of this folder are the only ones with
-//! `unsafe`: this one and `values.rs` read the pointers that C gives, and `flash.rs` calls the functions of C's driver.
+//! `unsafe`: this one, `opening.rs` and `values.rs` read the pointers that C gives, and `flash.rs` calls the functions of C's
+//! driver.
+//!
+//! C's flash is a device of the proved store itself, not a driver of the package: it has no error to carry, and a store of
+//! eight pointers has room for the one pointer that says whether it is on.
 #![no_std]
 #![deny(unsafe_op_in_unsafe_fn)]
 #![allow(clippy::missing_safety_doc)] // `ee.h` says it.
 
 mod flash;
+mod numbers;
+mod opening;
 mod values;
 
-use core::mem::{align_of, size_of};
-use ee_store::{
-    Address, CleanFault, Failed, ForgetFault, Off, OpenFault, Pairs, ScanFault, Shape, Store,
-    WriteAllFault, WriteFault,
-};
-use flash::{Calls, Flash, Given};
+use core::mem::{size_of, MaybeUninit};
+use core::ptr::addr_of;
+use ee_store::proved::{self, ForgetFault, Variables, WriteAllFault, WriteFault};
+use ee_store::{Address, Written};
+use flash::{Device, Power};
 use values::{listed, Value};
 
 const EE_OK: u32 = 0;
@@ -33,7 +38,7 @@ const EE_TWICE: u32 = 14;
 
 /// `ee_numbers` of `ee.h`.
 #[repr(C)]
-pub struct Numbers {
+pub struct Counts {
     slots: u32,
     fill: u32,
     live: u32,
@@ -42,180 +47,131 @@ pub struct Numbers {
     generation: u32,
 }
 
-/// `ee_store` of `ee.h`: memory for a store, which is off where it could not be opened.
+/// `ee_store` of `ee.h`: memory for a store. Zeros are one that is off.
 #[repr(C)]
 pub struct Memory {
-    words: [usize; 8],
+    /// The store, while it is on. Its device knows where `power` stands.
+    store: MaybeUninit<Kept>,
+    /// Null while the store is off.
+    power: Power,
 }
 
-type Kept = Store<Given>;
+type Kept = proved::Store<Device>;
 
-const _: () = assert!(size_of::<Kept>() <= size_of::<Memory>());
-const _: () = assert!(align_of::<Kept>() <= align_of::<Memory>());
+const _: () = assert!(size_of::<Memory>() <= size_of::<[usize; 8]>());
 
-fn open_status(fault: OpenFault<()>) -> u32 {
-    match fault {
-        OpenFault::Scan(ScanFault::Unformatted) => EE_UNFORMATTED,
-        OpenFault::Scan(ScanFault::NoLiveSet) => EE_NO_LIVE_SET,
-        OpenFault::Scan(ScanFault::TwoLive) => EE_TWO_LIVE,
-        OpenFault::Scan(ScanFault::Foreign { .. }) => EE_FOREIGN,
-        OpenFault::Driver(()) => EE_DRIVER,
+/// A store that is on.
+struct Running<'a> {
+    power: &'a Power,
+    store: &'a mut Kept,
+}
+
+impl Running<'_> {
+    /// Whether the flash failed since: what the store says then counts for nothing.
+    fn is_broken(&self) -> bool {
+        self.power.get().is_null()
+    }
+
+    /// The status of a call that answered this.
+    fn status(&self, status: u32) -> u32 {
+        if self.is_broken() {
+            return EE_DRIVER;
+        }
+        status
     }
 }
 
-fn given_of(flash: *const Flash) -> Given {
-    Given(Pairs::known(Calls { flash }))
-}
-
-/// The status of a flash of numbers as it is.
-fn looked(calls: Calls, shape: Shape) -> u32 {
-    match Pairs::of(calls, shape) {
-        Ok(_) => EE_OK,
-        Err(_) => EE_FOREIGN,
-    }
-}
-
-/// Makes a flash of numbers blank.
-fn wiped(calls: Calls, shape: Shape) -> u32 {
-    match Pairs::wipe(calls, shape) {
-        Ok(_) => EE_OK,
-        Err(_) => EE_DRIVER,
-    }
-}
-
-/// Opens a store over C's driver in some way, and keeps it in the memory that C lends; a flash of numbers is prepared before.
-/// Pointers are null or good.
-unsafe fn opened(
-    memory: *mut Memory,
-    flash: *const Flash,
-    prepare: fn(Calls, Shape) -> u32,
-    open: fn(Given, Shape) -> Result<Kept, Failed<Given>>,
-) -> u32 {
-    if memory.is_null() {
-        return EE_NULL;
-    }
-    let kept: *mut Kept = memory.cast();
-    // SAFETY: the memory is C's, large enough and aligned. What it held needs no drop.
-    unsafe { kept.write(Store::off(given_of(flash))) };
+/// The store in the memory that C lends, while it is on. The pointer is null, or good: to what `opened` left, or to zeros.
+unsafe fn running<'a>(memory: *const Memory) -> Result<Running<'a>, u32> {
     // SAFETY: a pointer that is not null is good.
-    let Some(given) = (unsafe { flash.as_ref() }) else {
-        return EE_NULL;
+    let Some(power) = (unsafe { memory.as_ref() }).map(|memory| &memory.power) else {
+        return Err(EE_NULL);
     };
-    if given.word.is_none() || given.program.is_none() || given.erase.is_none() {
-        return EE_NULL;
+    if power.get().is_null() {
+        return Err(EE_OFF);
     }
-    let shape = Shape::new(given.pages as usize, given.page_words as usize);
-    let (Some(shape), 0..=1) = (shape, given.pairs) else {
-        return EE_WRONG_SHAPE;
-    };
-    if given.pairs == 1 {
-        let status = prepare(Calls { flash }, shape);
-        if status != EE_OK {
-            return status;
-        }
-    }
-    match open(given_of(flash), shape) {
-        Ok(store) => {
-            // SAFETY: as above.
-            unsafe { kept.write(store) };
-            EE_OK
-        }
-        Err(failed) => open_status(failed.fault),
-    }
-}
-
-/// The store in the memory that C lends. The pointer is null, or good and went through `opened`.
-unsafe fn kept<'a>(memory: *mut Memory) -> Option<&'a mut Kept> {
-    // SAFETY: `opened` wrote what is read here.
-    unsafe { memory.cast::<Kept>().as_mut() }
-}
-
-#[no_mangle]
-pub unsafe extern "C" fn ee_open(store: *mut Memory, flash: *const Flash) -> u32 {
-    // SAFETY: as `ee.h` says, here and below.
-    unsafe { opened(store, flash, looked, ee_store::open) }
-}
-
-#[no_mangle]
-pub unsafe extern "C" fn ee_start(store: *mut Memory, flash: *const Flash) -> u32 {
-    unsafe { opened(store, flash, looked, ee_store::start) }
-}
-
-#[no_mangle]
-pub unsafe extern "C" fn ee_format(store: *mut Memory, flash: *const Flash) -> u32 {
-    unsafe { opened(store, flash, wiped, ee_store::format) }
+    // SAFETY: where it is on `opened` wrote the store. C owes that no other call is on it.
+    let store = unsafe { &mut *addr_of!((*memory).store).cast::<Kept>().cast_mut() };
+    Ok(Running { power, store })
 }
 
 #[no_mangle]
 pub unsafe extern "C" fn ee_write(store: *mut Memory, address: u16, value: u32) -> u32 {
-    let Some(store) = (unsafe { kept(store) }) else {
-        return EE_NULL;
+    let running = match unsafe { running(store) } {
+        Ok(running) => running,
+        Err(status) => return status,
     };
     let Some(address) = Address::new(address) else {
         return EE_WRONG_NUMBER;
     };
-    match store.write(address, value) {
-        Ok(_) => EE_OK,
-        Err(WriteFault::Off) => EE_OFF,
-        Err(WriteFault::Full) => EE_FULL,
-        Err(WriteFault::Spent) => EE_SPENT,
-        Err(WriteFault::Driver(())) => EE_DRIVER,
-    }
+    let status = match running.store.write(address, value) {
+        // Its last step was made, so nothing failed before.
+        Ok(Written::Appended) => return EE_OK,
+        Ok(Written::Moved) => EE_OK,
+        // This store keeps no index, and never says `Memory`.
+        Err(WriteFault::Full | WriteFault::Memory) => EE_FULL,
+        // Or it was cut, and is broken.
+        Err(_) => EE_SPENT,
+    };
+    running.status(status)
 }
 
 #[no_mangle]
 pub unsafe extern "C" fn ee_write_all(store: *mut Memory, values: *const Value, count: u32) -> u32 {
-    let Some(store) = (unsafe { kept(store) }) else {
-        return EE_NULL;
+    let running = match unsafe { running(store) } {
+        Ok(running) => running,
+        Err(status) => return status,
     };
     let values = match unsafe { listed(values, count) } {
         Ok(values) => values,
         Err(status) => return status,
     };
-    match store.write_all(values) {
-        Ok(_) => EE_OK,
-        Err(WriteAllFault::Off) => EE_OFF,
+    let status = match running.store.write_all(values) {
+        Ok(Written::Appended) => return EE_OK,
+        Ok(Written::Moved) => EE_OK,
         Err(WriteAllFault::Twice(_)) => EE_TWICE,
-        Err(WriteAllFault::Full) => EE_FULL,
-        Err(WriteAllFault::Spent) => EE_SPENT,
-        Err(WriteAllFault::Driver(())) => EE_DRIVER,
-    }
+        Err(WriteAllFault::Full | WriteAllFault::Memory) => EE_FULL,
+        Err(_) => EE_SPENT,
+    };
+    running.status(status)
 }
 
 #[no_mangle]
 pub unsafe extern "C" fn ee_forget(store: *mut Memory, address: u16) -> u32 {
-    let Some(store) = (unsafe { kept(store) }) else {
-        return EE_NULL;
+    let running = match unsafe { running(store) } {
+        Ok(running) => running,
+        Err(status) => return status,
     };
     let Some(address) = Address::new(address) else {
         return EE_WRONG_NUMBER;
     };
-    match store.forget(address) {
-        Ok(_) => EE_OK,
-        Err(ForgetFault::Off) => EE_OFF,
+    let status = match running.store.forget(address) {
+        Ok(Written::Appended) => return EE_OK,
+        Ok(Written::Moved) => EE_OK,
         Err(ForgetFault::Absent) => EE_ABSENT,
-        Err(ForgetFault::Spent) => EE_SPENT,
-        Err(ForgetFault::Driver(())) => EE_DRIVER,
-    }
+        Err(_) => EE_SPENT,
+    };
+    running.status(status)
 }
 
 #[no_mangle]
 pub unsafe extern "C" fn ee_clean(store: *mut Memory) -> u32 {
-    let Some(store) = (unsafe { kept(store) }) else {
-        return EE_NULL;
+    let running = match unsafe { running(store) } {
+        Ok(running) => running,
+        Err(status) => return status,
     };
-    match store.clean_step() {
+    let status = match running.store.clean_step() {
         Ok(true) => EE_OK,
-        Ok(false) => EE_NOTHING,
-        Err(CleanFault::Off) => EE_OFF,
-        Err(CleanFault::Driver(())) => EE_DRIVER,
-    }
+        _ => EE_NOTHING,
+    };
+    running.status(status)
 }
 
 #[no_mangle]
 pub unsafe extern "C" fn ee_read(store: *const Memory, address: u16, value: *mut u32) -> u32 {
-    let Some(store) = (unsafe { kept(store as *mut Memory) }) else {
-        return EE_NULL;
+    let running = match unsafe { running(store) } {
+        Ok(running) => running,
+        Err(status) => return status,
     };
     let Some(value) = (unsafe { value.as_mut() }) else {
         return EE_NULL;
@@ -223,21 +179,24 @@ pub unsafe extern "C" fn ee_read(store: *const Memory, address: u16, value: *mut
     let Some(address) = Address::new(address) else {
         return EE_WRONG_NUMBER;
     };
-    match store.read(address) {
-        Ok(Some(held)) => {
-            *value = held;
-            EE_OK
-        }
-        Ok(None) => EE_NOTHING,
-        Err(Off) => EE_OFF,
+    let found = running.store.read(address);
+    if running.is_broken() {
+        return EE_DRIVER;
     }
+    let Ok(Some(held)) = found else {
+        return EE_NOTHING;
+    };
+    *value = held;
+    EE_OK
 }
 
 #[no_mangle]
 pub unsafe extern "C" fn ee_next(store: *const Memory, address: *mut u16, value: *mut u32) -> u32 {
-    let (Some(store), Some(address), Some(value)) =
-        (unsafe { (kept(store as *mut Memory), address.as_mut(), value.as_mut()) })
-    else {
+    let running = match unsafe { running(store) } {
+        Ok(running) => running,
+        Err(status) => return status,
+    };
+    let (Some(address), Some(value)) = (unsafe { (address.as_mut(), value.as_mut()) }) else {
         return EE_NULL;
     };
     let after = match (*address, Address::new(*address)) {
@@ -245,39 +204,39 @@ pub unsafe extern "C" fn ee_next(store: *const Memory, address: *mut u16, value:
         (_, Some(after)) => Some(after),
         (_, None) => return EE_WRONG_NUMBER,
     };
-    match store.next_live(after) {
-        Ok(Some((found, held))) => {
-            *address = found.get();
-            *value = held;
-            EE_OK
-        }
-        Ok(None) => EE_NOTHING,
-        Err(Off) => EE_OFF,
+    let found = running.store.next_live(after);
+    let status = running.status(found.map_or(EE_NOTHING, |_| EE_OK));
+    if let (EE_OK, Some((found, held))) = (status, found) {
+        *address = found.get();
+        *value = held;
     }
-}
-
-/// How a store stands.
-fn numbers_of(store: &Kept) -> Result<Numbers, Off> {
-    Ok(Numbers {
-        slots: store.slots()? as u32,
-        fill: store.fill()? as u32,
-        live: store.live_count()? as u32,
-        torn: store.torn_slots()? as u32,
-        pending: store.pending()? as u32,
-        generation: store.generation()?,
-    })
+    status
 }
 
 #[no_mangle]
-pub unsafe extern "C" fn ee_counts(store: *const Memory, numbers: *mut Numbers) -> u32 {
-    let (Some(store), Some(numbers)) = (unsafe { (kept(store as *mut Memory), numbers.as_mut()) })
-    else {
+pub unsafe extern "C" fn ee_counts(store: *const Memory, numbers: *mut Counts) -> u32 {
+    let running = match unsafe { running(store) } {
+        Ok(running) => running,
+        Err(status) => return status,
+    };
+    let Some(numbers) = (unsafe { numbers.as_mut() }) else {
         return EE_NULL;
     };
-    let Ok(counted) = numbers_of(store) else {
-        return EE_OFF;
+    let store = &running.store;
+    let live = store.live_count() as u32;
+    let torn = store.torn_slots() as u32;
+    let pending = store.pending() as u32;
+    if running.is_broken() {
+        return EE_DRIVER;
+    }
+    *numbers = Counts {
+        slots: store.slots() as u32,
+        fill: store.fill() as u32,
+        live,
+        pending,
+        torn,
+        generation: store.generation(),
     };
-    *numbers = counted;
     EE_OK
 }
 

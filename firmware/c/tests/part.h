@@ -26,6 +26,8 @@ typedef struct part {
     uint32_t cut_in;                            /* the step that is cut, 0 for none */
     enum tear tear;
     unsigned long read, programmed, erased;
+    unsigned long fails_in; /* the read that fails, 0 for none; the next one is whole */
+    int failed;             /* it did: no step may follow */
 } part;
 
 #define CHECK(holds)                                                                                                           \
@@ -59,7 +61,10 @@ static inline uint64_t any_bits(void) {
 static inline uint32_t part_word(void *context, uint32_t page, uint32_t place, uint64_t *value) {
     part *p = context;
     CHECK(page < 2 * p->pages && place < places(p));
-    p->read++;
+    if (++p->read == p->fails_in) {
+        p->failed = 1;
+        return EE_READ_FAILED;
+    }
     if (p->torn[page][place]) return 7;
     *value = p->words[page][place];
     return 0;
@@ -76,7 +81,7 @@ static inline void part_tear(part *p, uint32_t page, uint32_t place, uint64_t ne
 static inline uint32_t part_program(void *context, uint32_t page, uint32_t place, uint64_t value) {
     part *p = context;
     CHECK(page < 2 * p->pages && place < places(p) && value != UINT64_MAX);
-    CHECK(p->words[page][place] == UINT64_MAX && !p->torn[page][place]);
+    CHECK(p->words[page][place] == UINT64_MAX && !p->torn[page][place] && !p->failed);
     int cut = ++p->steps == p->cut_in;
     p->programmed++;
     part_tear(p, page, place, value, !cut ? TEAR_DONE : p->tear == TEAR_MIXED ? TEAR_TORN : p->tear);
@@ -85,7 +90,7 @@ static inline uint32_t part_program(void *context, uint32_t page, uint32_t place
 
 static inline uint32_t part_erase(void *context, uint32_t page) {
     part *p = context;
-    CHECK(page < 2 * p->pages);
+    CHECK(page < 2 * p->pages && !p->failed);
     int cut = ++p->steps == p->cut_in;
     p->erased++;
     for (uint32_t place = 0; place < places(p); place++) {

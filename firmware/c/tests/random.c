@@ -1,5 +1,6 @@
-/* Random calls against an array, lists of values among them, each with power cut in every step and in every way, on flashes of
- * words and of pairs of numbers. On each it asks the library more than a million calls. */
+/* Random calls against an array, lists of values among them, each with power cut in every step and in every way, and some with
+ * a read that fails, each in turn, on flashes of words and of pairs of numbers. On each it asks the library more than a million
+ * calls. */
 #include "part.h"
 
 enum { ADDRESSES = 8, STORES = 120, CALLS = 60 };
@@ -120,6 +121,27 @@ static void cut_everywhere(const part *before, const map *old, call c, const map
     }
 }
 
+static unsigned long failures, plays;
+
+/* Plays a call on copies of the part, of which each read fails in turn. */
+static void fail_everywhere(const part *before, const map *old, call c, const map *new) {
+    for (unsigned long read = 1;; read++) {
+        part p = *before;
+        ee_flash flash = flash_of(&p);
+        ee_store store;
+        CHECK(ee_open(&store, &flash) == EE_OK);
+        p.read = 0, p.fails_in = read;
+        uint32_t status = made(&store, c);
+        if (!p.failed) return;
+        failures++;
+        CHECK(status == EE_DRIVER && ee_clean(&store) == EE_OFF);
+        p.failed = 0;
+        CHECK(ee_open(&store, &flash) == EE_OK);
+        map m = held(&store);
+        CHECK(same(&m, old) || same(&m, new));
+    }
+}
+
 static void play(part *p, ee_store *store, map *m) {
     call c = drawn();
     ee_numbers numbers;
@@ -127,6 +149,7 @@ static void play(part *p, ee_store *store, map *m) {
     uint32_t status = expected(&c, m, numbers.slots, numbers.pending);
     map next = status == EE_OK ? after(*m, &c) : *m;
     cut_everywhere(p, m, c, &next);
+    if (++plays % 4 == 0) fail_everywhere(p, m, c, &next);
     CHECK(made(store, c) == status);
     *m = held(store);
     CHECK(same(m, &next));
@@ -140,7 +163,7 @@ static void play(part *p, ee_store *store, map *m) {
 }
 
 static void run(uint32_t pairs) {
-    cuts = 0;
+    cuts = failures = 0;
     for (int i = 0; i < STORES; i++) {
         part p;
         blank(&p, 1 + below(3), 5 + below(4));
@@ -151,7 +174,7 @@ static void run(uint32_t pairs) {
         map m = held(&store);
         for (int j = 0; j < CALLS; j++) play(&p, &store, &m);
     }
-    CHECK(cuts > 80000);
+    CHECK(cuts > 80000 && failures > 15000);
 }
 
 int main(void) {

@@ -8,6 +8,21 @@ static uint16_t address;
 static ee_numbers numbers;
 static const ee_value list[] = {{1, 20}, {65534, 21}, {1, 22}, {0, 23}, {65535, 24}, {4, 25}, {5, 26}};
 
+/* A store of zeros, on which nothing was opened: each call is refused. */
+static void zeros(void) {
+    static ee_store never;
+    for (int round = 0; round < 2; round++) {
+        value = 99, address = 1;
+        CHECK(ee_read(&never, 1, &value) == EE_OFF && ee_next(&never, &address, &value) == EE_OFF);
+        CHECK(ee_counts(&never, &numbers) == EE_OFF && value == 99 && address == 1);
+        CHECK(ee_write(&never, 1, 1) == EE_OFF && ee_forget(&never, 1) == EE_OFF && ee_clean(&never) == EE_OFF);
+        CHECK(ee_write_all(&never, list, 2) == EE_OFF && ee_write_all(&never, list, 0) == EE_OFF);
+        /* So is one whose opening was refused. */
+        ee_flash flash = flash_of(&p);
+        CHECK(ee_open(&never, &flash) == EE_UNFORMATTED);
+    }
+}
+
 static void nulls(void) {
     ee_flash flash = flash_of(&p), lacking;
     CHECK(ee_open(NULL, &flash) == EE_NULL);
@@ -173,6 +188,63 @@ static void foreign_numbers(void) {
     }
 }
 
+/* What looks like no store at all is refused too, if a first start didn't leave it, and nothing is written: data all of whose
+ * numbers have the top bit set, and a store of words with great values. */
+static void data(void) {
+    for (int round = 0; round < 2100; round++) {
+        blank(&p, 2, 6);
+        p.pairs = 1;
+        ee_flash flash = flash_of(&p);
+        if (round < 2000) {
+            for (uint32_t i = 0; i < 48; i++) p.words[i / 12][i % 12] = any_bits() | (uint64_t)1 << 63;
+        } else {
+            p.words[0][0] = 0xaaaaaaaa00000001, p.words[0][1] = 0xaaaaaaaaaaaaaaaa;
+            for (int i = 0; i <= round % 8; i++) p.words[0][4 + i] = 0xf000000000000001 + any_bits() % 99;
+        }
+        part before = p;
+        uint32_t status = ee_start(&store, &flash);
+        CHECK(status == EE_NO_LIVE_SET || status == EE_FOREIGN);
+        CHECK(ee_write(&store, 1, 1) == EE_OFF && holds_same(&before, &p) && p.steps == 0);
+    }
+    for (uint32_t i = 0; i < 48; i++) {
+        blank(&p, 2, 6);
+        p.pairs = 1;
+        ee_flash flash = flash_of(&p);
+        p.words[i / 12][i % 12] = (uint64_t)1 << 63;
+        CHECK(ee_start(&store, &flash) == (i < 4 ? EE_OK : EE_NO_LIVE_SET));
+    }
+}
+
+/* A read that fails is no torn word: it ends an opening, which writes nothing, and each call, also one that only reads. */
+static void failed_reads(void) {
+    for (uint32_t pairs = 0; pairs < 2; pairs++) {
+        blank(&p, 1, 6);
+        p.pairs = pairs;
+        ee_flash flash = flash_of(&p);
+        CHECK(ee_start(&store, &flash) == EE_OK && ee_write(&store, 1, 10) == EE_OK && ee_write(&store, 2, 20) == EE_OK);
+        part before = p;
+        for (uint32_t call = 0; call < 8; call++) {
+            unsigned long last = 0;
+            for (unsigned long read = 1; read != last; read++) {
+                p = before;
+                CHECK(ee_open(&store, &flash) == EE_OK);
+                p.read = 0, p.fails_in = read, address = 0;
+                uint32_t status = call == 0   ? ee_open(&store, &flash)
+                                  : call == 1 ? ee_start(&store, &flash)
+                                  : call == 2 ? ee_format(&store, &flash)
+                                  : call == 3 ? ee_read(&store, 1, &value)
+                                  : call == 4 ? ee_next(&store, &address, &value)
+                                  : call == 5 ? ee_counts(&store, &numbers)
+                                  : call == 6 ? ee_write_all(&store, list, 1)
+                                              : ee_forget(&store, 2);
+                if (!p.failed) last = read + 1;
+                else CHECK(status == EE_DRIVER && ee_read(&store, 1, &value) == EE_OFF && ee_clean(&store) == EE_OFF);
+            }
+            CHECK(last > 3 || call == 3);
+        }
+    }
+}
+
 /* A word is two numbers, and one that lacks its other half is torn. The word 0 has an erased one as its second. */
 static void halves(void) {
     blank(&p, 1, 6);
@@ -205,6 +277,7 @@ static void unreadable_numbers(void) {
 
 int main(void) {
     blank(&p, 1, 6);
+    zeros();
     nulls();
     shapes();
     statuses();
@@ -213,6 +286,8 @@ int main(void) {
     first_starts();
     failing();
     foreign_numbers();
+    data();
+    failed_reads();
     halves();
     unreadable_numbers();
     return 0;

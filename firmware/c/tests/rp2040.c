@@ -1,8 +1,5 @@
-/* The port for an RP2040 against a model of the boot ROM's functions and of the flash behind them. */
-#include <stdint.h>
-#include <stdio.h>
-#include <stdlib.h>
-#include <string.h>
+/* The port for an RP2040 against a model of the boot ROM's functions, of the flash behind them and of the XIP cache. */
+#include "moves.h"
 
 static uint32_t get(const volatile uint32_t *address);
 static uint16_t half_at(uintptr_t address);
@@ -10,27 +7,21 @@ static uint16_t half_at(uintptr_t address);
 #define RP2040_HALF_AT(address) half_at(address)
 #include "../port/rp2040.c"
 
-#define CHECK(holds)                                                                                                           \
-    do {                                                                                                                       \
-        if (!(holds)) {                                                                                                        \
-            fprintf(stderr, "%s:%d: %s\n", __FILE__, __LINE__, #holds);                                                        \
-            exit(1);                                                                                                           \
-        }                                                                                                                      \
-    } while (0)
-
 enum { PAGES = 4, OFFSET = 0x1f0000, WORDS = PAGES * SECTOR / 4 };
+enum { SETS = 1024, WAYS = 2, NO_LINE = WORDS / 2 /* a line has 8 bytes */ };
 enum fault { NONE, POWER, NOTHING };
 /* What reads of flash and its functions find: reads, as after a start; the flash connected; and its commands. */
 enum state { READS, CONNECTED, COMMANDS, FLUSHED };
 
-static uint32_t memory[WORDS], cache[WORDS];
+static uint32_t memory[WORDS];
+static uint32_t lines[SETS][WAYS][2], line_of[SETS][WAYS];
 static enum state state;
 static enum fault fault;
-static uint32_t steps, fails_in, dice = 1;
+static uint32_t steps, fails_in;
+static int is_off;
 
-static uint8_t any_bits(void) {
-    dice = dice * 1664525u + 1013904223u;
-    return (uint8_t)(dice >> 20);
+static void empty_cache(void) {
+    for (int set = 0; set < SETS; set++) line_of[set][0] = line_of[set][1] = NO_LINE;
 }
 
 static void connect(void) {
@@ -45,70 +36,108 @@ static void exit_xip(void) {
 
 /* What a step leaves that is asked for a byte. */
 static uint8_t left(uint8_t old, uint8_t asked, int is_erase) {
+    if (is_off) return old;
     if (fault == NONE || steps != fails_in) return asked;
     if (fault == NOTHING) return old;
-    return is_erase ? old | any_bits() : asked | (old & any_bits());
+    return (uint8_t)(is_erase ? old | any_bits() : asked | (old & any_bits()));
+}
+
+/* A step of so many bytes, none given where they are erased. Behind the one that is cut power is off, and steps do nothing. */
+static void step(uint32_t offset, const uint8_t *given, size_t count) {
+    CHECK(state == COMMANDS && offset >= OFFSET && offset + count <= OFFSET + sizeof memory);
+    uint8_t *bytes = (uint8_t *)memory + (offset - OFFSET);
+    steps++;
+    for (size_t i = 0; i < count; i++) bytes[i] = left(bytes[i], given ? bytes[i] & given[i] : 0xff, given == NULL);
+    is_off |= fault == POWER && steps == fails_in;
 }
 
 static void rom_erase(uint32_t offset, size_t count, uint32_t block_size, uint8_t block_command) {
-    CHECK(state == COMMANDS && offset >= OFFSET && offset + count <= OFFSET + sizeof memory);
     CHECK(offset % 4096 == 0 && count == 4096 && block_size == 65536 && block_command == 0xd8);
-    uint8_t *bytes = (uint8_t *)memory + (offset - OFFSET);
-    steps++;
-    for (size_t i = 0; i < count; i++) bytes[i] = left(bytes[i], 0xff, 1);
+    step(offset, NULL, count);
 }
 
 static void rom_program(uint32_t offset, const uint8_t *given, size_t count) {
-    CHECK(state == COMMANDS && offset >= OFFSET && offset + count <= OFFSET + sizeof memory);
     CHECK(offset % 256 == 0 && count == 256);
-    uint8_t *bytes = (uint8_t *)memory + (offset - OFFSET);
-    steps++;
-    for (size_t i = 0; i < count; i++) bytes[i] = left(bytes[i], bytes[i] & given[i], 0);
+    step(offset, given, count);
 }
 
 static void flush_cache(void) {
     CHECK(state == COMMANDS);
-    memcpy(cache, memory, sizeof cache);
+    empty_cache();
     state = FLUSHED;
 }
 
+/* The ROM doesn't ask for a cache that is empty. */
 static void enter_xip(void) {
-    CHECK(state == FLUSHED);
+    CHECK(state == COMMANDS || state == FLUSHED);
     state = READS;
 }
 
+/* A read of 32 bits by the cache. */
+static uint32_t fetched(uint32_t i) {
+    uint32_t line = i / 2, set = line % SETS, way = line_of[set][1] == line ? 1 : line_of[set][0] == line ? 0 : below(WAYS);
+    CHECK(state == READS);
+    if (line_of[set][way] != line) {
+        line_of[set][way] = line;
+        memcpy(lines[set][way], memory + 2 * line, sizeof lines[set][way]);
+    }
+    return lines[set][way][i % 2];
+}
+
 static uint32_t get(const volatile uint32_t *address) {
-    size_t i = (size_t)(address - memory);
-    CHECK(state == READS && i < WORDS);
-    return cache[i];
+    CHECK(address >= memory && address < memory + WORDS);
+    return fetched((uint32_t)(address - memory));
 }
 
 /* The table of the ROM stands where no computer has memory: the port finds it on the part alone. */
 static uint16_t half_at(uintptr_t address) { return (uint16_t)address; }
 
-static rp2040 part = {{connect, exit_xip, rom_erase, rom_program, flush_cache, enter_xip}, memory, OFFSET};
+static rp2040 part = {
+    .rom = {connect, exit_xip, rom_erase, rom_program, flush_cache, enter_xip},
+    .flash = memory,
+    .offset = OFFSET,
+};
 
-static void new_part(void) {
+/* The product reads the sectors too, by the cache, which holds nothing old. */
+static void read_by_others(void) {
+    for (uint32_t n = below(6); n > 0; n--) {
+        uint32_t i = below(WORDS);
+        CHECK(fetched(i) == memory[i]);
+    }
+}
+
+/* The model for moves. */
+static void cut(uint32_t in) {
+    read_by_others();
+    steps = 0, fails_in = in, fault = in ? POWER : NONE;
+}
+
+static int is_cut(void) { return is_off; }
+
+static void power(void) {
+    empty_cache();
+    steps = 0, is_off = 0, state = READS, fault = NONE;
+}
+
+static ee_flash new_part(uint32_t pages) {
     memset(memory, 0xff, sizeof memory);
-    memset(cache, 0xff, sizeof cache);
-    steps = 0, state = READS, fault = NONE;
+    power();
+    return rp2040_flash(&part, pages);
 }
 
 /* Writes go wrong in each of their steps; what was stored before is there. */
 static void failing(enum fault kind) {
-    for (uint32_t step = 1; step < 1100; step += step < 20 ? 1 : 37) {
-        ee_flash flash = rp2040_flash(&part, 2);
+    for (uint32_t from = 1; from < 1100; from += from < 20 ? 1 : 37) {
+        ee_flash flash = new_part(2);
         ee_store store;
         uint32_t value, n, status = EE_OK;
-        new_part();
         CHECK(ee_open(&store, &flash) == EE_UNFORMATTED);
         CHECK(ee_format(&store, &flash) == EE_OK);
         CHECK(ee_write(&store, 9, 90) == EE_OK);
-        steps = 0, fails_in = step, fault = kind;
+        steps = 0, fails_in = from, fault = kind;
         for (n = 0; n < 700 && status == EE_OK; n++) status = ee_write(&store, 1, n);
-        if (kind == POWER && status == EE_OK) continue; /* the cells that were left are those that were asked for */
         CHECK(status == EE_DRIVER && ee_write(&store, 1, 0) == EE_OFF);
-        fault = NONE;
+        power();
         CHECK(ee_open(&store, &flash) == EE_OK);
         CHECK(ee_read(&store, 9, &value) == EE_OK && value == 90);
         if (ee_read(&store, 1, &value) == EE_OK) CHECK(value == n - 1 || value == n - 2);
@@ -117,27 +146,28 @@ static void failing(enum fault kind) {
     }
 }
 
-/* Moves and clean steps over both sets, for a while. */
-static void working(void) {
-    ee_flash flash = rp2040_flash(&part, 2);
-    ee_store store;
-    ee_numbers numbers;
-    uint32_t value;
-    new_part();
-    CHECK(ee_format(&store, &flash) == EE_OK);
-    for (uint32_t n = 0; n < 3000; n++) {
-        CHECK(ee_write(&store, (uint16_t)(1 + n % 50), n) == EE_OK);
-        if (n % 100 == 0) {
-            while (ee_clean(&store) == EE_OK) continue;
-            CHECK(ee_open(&store, &flash) == EE_OK);
-        }
-    }
-    for (uint32_t n = 2950; n < 3000; n++) CHECK(ee_read(&store, (uint16_t)(1 + n % 50), &value) == EE_OK && value == n);
-    CHECK(ee_counts(&store, &numbers) == EE_OK && numbers.live == 50 && numbers.slots == 504);
+/* Steps that do nothing, behind a read of what they are to change. */
+static void read_back(void) {
+    ee_flash flash = new_part(2);
+    uint64_t value;
+    CHECK(flash.word(&part, 0, 5, &value) == 0 && value == UINT64_MAX);
+    CHECK(flash.program(&part, 0, 5, 7) == 0 && flash.word(&part, 0, 5, &value) == 0 && value == 7);
+    fails_in = steps + 1, fault = NOTHING;
+    CHECK(flash.program(&part, 0, 6, 7) != 0);
+    fails_in = steps + 1;
+    CHECK(flash.erase(&part, 0) != 0);
+    fault = NONE;
+    CHECK(flash.erase(&part, 0) == 0 && flash.word(&part, 0, 5, &value) == 0 && value == UINT64_MAX);
 }
 
 int main(void) {
-    working();
+    static const model here = {cut, is_cut, power};
+    for (int with_cuts = 0; with_cuts < 2; with_cuts++) {
+        ee_flash flash = new_part(1);
+        moves(&flash, &here, with_cuts);
+        CHECK(state == READS);
+    }
+    read_back();
     failing(POWER);
     failing(NOTHING);
     return 0;

@@ -1,65 +1,82 @@
 /* The port for an STM32F4 against a model of its flash: registers, sectors of words of 32 bits, and the data cache. */
-#include <stdint.h>
-#include <stdio.h>
-#include <stdlib.h>
-#include <string.h>
+#include "moves.h"
 
 static void set(volatile uint32_t *address, uint32_t value);
 static uint32_t get(volatile uint32_t *address);
+static void barrier(void);
 #define STM32F4_SET(address, value) set(address, value)
 #define STM32F4_GET(address) get(address)
+#define STM32F4_BARRIER() barrier()
 #define STM32F4_MOST_TURNS 1000
 #include "../port/stm32f4.c"
 
-#define CHECK(holds)                                                                                                           \
-    do {                                                                                                                       \
-        if (!(holds)) {                                                                                                        \
-            fprintf(stderr, "%s:%d: %s\n", __FILE__, __LINE__, #holds);                                                        \
-            exit(1);                                                                                                           \
-        }                                                                                                                      \
-    } while (0)
-
-enum { WORDS = 128, SECTOR = 4096, FIRST = 2 };
-enum fault { NONE, WRITE_PROTECTED, POWER, STAYS_BUSY, STAYS_LOCKED };
+enum { WORDS = 16, SECTOR = 4096, FIRST = 2, CACHE_LINES = 8, LINE = 4 /* halves of a line: 16 bytes */, NO_LINE = 2 * SECTOR };
+enum fault { NONE, WRITE_PROTECTED, POWER, SILENT, STAYS_BUSY, STAYS_LOCKED };
+static const uint32_t CACHES_ON = 0x705;
 
 static stm32f4_registers registers;
-static uint32_t memory[2][SECTOR];
-static stm32f4 part = {&registers, {{FIRST, memory[0]}, {FIRST + 1, memory[1]}}, WORDS};
-static uint32_t keys, steps, fails_in, busy_for, dice = 1;
-static int is_stale; /* the data cache may have what was erased */
+static uint32_t memory[2 * SECTOR];
+static stm32f4 part = {
+    .registers = &registers,
+    .sectors = {{.number = FIRST, .flash = memory}, {.number = FIRST + 1, .flash = memory + SECTOR}},
+    .page_words = WORDS,
+};
+static uint32_t keys, steps, fails_in, busy_for, acr_after_reset;
+static int is_queued; /* a write to the flash isn't there yet */
+static int is_off, is_settled;
+static int updates; /* a program writes what was asked for into the data cache too; else it leaves an old line there */
 static enum fault fault;
+static uint32_t lines[CACHE_LINES][LINE], line_of[CACHE_LINES], next_line;
 
+static void empty_cache(void) {
+    for (int i = 0; i < CACHE_LINES; i++) line_of[i] = NO_LINE;
+}
+
+/* A read of 32 bits by the cache, or past it. */
+static uint32_t fetched(uint32_t half) {
+    uint32_t line = half / LINE, i;
+    CHECK(is_settled); /* the cache is on or off as it was told */
+    if ((registers.acr >> 10 & 1) == 0) return memory[half];
+    for (i = 0; i < CACHE_LINES && line_of[i] != line; i++) continue;
+    if (i == CACHE_LINES) {
+        i = next_line++ % CACHE_LINES;
+        line_of[i] = line;
+        memcpy(lines[i], memory + line * LINE, sizeof lines[i]);
+    }
+    return lines[i][half % LINE];
+}
+
+static void barrier(void) { is_settled = 1, is_queued = 0; }
 static void lock_model(void) { registers.cr |= 1u << 31, keys = 0; }
 
-/* A step begins, and takes some turns. Whether it is the one that fails. */
+/* A step begins, and takes some turns. Whether it is the one that fails: behind it power is off, and steps do nothing. */
 static int fails(uint32_t turns) {
     int is_failing = fault != NONE && fault != STAYS_LOCKED && ++steps == fails_in;
     busy_for = is_failing && fault == STAYS_BUSY ? UINT32_MAX : turns;
-    if (is_failing) registers.sr |= fault == WRITE_PROTECTED ? 1u << 4 : 1u << 1;
+    if (is_failing && fault == WRITE_PROTECTED) registers.sr |= 1u << 4;
+    if (is_off || (is_failing && (fault == POWER || fault == STAYS_BUSY))) registers.sr |= 1u << 1;
     return is_failing;
-}
-
-/* Bits that look random. */
-static uint32_t any_bits(void) {
-    uint32_t before = dice = dice * 1664525u + 1013904223u;
-    dice = dice * 1664525u + 1013904223u;
-    return before >> 16 | (dice & 0xffff0000);
 }
 
 static void erase_sector(uint32_t number) {
     CHECK(number == FIRST || number == FIRST + 1);
     int is_failing = fails(7);
-    if (is_failing && fault == WRITE_PROTECTED) return;
-    for (uint32_t i = 0; i < SECTOR; i++) memory[number - FIRST][i] |= is_failing ? any_bits() : UINT32_MAX;
-    is_stale = (registers.acr >> 10 & 1) != 0;
+    if (is_off || (is_failing && fault == WRITE_PROTECTED)) return;
+    uint32_t *sector = memory + (number - FIRST) * SECTOR;
+    for (uint32_t i = 0; i < SECTOR; i++) sector[i] |= is_failing ? any_bits() : UINT32_MAX;
+    is_off = is_failing && fault == POWER;
 }
 
-static void program_half(uint32_t *at, uint32_t value) {
+static void program_half(uint32_t i, uint32_t value) {
     CHECK(registers.cr == (2u << 8 | 1) && busy_for == 0);
-    CHECK(*at == UINT32_MAX && value != UINT32_MAX);
     int is_failing = fails(3);
-    if (is_failing && fault == WRITE_PROTECTED) return;
-    *at = value | (is_failing ? any_bits() : 0);
+    if (is_off || (is_failing && fault == WRITE_PROTECTED)) return;
+    CHECK(memory[i] == UINT32_MAX && value != UINT32_MAX);
+    memory[i] = is_failing ? value | any_bits() : value;
+    for (int k = 0; k < CACHE_LINES && updates; k++) {
+        if (line_of[k] == i / LINE) lines[k][i % LINE] = value;
+    }
+    is_off = is_failing && fault == POWER;
 }
 
 static void set_control(uint32_t value) {
@@ -76,11 +93,13 @@ static void set_control(uint32_t value) {
 }
 
 static void set_access(uint32_t value) {
+    CHECK(((value ^ registers.acr) & ~(1u << 10 | 1u << 12)) == 0); /* nothing but the data cache */
     if (value >> 12 & 1) {
         CHECK((value >> 10 & 1) == 0 && (registers.acr >> 10 & 1) == 0); /* it is emptied while it is off */
-        is_stale = 0;
+        empty_cache();
     }
     registers.acr = value;
+    is_settled = 0;
 }
 
 static void set(volatile uint32_t *address, uint32_t value) {
@@ -94,78 +113,108 @@ static void set(volatile uint32_t *address, uint32_t value) {
     } else if (address == &registers.acr) {
         set_access(value);
     } else {
-        size_t i = (size_t)(address - memory[0]);
+        size_t i = (size_t)(address - memory);
         CHECK(i < 2 * SECTOR && i % SECTOR < 4 * WORDS);
-        program_half(&memory[i / SECTOR][i % SECTOR], value);
+        is_queued = 1;
+        program_half((uint32_t)i, value);
     }
 }
 
 static uint32_t get(volatile uint32_t *address) {
-    if (address == &registers.sr) {
-        uint32_t busy = busy_for > 0 ? 1u << 16 : 0;
-        if (busy_for > 0 && busy_for != UINT32_MAX) busy_for--;
-        return registers.sr | busy;
+    if (address >= memory && address < memory + 2 * SECTOR) {
+        CHECK((address - memory) % SECTOR < 4 * WORDS);
+        return fetched((uint32_t)(address - memory));
     }
-    if (address >= memory[0] && address < memory[0] + 2 * SECTOR) CHECK(!is_stale);
-    return *address;
+    if (address != &registers.sr) return *address;
+    CHECK(!is_queued);
+    uint32_t busy = busy_for > 0;
+    if (busy_for > 0 && busy_for != UINT32_MAX) busy_for--;
+    return registers.sr | busy << 16;
 }
 
-static void new_part(uint32_t acr) {
+/* The product reads the sectors too, by the cache, which holds nothing old. */
+static void read_by_others(void) {
+    for (uint32_t n = below(6); n > 0; n--) {
+        uint32_t half = below(2) * SECTOR + below(4 * WORDS);
+        CHECK(fetched(half) == memory[half]);
+    }
+}
+
+/* The model for moves. */
+static void cut(uint32_t in) {
+    is_settled = 1;
+    read_by_others();
+    steps = 0, fails_in = in, fault = in ? POWER : NONE;
+}
+
+static int is_cut(void) { return is_off; }
+
+static void power(void) {
     memset(&registers, 0, sizeof registers);
-    memset(memory, 0xff, sizeof memory);
-    registers.acr = acr;
+    registers.acr = acr_after_reset; /* the program turned the caches on */
     lock_model();
-    steps = 0, busy_for = 0, is_stale = 0, fault = NONE;
+    empty_cache();
+    busy_for = 0, is_off = 0, is_queued = 0, is_settled = 1, fault = NONE;
+}
+
+static ee_flash new_part(uint32_t acr) {
+    memset(memory, 0xff, sizeof memory);
+    acr_after_reset = acr;
+    power();
+    return stm32f4_flash(&part);
 }
 
 /* Writes go wrong in each of their steps; what was stored before is there. */
 static void failing(enum fault kind) {
-    for (uint32_t step = 1; step < 500; step += step < 20 ? 1 : 37) {
-        ee_flash flash = stm32f4_flash(&part);
+    for (uint32_t step = 1; step < 200; step++) {
+        ee_flash flash = new_part(CACHES_ON);
         ee_store store;
         uint32_t value, n, status = EE_OK;
-        new_part(0x705);
         CHECK(ee_open(&store, &flash) == EE_UNFORMATTED);
         CHECK(ee_format(&store, &flash) == EE_OK);
         CHECK(ee_write(&store, 9, 90) == EE_OK);
         steps = 0, fails_in = step, fault = kind;
-        for (n = 0; n < 600 && status == EE_OK; n++) status = ee_write(&store, 1, n);
+        for (n = 0; n < 600 && status == EE_OK; n++) {
+            status = ee_write(&store, 1, n);
+            read_by_others();
+        }
+        if (kind == SILENT && status == EE_OK) continue; /* the cells that were left are those that were asked for */
         CHECK(status == EE_DRIVER && ee_write(&store, 1, 0) == EE_OFF);
-        fault = NONE, busy_for = 0;
+        fault = NONE, busy_for = 0, is_off = 0;
         CHECK(ee_open(&store, &flash) == EE_OK);
         CHECK(ee_read(&store, 9, &value) == EE_OK && value == 90);
         if (ee_read(&store, 1, &value) == EE_OK) CHECK(value == n - 1 || value == n - 2);
         else CHECK(n == 1);
         CHECK(ee_write(&store, 1, 5) == EE_OK && ee_read(&store, 1, &value) == EE_OK && value == 5);
-        CHECK(registers.cr == 1u << 31 && registers.acr == 0x705); /* locked, and no more; the caches are as they were */
+        CHECK(registers.cr == 1u << 31 && registers.acr == CACHES_ON); /* locked, and no more; the caches are as they were */
     }
 }
 
-/* Moves and clean steps over both sets, for a while. */
-static void working(uint32_t acr) {
-    ee_flash flash = stm32f4_flash(&part);
-    ee_store store;
-    ee_numbers numbers;
-    uint32_t value;
-    new_part(acr);
-    CHECK(ee_format(&store, &flash) == EE_OK);
-    for (uint32_t n = 0; n < 3000; n++) {
-        CHECK(ee_write(&store, (uint16_t)(1 + n % 50), n) == EE_OK);
-        if (n % 100 == 0) {
-            while (ee_clean(&store) == EE_OK) continue;
-            CHECK(ee_open(&store, &flash) == EE_OK);
-        }
-    }
-    for (uint32_t n = 2950; n < 3000; n++) CHECK(ee_read(&store, (uint16_t)(1 + n % 50), &value) == EE_OK && value == n);
-    CHECK(ee_counts(&store, &numbers) == EE_OK && numbers.live == 50 && numbers.slots == 124);
+/* Steps whose cells are others than those that were asked for, with no error of the part, behind a read of them. */
+static void read_back(void) {
+    ee_flash flash = new_part(CACHES_ON);
+    uint64_t value;
+    CHECK(flash.word(&part, 0, 5, &value) == 0 && value == UINT64_MAX);
+    steps = 0, fails_in = 1, fault = SILENT;
+    CHECK(flash.program(&part, 0, 5, 0) != 0 && flash.word(&part, 0, 5, &value) == 0 && value != 0);
+    steps = 0;
+    CHECK(flash.erase(&part, 0) != 0);
+    fault = NONE;
+    CHECK(flash.erase(&part, 0) == 0 && flash.word(&part, 0, 5, &value) == 0 && value == UINT64_MAX);
+    CHECK(flash.program(&part, 0, 6, 0) == 0 && flash.word(&part, 0, 6, &value) == 0 && value == 0);
 }
 
 int main(void) {
-    working(0);
-    working(0x705);
-    failing(WRITE_PROTECTED);
-    failing(POWER);
-    failing(STAYS_BUSY);
-    failing(STAYS_LOCKED);
+    static const model here = {cut, is_cut, power};
+    for (int with_cuts = 0; with_cuts < 2; with_cuts++) {
+        for (int kind = 0; kind < 3; kind++) {
+            updates = kind == 1;
+            ee_flash flash = new_part(kind == 2 ? 0 : CACHES_ON);
+            moves(&flash, &here, with_cuts);
+            CHECK(registers.cr == 1u << 31 && registers.acr == acr_after_reset);
+        }
+    }
+    for (updates = 0; updates < 2; updates++) read_back();
+    for (enum fault kind = WRITE_PROTECTED; kind <= STAYS_LOCKED; kind++) failing(kind);
     return 0;
 }

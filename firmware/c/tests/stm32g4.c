@@ -1,68 +1,140 @@
-/* The port for an STM32G4 against a model of its flash: registers, pages and the NMI. */
-#include <stdint.h>
-#include <stdio.h>
-#include <stdlib.h>
-#include <string.h>
+/* The port for an STM32G4 against a model of its flash: registers, pages, the data cache, addresses of errors, and the NMI. */
+#include "moves.h"
 
 static void set(volatile uint32_t *address, uint32_t value);
 static uint32_t get(volatile uint32_t *address);
+static void barrier(void);
 #define STM32G4_SET(address, value) set(address, value)
 #define STM32G4_GET(address) get(address)
+#define STM32G4_BARRIER() barrier()
+#define STM32G4_MOST_TURNS 1000
 #include "../port/stm32g4.c"
 
-#define CHECK(holds)                                                                                                           \
-    do {                                                                                                                       \
-        if (!(holds)) {                                                                                                        \
-            fprintf(stderr, "%s:%d: %s\n", __FILE__, __LINE__, #holds);                                                        \
-            exit(1);                                                                                                           \
-        }                                                                                                                      \
-    } while (0)
-
-enum { PAGES = 4, WORDS = 256, FIRST = 60, BANK = 1, HALVES = PAGES * WORDS * 2 };
-enum fault { NONE, WRITE_PROTECTED, POWER, STAYS_BUSY, STAYS_LOCKED };
+enum { FIRST = 60, MOST_WORDS = 1024, CACHE_LINES = 8, CACHE_WORDS = 4 /* of a line: 32 bytes */ };
+enum fault { NONE, WRITE_PROTECTED, POWER, SILENT, STAYS_BUSY, STAYS_LOCKED };
+enum state { FINE, CORRECTED, TORN }; /* of a double word */
+static const uint32_t AFTER_RESET = 0x40600, FLAGS = 0xfu << 28, CORRECTIONS = 5u << 28, DETECTIONS = 10u << 28;
 
 static stm32g4_registers registers;
-static uint32_t memory[HALVES];
-static uint8_t torn[PAGES * WORDS];
-static stm32g4 part = {&registers, memory, FIRST, BANK, WORDS, 0};
-static uint32_t keys, first_half, steps, fails_in, busy_for;
+static uint32_t memory[2 * MOST_WORDS];
+static uint8_t states[MOST_WORDS];
+static stm32g4 part = {.registers = &registers, .flash = memory, .first_page = FIRST};
+static uint32_t keys, first_half, steps, fails_in, busy_for, others;
+static int is_queued; /* a write to the flash isn't there yet */
+static int is_off, is_settled, is_raised, is_in_nmi;
+static int updates; /* a program writes what was asked for into the data cache too; else it leaves an old line there */
+static int hides;   /* while a flag stands no other error is told; else its flag is, with the address of before */
 static enum fault fault;
+
+/* The data cache, and what the flash read last with the cache off: a second read of either raises no NMI. */
+static uint32_t lines[CACHE_LINES][2 * CACHE_WORDS], line_of[CACHE_LINES], next_line, buffer[4], buffer_of;
+enum { NO_LINE = UINT16_MAX };
+
+static int is_wide(void) { return part.page_words == 512; }
+
+static void empty_caches(void) {
+    for (int i = 0; i < CACHE_LINES; i++) line_of[i] = NO_LINE;
+    buffer_of = NO_LINE;
+}
+
+/* An error with its flag, and where no flag stands its address. */
+static void tell(uint32_t address, uint32_t flag) {
+    if ((registers.eccr & FLAGS & ~flag) != 0 && hides && (registers.eccr & ECCR_ADDR) != address) return;
+    if ((registers.eccr & FLAGS) == 0) registers.eccr = (registers.eccr & 1u << 24) | part.bank << 21 | address;
+    registers.eccr |= flag;
+    if (flag & DETECTIONS) is_raised = 1;
+}
+
+/* The flash reads one double word, or two, and tells what is wrong. */
+static void sense(uint32_t i) {
+    uint32_t count = is_wide() ? 2 : 1;
+    uint32_t from = i / count * count, address = 8 * (FIRST * part.page_words + from);
+    for (uint32_t k = 0; k < count; k++) {
+        if (states[from + k] == CORRECTED) tell(address, k ? 1u << 28 : 1u << 30);
+        if (states[from + k] == TORN) tell(address, k ? 1u << 29 : 1u << 31);
+    }
+}
+
+/* A read of 32 bits by the cache, or past it. */
+static uint32_t fetched(uint32_t half) {
+    uint32_t line = half / (2 * CACHE_WORDS), wide = is_wide() ? 4 : 2, i;
+    CHECK(is_settled); /* the cache is on or off as it was told */
+    if ((registers.acr >> 10 & 1) == 0) {
+        if (buffer_of != half / wide) {
+            sense(half / 2);
+            buffer_of = half / wide;
+            memcpy(buffer, memory + buffer_of * wide, wide * sizeof *buffer);
+        }
+        return buffer[half % wide];
+    }
+    for (i = 0; i < CACHE_LINES && line_of[i] != line; i++) continue;
+    if (i == CACHE_LINES) {
+        i = next_line++ % CACHE_LINES;
+        for (uint32_t k = 0; k < CACHE_WORDS; k++) sense(line * CACHE_WORDS + k);
+        line_of[i] = line;
+        memcpy(lines[i], memory + line * 2 * CACHE_WORDS, sizeof lines[i]);
+    }
+    return lines[i][half % (2 * CACHE_WORDS)];
+}
+
+static void barrier(void) {
+    is_settled = 1, is_queued = 0;
+    if (!is_raised || is_in_nmi) return;
+    is_raised = 0, is_in_nmi = 1;
+    others += stm32g4_nmi(&part) == 0; /* the product's own handler */
+    CHECK(is_settled); /* the flag is down when the handler returns */
+    is_in_nmi = 0;
+}
 
 static void lock(void) { registers.cr |= 1u << 31, keys = 0; }
 
-/* A step begins. Whether it is the one that fails. */
-static int fails(void) {
-    steps++;
-    return fault != NONE && fault != STAYS_LOCKED && steps == fails_in;
+/* A step begins. Whether it is the one that fails: behind it power is off, and steps do nothing. */
+static int fails(uint32_t turns) {
+    int is_failing = fault != NONE && fault != STAYS_LOCKED && ++steps == fails_in;
+    buffer_of = NO_LINE;
+    busy_for = is_failing && fault == STAYS_BUSY ? UINT32_MAX : turns;
+    if (is_failing && fault == WRITE_PROTECTED) registers.sr |= 1u << 4;
+    if (is_off || (is_failing && (fault == POWER || fault == STAYS_BUSY))) registers.sr |= 1u << 1;
+    return is_failing;
 }
 
-/* A page is erased, or a double word programmed, and fails where it is asked to. */
+/* What a step that fails leaves of a double word: nothing done, done, done and read with a correction, or torn. */
+static void leave(uint32_t i, uint32_t low, uint32_t high, int is_failing) {
+    uint32_t kind = !is_failing ? 1 : fault == SILENT ? 3 : below(6);
+    if (kind == 0) return;
+    memory[2 * i] = kind < 3 ? low : low | any_bits();
+    memory[2 * i + 1] = kind < 3 ? high : high | any_bits();
+    states[i] = kind == 1 ? FINE : kind == 2 ? CORRECTED : TORN;
+}
+
 static void erase_page(uint32_t page) {
-    int is_failing = fails();
-    busy_for = is_failing && fault == STAYS_BUSY ? UINT32_MAX : 7;
-    if (is_failing && fault == WRITE_PROTECTED) {
-        registers.sr |= 1u << 4;
-        return;
-    }
-    memset(memory + page * WORDS * 2, 0xff, WORDS * 8);
-    memset(torn + page * WORDS, is_failing, WORDS);
-    if (is_failing) registers.sr |= 1u << 1;
+    CHECK(page < part.pages && busy_for == 0);
+    int is_failing = fails(7);
+    if (is_off || (is_failing && fault == WRITE_PROTECTED)) return;
+    for (uint32_t i = 0; i < part.page_words; i++) leave(page * part.page_words + i, UINT32_MAX, UINT32_MAX, is_failing);
+    is_off = is_failing && fault == POWER;
 }
 
 static void program_word(uint32_t i, uint32_t low, uint32_t high) {
-    int is_failing = fails();
-    busy_for = is_failing && fault == STAYS_BUSY ? UINT32_MAX : 3;
-    if (torn[i] || memory[2 * i] != UINT32_MAX || memory[2 * i + 1] != UINT32_MAX) {
-        registers.sr |= 1u << 3;
-        return;
+    int is_failing = fails(3);
+    if (is_off || (is_failing && fault == WRITE_PROTECTED)) return;
+    CHECK(memory[2 * i] == UINT32_MAX && memory[2 * i + 1] == UINT32_MAX && states[i] != TORN);
+    leave(i, low, high, is_failing);
+    for (int k = 0; k < CACHE_LINES && updates; k++) {
+        if (line_of[k] != i / CACHE_WORDS) continue;
+        lines[k][2 * i % (2 * CACHE_WORDS)] = low;
+        lines[k][2 * i % (2 * CACHE_WORDS) + 1] = high;
     }
-    if (is_failing && fault == WRITE_PROTECTED) {
-        registers.sr |= 1u << 4;
-        return;
+    is_off = is_failing && fault == POWER;
+}
+
+static void set_access(uint32_t value) {
+    CHECK(((value ^ registers.acr) & ~(1u << 10 | 1u << 12)) == 0); /* nothing but the data cache */
+    if (value >> 12 & 1) {
+        CHECK((value >> 10 & 1) == 0 && (registers.acr >> 10 & 1) == 0); /* it is emptied while it is off */
+        for (int i = 0; i < CACHE_LINES; i++) line_of[i] = NO_LINE;
     }
-    memory[2 * i] = low, memory[2 * i + 1] = high;
-    torn[i] = (uint8_t)is_failing;
-    if (is_failing) registers.sr |= 1u << 1;
+    registers.acr = value;
 }
 
 static void set_control(uint32_t value) {
@@ -70,107 +142,188 @@ static void set_control(uint32_t value) {
         CHECK(value == 1u << 31 || value == 0); /* the port writes to it only when it is unlocked, but for locking it */
         return;
     }
-    registers.cr = value;
+    registers.cr = value & ~(1u << 16);
     if (value >> 31) lock();
-    if (value & 1u << 16) {
-        uint32_t page = (value >> 3 & 0x7f) - FIRST;
-        CHECK((value & 2) != 0 && page < PAGES && (value >> 11 & 1) == BANK);
-        registers.cr &= ~(1u << 16);
-        erase_page(page);
+    if (value >> 16 & 1) {
+        CHECK((value & 2) != 0 && (value >> 11 & 1) == part.bank && (registers.acr >> 10 & 1) == 0);
+        erase_page((value >> 3 & 0x7f) - FIRST);
     }
 }
 
 static void set(volatile uint32_t *address, uint32_t value) {
+    is_settled = 0;
     if (address == &registers.keyr) {
         keys = value == 0x45670123 ? 1 : keys == 1 && value == 0xcdef89ab ? 2 : 3;
         if (keys == 2 && fault != STAYS_LOCKED) registers.cr &= ~(1u << 31);
     } else if (address == &registers.sr) {
         registers.sr &= ~value;
     } else if (address == &registers.eccr) {
-        registers.eccr &= ~(value & 1u << 31);
+        CHECK(!is_in_nmi || (value & CORRECTIONS) == 0); /* the handler leaves the flags of corrected errors */
+        registers.eccr = (registers.eccr & ~(value & FLAGS) & ~(1u << 24)) | (value & 1u << 24);
+    } else if (address == &registers.acr) {
+        set_access(value);
     } else if (address == &registers.cr) {
         set_control(value);
     } else {
         size_t i = (size_t)(address - memory);
-        CHECK(i < HALVES && (registers.cr & 1) != 0 && registers.cr >> 31 == 0 && busy_for == 0);
+        CHECK(i < 2 * part.pages * part.page_words && registers.cr == 1 && busy_for == 0 && (registers.acr >> 10 & 1) == 0);
+        is_queued = 1;
         if (i % 2 == 0) first_half = value;
         else program_word((uint32_t)(i / 2), first_half, value);
     }
 }
 
 static uint32_t get(volatile uint32_t *address) {
-    if (address == &registers.sr) {
-        uint32_t busy = busy_for > 0 ? 1u << 16 : 0;
-        if (busy_for > 0 && busy_for != UINT32_MAX) busy_for--;
-        return registers.sr | busy;
+    if (address >= memory && address < memory + 2 * MOST_WORDS) {
+        CHECK(address < memory + 2 * part.pages * part.page_words);
+        return fetched((uint32_t)(address - memory));
     }
-    if (address >= memory && address < memory + HALVES) {
-        size_t i = (size_t)(address - memory);
-        if (torn[i / 2]) {
-            registers.eccr |= 1u << 31;
-            CHECK(stm32g4_nmi(&part) == 1); /* the part would call NMI_Handler */
-            return 0x5a5a5a5a;
-        }
-    }
-    return *address;
+    if (address != &registers.sr) return *address;
+    CHECK(!is_queued);
+    uint32_t busy = busy_for > 0;
+    if (busy_for > 0 && busy_for != UINT32_MAX) busy_for--;
+    return registers.sr | busy << 16;
 }
 
-static void new_part(void) {
+/* The product reads the pages too, by the cache, which holds nothing old. */
+static void read_by_others(void) {
+    CHECK(others == 0);
+    for (uint32_t n = below(6); n > 0; n--) {
+        uint32_t half = below(2 * part.pages * part.page_words);
+        barrier();
+        CHECK(fetched(half) == memory[half]);
+        barrier();
+        if (others) registers.eccr &= ~FLAGS, others = 0; /* beside one that was corrected: the product's own handler */
+    }
+}
+
+/* The model for moves. */
+static void cut(uint32_t in) {
+    read_by_others();
+    steps = 0, fails_in = in, fault = in ? POWER : NONE;
+}
+static int is_cut(void) { return is_off; }
+
+static void power(void) {
     memset(&registers, 0, sizeof registers);
-    memset(memory, 0xff, sizeof memory);
-    memset(torn, 0, sizeof torn);
+    registers.acr = AFTER_RESET;
+    registers.eccr = 1u << 24;
     lock();
-    steps = 0, busy_for = 0, fault = NONE;
+    empty_caches();
+    busy_for = 0, others = 0, is_off = 0, is_raised = 0, is_queued = 0, is_settled = 0, fault = NONE;
+    part.error = part.corrected = 0;
+}
+
+static ee_flash new_part(uint32_t bank, uint32_t page_words, uint32_t pages) {
+    memset(memory, 0xff, sizeof memory);
+    memset(states, FINE, sizeof states);
+    part.bank = bank;
+    part.page_words = page_words;
+    power();
+    return stm32g4_flash(&part, pages);
+}
+
+/* All that the team has is as it was: the caches, the interrupt of a corrected error, and no other NMI. */
+static int is_as_before(void) {
+    return registers.cr == 1u << 31 && registers.acr == AFTER_RESET && (registers.eccr & 1u << 24) != 0 && others == 0;
 }
 
 /* Writes go wrong in each of their steps; what was stored before is there. */
 static void failing(enum fault kind) {
-    for (uint32_t step = 1; step < 400; step += step < 6 ? 1 : 37) {
-        ee_flash flash = stm32g4_flash(&part, 2);
+    for (uint32_t step = 1; step < 120; step++) {
+        ee_flash flash = new_part(1, 16, 2);
         ee_store store;
         uint32_t value, n, status = EE_OK;
-        new_part();
         CHECK(ee_open(&store, &flash) == EE_UNFORMATTED);
         CHECK(ee_format(&store, &flash) == EE_OK);
         CHECK(ee_write(&store, 9, 90) == EE_OK);
         steps = 0, fails_in = step, fault = kind;
         for (n = 0; n < 600 && status == EE_OK; n++) status = ee_write(&store, 1, n);
         CHECK(status == EE_DRIVER && ee_write(&store, 1, 0) == EE_OFF);
-        fault = NONE, busy_for = 0;
+        fault = NONE, busy_for = 0, is_off = 0;
         CHECK(ee_open(&store, &flash) == EE_OK);
         CHECK(ee_read(&store, 9, &value) == EE_OK && value == 90);
         if (ee_read(&store, 1, &value) == EE_OK) CHECK(value == n - 1 || value == n - 2);
         else CHECK(n == 1);
         CHECK(ee_write(&store, 1, 5) == EE_OK && ee_read(&store, 1, &value) == EE_OK && value == 5);
-        CHECK(registers.cr == 1u << 31); /* locked, and no more */
+        CHECK(is_as_before());
     }
 }
 
-/* Moves and clean steps over both sets, for a while. */
-static void working(void) {
-    ee_flash flash = stm32g4_flash(&part, 2);
-    ee_store store;
-    ee_numbers numbers;
-    uint32_t value;
-    new_part();
-    CHECK(ee_format(&store, &flash) == EE_OK);
-    for (uint32_t n = 0; n < 3000; n++) {
-        CHECK(ee_write(&store, (uint16_t)(1 + n % 50), n) == EE_OK);
-        if (n % 100 == 0) {
-            while (ee_clean(&store) == EE_OK) continue;
-            CHECK(ee_open(&store, &flash) == EE_OK);
+/* An error that ECCR tells, and what the handler answers; the flags that stand afterwards. */
+static void raised(uint32_t eccr, int is_claimed, uint32_t flags) {
+    registers.eccr = 1u << 24 | eccr;
+    is_settled = 1, is_in_nmi = 1;
+    CHECK(stm32g4_nmi(&part) == is_claimed && is_settled);
+    is_in_nmi = 0;
+    CHECK((registers.eccr & FLAGS) == flags && (registers.eccr & 1u << 24) != 0);
+    registers.eccr = 1u << 24;
+}
+
+/* The handler takes the errors in the store's pages alone. */
+static void addresses(void) {
+    uint32_t page = 256 * 8, begin = FIRST * page, end = begin + 4 * page, d = 1u << 31, d2 = 1u << 29, c = 1u << 30;
+    new_part(1, 256, 2);
+    raised(d | 1u << 21 | begin, 1, 0);
+    raised(d | 1u << 21 | (end - 8), 1, 0);
+    raised(d | c | 1u << 21 | begin, 0, d | c); /* the address may be that of the corrected one, and the error anywhere */
+    raised(d2 | 1u << 28 | 1u << 21 | begin, 0, d2 | 1u << 28);
+    part.is_reading = 1;
+    raised(d | c | 1u << 21 | begin, 1, c);
+    raised(d2 | 1u << 28 | 1u << 21 | begin, 1, 1u << 28);
+    part.is_reading = 0;
+    raised(c | 1u << 21 | begin, 0, c); /* another cause */
+    raised(1u << 21 | begin, 0, 0);
+    uint32_t far[] = {0, begin - 8, end, 0x7fff8};
+    for (int i = 0; i < 4; i++) raised(d | 1u << 21 | far[i], 0, d);
+    raised(d | begin, 0, d);                         /* the other bank */
+    raised(d | 1u << 22 | 1u << 21 | begin, 0, d);   /* the system's flash */
+    new_part(0, 512, 1);
+    raised(d2 | 2 * begin, 1, 0);
+    raised(d2 | 16, 0, d2);
+    raised(d | d2 | (2 * begin + 512 * 8), 1, 0);
+}
+
+/* Each read of a torn word tells it, and reads of its neighbours do not; so it is behind a corrected error in the program. */
+static void torn(uint32_t page_words) {
+    ee_flash flash = new_part(0, page_words, 1);
+    uint64_t value;
+    for (uint32_t i = 0; i < 8; i++) CHECK(flash.program(&part, 0, i, 7 + i) == 0);
+    states[3] = states[4] = states[5] = TORN;
+    states[6] = CORRECTED;
+    for (uint32_t n = 0; n < 4000; n++) {
+        uint32_t place = below(8);
+        if (below(4) == 0) tell(below(100) * 8, 1u << 30);
+        for (uint32_t again = below(3); again < 3; again++) {
+            uint32_t stood = registers.eccr, status = flash.word(&part, 0, place, &value);
+            CHECK((status != 0) == (place >= 3 && place <= 5));
+            CHECK(status != 0 || value == 7 + place);
+            CHECK((stood & CORRECTIONS) == 0 || part.corrected == stood);
+            CHECK((registers.eccr & DETECTIONS) == 0);
         }
     }
-    for (uint32_t n = 2950; n < 3000; n++) CHECK(ee_read(&store, (uint16_t)(1 + n % 50), &value) == EE_OK && value == n);
-    CHECK(ee_counts(&store, &numbers) == EE_OK && numbers.live == 50 && numbers.slots == 504);
-    CHECK(stm32g4_nmi(&part) == 0);
+    CHECK(is_as_before());
+    steps = 0, fails_in = 1, fault = SILENT;
+    CHECK(flash.erase(&part, 0) != 0); /* with no flag of the part */
+    fault = NONE;
+    CHECK(flash.erase(&part, 0) == 0 && flash.word(&part, 0, 4, &value) == 0 && value == UINT64_MAX && is_as_before());
 }
 
 int main(void) {
-    working();
-    failing(WRITE_PROTECTED);
-    failing(POWER);
-    failing(STAYS_BUSY);
-    failing(STAYS_LOCKED);
+    static const model here = {cut, is_cut, power};
+    for (int with_cuts = 0; with_cuts < 2; with_cuts++) {
+        for (updates = 0; updates < 2; updates++) {
+            hides = updates;
+            ee_flash narrow = new_part(1, 16, 2);
+            moves(&narrow, &here, with_cuts);
+            CHECK(is_as_before());
+        }
+        ee_flash wide = new_part(0, 512, 1);
+        moves(&wide, &here, with_cuts);
+        CHECK(is_as_before());
+    }
+    for (hides = 0; hides < 2; hides++) torn(256), torn(512);
+    addresses();
+    for (enum fault kind = WRITE_PROTECTED; kind <= STAYS_LOCKED; kind++) failing(kind);
     return 0;
 }

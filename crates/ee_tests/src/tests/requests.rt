@@ -1,12 +1,11 @@
 //! Each call that allocates: its answer with ample memory, and want of memory wherever one of its requests is refused.
-//!
-//! A command passes its allocator on to each call of the libraries that it makes, and tells their want of memory. So of
-//! those here are the ones alone that no command makes.
 mod certificates;
 mod commands;
 mod indexes;
-mod settings;
+mod plans;
+mod schemas;
 mod stores;
+mod texts;
 
 use crate::tests::same;
 use commands::{
@@ -14,12 +13,16 @@ use commands::{
     TEN, Text, WEAR, WEAR_SINCE,
 };
 use ee_command_line::{ReadFault, read_whole};
-use ee_fakes::images::{CERTIFICATE, CLEANED, FORMATTED, SCRIPT, TIDIED};
+use ee_fakes::images::{CERTIFICATE, CLEANED, FORMATTED, SCRIPT, TIDIED, TWO_MOVES};
 use ee_fakes::{FailingReader, Refusing};
 use ee_faults::{Fault, File};
+use plans::{NO_MOVE, ONE_SLOT, TWO_SLOTS, Task};
 use std::alloc::Global;
 use std::io::ErrorKind;
 use std::process::Abort;
+use texts::{
+    ANSWERS, BLANK, Bytes, Device, END_AND_CERTIFICATE, END_AND_IMAGE, FIRST, FIRST_HEX, Pushed,
+};
 
 /// A call, on arguments of its own.
 #[derive(Clone, Copy)]
@@ -30,7 +33,6 @@ enum Call {
     WriteIndexed,
     WriteAllIndexed,
     CheckThousand,
-    Settings,
     ReadWhole,
     SizeParts,
     FaultLine(Fault, &'static [u8]),
@@ -39,6 +41,11 @@ enum Call {
     Try,
     Replay(Replay),
     ReplayBlank(Replay),
+    Plans(plans::Task),
+    Schema(schemas::Task),
+    Device(Device, &'static [u8]),
+    Bytes(Bytes, &'static [u8]),
+    Pushed(Pushed, &'static [u8]),
 }
 
 const UNREAD: Fault = Fault::CannotRead(File::Script);
@@ -56,7 +63,6 @@ const CALLS: &[(Call, u64)] = &[
     (Call::WriteIndexed, 2),
     (Call::WriteAllIndexed, 2),
     (Call::CheckThousand, 2),
-    (Call::Settings, 3),
     (Call::ReadWhole, 2),
     (Call::SizeParts, 6),
     (Call::FaultLine(UNREAD, b"ee: cannot read script\n"), 1),
@@ -91,6 +97,42 @@ const CALLS: &[(Call, u64)] = &[
     (Call::ReplayBlank(Replay::Plain), 1),
     (Call::ReplayBlank(Replay::Indexed), 1),
     (Call::ReplayBlank(Replay::Reader), 1),
+    (Call::Plans(Task::Plan(&TWO_SLOTS)), 3),
+    (Call::Plans(Task::Plan(&ONE_SLOT)), 3),
+    (Call::Plans(Task::Plan(&NO_MOVE)), 1),
+    (Call::Plans(Task::Check(&TWO_SLOTS)), 1),
+    (Call::Plans(Task::Check(&ONE_SLOT)), 1),
+    (Call::Plans(Task::Read(&TWO_SLOTS)), 1),
+    (Call::Plans(Task::Rounds), 3),
+    (Call::Plans(Task::Start), 2),
+    (Call::Plans(Task::Live), 1),
+    (Call::Plans(Task::LiveSet), 1),
+    (Call::Plans(Task::Ledger), 1),
+    (Call::Plans(Task::Since), 1),
+    (Call::Schema(schemas::Task::Read), 1),
+    (Call::Schema(schemas::Task::Entries), 1),
+    (Call::Schema(schemas::Task::Stale), 1),
+    (Call::Schema(schemas::Task::List), 1),
+    (Call::Device(Device::Blank, BLANK), 2),
+    (Call::Device(Device::Image, TWO_MOVES), 2),
+    (Call::Device(Device::Dump, FORMATTED), 2),
+    (Call::Bytes(Bytes::Dump, DUMP), 1),
+    (Call::Bytes(Bytes::FromHex, FIRST), 1),
+    (Call::Bytes(Bytes::Hex, FIRST_HEX), 1),
+    (Call::Bytes(Bytes::Script, ANSWERS), 1),
+    (Call::Bytes(Bytes::Pieces, ANSWERS), 1),
+    (Call::Bytes(Bytes::Reader, ANSWERS), 1),
+    (
+        Call::Pushed(Pushed::Number, b"end\n18446744073709551615"),
+        2,
+    ),
+    (
+        Call::Pushed(Pushed::NumberBehind, b"end\nto 18446744073709551615"),
+        2,
+    ),
+    (Call::Pushed(Pushed::Answer, b"end\n4294967295\n"), 2),
+    (Call::Pushed(Pushed::Image, END_AND_IMAGE), 2),
+    (Call::Pushed(Pushed::Certificate, END_AND_CERTIFICATE), 2),
 ];
 
 /// Whether a call gives its usual answer, or `None` for want of memory.
@@ -102,7 +144,6 @@ fn answer(rt: &impl Abort, memory: Global, call: Call, alloc: &Refusing<Global>)
         Call::WriteIndexed => stores::index_written(alloc, rt, memory),
         Call::WriteAllIndexed => stores::index_written_at_once(alloc, rt, memory),
         Call::CheckThousand => certificates::thousand_checked(alloc, rt, memory),
-        Call::Settings => settings::settings_kept(alloc, rt, memory),
         Call::ReadWhole => script_read(alloc),
         Call::SizeParts => commands::sizes_given(alloc),
         Call::FaultLine(fault, line) => commands::fault_told(alloc, fault, line),
@@ -111,6 +152,11 @@ fn answer(rt: &impl Abort, memory: Global, call: Call, alloc: &Refusing<Global>)
         Call::Try => commands::moves_tried(alloc),
         Call::Replay(how) => commands::moves_made(how, alloc),
         Call::ReplayBlank(how) => commands::unformatted(how, alloc),
+        Call::Plans(task) => plans::done(task, alloc, rt, memory),
+        Call::Schema(task) => schemas::done(task, alloc, rt, memory),
+        Call::Device(what, image) => texts::device_made(what, alloc, rt, memory, image),
+        Call::Bytes(what, wanted) => texts::bytes_given(what, alloc, rt, memory, wanted),
+        Call::Pushed(what, wanted) => texts::is_pushed(what, alloc, rt, memory, wanted),
     }
 }
 

@@ -29,16 +29,22 @@ fn is_read(memory: Global, mut reader: FailingReader<'_>, text: &[u8]) -> Result
     }
 }
 
-// Whether a script that comes byte by byte has the report of the two moves.
-fn is_replayed(
-    memory: Global,
-    script: &[u8],
-    fails_at: u64,
-    failure: ErrorKind,
-) -> Result<bool, ReplayFault> {
-    match replay_reader(memory, FORMATTED, &mut reader(script, 1, fails_at, failure)) {
-        Ok(replayed) => Ok(replayed.report.as_slice() == REPORT),
+// Whether a script that a reader gives has the report of the two moves, and leaves their image.
+fn is_replayed(memory: Global, mut reader: FailingReader<'_>) -> Result<bool, ReplayFault> {
+    match replay_reader(memory, FORMATTED, &mut reader) {
+        Ok(replayed) => {
+            Ok(replayed.report.as_slice() == REPORT && replayed.image.as_slice() == TWO_MOVES)
+        }
         Err(fault) => Err(fault),
+    }
+}
+
+/// Pieces that end within a line, behind one and before one.
+#[test]
+fn a_script_in_short_pieces(rt: HostRuntime) {
+    for most in [1usize, 2, 3, 7] {
+        let reader = reader(SCRIPT, most, 0, ErrorKind::Other);
+        same(&rt, most, is_replayed(rt.alloc(), reader), Ok(true));
     }
 }
 
@@ -54,14 +60,10 @@ fn each_failed_read_is_told(rt: HostRuntime) {
             ),
             (ErrorKind::Interrupted, Ok(true), Ok(true)),
         ] {
-            let reader = reader(SCRIPT, 1, at, failure);
-            same(&rt, at, is_read(rt.alloc(), reader, SCRIPT), read);
-            same(
-                &rt,
-                at,
-                is_replayed(rt.alloc(), SCRIPT, at, failure),
-                replayed,
-            );
+            let whole = reader(SCRIPT, 1, at, failure);
+            same(&rt, at, is_read(rt.alloc(), whole, SCRIPT), read);
+            let lines = reader(SCRIPT, 1, at, failure);
+            same(&rt, at, is_replayed(rt.alloc(), lines), replayed);
         }
     }
 }
@@ -77,14 +79,14 @@ fn a_bad_line_or_a_failed_read(rt: HostRuntime) {
         (unended, 0, ReplayFault::Script(2)),
         (too_long, 33, ReplayFault::Script(2)),
     ] {
-        let found = is_replayed(rt.alloc(), script, fails_at, ErrorKind::Other);
-        same(&rt, fails_at, found, Err(fault));
+        let reader = reader(script, 1, fails_at, ErrorKind::Other);
+        same(&rt, fails_at, is_replayed(rt.alloc(), reader), Err(fault));
     }
 }
 
 /// Serves with the value that was written last, at any address.
 #[derive(Clone, Copy, Drop)]
-struct LastValue(u32);
+pub struct LastValue(pub u32);
 
 impl Serve for LastValue {
     ghost serves = { λ _ _ _ _. Unit {0} };

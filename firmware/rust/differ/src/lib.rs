@@ -195,12 +195,12 @@ pub struct Shared(pub Rc<RefCell<Part>>);
 impl Shared {
     /// A part to be shared. If it has numbers, they are those of a store.
     pub fn new(part: Part) -> Shared {
-        let (shape, has_numbers) = (part.shape, part.has_numbers());
+        let has_numbers = part.has_numbers();
         let shared = Shared(Rc::new(RefCell::new(part)));
         if has_numbers {
-            let found = Pairs::of(Numbers(shared.clone()), shape);
+            let found = Pairs::of(Numbers(shared.clone()));
             assert_eq!(
-                found.err().map(|(_, low)| low),
+                found.err().map(|(_, fault)| fault),
                 None,
                 "no two numbers are low"
             );
@@ -222,8 +222,12 @@ pub struct Numbers(pub Shared);
 impl NumberDriver for Numbers {
     type Error = PowerCut;
 
-    fn read(&self, page: usize, at: usize) -> u64 {
-        self.0 .0.borrow().numbers[page][at]
+    fn shape(&self) -> Shape {
+        self.0 .0.borrow().shape
+    }
+
+    fn read(&self, page: usize, at: usize) -> Result<u64, PowerCut> {
+        Ok(self.0 .0.borrow().numbers[page][at])
     }
 
     fn program(&mut self, page: usize, at: usize, number: u64) -> Result<(), PowerCut> {
@@ -238,10 +242,14 @@ impl NumberDriver for Numbers {
 impl Driver for Shared {
     type Error = PowerCut;
 
-    fn word(&self, page: usize, at: usize) -> Word {
+    fn shape(&self) -> Shape {
+        self.0.borrow().shape
+    }
+
+    fn word(&self, page: usize, at: usize) -> Result<Word, PowerCut> {
         match self.pairs() {
             Some(pairs) => pairs.word(page, at),
-            None => self.0.borrow().pages[page][at],
+            None => Ok(self.0.borrow().pages[page][at]),
         }
     }
 
@@ -257,5 +265,9 @@ impl Driver for Shared {
             Some(mut pairs) => pairs.erase(page),
             None => self.0.borrow_mut().erase(page),
         }
+    }
+
+    fn keeps_erased(&self) -> bool {
+        self.0.borrow().has_numbers()
     }
 }

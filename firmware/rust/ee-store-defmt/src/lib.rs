@@ -4,8 +4,8 @@
 
 use defmt::{Format, Formatter};
 use ee_store::{
-    Address, CleanFault, Driver, Failed, ForgetFault, Off, OpenFault, ScanFault, WriteAllFault,
-    WriteFault, Written,
+    Address, CleanFault, Driver, Failed, ForgetFault, LowPair, Off, OpenFault, PairsFault,
+    ReadFault, ScanFault, WriteAllFault, WriteFault, Written,
 };
 
 /// An answer of the store, as it stands in a log.
@@ -19,6 +19,10 @@ fn off(f: Formatter<'_>) {
 
 fn spent(f: Formatter<'_>) {
     defmt::write!(f, "every slot is used, and no generation is left");
+}
+
+fn unsteady(f: Formatter<'_>) {
+    defmt::write!(f, "words of the flash changed between two looks");
 }
 
 fn driver<E: Format>(f: Formatter<'_>, error: &E) {
@@ -62,11 +66,43 @@ impl Format for Show<'_, ScanFault> {
     }
 }
 
+impl Format for Show<'_, LowPair> {
+    fn format(&self, f: Formatter<'_>) {
+        let LowPair { page, word } = *self.0;
+        defmt::write!(
+            f,
+            "word {=usize} of page {=usize} is not the store's",
+            word,
+            page
+        );
+    }
+}
+
+impl<E: Format> Format for Show<'_, PairsFault<E>> {
+    fn format(&self, f: Formatter<'_>) {
+        match self.0 {
+            PairsFault::Low(low) => defmt::write!(f, "{}", Show(low)),
+            PairsFault::Driver(error) => driver(f, error),
+        }
+    }
+}
+
+impl<E: Format> Format for Show<'_, ReadFault<E>> {
+    fn format(&self, f: Formatter<'_>) {
+        match self.0 {
+            ReadFault::Off => off(f),
+            ReadFault::Driver(error) => driver(f, error),
+            ReadFault::Unsteady => unsteady(f),
+        }
+    }
+}
+
 impl<E: Format> Format for Show<'_, OpenFault<E>> {
     fn format(&self, f: Formatter<'_>) {
         match self.0 {
             OpenFault::Scan(fault) => defmt::write!(f, "{}", Show(fault)),
             OpenFault::Driver(error) => driver(f, error),
+            OpenFault::Unsteady => unsteady(f),
         }
     }
 }
@@ -89,6 +125,7 @@ impl<E: Format> Format for Show<'_, WriteFault<E>> {
             }
             WriteFault::Spent => spent(f),
             WriteFault::Driver(error) => driver(f, error),
+            WriteFault::Unsteady => unsteady(f),
         }
     }
 }
@@ -105,6 +142,7 @@ impl<E: Format> Format for Show<'_, WriteAllFault<E>> {
             }
             WriteAllFault::Spent => defmt::write!(f, "no generation is left for a move"),
             WriteAllFault::Driver(error) => driver(f, error),
+            WriteAllFault::Unsteady => unsteady(f),
         }
     }
 }
@@ -116,6 +154,7 @@ impl<E: Format> Format for Show<'_, ForgetFault<E>> {
             ForgetFault::Absent => defmt::write!(f, "the address has no value"),
             ForgetFault::Spent => spent(f),
             ForgetFault::Driver(error) => driver(f, error),
+            ForgetFault::Unsteady => unsteady(f),
         }
     }
 }
@@ -125,6 +164,7 @@ impl<E: Format> Format for Show<'_, CleanFault<E>> {
         match self.0 {
             CleanFault::Off => off(f),
             CleanFault::Driver(error) => driver(f, error),
+            CleanFault::Unsteady => unsteady(f),
         }
     }
 }

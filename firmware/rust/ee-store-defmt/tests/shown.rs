@@ -2,8 +2,8 @@
 
 use defmt::{shown, Format, Formatter};
 use ee_store::{
-    Address, CleanFault, Driver, Failed, ForgetFault, Off, OpenFault, ScanFault, Word, WriteAllFault,
-    WriteFault, Written,
+    Address, CleanFault, Driver, Failed, ForgetFault, LowPair, Off, OpenFault, PairsFault,
+    ReadFault, ScanFault, Shape, Word, WriteAllFault, WriteFault, Written,
 };
 use ee_store_defmt::Show;
 use std::fmt::{self, Display};
@@ -28,8 +28,12 @@ struct Part;
 impl Driver for Part {
     type Error = Locked;
 
-    fn word(&self, _page: usize, _at: usize) -> Word {
-        Word::Erased
+    fn shape(&self) -> Shape {
+        Shape::new(1, 5).unwrap()
+    }
+
+    fn word(&self, _page: usize, _at: usize) -> Result<Word, Locked> {
+        Err(Locked)
     }
 
     fn program(&mut self, _page: usize, _at: usize, _value: u64) -> Result<(), Locked> {
@@ -66,11 +70,22 @@ fn faults_of_an_opening_are_shown() {
         });
     }
     same(OpenFault::Driver(Locked));
+    same(OpenFault::<Locked>::Unsteady);
+    same(PairsFault::<Locked>::Low(LowPair { page: 3, word: 17 }));
+    same(PairsFault::Driver(Locked));
 }
 
 #[test]
-fn faults_of_changes_are_shown() {
+fn faults_of_other_calls_are_shown() {
     same(Off);
+    for fault in [ReadFault::Off, ReadFault::Unsteady] {
+        same::<ReadFault<Locked>>(fault);
+    }
+    same(ReadFault::Driver(Locked));
+    same(WriteFault::<Locked>::Unsteady);
+    same(WriteAllFault::<Locked>::Unsteady);
+    same(ForgetFault::<Locked>::Unsteady);
+    same(CleanFault::<Locked>::Unsteady);
     for fault in [WriteFault::Off, WriteFault::Full, WriteFault::Spent] {
         same::<WriteFault<Locked>>(fault);
     }

@@ -7,7 +7,7 @@ use core::fmt;
 use ee_store::{Driver, Shape, Word};
 use embedded_storage::nor_flash::NorFlash;
 
-/// Why a step failed.
+/// Why a step or a read failed.
 #[derive(Clone, Copy, Debug, PartialEq, Eq)]
 pub enum Fault<E> {
     /// The flash says so.
@@ -25,30 +25,49 @@ impl<E: fmt::Debug> fmt::Display for Fault<E> {
     }
 }
 
-/// A driver over a `NorFlash`: the pages of the store begin at a byte of it, and `read` reads a word at a byte or says
-/// with `None` that it can't be read.
+#[cfg(feature = "defmt")]
+impl<E: fmt::Debug> defmt::Format for Fault<E> {
+    fn format(&self, f: defmt::Formatter<'_>) {
+        match self {
+            Fault::Flash(error) => {
+                defmt::write!(f, "the flash failed: {}", defmt::Debug2Format(error))
+            }
+            Fault::ReadBack => {
+                defmt::write!(f, "the flash does not read back what was written")
+            }
+        }
+    }
+}
+
+/// A driver over a `NorFlash`: the pages of the store begin at a byte of it, and `read` reads the word at a byte. A word with
+/// an uncorrectable ECC error is `Word::Torn`; an error says that the read itself failed.
 pub struct NorDriver<F, R> {
     // `NorFlash::read` changes the flash, and a word is read of a driver that stays as it is.
     flash: RefCell<F>,
     offset: u32,
-    words: u32,
+    shape: Shape,
     read: R,
 }
 
-/// Reads a word with `NorFlash::read`, and takes an error for a word that can't be read.
-pub fn plain<F: NorFlash>(flash: &mut F, byte: u32) -> Option<u64> {
+/// Reads a word with `NorFlash::read`. An error of it is one of the driver, and no torn word: no step follows it.
+pub fn plain<F: NorFlash>(flash: &mut F, byte: u32) -> Result<Word, F::Error> {
     let mut bytes = [0; 8];
-    flash.read(byte, &mut bytes).ok()?;
-    Some(u64::from_le_bytes(bytes))
+    flash.read(byte, &mut bytes)?;
+    Ok(Word::from(u64::from_le_bytes(bytes)))
 }
 
-impl<F: NorFlash, R: Fn(&mut F, u32) -> Option<u64>> NorDriver<F, R> {
+impl<F: NorFlash, R: Fn(&mut F, u32) -> Result<Word, F::Error>> NorDriver<F, R> {
     const WRITES_WORDS: () = assert!(F::WRITE_SIZE == 8, "the store programs words of 8 bytes");
+    const READS_WORDS: () = assert!(
+        F::READ_SIZE >= 1 && F::READ_SIZE <= 8 && 8 % F::READ_SIZE == 0,
+        "the store reads words of 8 bytes"
+    );
 
     /// A driver for a store of this shape that begins at this byte. `None` if its pages are not pages of the flash, or
     /// not in it.
     pub fn new(flash: F, offset: u32, shape: Shape, read: R) -> Option<NorDriver<F, R>> {
         let () = Self::WRITES_WORDS;
+        let () = Self::READS_WORDS;
         let page = shape.words() * 8;
         let end = (offset as usize).checked_add(2 * shape.pages() * page)?;
         if page % F::ERASE_SIZE != 0
@@ -60,7 +79,7 @@ impl<F: NorFlash, R: Fn(&mut F, u32) -> Option<u64>> NorDriver<F, R> {
         Some(NorDriver {
             flash: RefCell::new(flash),
             offset,
-            words: shape.words() as u32,
+            shape,
             read,
         })
     }
@@ -71,25 +90,28 @@ impl<F: NorFlash, R: Fn(&mut F, u32) -> Option<u64>> NorDriver<F, R> {
     }
 
     fn byte(&self, page: usize, at: usize) -> u32 {
-        self.offset + 8 * (page as u32 * self.words + at as u32)
+        self.offset + 8 * (page * self.shape.words() + at) as u32
     }
 
-    // Whether a word reads as this number.
-    fn reads(&self, page: usize, at: usize, value: u64) -> bool {
-        let byte = self.byte(page, at);
-        (self.read)(&mut self.flash.borrow_mut(), byte) == Some(value)
+    // Sees to a word that was written.
+    fn reads_back(&self, page: usize, at: usize, word: Word) -> Result<(), Fault<F::Error>> {
+        match self.word(page, at)? == word {
+            true => Ok(()),
+            false => Err(Fault::ReadBack),
+        }
     }
 }
 
-impl<F: NorFlash, R: Fn(&mut F, u32) -> Option<u64>> Driver for NorDriver<F, R> {
+impl<F: NorFlash, R: Fn(&mut F, u32) -> Result<Word, F::Error>> Driver for NorDriver<F, R> {
     type Error = Fault<F::Error>;
 
-    fn word(&self, page: usize, at: usize) -> Word {
+    fn shape(&self) -> Shape {
+        self.shape
+    }
+
+    fn word(&self, page: usize, at: usize) -> Result<Word, Self::Error> {
         let byte = self.byte(page, at);
-        match (self.read)(&mut self.flash.borrow_mut(), byte) {
-            Some(number) => Word::from(number),
-            None => Word::Torn,
-        }
+        (self.read)(&mut self.flash.borrow_mut(), byte).map_err(Fault::Flash)
     }
 
     fn program(&mut self, page: usize, at: usize, value: u64) -> Result<(), Self::Error> {
@@ -98,18 +120,12 @@ impl<F: NorFlash, R: Fn(&mut F, u32) -> Option<u64>> Driver for NorDriver<F, R> 
         flash
             .write(byte, &value.to_le_bytes())
             .map_err(Fault::Flash)?;
-        match self.reads(page, at, value) {
-            true => Ok(()),
-            false => Err(Fault::ReadBack),
-        }
+        self.reads_back(page, at, Word::Held(value))
     }
 
     fn erase(&mut self, page: usize) -> Result<(), Self::Error> {
         let (from, to) = (self.byte(page, 0), self.byte(page + 1, 0));
         self.flash.get_mut().erase(from, to).map_err(Fault::Flash)?;
-        match (0..self.words as usize).all(|at| self.reads(page, at, u64::MAX)) {
-            true => Ok(()),
-            false => Err(Fault::ReadBack),
-        }
+        (0..self.shape.words()).try_for_each(|at| self.reads_back(page, at, Word::Erased))
     }
 }

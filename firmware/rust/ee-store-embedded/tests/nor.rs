@@ -1,6 +1,8 @@
 //! The driver over a flash in memory.
 
-use ee_store::{format, open, Address, OpenFault, ScanFault, Shape, WriteFault, Written};
+use ee_store::{
+    format, open, start, Address, OpenFault, ScanFault, Shape, Word, WriteFault, Written,
+};
 use ee_store_embedded::{plain, Fault, NorDriver};
 use embedded_storage::nor_flash::{
     ErrorType, NorFlash, NorFlashError, NorFlashErrorKind, ReadNorFlash,
@@ -15,10 +17,10 @@ impl NorFlashError for Broken {
     }
 }
 
-/// Four pages of 48 bytes; a word at `torn` can't be read, and a write to `worn` is lost.
+/// Four pages of 48 bytes; a read at `down` fails, and a write to `worn` is lost.
 struct Memory {
     bytes: [u8; 192],
-    torn: Option<u32>,
+    down: Option<u32>,
     worn: Option<u32>,
     fails: bool,
 }
@@ -28,10 +30,10 @@ impl ErrorType for Memory {
 }
 
 impl ReadNorFlash for Memory {
-    const READ_SIZE: usize = 1;
+    const READ_SIZE: usize = 4;
 
     fn read(&mut self, offset: u32, bytes: &mut [u8]) -> Result<(), Broken> {
-        if self.torn == Some(offset) {
+        if self.down == Some(offset) {
             return Err(Broken);
         }
         let start = offset as usize;
@@ -70,7 +72,7 @@ impl NorFlash for Memory {
 fn memory() -> Memory {
     Memory {
         bytes: [0xff; 192],
-        torn: None,
+        down: None,
         worn: None,
         fails: false,
     }
@@ -84,7 +86,7 @@ fn shape() -> Shape {
 fn values_are_kept() {
     let address = Address::new(7).unwrap();
     let driver = NorDriver::new(memory(), 48, shape(), plain).unwrap();
-    let mut store = format(driver, shape()).unwrap();
+    let mut store = format(driver).unwrap();
     for value in 0..9 {
         assert!(store.write(address, value).is_ok());
     }
@@ -92,7 +94,7 @@ fn values_are_kept() {
     assert!(memory.bytes[..48].iter().all(|byte| *byte == 0xff));
     assert!(memory.bytes[144..].iter().all(|byte| *byte == 0xff));
     let driver = NorDriver::new(memory, 48, shape(), plain).unwrap();
-    let store = open(driver, shape()).unwrap();
+    let store = open(driver).unwrap();
     assert_eq!(store.read(address), Ok(Some(8)));
 }
 
@@ -110,23 +112,52 @@ fn errors_come_back() {
     let mut part = memory();
     part.worn = Some(4 * 8);
     let driver = NorDriver::new(part, 0, shape(), plain).unwrap();
-    let mut store = format(driver, shape()).unwrap();
+    let mut store = format(driver).unwrap();
     let lost = Err(WriteFault::Driver(Fault::ReadBack));
     assert_eq!(store.write(address, 1), lost);
     let mut part = store.into_driver().into_flash();
     part.worn = None;
-    part.torn = Some(4 * 8);
-    let driver = NorDriver::new(part, 0, shape(), plain).unwrap();
-    let mut store = open(driver, shape()).unwrap();
+    // A word with an ECC error, as a reader of one's own tells it.
+    let torn = |flash: &mut Memory, byte| match byte {
+        32 => Ok(Word::Torn),
+        _ => plain(flash, byte),
+    };
+    let driver = NorDriver::new(part, 0, shape(), torn).unwrap();
+    let mut store = open(driver).unwrap();
     assert_eq!(store.fill(), Ok(1));
     assert_eq!(store.write(address, 2), Ok(Written::Appended));
     let mut part = store.into_driver().into_flash();
     part.fails = true;
-    let driver = NorDriver::new(part, 0, shape(), plain).unwrap();
-    let mut store = open(driver, shape()).unwrap();
+    let driver = NorDriver::new(part, 0, shape(), torn).unwrap();
+    let mut store = open(driver).unwrap();
     let failed = Err(WriteFault::Driver(Fault::Flash(Broken)));
     assert_eq!(store.write(address, 3), failed);
     let driver = NorDriver::new(memory(), 0, shape(), plain).unwrap();
-    let fault = open(driver, shape()).err().unwrap().fault;
+    let fault = open(driver).err().unwrap().fault;
     assert_eq!(fault, OpenFault::Scan(ScanFault::Unformatted));
+}
+
+#[test]
+fn a_read_that_fails_is_no_torn_word() {
+    let address = Address::new(7).unwrap();
+    let driver = NorDriver::new(memory(), 0, shape(), plain).unwrap();
+    let mut store = format(driver).unwrap();
+    assert_eq!(store.write(address, 1), Ok(Written::Appended));
+    let mut part = store.into_driver().into_flash();
+    let bytes = part.bytes;
+    for down in (0..96).step_by(8) {
+        part.down = Some(down);
+        let driver = NorDriver::new(part, 0, shape(), plain).unwrap();
+        part = match start(driver) {
+            Ok(store) => store.into_driver().into_flash(),
+            Err(failed) => {
+                assert_eq!(failed.fault, OpenFault::Driver(Fault::Flash(Broken)));
+                failed.driver.into_flash()
+            }
+        };
+        assert_eq!(part.bytes, bytes);
+    }
+    part.down = None;
+    let driver = NorDriver::new(part, 0, shape(), plain).unwrap();
+    assert_eq!(open(driver).unwrap().read(address), Ok(Some(1)));
 }

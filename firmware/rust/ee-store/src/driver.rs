@@ -1,13 +1,16 @@
 use crate::ee_flash::{Cut, Flash, Shape, Word};
+use crate::error::Broken;
+use core::cell::Cell;
 
 /// How the store reads and writes the flash of a part.
 ///
 /// The flash is two sets of as many pages, numbered from 0, those of the first set first; the words of a page are
-/// numbered from 0 too. A [`Shape`] says how many pages a set and how many words a page has, and the store asks for
-/// no page and no word beyond it.
+/// numbered from 0 too. [`shape`](Driver::shape) says how many pages a set and how many words a page has. No page and no
+/// word beyond that is asked for, whatever this driver answers.
 ///
 /// What the store's promises rest on:
 ///
+/// - The shape stays as it is.
 /// - A word reads the same until it is programmed or its page is erased, and then reads as it was left.
 /// - A call of `program` that is `Ok` leaves the word as given and all else as it was; one of `erase` that is `Ok`
 ///   leaves each word of the page erased and all else as it was.
@@ -17,12 +20,20 @@ use crate::ee_flash::{Cut, Flash, Shape, Word};
 ///
 /// `&mut D` is a driver too, so a driver can be lent.
 pub trait Driver {
-    /// Why a word could not be programmed or a page not be erased.
+    /// Why a word could not be read or programmed, or a page not be erased.
     type Error;
+
+    /// The size of the flash. It is asked for once, when a store is opened.
+    fn shape(&self) -> Shape;
 
     /// What a word of a page holds. A word with an uncorrectable ECC error is [`Word::Torn`]; one that reads as all
     /// ones counts as erased.
-    fn word(&self, page: usize, at: usize) -> Word;
+    ///
+    /// # Errors
+    ///
+    /// The read itself failed, as on a bus that isn't up, and nothing is known of the word. No step follows in the call of
+    /// the store: it ends with this error, and the store is off then, as after an error of `program`.
+    fn word(&self, page: usize, at: usize) -> Result<Word, Self::Error>;
 
     /// Programs a word, which reads as erased, with a value that is not all ones.
     ///
@@ -38,12 +49,22 @@ pub trait Driver {
     ///
     /// As of `program`.
     fn erase(&mut self, page: usize) -> Result<(), Self::Error>;
+
+    /// Whether a word that is erased stays so where power fails in an erase of its page: so it is where cells go one way.
+    /// Then [`start`](crate::start) makes the first store only over what a first start itself may have left.
+    fn keeps_erased(&self) -> bool {
+        false
+    }
 }
 
 impl<D: Driver> Driver for &mut D {
     type Error = D::Error;
 
-    fn word(&self, page: usize, at: usize) -> Word {
+    fn shape(&self) -> Shape {
+        (**self).shape()
+    }
+
+    fn word(&self, page: usize, at: usize) -> Result<Word, D::Error> {
         (**self).word(page, at)
     }
 
@@ -53,6 +74,10 @@ impl<D: Driver> Driver for &mut D {
 
     fn erase(&mut self, page: usize) -> Result<(), D::Error> {
         (**self).erase(page)
+    }
+
+    fn keeps_erased(&self) -> bool {
+        (**self).keeps_erased()
     }
 }
 
@@ -66,29 +91,77 @@ impl From<u64> for Word {
     }
 }
 
-/// The device that the proved sources work on: a driver, which is on until it fails.
+/// The device that the proved sources work on: a driver, which is on until it fails or a place outside it is asked for.
 ///
-/// The store asks it for no wear and no cuts, so it counts none.
+/// A part that is off is asked for nothing. What the proved code answers after that counts for nothing either: each call
+/// of the store looks at [`broken`](Part::broken) before it answers.
 pub(crate) struct Part<D: Driver> {
-    pub(crate) driver: D,
+    driver: D,
     shape: Shape,
-    pub(crate) error: Option<D::Error>,
+    /// How many pages may be asked for: those of both sets, and none once the part is off.
+    pages: Cell<u16>,
+    error: Cell<Option<D::Error>>,
 }
 
 impl<D: Driver> Part<D> {
     /// A part that is on.
-    pub(crate) fn new(driver: D, shape: Shape) -> Part<D> {
+    pub(crate) fn new(driver: D) -> Part<D> {
+        let part = Part::off(driver);
+        part.turn_on();
+        part
+    }
+
+    /// A part that is off.
+    pub(crate) fn off(driver: D) -> Part<D> {
         Part {
+            shape: driver.shape(),
             driver,
-            shape,
-            error: None,
+            pages: Cell::new(0),
+            error: Cell::new(None),
         }
     }
 
-    // A step ends: with an error the part is off from here on.
+    /// The driver.
+    pub(crate) fn driver(&self) -> &D {
+        &self.driver
+    }
+
+    /// The driver, as it is.
+    pub(crate) fn into_driver(self) -> D {
+        self.driver
+    }
+
+    /// Why the part went off, asked once after a call that it was on before. `None` if it is on.
+    pub(crate) fn broken(&self) -> Option<Broken<D::Error>> {
+        if self.is_on() {
+            return None;
+        }
+        Some(self.error.take().map_or(Broken::Unsteady, Broken::Driver))
+    }
+
+    fn turn_on(&self) {
+        self.pages.set(2 * self.shape.pages() as u16);
+    }
+
+    // Whether there is such a place on a part that is on. Where it is outside the part goes off.
+    fn has(&self, page: usize, at: usize) -> bool {
+        let has = page < usize::from(self.pages.get()) && at < self.shape.words();
+        if !has {
+            self.pages.set(0);
+        }
+        has
+    }
+
+    // The driver failed: the part is off from here on.
+    fn fail(&self, error: D::Error) {
+        self.pages.set(0);
+        self.error.set(Some(error));
+    }
+
+    // A step ends.
     fn end(&mut self, step: Result<(), D::Error>) -> Result<(), Cut> {
         step.map_err(|error| {
-            self.error = Some(error);
+            self.fail(error);
             Cut
         })
     }
@@ -99,25 +172,33 @@ impl<D: Driver> Flash for Part<D> {
         self.shape
     }
 
+    // A count at its end, to which no erase adds: nothing asks for one.
     fn wear(&self, _page: usize) -> u64 {
-        0
+        u64::MAX
     }
 
     fn is_on(&self) -> bool {
-        self.error.is_none()
+        self.pages.get() != 0
     }
 
     fn word(&self, page: usize, at: usize) -> Word {
+        if !self.has(page, at) {
+            return Word::Torn;
+        }
         match self.driver.word(page, at) {
-            Word::Held(number) => Word::from(number),
-            word => word,
+            Ok(Word::Held(number)) => Word::from(number),
+            Ok(word) => word,
+            Err(error) => {
+                self.fail(error);
+                Word::Torn
+            }
         }
     }
 
     // Steps stay out of the calls that make them: a call costs nothing beside a step of flash, and there are several.
     #[inline(never)]
     fn program(&mut self, page: usize, at: usize, value: u64) -> Result<(), Cut> {
-        if self.error.is_some() {
+        if !self.has(page, at) {
             return Err(Cut);
         }
         let step = self.driver.program(page, at, value);
@@ -126,22 +207,25 @@ impl<D: Driver> Flash for Part<D> {
 
     #[inline(never)]
     fn erase(&mut self, page: usize) -> Result<(), Cut> {
-        if self.error.is_some() {
+        if !self.has(page, 0) {
             return Err(Cut);
         }
         let step = self.driver.erase(page);
         self.end(step)
     }
 
+    // As of `wear`: a cut adds nothing.
     fn cuts(&self) -> u64 {
-        0
+        u64::MAX
     }
 
+    // A driver may fail in any step.
     fn cuts_left(&self) -> Option<u64> {
-        Some(0)
+        None
     }
 
     fn power_on(&mut self) {
-        self.error = None;
+        self.error.set(None);
+        self.turn_on();
     }
 }

@@ -7,13 +7,42 @@ use core::fmt;
 #[derive(Clone, Copy, Debug, PartialEq, Eq)]
 pub struct Off;
 
+/// Why a call that only reads has no answer.
+#[derive(Clone, Copy, Debug, PartialEq, Eq)]
+pub enum ReadFault<E> {
+    /// The store is off.
+    Off,
+    /// The driver failed in this call. Nothing was written, and the store is off from here on.
+    Driver(E),
+    /// Words changed between two looks, as those of no flash do. Nothing was written, and the store is off from here on.
+    Unsteady,
+}
+
 /// Why a store can't be opened, the first cause that applies.
 #[derive(Clone, Copy, Debug, PartialEq, Eq)]
 pub enum OpenFault<E> {
     /// The flash holds no store. Nothing was written.
     Scan(ScanFault),
-    /// The driver failed in setting a mark. The variables are as before.
+    /// The driver failed, in reading a word or in setting a mark. The variables are as before.
     Driver(E),
+    /// Words changed between two looks, as those of no flash do. The variables are as before, if there are any.
+    Unsteady,
+}
+
+/// Why the numbers of a flash are no words, the first cause that applies. Nothing was written.
+#[derive(Clone, Copy, Debug, PartialEq, Eq)]
+pub enum PairsFault<E> {
+    /// The flash held something else than a store.
+    Low(LowPair),
+    /// The driver failed in reading a number.
+    Driver(E),
+}
+
+/// Why a call on a part was broken off.
+pub(crate) enum Broken<E> {
+    Driver(E),
+    /// A place outside the part was asked for. By the proofs that happens only where words change between two looks.
+    Unsteady,
 }
 
 /// A store could not be opened or formatted: its driver, and why.
@@ -24,7 +53,8 @@ pub struct Failed<D: Driver> {
     pub fault: OpenFault<D::Error>,
 }
 
-/// Why nothing was written, the first cause that applies. All but `Driver` leave the flash as it was.
+/// Why nothing was written, the first cause that applies. All but `Driver` and `Unsteady` leave the flash as it
+/// was.
 #[derive(Clone, Copy, Debug, PartialEq, Eq)]
 pub enum WriteFault<E> {
     /// The store is off.
@@ -35,9 +65,12 @@ pub enum WriteFault<E> {
     Spent,
     /// The driver failed in this call. The address has its old value or the new one, and no other changed.
     Driver(E),
+    /// Words changed between two looks, as those of no flash do. It is as after `Driver`.
+    Unsteady,
 }
 
-/// Why no value of a list was written, the first cause that applies. All but `Driver` leave the flash as it was.
+/// Why no value of a list was written, the first cause that applies. All but `Driver` and `Unsteady` leave the flash as it
+/// was.
 #[derive(Clone, Copy, Debug, PartialEq, Eq)]
 pub enum WriteAllFault<E> {
     /// The store is off.
@@ -50,9 +83,12 @@ pub enum WriteAllFault<E> {
     Spent,
     /// The driver failed in this call. Every value of the list is there or none, and no other address changed.
     Driver(E),
+    /// Words changed between two looks, as those of no flash do. It is as after `Driver`.
+    Unsteady,
 }
 
-/// Why nothing was forgotten, the first cause that applies. All but `Driver` leave the flash as it was.
+/// Why nothing was forgotten, the first cause that applies. All but `Driver` and `Unsteady` leave the flash as it
+/// was.
 #[derive(Clone, Copy, Debug, PartialEq, Eq)]
 pub enum ForgetFault<E> {
     /// The store is off.
@@ -63,6 +99,8 @@ pub enum ForgetFault<E> {
     Spent,
     /// The driver failed in this call. The address has its value still or has none, and no other changed.
     Driver(E),
+    /// Words changed between two looks, as those of no flash do. It is as after `Driver`.
+    Unsteady,
 }
 
 /// Why no page was erased.
@@ -72,11 +110,42 @@ pub enum CleanFault<E> {
     Off,
     /// The driver failed in this call. The variables are as before.
     Driver(E),
+    /// Words changed between two looks, as those of no flash do. It is as after `Driver`.
+    Unsteady,
 }
 
 const OFF: &str = "the store is off, since its driver failed";
 const SPENT: &str = "every slot is used, and no generation is left";
 const DRIVER: &str = "the driver failed: ";
+const UNSTEADY: &str = "words of the flash changed between two looks";
+
+macro_rules! breaks {
+    ($($fault:ident),*) => {$(
+        impl<E> From<Broken<E>> for $fault<E> {
+            fn from(broken: Broken<E>) -> $fault<E> {
+                match broken {
+                    Broken::Driver(error) => $fault::Driver(error),
+                    Broken::Unsteady => $fault::Unsteady,
+                }
+            }
+        }
+    )*};
+}
+
+impl<E> From<Off> for ReadFault<E> {
+    fn from(_: Off) -> ReadFault<E> {
+        ReadFault::Off
+    }
+}
+
+breaks!(
+    ReadFault,
+    OpenFault,
+    WriteFault,
+    WriteAllFault,
+    ForgetFault,
+    CleanFault
+);
 
 impl<D: Driver> fmt::Debug for Failed<D>
 where
@@ -115,11 +184,31 @@ impl fmt::Display for LowPair {
     }
 }
 
+impl<E: fmt::Display> fmt::Display for PairsFault<E> {
+    fn fmt(&self, f: &mut fmt::Formatter<'_>) -> fmt::Result {
+        match self {
+            PairsFault::Low(low) => low.fmt(f),
+            PairsFault::Driver(error) => write!(f, "{DRIVER}{error}"),
+        }
+    }
+}
+
+impl<E: fmt::Display> fmt::Display for ReadFault<E> {
+    fn fmt(&self, f: &mut fmt::Formatter<'_>) -> fmt::Result {
+        match self {
+            ReadFault::Off => f.write_str(OFF),
+            ReadFault::Driver(error) => write!(f, "{DRIVER}{error}"),
+            ReadFault::Unsteady => f.write_str(UNSTEADY),
+        }
+    }
+}
+
 impl<E: fmt::Display> fmt::Display for OpenFault<E> {
     fn fmt(&self, f: &mut fmt::Formatter<'_>) -> fmt::Result {
         match self {
             OpenFault::Scan(fault) => fault.fmt(f),
             OpenFault::Driver(error) => write!(f, "{DRIVER}{error}"),
+            OpenFault::Unsteady => f.write_str(UNSTEADY),
         }
     }
 }
@@ -140,6 +229,7 @@ impl<E: fmt::Display> fmt::Display for WriteFault<E> {
             WriteFault::Full => f.write_str("as many addresses have a value as there are slots"),
             WriteFault::Spent => f.write_str(SPENT),
             WriteFault::Driver(error) => write!(f, "{DRIVER}{error}"),
+            WriteFault::Unsteady => f.write_str(UNSTEADY),
         }
     }
 }
@@ -156,6 +246,7 @@ impl<E: fmt::Display> fmt::Display for WriteAllFault<E> {
             }
             WriteAllFault::Spent => f.write_str("no generation is left for a move"),
             WriteAllFault::Driver(error) => write!(f, "{DRIVER}{error}"),
+            WriteAllFault::Unsteady => f.write_str(UNSTEADY),
         }
     }
 }
@@ -167,6 +258,7 @@ impl<E: fmt::Display> fmt::Display for ForgetFault<E> {
             ForgetFault::Absent => f.write_str("the address has no value"),
             ForgetFault::Spent => f.write_str(SPENT),
             ForgetFault::Driver(error) => write!(f, "{DRIVER}{error}"),
+            ForgetFault::Unsteady => f.write_str(UNSTEADY),
         }
     }
 }
@@ -176,6 +268,7 @@ impl<E: fmt::Display> fmt::Display for CleanFault<E> {
         match self {
             CleanFault::Off => f.write_str(OFF),
             CleanFault::Driver(error) => write!(f, "{DRIVER}{error}"),
+            CleanFault::Unsteady => f.write_str(UNSTEADY),
         }
     }
 }
@@ -184,8 +277,8 @@ impl<E: fmt::Display> fmt::Display for CleanFault<E> {
 #[allow(clippy::incompatible_msrv)] // The feature says that it takes Rust 1.81.
 mod errors {
     use super::{
-        CleanFault, Driver, Failed, ForgetFault, LowPair, Off, OpenFault, ScanFault, WriteAllFault,
-        WriteFault,
+        CleanFault, Driver, Failed, ForgetFault, LowPair, Off, OpenFault, PairsFault, ReadFault,
+        ScanFault, WriteAllFault, WriteFault,
     };
     use core::error::Error;
     use core::fmt::{Debug, Display};
@@ -193,6 +286,8 @@ mod errors {
     impl Error for Off {}
     impl Error for ScanFault {}
     impl Error for LowPair {}
+    impl<E: Debug + Display> Error for PairsFault<E> {}
+    impl<E: Debug + Display> Error for ReadFault<E> {}
     impl<E: Debug + Display> Error for OpenFault<E> {}
     impl<E: Debug + Display> Error for WriteFault<E> {}
     impl<E: Debug + Display> Error for WriteAllFault<E> {}

@@ -37,7 +37,20 @@ pub use crate::ee_flash::{Shape, Word};
 pub use crate::ee_pages::ScanFault;
 pub use crate::ee_pairs::LowPair;
 pub use driver::Driver;
-pub use error::{CleanFault, Failed, ForgetFault, Off, OpenFault, WriteAllFault, WriteFault};
+pub use error::{
+    CleanFault, Failed, ForgetFault, Off, OpenFault, PairsFault, ReadFault, WriteAllFault,
+    WriteFault,
+};
 pub use numbers::NumberDriver;
 pub use pairs::Pairs;
 pub use store::{format, open, start, Store};
+
+/// What the C library is made over: the proved store on a device of its own, which has to keep the contract of `Flash`.
+#[doc(hidden)]
+pub mod proved {
+    pub use crate::ee_core::{
+        format, open, start, ForgetFault, OpenFault, Store, Variables, WriteAllFault, WriteFault,
+    };
+    pub use crate::ee_flash::{Cut, Flash};
+    pub use crate::ee_pairs::{Nor, Pairs};
+}

@@ -1,14 +1,18 @@
+use crate::ee_flash::Shape;
+
 /// How the store reads and writes a flash that has no error correction: as plain numbers of 64 bits, which
 /// [`Pairs`](crate::Pairs) makes words of.
 ///
 /// The flash is two sets of as many pages, as for a [`Driver`](crate::Driver). A word of its
-/// [`Shape`](crate::Shape) takes two numbers, so a page has twice as many numbers as words; they are numbered from 0.
+/// [`shape`](NumberDriver::shape) takes two numbers, so a page has twice as many numbers as words; they are numbered
+/// from 0. No page and no number beyond that is asked for, whatever this driver answers.
 ///
 /// What the store's promises rest on:
 ///
 /// - Cells go one way: from one to zero while a number is programmed, from zero to one while a page is erased. So where
 ///   power fails in `program`, or it ends in an error, its number alone may have changed, and has every bit of the one
 ///   asked for. Where that happens in `erase`, each number of its page has every bit that it had.
+/// - The shape stays as it is.
 /// - A number reads the same until it is programmed or its page is erased, power cuts included.
 /// - A call of `program` that is `Ok` leaves the number as given and all else as it was; one of `erase` that is `Ok`
 ///   leaves each number of the page all ones and all else as it was.
@@ -18,11 +22,19 @@
 ///
 /// `&mut N` is such a driver too, so one can be lent.
 pub trait NumberDriver {
-    /// Why a number could not be programmed or a page not be erased.
+    /// Why a number could not be read or programmed, or a page not be erased.
     type Error;
 
+    /// The size of the flash, in words of two numbers.
+    fn shape(&self) -> Shape;
+
     /// A number of a page. An erased one is all ones.
-    fn read(&self, page: usize, at: usize) -> u64;
+    ///
+    /// # Errors
+    ///
+    /// The read itself failed, and nothing is known of the number. No step follows in the call of the store: it ends with
+    /// this error, and the store is off then, as after an error of `program`.
+    fn read(&self, page: usize, at: usize) -> Result<u64, Self::Error>;
 
     /// Programs a number, which reads as all ones, with one that is not all ones.
     ///
@@ -43,7 +55,11 @@ pub trait NumberDriver {
 impl<N: NumberDriver> NumberDriver for &mut N {
     type Error = N::Error;
 
-    fn read(&self, page: usize, at: usize) -> u64 {
+    fn shape(&self) -> Shape {
+        (**self).shape()
+    }
+
+    fn read(&self, page: usize, at: usize) -> Result<u64, N::Error> {
         (**self).read(page, at)
     }
 

@@ -1,7 +1,9 @@
 use crate::driver::Driver;
 use crate::ee_flash::{Cut, Flash, Shape, Word};
-use crate::ee_pairs::{self as proved, LowPair, Nor};
+use crate::ee_pairs::{self as proved, Nor};
+use crate::error::PairsFault;
 use crate::numbers::NumberDriver;
+use core::cell::Cell;
 
 /// A driver of words for a flash of numbers: each word is two of them, a value beside its complement.
 ///
@@ -14,16 +16,21 @@ pub struct Pairs<N> {
 }
 
 impl<N: NumberDriver> Pairs<N> {
-    /// The words of a flash that a store wrote, or that is blank. It reads each number once and writes nothing. The
-    /// shape is the one that the store is opened with.
+    /// The words of a flash that a store wrote, or that is blank. It reads each number once and writes nothing.
     ///
     /// # Errors
     ///
-    /// The driver, and the first word whose two numbers sum to less than `u64::MAX`: the flash held something else.
-    pub fn of(driver: N, shape: Shape) -> Result<Pairs<N>, (N, LowPair)> {
-        match proved::Pairs::of(Numbers::on(driver, shape)) {
-            Ok(pairs) => Ok(Pairs::known(pairs.into_nor().driver)),
-            Err((numbers, low)) => Err((numbers.driver, low)),
+    /// The driver, and why: the first word whose two numbers sum to less than `u64::MAX`, so that the flash held
+    /// something else; or a number that could not be read.
+    pub fn of(driver: N) -> Result<Pairs<N>, (N, PairsFault<N::Error>)> {
+        let (numbers, low) = match proved::Pairs::of(Numbers::on(driver)) {
+            Ok(pairs) => (pairs.into_nor(), None),
+            Err((numbers, low)) => (numbers, Some(low)),
+        };
+        match (numbers.error.take(), low) {
+            (Some(error), _) => Err((numbers.driver, PairsFault::Driver(error))),
+            (None, Some(low)) => Err((numbers.driver, PairsFault::Low(low))),
+            (None, None) => Ok(Pairs::known(numbers.driver)),
         }
     }
 
@@ -31,14 +38,15 @@ impl<N: NumberDriver> Pairs<N> {
     ///
     /// # Errors
     ///
-    /// The driver, which failed in an erase, and its error.
-    pub fn wipe(driver: N, shape: Shape) -> Result<Pairs<N>, (N, N::Error)> {
-        match proved::Pairs::wipe(Numbers::on(driver, shape)) {
-            Ok(pairs) => Ok(Pairs::known(pairs.into_nor().driver)),
-            Err((numbers, Cut)) => match numbers.error {
-                Some(error) => Err((numbers.driver, error)),
-                None => unreachable!("only a driver that fails is cut"),
-            },
+    /// The driver, which failed in a read or an erase, and its error.
+    pub fn wipe(driver: N) -> Result<Pairs<N>, (N, N::Error)> {
+        let numbers = match proved::Pairs::wipe(Numbers::on(driver)) {
+            Ok(pairs) => pairs.into_nor(),
+            Err((numbers, Cut)) => numbers,
+        };
+        match numbers.error.take() {
+            Some(error) => Err((numbers.driver, error)),
+            None => Ok(Pairs::known(numbers.driver)),
         }
     }
 
@@ -57,93 +65,97 @@ impl<N: NumberDriver> Pairs<N> {
     pub fn into_driver(self) -> N {
         self.driver
     }
-
-    // Makes a step of words, and gives the error by which it was cut.
-    fn step(
-        &mut self,
-        step: impl FnOnce(&mut Lent<&mut N>) -> Result<(), Cut>,
-    ) -> Result<(), N::Error> {
-        let mut pairs = lent(&mut self.driver);
-        match step(&mut pairs) {
-            Ok(()) => Ok(()),
-            Err(Cut) => match pairs.into_nor().error {
-                Some(error) => Err(error),
-                None => unreachable!("only a driver that fails is cut"),
-            },
-        }
-    }
 }
 
 impl<N: NumberDriver> Driver for Pairs<N> {
     type Error = N::Error;
 
-    fn word(&self, page: usize, at: usize) -> Word {
-        lent(Read(&self.driver)).word(page, at)
+    fn shape(&self) -> Shape {
+        self.driver.shape()
+    }
+
+    fn word(&self, page: usize, at: usize) -> Result<Word, N::Error> {
+        let pairs = lent(Read(&self.driver));
+        let word = pairs.word(page, at);
+        whole(pairs).map(|()| word)
     }
 
     fn program(&mut self, page: usize, at: usize, value: u64) -> Result<(), N::Error> {
-        self.step(|pairs| pairs.program(page, at, value))
+        let mut pairs = lent(&mut self.driver);
+        // The error says what a cut says.
+        let _ = pairs.program(page, at, value);
+        whole(pairs)
     }
 
     fn erase(&mut self, page: usize) -> Result<(), N::Error> {
-        self.step(|pairs| pairs.erase(page))
+        let mut pairs = lent(&mut self.driver);
+        let _ = pairs.erase(page);
+        whole(pairs)
+    }
+
+    fn keeps_erased(&self) -> bool {
+        true
     }
 }
 
 type Lent<N> = proved::Pairs<Numbers<N>>;
 
 // The proved words of a driver for one call. Its flash went through `of` or `wipe`, and by the proofs each step and each
-// cut keeps what they see to; so it is not looked through again. A step doesn't ask for the shape, so it is the largest, by
-// which each page and place that the store asks for is in range.
+// cut keeps what they see to; so it is not looked through again.
 fn lent<N: NumberDriver>(driver: N) -> Lent<N> {
-    proved::Pairs::known(Numbers::on(driver, LARGEST))
+    proved::Pairs::known(Numbers::on(driver))
 }
 
-const LARGEST: Shape = match Shape::new(64, 512) {
-    Some(shape) => shape,
-    None => unreachable!(),
-};
+// How a call on the proved words ended: with the error of their driver, if that failed in it.
+fn whole<N: NumberDriver>(pairs: Lent<N>) -> Result<(), N::Error> {
+    pairs.into_nor().error.take().map_or(Ok(()), Err)
+}
 
-/// A driver that is read, and fails in each step.
+/// A driver that is read. No step is made of it.
 struct Read<'a, N>(&'a N);
 
 impl<N: NumberDriver> NumberDriver for Read<'_, N> {
-    type Error = ();
+    type Error = N::Error;
 
-    fn read(&self, page: usize, at: usize) -> u64 {
+    fn shape(&self) -> Shape {
+        self.0.shape()
+    }
+
+    fn read(&self, page: usize, at: usize) -> Result<u64, N::Error> {
         self.0.read(page, at)
     }
 
-    fn program(&mut self, _page: usize, _at: usize, _number: u64) -> Result<(), ()> {
-        Err(())
+    fn program(&mut self, _page: usize, _at: usize, _number: u64) -> Result<(), N::Error> {
+        Ok(())
     }
 
-    fn erase(&mut self, _page: usize) -> Result<(), ()> {
-        Err(())
+    fn erase(&mut self, _page: usize) -> Result<(), N::Error> {
+        Ok(())
     }
 }
 
-/// The flash of numbers that the proved sources work on: a driver, which is on until it fails. It counts no wear and no
-/// cuts, since nothing asks for them.
+/// The flash of numbers that the proved sources work on: a driver, which is on until it fails, and is asked for nothing
+/// after that. `Pairs` looks at the error before it answers.
 struct Numbers<N: NumberDriver> {
     driver: N,
-    shape: Shape,
-    error: Option<N::Error>,
+    error: Cell<Option<N::Error>>,
 }
 
 impl<N: NumberDriver> Numbers<N> {
-    fn on(driver: N, shape: Shape) -> Numbers<N> {
+    fn on(driver: N) -> Numbers<N> {
         Numbers {
             driver,
-            shape,
-            error: None,
+            error: Cell::new(None),
         }
     }
 
-    // A step ends: with an error the part is off from here on.
-    fn end(&mut self, step: Result<(), N::Error>) -> Result<(), Cut> {
-        step.map_err(|error| {
-            self.error = Some(error);
+    // A step of a flash that is on, or none of one that is off.
+    fn step(&mut self, step: impl FnOnce(&mut N) -> Result<(), N::Error>) -> Result<(), Cut> {
+        if !self.is_on() {
+            return Err(Cut);
+        }
+        step(&mut self.driver).map_err(|error| {
+            self.error.set(Some(error));
             Cut
         })
     }
@@ -151,46 +163,48 @@ impl<N: NumberDriver> Numbers<N> {
 
 impl<N: NumberDriver> Nor for Numbers<N> {
     fn shape(&self) -> Shape {
-        self.shape
+        self.driver.shape()
     }
 
+    // A count at its end, to which no erase adds: nothing asks for one.
     fn wear(&self, _page: usize) -> u64 {
-        0
+        u64::MAX
     }
 
     fn is_on(&self) -> bool {
-        self.error.is_none()
+        let error = self.error.take();
+        let is_on = error.is_none();
+        self.error.set(error);
+        is_on
     }
 
+    // One that could not be read is 0, and counts for nothing.
     fn read(&self, page: usize, at: usize) -> u64 {
-        self.driver.read(page, at)
+        self.driver.read(page, at).unwrap_or_else(|error| {
+            self.error.set(Some(error));
+            0
+        })
     }
 
     fn program(&mut self, page: usize, at: usize, number: u64) -> Result<(), Cut> {
-        if self.error.is_some() {
-            return Err(Cut);
-        }
-        let step = self.driver.program(page, at, number);
-        self.end(step)
+        self.step(|driver| driver.program(page, at, number))
     }
 
     fn erase(&mut self, page: usize) -> Result<(), Cut> {
-        if self.error.is_some() {
-            return Err(Cut);
-        }
-        let step = self.driver.erase(page);
-        self.end(step)
+        self.step(|driver| driver.erase(page))
     }
 
+    // As of `wear`: a cut adds nothing.
     fn cuts(&self) -> u64 {
-        0
+        u64::MAX
     }
 
+    // A driver may fail in any step.
     fn cuts_left(&self) -> Option<u64> {
-        Some(0)
+        None
     }
 
     fn power_on(&mut self) {
-        self.error = None;
+        self.error.set(None);
     }
 }

@@ -1,9 +1,11 @@
 use crate::driver::{Driver, Part};
 use crate::ee_codec::Address;
 use crate::ee_core::{self as proved, Put, Variables, Written};
-use crate::ee_flash::Shape;
-use crate::error::{CleanFault, Failed, ForgetFault, Off, OpenFault, WriteAllFault, WriteFault};
-use core::mem::replace;
+use crate::ee_flash::{Flash, Word};
+use crate::ee_pages::{is_blank, Layout, Side};
+use crate::error::{
+    Broken, CleanFault, Failed, ForgetFault, Off, OpenFault, ReadFault, WriteAllFault, WriteFault,
+};
 
 /// Variables of 32 bits, each with an address of 1 to 65534, kept in the flash behind a driver.
 ///
@@ -11,16 +13,12 @@ use core::mem::replace;
 /// again, a change that was answered is there, one that was not is there as a whole or not at all, and nothing else
 /// changed.
 ///
-/// When its driver fails, the store is off: each call answers so, until the driver is taken and opened again.
+/// When its driver fails, in a step or in a read, the store is off: each call answers so, until the driver is taken and
+/// opened again.
+///
+/// It may go to another thread, but no two share it: a call that only reads notes where its driver failed.
 pub struct Store<D: Driver> {
-    state: State<D>,
-}
-
-enum State<D: Driver> {
-    On(proved::Store<Part<D>>),
-    Off(D),
-    /// While a store that failed is taken apart.
-    Between,
+    store: proved::Store<Part<D>>,
 }
 
 /// Opens the store that the flash holds. If power failed in a transfer, or just behind it, the marks are set that were
@@ -29,114 +27,123 @@ enum State<D: Driver> {
 /// # Errors
 ///
 /// The driver, and why: a flash that holds no store, or a driver that failed.
-pub fn open<D: Driver>(driver: D, shape: Shape) -> Result<Store<D>, Failed<D>> {
-    opened(proved::open(Part::new(driver, shape)))
+pub fn open<D: Driver>(driver: D) -> Result<Store<D>, Failed<D>> {
+    opened(proved::open(Part::new(driver)))
 }
 
 /// Opens the store that the flash holds, as [`open`] does, or makes the first one: where no set is live and no word behind
 /// the header of a page can be read. It is the call to make at each start: a first start in which power failed is made
 /// again, and no stored value is erased.
 ///
+/// Over [`Pairs`](crate::Pairs), whose numbers a cut leaves with every bit that they had, it makes the first store only
+/// where all numbers are all ones but those of the first two words of page 0. A first start that was cut leaves no others.
+///
 /// # Errors
 ///
 /// The driver, and why: a flash that holds something else than a store, or a driver that failed.
-pub fn start<D: Driver>(driver: D, shape: Shape) -> Result<Store<D>, Failed<D>> {
-    opened(proved::start(Part::new(driver, shape)))
+pub fn start<D: Driver>(driver: D) -> Result<Store<D>, Failed<D>> {
+    let part = Part::new(driver);
+    if part.driver().keeps_erased() && holds_more(&part) {
+        return opened(proved::open(part));
+    }
+    opened(proved::start(part))
+}
+
+// Whether a word is written that a first start doesn't program: any but the first two of page 0. Where erased words stay so
+// in a cut erase, a first start that was cut leaves no other.
+fn holds_more<F: Flash>(flash: &F) -> bool {
+    let shape = flash.shape();
+    (2..shape.words()).any(|at| flash.word(0, at) != Word::Erased)
+        || (1..2 * shape.pages()).any(|page| !is_blank(flash, page))
 }
 
 /// Makes a store with nothing in it, whatever the flash held: each page that is not blank is erased.
 ///
+/// Where power fails in it on a flash that held values, [`start`] and [`open`] may refuse what is left, or open a store with
+/// a part of those values, or with older ones. Format again.
+///
 /// # Errors
 ///
 /// The driver, which failed. Format again.
-pub fn format<D: Driver>(driver: D, shape: Shape) -> Result<Store<D>, Failed<D>> {
-    match proved::format(Part::new(driver, shape)) {
-        Ok(store) => Ok(Store::on(store)),
-        Err((part, _)) => Err(failed(part)),
-    }
+pub fn format<D: Driver>(driver: D) -> Result<Store<D>, Failed<D>> {
+    let answer = proved::format(Part::new(driver));
+    opened(answer.map_err(|(part, _)| (part, proved::OpenFault::Cut)))
 }
 
 type Opened<D> = Result<proved::Store<Part<D>>, (Part<D>, proved::OpenFault)>;
 
 fn opened<D: Driver>(answer: Opened<D>) -> Result<Store<D>, Failed<D>> {
-    match answer {
-        Ok(store) => Ok(Store::on(store)),
-        Err((part, proved::OpenFault::Scan(fault))) => Err(Failed {
-            driver: part.driver,
-            fault: OpenFault::Scan(fault),
-        }),
-        Err((part, proved::OpenFault::Cut)) => Err(failed(part)),
-    }
-}
-
-// The driver of a part that was cut, which is one whose driver failed.
-fn failed<D: Driver>(part: Part<D>) -> Failed<D> {
-    match part.error {
-        Some(error) => Failed {
-            driver: part.driver,
-            fault: OpenFault::Driver(error),
-        },
-        None => unreachable!("only a driver that fails is cut"),
-    }
+    let (part, fault) = match answer {
+        Ok(store) if store.flash().is_on() => return Ok(Store { store }),
+        Ok(store) => (store.into_flash(), proved::OpenFault::Cut),
+        Err(failed) => failed,
+    };
+    let fault = match (part.broken(), fault) {
+        (Some(broken), _) => broken.into(),
+        (None, proved::OpenFault::Scan(fault)) => OpenFault::Scan(fault),
+        (None, proved::OpenFault::Cut) => OpenFault::Unsteady,
+    };
+    Err(Failed {
+        driver: part.into_driver(),
+        fault,
+    })
 }
 
 impl<D: Driver> Store<D> {
     /// A store that is off, as one is whose driver failed.
     pub fn off(driver: D) -> Store<D> {
+        // Nothing looks at the layout of a store that is off.
+        let layout = Layout {
+            side: Side::First,
+            generation: 0,
+            fill: 0,
+            current: 0,
+        };
         Store {
-            state: State::Off(driver),
-        }
-    }
-
-    fn on(store: proved::Store<Part<D>>) -> Store<D> {
-        Store {
-            state: State::On(store),
-        }
-    }
-
-    // The store, while it is on.
-    fn running(&self) -> Result<&proved::Store<Part<D>>, Off> {
-        match &self.state {
-            State::On(store) => Ok(store),
-            _ => Err(Off),
-        }
-    }
-
-    // A call was cut: takes the store apart, and gives the error of the driver.
-    #[cold]
-    #[inline(never)]
-    fn cut(&mut self) -> Option<D::Error> {
-        match replace(&mut self.state, State::Between) {
-            State::On(store) => {
-                let part = store.into_flash();
-                self.state = State::Off(part.driver);
-                part.error
-            }
-            other => {
-                self.state = other;
-                None
-            }
+            store: proved::Store::of(Part::off(driver), layout),
         }
     }
 
     /// The driver, as it is.
     pub fn into_driver(self) -> D {
-        match self.state {
-            State::On(store) => store.into_flash().driver,
-            State::Off(driver) => driver,
-            State::Between => unreachable!("no call ends in between"),
+        self.store.into_flash().into_driver()
+    }
+
+    // The store, while it is on.
+    fn running(&self) -> Result<&proved::Store<Part<D>>, Off> {
+        match self.store.is_on() {
+            true => Ok(&self.store),
+            false => Err(Off),
         }
+    }
+
+    // The answer of a call that began on a store that is on: the driver's error where that failed in it, since nothing that
+    // the proved code says then counts.
+    fn whole<T, F: From<Broken<D::Error>>>(&self, answer: Result<T, F>) -> Result<T, F> {
+        match self.store.flash().broken() {
+            None => answer,
+            Some(broken) => Err(broken.into()),
+        }
+    }
+
+    // What a look at the store, while it is on, says.
+    fn looked<T>(
+        &self,
+        look: impl FnOnce(&proved::Store<Part<D>>) -> T,
+    ) -> Result<T, ReadFault<D::Error>> {
+        let store = self.running()?;
+        self.whole(Ok(look(store)))
     }
 
     /// The value of an address, `None` if it has none.
     ///
     /// # Errors
     ///
-    /// The store is off.
-    pub fn read(&self, address: Address) -> Result<Option<u32>, Off> {
-        match self.running()?.read(address) {
-            Ok(value) => Ok(value),
-            Err(proved::Off) => Err(Off),
+    /// The first [`ReadFault`] that applies.
+    pub fn read(&self, address: Address) -> Result<Option<u32>, ReadFault<D::Error>> {
+        match self.store.read(address) {
+            Ok(value) => self.whole(Ok(value)),
+            Err(proved::Off) => Err(ReadFault::Off),
         }
     }
 
@@ -147,19 +154,15 @@ impl<D: Driver> Store<D> {
     ///
     /// The first [`WriteFault`] that applies.
     pub fn write(&mut self, address: Address, value: u32) -> Result<Written, WriteFault<D::Error>> {
-        let State::On(store) = &mut self.state else {
-            return Err(WriteFault::Off);
-        };
-        match store.write(address, value) {
+        let answer = match self.store.write(address, value) {
             Ok(written) => Ok(written),
-            Err(proved::WriteFault::Off) => Err(WriteFault::Off),
+            Err(proved::WriteFault::Off) => return Err(WriteFault::Off),
             // This store keeps no index, and never says `Memory`.
             Err(proved::WriteFault::Full | proved::WriteFault::Memory) => Err(WriteFault::Full),
             Err(proved::WriteFault::Spent) => Err(WriteFault::Spent),
-            Err(proved::WriteFault::Cut) => {
-                Err(self.cut().map_or(WriteFault::Off, WriteFault::Driver))
-            }
-        }
+            Err(proved::WriteFault::Cut) => Err(WriteFault::Unsteady),
+        };
+        self.whole(answer)
     }
 
     /// Writes these values at once: if power fails in this call too, all of them are there afterwards or none. A list of
@@ -170,22 +173,18 @@ impl<D: Driver> Store<D> {
     ///
     /// The first [`WriteAllFault`] that applies.
     pub fn write_all(&mut self, values: &[Put]) -> Result<Written, WriteAllFault<D::Error>> {
-        let State::On(store) = &mut self.state else {
-            return Err(WriteAllFault::Off);
-        };
-        match store.write_all(values) {
+        let answer = match self.store.write_all(values) {
             Ok(written) => Ok(written),
-            Err(proved::WriteAllFault::Off) => Err(WriteAllFault::Off),
+            Err(proved::WriteAllFault::Off) => return Err(WriteAllFault::Off),
             Err(proved::WriteAllFault::Twice(place)) => Err(WriteAllFault::Twice(place)),
             // This store keeps no index, and never says `Memory`.
             Err(proved::WriteAllFault::Full | proved::WriteAllFault::Memory) => {
                 Err(WriteAllFault::Full)
             }
             Err(proved::WriteAllFault::Spent) => Err(WriteAllFault::Spent),
-            Err(proved::WriteAllFault::Cut) => {
-                Err(self.cut().map_or(WriteAllFault::Off, WriteAllFault::Driver))
-            }
-        }
+            Err(proved::WriteAllFault::Cut) => Err(WriteAllFault::Unsteady),
+        };
+        self.whole(answer)
     }
 
     /// Takes the value of an address away, as a write does.
@@ -194,18 +193,14 @@ impl<D: Driver> Store<D> {
     ///
     /// The first [`ForgetFault`] that applies.
     pub fn forget(&mut self, address: Address) -> Result<Written, ForgetFault<D::Error>> {
-        let State::On(store) = &mut self.state else {
-            return Err(ForgetFault::Off);
-        };
-        match store.forget(address) {
+        let answer = match self.store.forget(address) {
             Ok(written) => Ok(written),
-            Err(proved::ForgetFault::Off) => Err(ForgetFault::Off),
+            Err(proved::ForgetFault::Off) => return Err(ForgetFault::Off),
             Err(proved::ForgetFault::Absent) => Err(ForgetFault::Absent),
             Err(proved::ForgetFault::Spent) => Err(ForgetFault::Spent),
-            Err(proved::ForgetFault::Cut) => {
-                Err(self.cut().map_or(ForgetFault::Off, ForgetFault::Driver))
-            }
-        }
+            Err(proved::ForgetFault::Cut) => Err(ForgetFault::Unsteady),
+        };
+        self.whole(answer)
     }
 
     /// Erases one page that waits to be erased, `false` if there is none. Called when there is time for it, it keeps
@@ -215,25 +210,21 @@ impl<D: Driver> Store<D> {
     ///
     /// The store is off, or the driver failed.
     pub fn clean_step(&mut self) -> Result<bool, CleanFault<D::Error>> {
-        let State::On(store) = &mut self.state else {
-            return Err(CleanFault::Off);
-        };
-        match store.clean_step() {
+        let answer = match self.store.clean_step() {
             Ok(erased) => Ok(erased),
-            Err(proved::WriteFault::Cut) => {
-                Err(self.cut().map_or(CleanFault::Off, CleanFault::Driver))
-            }
-            Err(_) => Err(CleanFault::Off),
-        }
+            Err(proved::WriteFault::Off) => return Err(CleanFault::Off),
+            Err(_) => Err(CleanFault::Unsteady),
+        };
+        self.whole(answer)
     }
 
     /// How many pages wait to be erased, 0 to 64.
     ///
     /// # Errors
     ///
-    /// The store is off.
-    pub fn pending(&self) -> Result<usize, Off> {
-        Ok(self.running()?.pending())
+    /// The first [`ReadFault`] that applies.
+    pub fn pending(&self) -> Result<usize, ReadFault<D::Error>> {
+        self.looked(|store| store.pending())
     }
 
     /// The slots of a set, 1 to 32512: as many changes as it takes, and as many addresses can have a value.
@@ -258,9 +249,9 @@ impl<D: Driver> Store<D> {
     ///
     /// # Errors
     ///
-    /// The store is off.
-    pub fn torn_slots(&self) -> Result<usize, Off> {
-        Ok(self.running()?.torn_slots())
+    /// The first [`ReadFault`] that applies.
+    pub fn torn_slots(&self) -> Result<usize, ReadFault<D::Error>> {
+        self.looked(|store| store.torn_slots())
     }
 
     /// The generation of the live set, 1 to 4294967294: one more with each transfer.
@@ -276,9 +267,9 @@ impl<D: Driver> Store<D> {
     ///
     /// # Errors
     ///
-    /// The store is off.
-    pub fn live_count(&self) -> Result<usize, Off> {
-        Ok(self.running()?.live_count())
+    /// The first [`ReadFault`] that applies.
+    pub fn live_count(&self) -> Result<usize, ReadFault<D::Error>> {
+        self.looked(|store| store.live_count())
     }
 
     /// The next address above `after`, or of all if `after` is `None`, that has a value, with the value. `None` if there
@@ -286,8 +277,11 @@ impl<D: Driver> Store<D> {
     ///
     /// # Errors
     ///
-    /// The store is off.
-    pub fn next_live(&self, after: Option<Address>) -> Result<Option<(Address, u32)>, Off> {
-        Ok(self.running()?.next_live(after))
+    /// The first [`ReadFault`] that applies.
+    pub fn next_live(
+        &self,
+        after: Option<Address>,
+    ) -> Result<Option<(Address, u32)>, ReadFault<D::Error>> {
+        self.looked(|store| store.next_live(after))
     }
 }

@@ -2,7 +2,7 @@
 //! or not at all.
 
 use ee_store::{
-    format, open, Address, Driver, Off, Put, Shape, Store, Word, WriteAllFault, Written,
+    format, open, Address, Driver, Put, ReadFault, Shape, Store, Word, WriteAllFault, Written,
 };
 use std::collections::BTreeMap;
 
@@ -43,10 +43,6 @@ impl Part {
         }
     }
 
-    fn shape(&self) -> Shape {
-        Shape::new(self.pages.len() / 2, PAGE_WORDS).unwrap()
-    }
-
     /// A step begins: what is left, if it is cut.
     fn begin(&mut self) -> Option<Tear> {
         let (step, tear) = self.cut?;
@@ -68,8 +64,12 @@ fn left(old: Word, new: Word, tear: Tear, at: usize) -> Word {
 impl Driver for Part {
     type Error = PowerCut;
 
-    fn word(&self, page: usize, at: usize) -> Word {
-        self.pages[page][at]
+    fn shape(&self) -> Shape {
+        Shape::new(self.pages.len() / 2, PAGE_WORDS).unwrap()
+    }
+
+    fn word(&self, page: usize, at: usize) -> Result<Word, PowerCut> {
+        Ok(self.pages[page][at])
     }
 
     fn program(&mut self, page: usize, at: usize, value: u64) -> Result<(), PowerCut> {
@@ -110,8 +110,7 @@ fn list(addresses: impl IntoIterator<Item = u16>) -> Vec<Put> {
 }
 
 fn opened(part: Part) -> Store<Part> {
-    let shape = part.shape();
-    open(part, shape).unwrap_or_else(|failed| panic!("{:?}", failed.fault))
+    open(part).unwrap_or_else(|failed| panic!("{:?}", failed.fault))
 }
 
 fn held(store: &Store<Part>) -> Map {
@@ -129,8 +128,7 @@ fn held(store: &Store<Part>) -> Map {
 /// before it.
 fn after(pages: usize, addresses: &[u16]) -> Part {
     let part = Part::blank(pages);
-    let shape = part.shape();
-    let mut store = format(part, shape).unwrap_or_else(|failed| panic!("{:?}", failed.fault));
+    let mut store = format(part).unwrap_or_else(|failed| panic!("{:?}", failed.fault));
     let mut last = 1;
     for (value, number) in addresses.iter().enumerate() {
         if *number == 0 {
@@ -165,7 +163,7 @@ fn write_everywhere(part: &Part, values: &[Put]) {
                 Ok(written) => {
                     assert_eq!(written, Written::Moved);
                     assert_eq!(held(&store), new);
-                    assert_eq!(store.fill(), store.live_count());
+                    assert_eq!(store.fill().ok(), store.live_count().ok());
                     assert!(kept > 0 && made > 0);
                     return;
                 }
@@ -243,7 +241,7 @@ fn short_lists() {
         off.write_all(&[put(1, 5), put(1, 6)]),
         Err(WriteAllFault::Off)
     );
-    assert_eq!(off.read(address(1)), Err(Off));
+    assert_eq!(off.read(address(1)), Err(ReadFault::Off));
 }
 
 #[test]

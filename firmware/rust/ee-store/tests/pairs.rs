@@ -1,8 +1,8 @@
 //! The store on a flash of numbers in memory, whose power is cut in a step.
 
 use ee_store::{
-    format, open, start, Address, Driver, Failed, LowPair, NumberDriver, OpenFault, Pairs, Shape,
-    Store, Word, WriteFault, Written,
+    format, open, start, Address, Driver, Failed, LowPair, NumberDriver, OpenFault, Pairs,
+    PairsFault, Shape, Store, Word, WriteFault, Written,
 };
 
 /// Power was cut in this step.
@@ -38,8 +38,12 @@ impl Part {
 impl NumberDriver for Part {
     type Error = PowerCut;
 
-    fn read(&self, page: usize, at: usize) -> u64 {
-        self.numbers[page][at]
+    fn shape(&self) -> Shape {
+        SHAPE
+    }
+
+    fn read(&self, page: usize, at: usize) -> Result<u64, PowerCut> {
+        Ok(self.numbers[page][at])
     }
 
     fn program(&mut self, page: usize, at: usize, number: u64) -> Result<(), PowerCut> {
@@ -70,14 +74,14 @@ fn address(number: u16) -> Address {
 }
 
 fn pairs(part: Part) -> Pairs<Part> {
-    match Pairs::of(part, SHAPE) {
+    match Pairs::of(part) {
         Ok(pairs) => pairs,
-        Err((_, low)) => panic!("{low}"),
+        Err((_, fault)) => panic!("{fault:?}"),
     }
 }
 
 fn started(part: Part) -> Store<Pairs<Part>> {
-    start(pairs(part), SHAPE).unwrap_or_else(|failed| panic!("{:?}", failed.fault))
+    start(pairs(part)).unwrap_or_else(|failed| panic!("{:?}", failed.fault))
 }
 
 fn part_of(store: Store<Pairs<Part>>) -> Part {
@@ -110,7 +114,7 @@ fn words_of_two_numbers() {
     for (number, check, word) in rows {
         let mut part = Part::new();
         part.numbers[1][10..].copy_from_slice(&[number, check]);
-        assert_eq!(pairs(part).word(1, 5), word);
+        assert_eq!(pairs(part).word(1, 5), Ok(word));
     }
 }
 
@@ -119,9 +123,9 @@ fn the_word_0_is_one_step() {
     let mut pairs = pairs(Part::new());
     assert_eq!(pairs.program(0, 0, 0), Ok(()));
     assert_eq!(pairs.driver().steps, 1);
-    assert_eq!(pairs.word(0, 0), Word::Held(0));
+    assert_eq!(pairs.word(0, 0), Ok(Word::Held(0)));
     assert_eq!(pairs.erase(0), Ok(()));
-    assert_eq!(pairs.word(0, 0), Word::Erased);
+    assert_eq!(pairs.word(0, 0), Ok(Word::Erased));
 }
 
 #[test]
@@ -132,12 +136,12 @@ fn numbers_of_no_store_are_refused_and_wiped() {
             part.numbers[page][2 * word] = 7;
             part.numbers[page][2 * word + 1] = u64::MAX - 8;
             let numbers = part.numbers;
-            let (part, low) = Pairs::of(part, SHAPE).err().unwrap();
-            assert_eq!(low, LowPair { page, word });
+            let (part, low) = Pairs::of(part).err().unwrap();
+            assert_eq!(low, PairsFault::Low(LowPair { page, word }));
             assert_eq!((part.numbers, part.steps), (numbers, 0));
-            let wiped = Pairs::wipe(part, SHAPE).ok().unwrap();
+            let wiped = Pairs::wipe(part).ok().unwrap();
             assert_eq!(wiped.driver().steps, 1);
-            let store = format(wiped, SHAPE).unwrap();
+            let store = format(wiped).unwrap();
             assert_eq!(store.live_count(), Ok(0));
         }
     }
@@ -151,7 +155,7 @@ fn a_page_with_one_number_is_wiped() {
         for at in 0..12 {
             let mut part = Part::new();
             part.numbers[page][at] = 7;
-            let wiped = Pairs::wipe(part, SHAPE).ok().unwrap().into_driver();
+            let wiped = Pairs::wipe(part).ok().unwrap().into_driver();
             assert_eq!((wiped.numbers, wiped.steps), (Part::new().numbers, 1));
         }
     }
@@ -164,8 +168,8 @@ fn the_first_low_pair_is_named() {
         part.numbers[page][at] = 7;
         part.numbers[page][at + 1] = 7;
     }
-    let low = Pairs::of(part, SHAPE).err().unwrap().1;
-    assert_eq!(low, LowPair { page: 0, word: 4 });
+    let low = Pairs::of(part).err().unwrap().1;
+    assert_eq!(low, PairsFault::Low(LowPair { page: 0, word: 4 }));
 }
 
 #[test]
@@ -175,12 +179,12 @@ fn a_wipe_that_is_cut_gives_its_error() {
     for step in 1..=2 {
         part.steps = 0;
         part.cut = Some((step, 1 << 5));
-        let (cut, error) = Pairs::wipe(part.clone(), SHAPE).err().unwrap();
+        let (cut, error) = Pairs::wipe(part.clone()).err().unwrap();
         assert_eq!(error, PowerCut(step));
         assert_eq!(cut.numbers[1][0], if step == 2 { 7 | 1 << 5 } else { 7 });
     }
     part.cut = None;
-    assert_eq!(Pairs::wipe(part, SHAPE).ok().unwrap().driver().steps, 2);
+    assert_eq!(Pairs::wipe(part).ok().unwrap().driver().steps, 2);
 }
 
 #[test]
@@ -213,11 +217,83 @@ fn no_value_is_lost_by_a_cut() {
 fn the_driver_is_opened_again_after_a_cut() {
     let mut part = Part::new();
     part.cut = Some((1, 0xff));
-    let failed: Failed<Pairs<Part>> = start(pairs(part), SHAPE).err().unwrap();
+    let failed: Failed<Pairs<Part>> = start(pairs(part)).err().unwrap();
     assert_eq!(failed.fault, OpenFault::Driver(PowerCut(1)));
-    let mut store = start(failed.driver, SHAPE).unwrap();
+    let mut store = start(failed.driver).unwrap();
     assert_eq!(store.write(address(1), 10), Ok(Written::Appended));
     let mut part = part_of(store);
-    let store = open(Pairs::known(&mut part), SHAPE).unwrap();
+    let store = open(Pairs::known(&mut part)).unwrap();
     assert_eq!(store.read(address(1)), Ok(Some(10)));
+}
+
+/// Whether a start refuses this flash and writes nothing.
+fn is_refused(numbers: [[u64; 12]; 2]) -> bool {
+    let part = Part {
+        numbers,
+        ..Part::new()
+    };
+    match Pairs::of(part) {
+        Err((part, _)) => part.steps == 0,
+        Ok(pairs) => match start(pairs) {
+            Err(failed) => failed.driver.driver().steps == 0,
+            Ok(_) => false,
+        },
+    }
+}
+
+#[test]
+fn a_start_takes_no_data_for_a_first_start() {
+    // Numbers that look random, of which each has the top bit: no two sum to less than all ones.
+    let mut dice = 88_172_645_463_325_252u64;
+    for _ in 0..2000 {
+        let mut numbers = [[0; 12]; 2];
+        for number in numbers.iter_mut().flatten() {
+            dice ^= dice << 13;
+            dice ^= dice >> 7;
+            dice ^= dice << 17;
+            *number = dice.wrapping_mul(0x9e37_79b9_7f4a_7c15) | 1 << 63;
+        }
+        assert!(is_refused(numbers));
+    }
+    // A store of words, each with a great value, as plain numbers.
+    for values in 1..9 {
+        let mut numbers = [[u64::MAX; 12]; 2];
+        numbers[0][0] = 0xaaaa_aaaa_0000_0001;
+        numbers[0][1] = 0xaaaa_aaaa_aaaa_aaaa;
+        for slot in 0..values {
+            numbers[0][4 + slot] = 0xffff_ff00_0000_0001 + slot as u64;
+        }
+        assert!(is_refused(numbers), "{values} values");
+    }
+    // One number anywhere but in the first two words of page 0.
+    for (page, at) in (0..24).map(|n| (n / 12, n % 12)) {
+        let mut numbers = [[u64::MAX; 12]; 2];
+        numbers[page][at] = 1 << 63;
+        assert_eq!(is_refused(numbers), page > 0 || at > 3);
+    }
+}
+
+#[test]
+fn a_first_start_that_was_cut_is_made_again() {
+    for bits in CUTS {
+        for steps in 1..6 * 6 * 6 {
+            let mut part = Part::new();
+            // Three starts in turn, each cut in one of its first five steps or in none.
+            for step in [steps % 6, steps / 6 % 6, steps / 36] {
+                part.steps = 0;
+                part.cut = (step > 0).then_some((step, bits));
+                part = match start(pairs(part)) {
+                    Ok(store) => part_of(store),
+                    Err(failed) => {
+                        assert_eq!(failed.fault, OpenFault::Driver(PowerCut(step)));
+                        failed.driver.into_driver()
+                    }
+                };
+            }
+            part.cut = None;
+            let mut store = started(part);
+            assert_eq!(store.live_count(), Ok(0));
+            assert_eq!(store.write(address(1), 10), Ok(Written::Appended));
+        }
+    }
 }

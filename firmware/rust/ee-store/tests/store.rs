@@ -1,9 +1,10 @@
 //! The store by its methods, over a part in memory that can be told to fail in a step.
 
 use ee_store::{
-    format, open, start, Address, CleanFault, Driver, ForgetFault, Off, OpenFault, ScanFault,
-    Shape, Store, Word, WriteFault, Written,
+    format, open, start, Address, CleanFault, Driver, ForgetFault, Off, OpenFault, Put, ReadFault,
+    ScanFault, Shape, Store, Word, WriteAllFault, WriteFault, Written,
 };
+use std::cell::Cell;
 use std::fmt;
 
 /// What the part says when it fails, with the step that failed.
@@ -47,8 +48,12 @@ impl Part {
 impl Driver for Part {
     type Error = Broken;
 
-    fn word(&self, page: usize, at: usize) -> Word {
-        self.words[page][at]
+    fn shape(&self) -> Shape {
+        SHAPE
+    }
+
+    fn word(&self, page: usize, at: usize) -> Result<Word, Broken> {
+        Ok(self.words[page][at])
     }
 
     fn program(&mut self, page: usize, at: usize, value: u64) -> Result<(), Broken> {
@@ -73,17 +78,13 @@ const SHAPE: Shape = match Shape::new(1, 6) {
     None => panic!("1 to 64 pages, 5 to 512 words"),
 };
 
-fn shape() -> Shape {
-    SHAPE
-}
-
 fn address(number: u16) -> Address {
     Address::new(number).unwrap()
 }
 
 /// The store with 1=11, no slot free and nothing pending.
 fn full() -> Store<Part> {
-    let mut store = format(Part::new(), shape()).unwrap();
+    let mut store = format(Part::new()).unwrap();
     assert_eq!(store.write(address(1), 10), Ok(Written::Appended));
     assert_eq!(store.write(address(1), 11), Ok(Written::Appended));
     store
@@ -94,7 +95,7 @@ fn failing(store: Store<Part>, step: u32) -> Store<Part> {
     let mut part = store.into_driver();
     part.steps = 0;
     part.fails_in = Some(step);
-    open(part, shape()).unwrap()
+    open(part).unwrap()
 }
 
 #[test]
@@ -126,7 +127,7 @@ fn refusals() {
 
 #[test]
 fn a_forgotten_address_is_there_again() {
-    let mut store = format(Part::new(), shape()).unwrap();
+    let mut store = format(Part::new()).unwrap();
     assert_eq!(store.write(address(7), 1), Ok(Written::Appended));
     assert_eq!(store.forget(address(7)), Ok(Written::Appended));
     assert_eq!(store.read(address(7)), Ok(None));
@@ -143,9 +144,10 @@ fn the_error_of_the_driver_comes_back() {
         assert_eq!(store.write(address(2), 5), Err(WriteFault::Off));
         assert_eq!(store.forget(address(1)), Err(ForgetFault::Off));
         assert_eq!(store.clean_step(), Err(CleanFault::Off));
-        assert_eq!(store.read(address(1)), Err(Off));
-        assert_eq!((store.fill(), store.pending()), (Err(Off), Err(Off)));
-        let store = open(store.into_driver(), shape()).unwrap();
+        assert_eq!(store.read(address(1)), Err(ReadFault::Off));
+        assert_eq!(store.fill(), Err(Off));
+        assert_eq!(store.pending(), Err(ReadFault::Off));
+        let store = open(store.into_driver()).unwrap();
         assert_eq!(store.read(address(1)), Ok(Some(11)));
         // The fourth step commits the move, and a torn mark does not.
         assert_eq!(store.read(address(2)), Ok(None));
@@ -157,7 +159,7 @@ fn a_move_that_failed_behind_its_commit_is_made() {
     let mut store = failing(full(), 5);
     let error = Broken { step: 5 };
     assert_eq!(store.write(address(2), 5), Err(WriteFault::Driver(error)));
-    let store = open(store.into_driver(), shape()).unwrap();
+    let store = open(store.into_driver()).unwrap();
     assert_eq!(store.read(address(2)), Ok(Some(5)));
 }
 
@@ -166,29 +168,29 @@ fn errors_of_the_other_calls() {
     let error = Broken { step: 1 };
     let mut store = failing(full(), 1);
     assert_eq!(store.forget(address(1)), Err(ForgetFault::Driver(error)));
-    let mut store = open(store.into_driver(), shape()).unwrap();
+    let mut store = open(store.into_driver()).unwrap();
     assert_eq!(store.write(address(2), 5), Ok(Written::Moved));
     let mut store = failing(store, 1);
     assert_eq!(store.clean_step(), Err(CleanFault::Driver(error)));
 
     let mut part = Part::new();
     part.fails_in = Some(2);
-    let failed = format(part, shape()).err().unwrap();
+    let failed = format(part).err().unwrap();
     assert_eq!(failed.fault, OpenFault::Driver(Broken { step: 2 }));
-    let failed = open(failed.driver, shape()).err().unwrap();
+    let failed = open(failed.driver).err().unwrap();
     assert_eq!(failed.fault, OpenFault::Scan(ScanFault::NoLiveSet));
-    assert!(format(failed.driver, shape()).is_ok());
+    assert!(format(failed.driver).is_ok());
 }
 
 #[test]
 fn a_flash_without_a_store() {
-    let failed = open(Part::new(), shape()).err().unwrap();
+    let failed = open(Part::new()).err().unwrap();
     assert_eq!(failed.fault, OpenFault::Scan(ScanFault::Unformatted));
     assert_eq!(failed.to_string(), "the flash is not formatted");
 
     let mut part = full().into_driver();
     part.words[0][4] = Word::Held(0);
-    let failed = open(part, shape()).err().unwrap();
+    let failed = open(part).err().unwrap();
     assert_eq!(
         failed.fault,
         OpenFault::Scan(ScanFault::Foreign { page: 0, at: 4 })
@@ -202,19 +204,19 @@ fn a_first_start_that_failed_is_made_again() {
     for step in 1..=3 {
         part.steps = 0;
         part.fails_in = Some(step);
-        let Err(failed) = start(part, shape()) else {
+        let Err(failed) = start(part) else {
             panic!("step {step} fails");
         };
         assert_eq!(failed.fault, OpenFault::Driver(Broken { step }));
         part = failed.driver;
-        let refused = open(&mut part, shape()).err().unwrap().fault;
+        let refused = open(&mut part).err().unwrap().fault;
         assert_eq!(refused, OpenFault::Scan(ScanFault::NoLiveSet));
     }
     part.fails_in = None;
-    let mut store = start(part, shape()).unwrap();
+    let mut store = start(part).unwrap();
     assert_eq!((store.fill(), store.live_count()), (Ok(0), Ok(0)));
     assert_eq!(store.write(address(1), 10), Ok(Written::Appended));
-    let store = start(store.into_driver(), shape()).unwrap();
+    let store = start(store.into_driver()).unwrap();
     assert_eq!(store.read(address(1)), Ok(Some(10)));
 }
 
@@ -223,7 +225,7 @@ fn a_start_formats_over_no_word() {
     let mut part = full().into_driver();
     part.words[0][1] = Word::Torn;
     let words = part.words;
-    let failed = start(part, shape()).err().unwrap();
+    let failed = start(part).err().unwrap();
     assert_eq!(failed.fault, OpenFault::Scan(ScanFault::NoLiveSet));
     assert_eq!(failed.driver.words, words);
 }
@@ -235,7 +237,7 @@ fn a_start_formats_over_no_value_wherever_it_stands() {
         let mut part = Part::new();
         part.words[page][at] = value;
         let words = part.words;
-        let failed = start(part, shape()).err().unwrap();
+        let failed = start(part).err().unwrap();
         assert_eq!(failed.fault, OpenFault::Scan(ScanFault::NoLiveSet));
         assert_eq!(failed.driver.words, words);
     }
@@ -248,7 +250,7 @@ fn a_start_formats_over_headers() {
     for at in 0..4 {
         let mut part = Part::new();
         part.words[1][at] = if at == 1 { Word::Torn } else { header };
-        let store = start(part, shape()).unwrap();
+        let store = start(part).unwrap();
         assert_eq!(store.live_count(), Ok(0));
     }
 }
@@ -258,13 +260,13 @@ fn a_start_chooses_no_set_and_takes_no_foreign_word() {
     let mut part = full().into_driver();
     part.words[1] = part.words[0];
     let words = part.words;
-    let failed = start(part, shape()).err().unwrap();
+    let failed = start(part).err().unwrap();
     assert_eq!(failed.fault, OpenFault::Scan(ScanFault::TwoLive));
     assert_eq!(failed.driver.words, words);
     let mut part = full().into_driver();
     part.words[0][4] = Word::Held(0);
     let words = part.words;
-    let failed = start(part, shape()).err().unwrap();
+    let failed = start(part).err().unwrap();
     assert_eq!(
         failed.fault,
         OpenFault::Scan(ScanFault::Foreign { page: 0, at: 4 })
@@ -274,10 +276,10 @@ fn a_start_chooses_no_set_and_takes_no_foreign_word() {
 
 #[test]
 fn torn_slots_are_counted() {
-    let mut store = failing(format(Part::new(), shape()).unwrap(), 1);
+    let mut store = failing(format(Part::new()).unwrap(), 1);
     assert!(store.write(address(1), 10).is_err());
-    assert_eq!(store.torn_slots(), Err(Off));
-    let mut store = open(store.into_driver(), shape()).unwrap();
+    assert_eq!(store.torn_slots(), Err(ReadFault::Off));
+    let mut store = open(store.into_driver()).unwrap();
     assert_eq!((store.torn_slots(), store.fill()), (Ok(1), Ok(1)));
     assert_eq!(store.write(address(1), 11), Ok(Written::Appended));
     assert_eq!(store.write(address(1), 12), Ok(Written::Moved));
@@ -287,10 +289,10 @@ fn torn_slots_are_counted() {
 #[test]
 fn a_store_that_is_off() {
     let mut store = Store::off(full().into_driver());
-    assert_eq!(store.read(address(1)), Err(Off));
+    assert_eq!(store.read(address(1)), Err(ReadFault::Off));
     assert_eq!(store.write(address(1), 1), Err(WriteFault::Off));
     assert_eq!(store.slots(), Err(Off));
-    let store = open(store.into_driver(), shape()).unwrap();
+    let store = open(store.into_driver()).unwrap();
     assert_eq!(store.read(address(1)), Ok(Some(11)));
 }
 
@@ -326,7 +328,7 @@ fn words_of_all_ones_are_erased() {
     assert_eq!(Word::from(1), Word::Held(1));
     let mut part = Part::new();
     part.words = [[Word::Held(u64::MAX); 6]; 2];
-    let failed = open(part, shape()).err().unwrap();
+    let failed = open(part).err().unwrap();
     assert_eq!(failed.fault, OpenFault::Scan(ScanFault::Unformatted));
 }
 
@@ -334,10 +336,10 @@ fn words_of_all_ones_are_erased() {
 fn a_driver_can_be_lent() {
     let mut part = Part::new();
     {
-        let mut store = format(&mut part, shape()).unwrap();
+        let mut store = format(&mut part).unwrap();
         assert_eq!(store.write(address(1), 10), Ok(Written::Appended));
     }
-    assert_eq!(open(part, shape()).unwrap().read(address(1)), Ok(Some(10)));
+    assert_eq!(open(part).unwrap().read(address(1)), Ok(Some(10)));
 }
 
 #[test]
@@ -356,4 +358,58 @@ fn errors_are_told_in_words() {
         "the driver failed: step 3"
     );
     assert_eq!(Off.to_string(), "the store is off, since its driver failed");
+}
+
+std::thread_local! {
+    /// A word that reads torn at the next look.
+    static TORN: Cell<Option<(usize, usize)>> = const { Cell::new(None) };
+}
+
+/// A part one of whose words reads torn once, and that sees to each place that is asked for.
+struct Unsteady(Part);
+
+impl Driver for Unsteady {
+    type Error = Broken;
+
+    fn shape(&self) -> Shape {
+        SHAPE
+    }
+
+    fn word(&self, page: usize, at: usize) -> Result<Word, Broken> {
+        assert!(page < 2 && at < 6);
+        if TORN.with(Cell::get) == Some((page, at)) {
+            TORN.with(|torn| torn.set(None));
+            return Ok(Word::Torn);
+        }
+        self.0.word(page, at)
+    }
+
+    fn program(&mut self, page: usize, at: usize, value: u64) -> Result<(), Broken> {
+        assert!(page < 2 && at < 6);
+        self.0.program(page, at, value)
+    }
+
+    fn erase(&mut self, page: usize) -> Result<(), Broken> {
+        assert!(page < 2);
+        self.0.erase(page)
+    }
+}
+
+#[test]
+fn no_step_is_made_outside_the_part() {
+    let mut store = format(Unsteady(Part::new())).unwrap();
+    assert_eq!(store.write(address(1), 10), Ok(Written::Appended));
+    assert_eq!(store.write(address(2), 20), Ok(Written::Appended));
+    let values = [(3, 30), (1, 12)].map(|(number, value)| Put {
+        address: address(number),
+        value,
+    });
+    assert_eq!(store.write_all(&values), Err(WriteAllFault::Full));
+    // Where the count of addresses misses one, the move finds a third.
+    TORN.with(|torn| torn.set(Some((0, 4))));
+    assert_eq!(store.write_all(&values), Err(WriteAllFault::Unsteady));
+    assert_eq!(store.write_all(&values), Err(WriteAllFault::Off));
+    let store = open(store.into_driver()).unwrap();
+    assert_eq!(store.read(address(1)), Ok(Some(10)));
+    assert_eq!(store.read(address(2)), Ok(Some(20)));
 }

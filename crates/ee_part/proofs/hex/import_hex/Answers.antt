@@ -13,13 +13,13 @@ returns-then-not-fits-clause-names g c = λ cause some applies.
 pub returns-in-Err-clause-fault : goal.returns-in-Err-clause-fault
 returns-in-Err-clause-fault g c =
     text_wrong c.args.form c.args.shape c.args.base c.args.hex.now (search rules) c.in-Err.fault c.hex_fault.result
-    (subst (λ (k : ℕ). IsHexFault c.args.hex.now c.args.base k c.in-Err.fault) c.dump_length.ensures c.in-Err.ensures.fault) c.hex_fault.ensures
+    (subst (λ (k : ℕ). IsHexFault c.args.hex.now c.args.base k c.in-Err.fault) c.dump_length.ensures (search rules)) c.hex_fault.ensures
 
 pub returns-in-Err-clause-names : goal.returns-in-Err-clause-names
 returns-in-Err-clause-names g c = λ cause some applies.
     hex_named c.args.form c.args.shape c.args.base c.args.hex.now (search rules) c.in-Err.fault c.hex_fault.result cause
     (λ n bad. c.in-Err.ensures.names n (subst (λ (k : ℕ). IsBadHexLine c.args.hex.now c.args.base k n) (sym c.dump_length.ensures) bad))
-    (subst (λ (k : ℕ). IsHexFault c.args.hex.now c.args.base k c.in-Err.fault) c.dump_length.ensures c.in-Err.ensures.fault) c.hex_fault.ensures some applies
+    (subst (λ (k : ℕ). IsHexFault c.args.hex.now c.args.base k c.in-Err.fault) c.dump_length.ensures (search rules)) c.hex_fault.ensures some applies
 
 pub returns-clause-imported : goal.returns-clause-imported
 returns-clause-imported g c =

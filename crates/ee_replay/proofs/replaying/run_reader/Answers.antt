@@ -2,7 +2,7 @@ use Rattle.std.proofs.Common.{[], subst}
 use Rattle.std.proofs.KnownBytes.{Consumes-nil}
 use Rattle.std.proofs.lemmas.Result.{IfErr-weaker, IfOk-weaker, err_from_is_err_and}
 use Rattle.ee_check.specs.Schedule.{IsProper}
-use Rattle.ee_replay.specs.Desk.{point_of_desk}
+use Rattle.ee_replay.specs.Desk.{stand_of}
 use Rattle.ee_replay.specs.Either.{device_of_either}
 use Rattle.ee_replay.specs.Serving.{with_notes}
 use Rattle.ee_replay.proofs.Given.{out_of_memory}
@@ -22,8 +22,8 @@ returns-clause-fault g c =
 pub returns-clause-run : goal.returns-clause-run
 returns-clause-run g c =
     let all = c.in_ok-server.ensures.answered in
-    let traced = is_traced (λ server. with_notes (point_of_desk server.desk) server.notes) (device_of_either c.args.store) _ _ _ _ all.answered
-    c.new-server.ensures.point c.new-server.ensures.notes in
+    let traced = is_traced (λ server. with_notes (stand_of server.desk) server.notes) (device_of_either c.args.store) _ _ _ _ all.answered
+    c.new-server.ensures.stand c.new-server.ensures.notes in
     let proper = subst IsProper c.start.view_is c.start.invariant.proper in
     IfOk-weaker c.left_by.result _ _
     (λ replayed made. (all.text, record { given = all.given; ended = all.ended }, made _ _ traced c.in_ok-start.ensures.start proper c.requires))

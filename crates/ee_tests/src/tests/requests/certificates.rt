@@ -1,6 +1,7 @@
 //! A check that is so long that the checker asks for memory in its midst.
+use super::plans::counts;
 use crate::tests::address;
-use ee_check::{Certificate, Change, CheckFault, Start, Stretch, check};
+use ee_check::{Certificate, Change, Start, Stretch, check};
 use ee_fakes::Refusing;
 use std::alloc::Global;
 use std::collections::BTreeSet;
@@ -20,15 +21,6 @@ fn thousand(rt: &impl Abort, memory: Global) -> Certificate {
         live: 0,
         writes: 1101,
         stretches,
-    }
-}
-
-// Whether a check gave this count, or none for want of memory.
-fn counts(checked: Result<u64, CheckFault>, wanted: u64) -> Option<bool> {
-    match checked {
-        Ok(count) => Some(count == wanted),
-        Err(CheckFault::Memory) => None,
-        Err(_) => Some(false),
     }
 }
 

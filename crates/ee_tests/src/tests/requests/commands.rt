@@ -23,7 +23,7 @@ fn met(fault: Fault) -> Option<bool> {
 }
 
 // Whether these bytes were given, or none for want of memory.
-fn gives<A: Allocator>(given: Result<Vec<u8, A>, Fault>, wanted: &[u8]) -> Option<bool> {
+pub fn gives<A: Allocator>(given: Result<Vec<u8, A>, Fault>, wanted: &[u8]) -> Option<bool> {
     match given {
         Ok(text) => Some(text.as_slice() == wanted),
         Err(fault) => met(fault),
@@ -109,7 +109,7 @@ pub enum Text {
     Header,
 }
 
-const BASE: u32 = 0x0807_f000;
+pub const BASE: u32 = 0x0807_f000;
 
 /// The states of the pages after one move, and the wear after two.
 pub const STATES: &[u8] = b"page 0 ERASING\npage 1 ACTIVE\n";

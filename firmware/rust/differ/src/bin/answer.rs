@@ -5,8 +5,7 @@
 #![forbid(unsafe_code)]
 
 use ee_store::{
-    open, Address, CleanFault, ForgetFault, Off, OpenFault, ScanFault, Shape, Store, WriteFault,
-    Written,
+    open, Address, CleanFault, ForgetFault, OpenFault, ScanFault, Store, WriteFault, Written,
 };
 use ee_store_differ::{image, PowerCut, Shared, TEARS};
 use std::fs;
@@ -30,19 +29,17 @@ fn run(before: &str, script: &str) -> (Option<String>, String) {
     let Some(part) = image::read(before) else {
         return (None, "image text\n".to_string());
     };
-    let shape = part.shape;
     let part = Shared::new(part);
-    let store = match open(part.clone(), shape) {
+    let store = match open(part.clone()) {
         Ok(store) => store,
         Err(failed) => match failed.fault {
             OpenFault::Scan(fault) => return (None, fault_line(fault)),
-            OpenFault::Driver(cut) => unreachable!("nothing is armed, and {cut:?}"),
+            fault => unreachable!("nothing is armed, and {fault:?}"),
         },
     };
     let mut desk = Desk {
         store: Some(store),
         part,
-        shape,
         moves: 0,
     };
     let mut answers = String::new();
@@ -68,7 +65,6 @@ struct Desk {
     /// `None` where it could not be opened again.
     store: Option<Store<Shared>>,
     part: Shared,
-    shape: Shape,
     moves: u64,
 }
 
@@ -105,6 +101,7 @@ impl Desk {
                 Ok(false) => "idle".to_string(),
                 Err(CleanFault::Off) => "off".to_string(),
                 Err(CleanFault::Driver(_)) => "cut".to_string(),
+                Err(CleanFault::Unsteady) => "unsteady".to_string(),
             },
             _ => return None,
         })
@@ -122,7 +119,7 @@ impl Desk {
     }
 
     fn power_on(&mut self) -> String {
-        match open(self.part.clone(), self.shape) {
+        match open(self.part.clone()) {
             Ok(store) => {
                 self.store = Some(store);
                 "open".to_string()
@@ -131,6 +128,7 @@ impl Desk {
                 self.store = None;
                 match failed.fault {
                     OpenFault::Driver(_) => "cut".to_string(),
+                    OpenFault::Unsteady => "unsteady".to_string(),
                     OpenFault::Scan(fault) => fault_line(fault).trim_end().to_string(),
                 }
             }
@@ -139,8 +137,8 @@ impl Desk {
 
     /// The line behind the answers.
     fn end(&self) -> String {
-        match self.store.as_ref().map(counts) {
-            Some(Ok((fill, room, live, pending))) => format!(
+        match self.store.as_ref().and_then(counts) {
+            Some((fill, room, live, pending)) => format!(
                 "end fill {fill} room {room} live {live} pending {pending} transfers {}\n",
                 self.moves
             ),
@@ -159,6 +157,7 @@ fn write_fault(fault: WriteFault<PowerCut>) -> &'static str {
         WriteFault::Full => "full",
         WriteFault::Spent => "spent",
         WriteFault::Driver(PowerCut) => "cut",
+        WriteFault::Unsteady => "unsteady",
     }
 }
 
@@ -168,12 +167,13 @@ fn forget_fault(fault: ForgetFault<PowerCut>) -> &'static str {
         ForgetFault::Absent => "absent",
         ForgetFault::Spent => "spent",
         ForgetFault::Driver(PowerCut) => "cut",
+        ForgetFault::Unsteady => "unsteady",
     }
 }
 
 /// The slots used and free, the live addresses, and the pages that wait to be erased.
-fn counts(store: &Store<Shared>) -> Result<(usize, usize, usize, usize), Off> {
-    let fill = store.fill()?;
-    let room = store.slots()? - fill;
-    Ok((fill, room, store.live_count()?, store.pending()?))
+fn counts(store: &Store<Shared>) -> Option<(usize, usize, usize, usize)> {
+    let fill = store.fill().ok()?;
+    let room = store.slots().ok()? - fill;
+    Some((fill, room, store.live_count().ok()?, store.pending().ok()?))
 }

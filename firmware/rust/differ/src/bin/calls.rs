@@ -10,8 +10,8 @@
 #![forbid(unsafe_code)]
 
 use ee_store::{
-    format, open, start, Address, CleanFault, ForgetFault, OpenFault, Put, Shape, Store, WriteAllFault,
-    WriteFault, Written,
+    format, open, start, Address, CleanFault, ForgetFault, OpenFault, Put, Shape, Store,
+    WriteAllFault, WriteFault, Written,
 };
 use ee_store_differ::{Part, PowerCut, Shared, Tear, TEARS};
 use std::collections::{BTreeMap, BTreeSet};
@@ -112,7 +112,7 @@ impl Course {
 
     fn opened(&self, part: &Part) -> (Store<Shared>, Shared) {
         let shared = Shared::new(part.clone());
-        let store = open(shared.clone(), self.shape).unwrap_or_else(|failed| {
+        let store = open(shared.clone()).unwrap_or_else(|failed| {
             panic!("{:?} opens as {:?}", self.part, failed.fault);
         });
         (store, shared)
@@ -166,7 +166,7 @@ impl Course {
             part.fuse = Some((dice.below(3), tear));
             let shared = Shared::new(part);
             self.calls += 1;
-            match open(shared.clone(), self.shape) {
+            match open(shared.clone()) {
                 Ok(_) => {}
                 Err(failed) => {
                     assert_eq!(failed.fault, OpenFault::Driver(PowerCut));
@@ -187,15 +187,15 @@ impl Course {
             part.fuse = Some((step, tear));
             let shared = Shared::new(part);
             self.calls += 1;
-            let is_cut = format(shared.clone(), self.shape).is_err();
+            let is_cut = format(shared.clone()).is_err();
             self.cuts += u64::from(is_cut);
             shared.0.borrow_mut().fuse = None;
-            let store = format(shared.clone(), self.shape).expect("nothing is armed");
+            let store = format(shared.clone()).expect("nothing is armed");
             self.calls += 1;
             assert_eq!(listed(&store), Map::new());
             let left = shared.0.borrow();
             let fresh = Shared::new(blank(self.shape, left.has_numbers()));
-            assert!(format(fresh.clone(), self.shape).is_ok());
+            assert!(format(fresh.clone()).is_ok());
             let fresh = fresh.0.borrow();
             assert_eq!(left.pages, fresh.pages, "formatted is as new");
             assert_eq!(left.numbers, fresh.numbers, "formatted is as new");
@@ -219,10 +219,16 @@ impl Course {
     fn draw_list(&self, dice: &mut Dice) -> Vec<(u16, u32)> {
         let many = self.addresses.len() as u64;
         let first = dice.below(many) as usize;
-        let most = if dice.below(2) == 0 { many.min(3) } else { many };
+        let most = if dice.below(2) == 0 {
+            many.min(3)
+        } else {
+            many
+        };
         let length = dice.below(1 + most) as usize;
         let listed = self.addresses.iter().cycle().skip(first).take(length);
-        let mut list: Vec<(u16, u32)> = listed.map(|address| (*address, dice.next() as u32)).collect();
+        let mut list: Vec<(u16, u32)> = listed
+            .map(|address| (*address, dice.next() as u32))
+            .collect();
         if length > 1 && dice.below(8) == 0 {
             list[length - 1].0 = list[dice.below(length as u64 - 1) as usize].0;
         }
@@ -267,7 +273,9 @@ impl Course {
         self.calls += 1;
         let refused = match call {
             Call::Write(address, _) => !after.contains_key(address),
-            Call::WriteAll(list) => is_twice(list) || list.iter().any(|(address, _)| !after.contains_key(address)),
+            Call::WriteAll(list) => {
+                is_twice(list) || list.iter().any(|(address, _)| !after.contains_key(address))
+            }
             Call::Forget(address) => !self.map.contains_key(address),
             Call::Clean => pending == 0,
         };
@@ -300,12 +308,11 @@ fn blank(shape: Shape, has_numbers: bool) -> Part {
 
 /// A new part on which a store was started, cut in as many steps as it happens, and how many starts that took.
 fn started(mut part: Part, dice: &mut Dice) -> (Part, u64) {
-    let shape = part.shape;
     for starts in 1.. {
         let (_, tear) = TEARS[dice.below(4) as usize];
         part.fuse = Some((dice.below(1 + 2 * starts.min(9)), tear));
         let shared = Shared::new(part);
-        let is_started = match start(shared.clone(), shape) {
+        let is_started = match start(shared.clone()) {
             Ok(store) => {
                 assert_eq!(store.live_count(), Ok(0));
                 true

@@ -37,7 +37,7 @@ fn main() -> io::Result<()> {
 
 /// Plays the changes of a script, if the part holds a store. Gives how many cuts there were.
 fn play(mut part: Part, script: &str) -> u64 {
-    if open(Shared::new(part.clone()), part.shape).is_err() {
+    if open(Shared::new(part.clone())).is_err() {
         return 0;
     }
     let mut cuts = 0;
@@ -112,7 +112,7 @@ fn opened(part: &Part) -> (Store<Shared>, Shared) {
         fuse: None,
         ..part.clone()
     });
-    let store = open(shared.clone(), part.shape)
+    let store = open(shared.clone())
         .unwrap_or_else(|failed| panic!("{part:?} opens as {:?}", failed.fault));
     (store, shared)
 }

@@ -28,6 +28,11 @@ impl<F: Flash> Store<F> {
         Store { flash, layout }
     }
 
+    /// The device, to be looked at.
+    pub fn flash(&self) -> &F {
+        &self.flash
+    }
+
     /// The device, as it is.
     pub fn into_flash(self) -> F {
         self.flash

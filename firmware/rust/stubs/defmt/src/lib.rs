@@ -1,4 +1,4 @@
-//! As much of `defmt` 1 as `ee-store-defmt` uses, by its documentation: what is written is kept as text, and a field of a
+//! As much of `defmt` 1 as `ee-store-defmt` and `ee-store-embedded` use, by its documentation: what is written is kept as text, and a field of a
 //! text must have an argument of the type that it names.
 #![forbid(unsafe_code)]
 
@@ -22,6 +22,15 @@ pub trait Format {
 impl<T: Format + ?Sized> Format for &T {
     fn format(&self, fmt: Formatter<'_>) {
         (**self).format(fmt);
+    }
+}
+
+/// A value that is written as its `Debug` says.
+pub struct Debug2Format<'a, T: ?Sized>(pub &'a T);
+
+impl<T: std::fmt::Debug + ?Sized> Format for Debug2Format<'_, T> {
+    fn format(&self, fmt: Formatter<'_>) {
+        *fmt.0.borrow_mut() += &format!("{:?}", self.0);
     }
 }
 

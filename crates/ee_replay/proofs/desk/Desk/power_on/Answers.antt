@@ -14,8 +14,8 @@ unreachable-requires g c =
 pub open-requires : goal.open-requires
 open-requires g c = ap (λ (device : Device). device.on) (powered c.into_flash-flash.result c.power_on.new.self c.power_on.ensures)
 
-pub returns-in-Ok-clause-attends : goal.returns-in-Ok-clause-attends
-returns-in-Ok-clause-attends g c =
+pub returns-in-Ok-clause-powers : goal.returns-in-Ok-clause-powers
+returns-in-Ok-clause-powers g c =
     let flash = c.into_flash-flash.ensures.device in
     let on = powered c.into_flash-flash.result c.power_on.new.self c.power_on.ensures in
     IfOk-weaker c.of.result.1 _ _
@@ -26,8 +26,8 @@ pub returns-in-Ok-clause-same : goal.returns-in-Ok-clause-same
 returns-in-Ok-clause-same g c =
     power_same (point_of_desk c.args.self) _ _ c.into_flash-flash.ensures.device (powered c.into_flash-flash.result c.power_on.new.self c.power_on.ensures) _ c.in-Ok.store c.of.ensures.device c.in-Ok.ensures.opened
 
-pub returns-in-Err-default-Cut-clause-attends : goal.returns-in-Err-default-Cut-clause-attends
-returns-in-Err-default-Cut-clause-attends g c =
+pub returns-in-Err-default-Cut-clause-powers : goal.returns-in-Err-default-Cut-clause-powers
+returns-in-Err-default-Cut-clause-powers g c =
     power_cut (point_of_desk c.args.self) _ _ c.into_flash-flash.ensures.device (powered c.into_flash-flash.result c.power_on.new.self c.power_on.ensures) _ _ (sym c.is_open.ensures ∙ c.if-is_open.false) c.in-Err-default-Cut.field-0-1-is
     c.in-Err-default-Cut.ensures.failed
 

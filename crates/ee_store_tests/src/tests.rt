@@ -1,0 +1,41 @@
+//! What no clause says, each once, and what several modules make their values with.
+//!
+//! What goes wrong while a test is prepared ends it by `expect`. So a function has no path on which it drops what it owns,
+//! and each such path costs the prover time.
+mod counted;
+mod cuts;
+mod driving;
+mod formats;
+mod outside;
+mod tidying;
+
+use ee_codec::Address;
+use ee_fakes::{same, shape};
+use ee_flash::{Flash, MemFlash};
+use ee_image::{read_image, write_image};
+use ee_store::{Store, open};
+use std::alloc::Global;
+use std::process::Abort;
+
+/// The address of a number that has one.
+fn address(rt: &impl Abort, number: u16) -> Address {
+    Address::new(number).expect(rt, "no address")
+}
+
+/// The store of a device, with power turned on.
+fn opened<F: Flash + Drop>(rt: &impl Abort, mut flash: F) -> Store<F> {
+    flash.power_on();
+    open(flash).ok().expect(rt, "no store")
+}
+
+/// The image of a device.
+fn text_of<F: Flash>(rt: &impl Abort, memory: Global, flash: &F) -> Vec<u8> {
+    let mut text = Vec::new(memory);
+    write_image(flash, &mut text).expect(rt, "no image");
+    text
+}
+
+/// The device of an image's text, which is on.
+fn device(rt: &impl Abort, memory: Global, text: &[u8]) -> MemFlash {
+    read_image(memory, text).expect(rt, "no device")
+}

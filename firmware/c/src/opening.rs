@@ -1,0 +1,103 @@
+//! The calls that open a store.
+
+use crate::flash::{Device, Flash};
+use crate::numbers::{How, Looked, Numbers};
+use crate::{
+    Kept, Memory, EE_DRIVER, EE_FOREIGN, EE_NO_LIVE_SET, EE_NULL, EE_OK, EE_TWO_LIVE,
+    EE_UNFORMATTED, EE_WRONG_SHAPE,
+};
+use core::cell::Cell;
+use core::ptr::{addr_of, null};
+use ee_store::proved::{self, OpenFault, Pairs};
+use ee_store::{ScanFault, Shape};
+
+/// Keeps what an opening gave in the memory that C lends, and gives its status.
+#[inline(never)]
+fn kept(memory: &mut Memory, opened: Result<Kept, (Device, OpenFault)>) -> u32 {
+    match opened {
+        Ok(store) => {
+            memory.store.write(store);
+            EE_OK
+        }
+        Err((_, OpenFault::Scan(ScanFault::Unformatted))) => EE_UNFORMATTED,
+        Err((_, OpenFault::Scan(ScanFault::NoLiveSet))) => EE_NO_LIVE_SET,
+        Err((_, OpenFault::Scan(ScanFault::TwoLive))) => EE_TWO_LIVE,
+        Err((_, OpenFault::Scan(ScanFault::Foreign { .. }))) => EE_FOREIGN,
+        Err((_, OpenFault::Cut)) => EE_DRIVER,
+    }
+}
+
+/// Prepares a flash of numbers, and says how it is opened then, or the status that refuses it. One that holds more than a
+/// first start that was cut leaves is opened, and no first store made there: `ee_store::start` does so too.
+fn prepared(numbers: Numbers, how: How) -> Result<How, u32> {
+    let looked = Looked {
+        numbers,
+        how: Cell::new(how),
+    };
+    if how == How::Format {
+        // Where it fails the device goes off.
+        let _ = Pairs::wipe(looked);
+        return Ok(how);
+    }
+    match Pairs::of(looked) {
+        Ok(pairs) => Ok(pairs.into_nor().how.get()),
+        Err(_) => Err(EE_FOREIGN),
+    }
+}
+
+/// Opens a store over C's flash, and keeps it in the memory that C lends. Pointers are null or good.
+unsafe fn opened(lent: *mut Memory, flash: *const Flash, how: How) -> u32 {
+    // SAFETY: a pointer that is not null is good, here and below.
+    let Some(memory) = (unsafe { lent.as_mut() }) else {
+        return EE_NULL;
+    };
+    memory.power.set(null());
+    let Some(given) = (unsafe { flash.as_ref() }) else {
+        return EE_NULL;
+    };
+    if given.word.is_none() || given.program.is_none() || given.erase.is_none() {
+        return EE_NULL;
+    }
+    let shape = Shape::new(given.pages as usize, given.page_words as usize);
+    let (Some(shape), 0..=1) = (shape, given.pairs) else {
+        return EE_WRONG_SHAPE;
+    };
+    memory.power.set(flash);
+    // SAFETY: the flash has all functions, and C keeps it and the memory where they are.
+    let device = unsafe { Device::new(addr_of!((*lent).power), shape) };
+    let numbers = device.numbers();
+    let status = match numbers.map_or(Ok(how), |numbers| prepared(numbers, how)) {
+        Ok(How::Open) => kept(memory, proved::open(device)),
+        Ok(How::Start) => kept(memory, proved::start(device)),
+        Ok(How::Format) => match proved::format(device) {
+            Ok(store) => kept(memory, Ok(store)),
+            // It was cut, and is off.
+            Err(_) => return EE_DRIVER,
+        },
+        Err(status) => status,
+    };
+    // What the store says counts only where the flash didn't fail.
+    if memory.power.get().is_null() {
+        return EE_DRIVER;
+    }
+    if status != EE_OK {
+        memory.power.set(null());
+    }
+    status
+}
+
+#[no_mangle]
+pub unsafe extern "C" fn ee_open(store: *mut Memory, flash: *const Flash) -> u32 {
+    // SAFETY: as `ee.h` says, here and below.
+    unsafe { opened(store, flash, How::Open) }
+}
+
+#[no_mangle]
+pub unsafe extern "C" fn ee_start(store: *mut Memory, flash: *const Flash) -> u32 {
+    unsafe { opened(store, flash, How::Start) }
+}
+
+#[no_mangle]
+pub unsafe extern "C" fn ee_format(store: *mut Memory, flash: *const Flash) -> u32 {
+    unsafe { opened(store, flash, How::Format) }
+}
