@@ -7,6 +7,7 @@ mod cuts;
 mod driving;
 mod formats;
 mod outside;
+mod refused_opening;
 mod tidying;
 
 use ee_codec::Address;
