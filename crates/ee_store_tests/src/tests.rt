@@ -7,6 +7,7 @@ mod cuts;
 mod driving;
 mod formats;
 mod outside;
+mod pairs;
 mod refused_opening;
 mod tidying;
 
