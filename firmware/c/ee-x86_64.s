@@ -1,6 +1,6 @@
 /* ee: variables in flash, the library of ee.h as one file, for Linux on x86-64.
  *
- * sum of sources: abb28a526ce8367c6f2c6249ec48feb1b008cabaf22bf35dc3fe6a6664378d82
+ * sum of sources: f8c9f2427c8b4c0b6d3d5a1a5044ca96855baa80ca5d9f9ee5c114fe75ae5aa5
  * sum of the text below: 57a1bb0b8bd98474c321e2fc4dc2c50e7ac24db1dac2c1594776eb9bda289a74
  * made by: firmware/c/assemble
  * compiler: rustc 1.96.0 (ac68faa20 2026-05-25) (built from a source tarball), LLVM 22.1.8

@@ -1,6 +1,6 @@
 /* ee: variables in flash, the library of ee.h as one file, for every Cortex-M.
  *
- * sum of sources: abb28a526ce8367c6f2c6249ec48feb1b008cabaf22bf35dc3fe6a6664378d82
+ * sum of sources: f8c9f2427c8b4c0b6d3d5a1a5044ca96855baa80ca5d9f9ee5c114fe75ae5aa5
  * sum of the text below: 939d3670e7cdf03015b4624a0113a5676937ad340361145a32de60048bb0a9d2
  * made by: firmware/c/assemble
  * compiler: rustc 1.96.0 (ac68faa20 2026-05-25) (built from a source tarball), LLVM 22.1.8

@@ -33,8 +33,8 @@ impl Flash {
 /// What `word` answers where the read itself failed: `EE_READ_FAILED` of `ee.h`.
 const READ_FAILED: u32 = 0x00ee_00ee;
 
-/// A flash in C while it is on, and null from a read, a step or a place on that failed: then it is asked for nothing, and
-/// what the proved store says counts for nothing. It stands in the memory that C lends.
+/// A flash in C while it is on, and null from a read or a step on that failed, or a page that it doesn't have: then no step is
+/// made, and what the proved store says counts for nothing. It stands in the memory that C lends.
 pub type Power = Cell<*const Flash>;
 
 /// The device of words, which are pairs of numbers where the flash has those.

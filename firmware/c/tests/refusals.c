@@ -1,4 +1,5 @@
-/* What the library refuses, and what it answers where nothing is refused. */
+/* What the library refuses, and what it answers where nothing is refused. The argument is how many first starts on pairs of
+ * numbers are cut. */
 #include "part.h"
 
 static part p;
@@ -153,6 +154,27 @@ static void first_starts(void) {
     CHECK(ee_start(&store, &flash) == EE_NO_LIVE_SET && holds_same(&before, &p));
 }
 
+/* So it is on pairs of numbers, of which a cut leaves any bits that it may. */
+static void first_starts_on_pairs(unsigned long cuts) {
+    unsigned long made = 0;
+    blank(&p, 2, 6);
+    p.pairs = 1;
+    ee_flash flash = flash_of(&p);
+    while (cuts > 0) {
+        p.steps = 0, p.cut_in = 1 + (uint32_t)(any_bits() >> 40) % 7, p.tear = (enum tear)((any_bits() >> 40) % TEARS);
+        uint32_t status = ee_start(&store, &flash);
+        if (status == EE_DRIVER) {
+            cuts--;
+            continue;
+        }
+        CHECK(status == EE_OK && ee_counts(&store, &numbers) == EE_OK && numbers.live == 0 && numbers.generation == 1);
+        made++;
+        blank(&p, 2, 6);
+        p.pairs = 1;
+    }
+    CHECK(made > 100);
+}
+
 static void failing(void) {
     ee_flash flash = flash_of(&p);
     blank(&p, 1, 6);
@@ -275,7 +297,7 @@ static void unreadable_numbers(void) {
     }
 }
 
-int main(void) {
+int main(int count, char **argument) {
     blank(&p, 1, 6);
     zeros();
     nulls();
@@ -284,6 +306,8 @@ int main(void) {
     lists();
     no_store();
     first_starts();
+    first_starts_on_pairs(count > 1 ? strtoul(argument[1], NULL, 10) : 20000);
+    blank(&p, 1, 6);
     failing();
     foreign_numbers();
     data();

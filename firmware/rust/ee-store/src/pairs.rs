@@ -180,6 +180,9 @@ impl<N: NumberDriver> Nor for Numbers<N> {
 
     // One that could not be read is 0, and counts for nothing.
     fn read(&self, page: usize, at: usize) -> u64 {
+        if !self.is_on() {
+            return 0;
+        }
         self.driver.read(page, at).unwrap_or_else(|error| {
             self.error.set(Some(error));
             0
