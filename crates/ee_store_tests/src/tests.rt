@@ -4,8 +4,10 @@
 //! and each such path costs the prover time.
 mod counted;
 mod cuts;
+mod driving;
 mod formats;
 mod outside;
+mod tidying;
 
 use ee_codec::Address;
 use ee_fakes::{same, shape};

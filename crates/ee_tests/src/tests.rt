@@ -3,6 +3,7 @@
 //! What goes wrong while a test is prepared ends it by `expect`. So a function has no path on which it drops what it owns,
 //! and each such path costs the prover time.
 mod commands;
+mod index_behind_a_cut;
 mod prefixes;
 mod requests;
 mod saving;

@@ -1,34 +1,62 @@
 //! How many words of the flash a read by the index takes, on a device that counts them.
-use crate::tests::cuts::moved_once;
-use crate::tests::{address, same};
-use ee_codec::Address;
+use crate::tests::{address, opened, same, shape};
+use ee_fakes::ListFlash;
 use ee_flash::Flash;
-use ee_store::{IndexedStore, Variables};
+use ee_store::{IndexedStore, Variables, format};
 use std::alloc::Global;
 use std::process::Abort;
 
-// How many words are read until address 1 was moved once, in an opening of the store, and in so many reads of an address.
-fn words_read(rt: &impl Abort, memory: Global, read: Address, times: u32) -> u64 {
-    let mut flash = moved_once(rt, memory, 1, address(rt, 1));
+/// How many addresses have a value, each in a slot of its own.
+const COUNT: u16 = 40;
+
+// A device of two pages of 26 slots, on which these were written by rising address.
+fn filled<'a>(rt: &impl Abort, memory: Global) -> ListFlash<'a> {
+    let mut flash = ListFlash::blank(memory, shape(rt, 2, 30), &[]).expect(rt, "no device");
+    flash.power_on();
+    let mut store = format(flash).ok().expect(rt, "no store");
+    for number in 0..COUNT {
+        let one = address(rt, number.saturating_add(1));
+        store.write(one, u32::from(number)).expect(rt, "no write");
+    }
+    store.into_flash()
+}
+
+// Reads an address so many times.
+fn read_often<V: Variables>(rt: &impl Abort, store: &V, number: u16, times: u32) {
+    for _ in 0..times {
+        store.read(address(rt, number)).expect(rt, "no read");
+    }
+}
+
+// How many words are read until a store with an index is open, and an address was read so many times.
+fn by_index(rt: &impl Abort, memory: Global, number: u16, times: u32) -> u64 {
+    let mut flash = filled(rt, memory);
     flash.power_on();
     let store = IndexedStore::open(memory, flash)
         .ok()
         .expect(rt, "no store");
-    for _ in 0..times {
-        store.read(read).expect(rt, "no read");
-    }
+    read_often(rt, &store, number, times);
     store.into_flash().reads()
 }
 
+// The same of a store without one.
+fn by_scan(rt: &impl Abort, memory: Global, number: u16, times: u32) -> u64 {
+    let store = opened(rt, filled(rt, memory));
+    read_often(rt, &store, number, times);
+    store.into_flash().reads()
+}
+
+/// A store without an index reads more: so one that scans would be told.
 #[test]
 fn a_read_by_the_index_takes_one_word_or_none(rt: HostRuntime) {
-    let alone = words_read(&rt, rt.alloc(), address(&rt, 1), 0);
-    let live = words_read(&rt, rt.alloc(), address(&rt, 1), 100);
-    same(&rt, "live", live.checked_sub(alone), Some(100));
-    same(
-        &rt,
-        "absent",
-        words_read(&rt, rt.alloc(), address(&rt, 2), 100),
-        alone,
-    );
+    let index = by_index(&rt, rt.alloc(), 1, 0);
+    let scan = by_scan(&rt, rt.alloc(), 1, 0);
+    for (number, wanted) in [(1, 100), (20, 100), (COUNT, 100), (COUNT + 1, 0)] {
+        let found = by_index(&rt, rt.alloc(), number, 100);
+        same(&rt, number, found.checked_sub(index), Some(wanted));
+    }
+    for (number, wanted) in [(1, 4000), (COUNT + 1, 4000)] {
+        let found = by_scan(&rt, rt.alloc(), number, 100);
+        same(&rt, number, found.checked_sub(scan) >= Some(wanted), true);
+    }
 }

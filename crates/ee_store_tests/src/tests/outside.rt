@@ -1,23 +1,110 @@
 //! Values from outside that no command shows: the words of the store, and the largest texts.
 use crate::tests::{address, device, same, shape, text_of};
-use ee_codec::{MARK, element_word, forget_word, receive_word};
-use ee_flash::{Flash, MemFlash};
+use ee_codec::{
+    MARK, MarkRead, Slot, element_word, forget_word, read_mark, read_receive, read_slot,
+    receive_word,
+};
+use ee_flash::{Flash, MemFlash, Word};
 use ee_image::{ImageFault, read_image};
 
-/// One word of each format.
+/// What a word says in the place of a slot: its kind, and of an element or a forgetting its address and value, else zeros.
+type InSlot = (&'static str, u16, u32);
+
+/// What a word says in the place of a slot, of a receive word and of a mark.
+type Said = (InSlot, Option<u32>, MarkRead);
+
+fn in_slot(word: Word) -> InSlot {
+    match read_slot(word) {
+        Slot::Free => ("free", 0, 0),
+        Slot::Spoiled => ("spoiled", 0, 0),
+        Slot::Element { address, value } => ("element", address.get(), value),
+        Slot::Forgotten { address, value } => ("forgotten", address.get(), value),
+        Slot::Foreign => FOREIGN,
+    }
+}
+
+const FOREIGN: InSlot = ("foreign", 0, 0);
+
+fn said(word: Word) -> Said {
+    (in_slot(word), read_receive(word), read_mark(word))
+}
+
+/// Addresses with values, and the word of each.
+const ELEMENTS: [(u16, u32, u64); 6] = [
+    (1, 1, 0x0000_0001_0000_0001),
+    (1, 10, 0x0000_000a_0000_0001),
+    (1, 13, 0x0000_000d_0000_0001),
+    (2, 5, 0x0000_0005_0000_0002),
+    (65534, 4_294_967_295, 0xffff_ffff_0000_fffe),
+    (1, 0, 0x0000_0000_0000_0001),
+];
+
 #[test]
-fn words(rt: HostRuntime) {
-    let one = address(&rt, 1);
+fn elements(rt: HostRuntime) {
+    for (number, value, word) in ELEMENTS {
+        same(&rt, word, element_word(address(&rt, number), value), word);
+        let wanted = (("element", number, value), None, MarkRead::Foreign);
+        same(&rt, word, said(Word::Held(word)), wanted);
+    }
+}
+
+/// Other words that are held, and what each says.
+const HELD: [(u64, InSlot, Option<u32>, MarkRead); 9] = [
+    (
+        0x0000_000a_0001_0001,
+        ("forgotten", 1, 10),
+        None,
+        MarkRead::Foreign,
+    ),
+    (0x0000_000a_0000_0000, FOREIGN, None, MarkRead::Foreign),
+    (0x0000_000a_0000_ffff, FOREIGN, None, MarkRead::Foreign),
+    (0x0000_0000_0000_0000, FOREIGN, None, MarkRead::Foreign),
+    (0xaaaa_aaaa_0000_0000, FOREIGN, None, MarkRead::Foreign),
+    (0xaaaa_aaaa_ffff_ffff, FOREIGN, None, MarkRead::Foreign),
+    (
+        0xaaaa_aaaa_0000_0001,
+        ("element", 1, 2_863_311_530),
+        Some(1),
+        MarkRead::Foreign,
+    ),
+    (
+        0xaaaa_aaaa_ffff_fffe,
+        FOREIGN,
+        Some(4_294_967_294),
+        MarkRead::Foreign,
+    ),
+    // By its place alone the mark is a receive word.
+    (
+        0xaaaa_aaaa_aaaa_aaaa,
+        FOREIGN,
+        Some(2_863_311_530),
+        MarkRead::Present,
+    ),
+];
+
+#[test]
+fn words_that_are_read(rt: HostRuntime) {
+    for (word, slot, generation, mark) in HELD {
+        same(&rt, word, said(Word::Held(word)), (slot, generation, mark));
+    }
+    let erased = (("free", 0, 0), None, MarkRead::Absent);
+    same(&rt, "erased", said(Word::Erased), erased);
+    let torn = (("spoiled", 0, 0), None, MarkRead::Broken);
+    same(&rt, "torn", said(Word::Torn), torn);
+}
+
+#[test]
+fn words_that_are_written(rt: HostRuntime) {
     let found = [
-        element_word(one, 10),
-        forget_word(one, 10),
-        receive_word(7),
+        forget_word(address(&rt, 1), 10),
+        receive_word(1),
+        receive_word(4_294_967_294),
         MARK,
     ];
     let wanted = [
-        0x0000_000a_0000_0001,
         0x0000_000a_0001_0001,
-        0xaaaa_aaaa_0000_0007,
+        0xaaaa_aaaa_0000_0001,
+        0xaaaa_aaaa_ffff_fffe,
         0xaaaa_aaaa_aaaa_aaaa,
     ];
     same(&rt, "words", found, wanted);

@@ -1,0 +1,131 @@
+//! Settings of a later schema, over both kinds of store, and with power cut in each step of a tidying.
+use crate::tests::{address, device, opened, same, text_of};
+use ee_codec::Address;
+use ee_fakes::images::{TIDIED, TWO_MOVES, VOLUME};
+use ee_flash::{Flash, Fuse, MemFlash, Tear};
+use ee_settings::{Reading, Schema, TidyFault};
+use ee_store::{IndexedStore, Store, Variables};
+use std::alloc::Global;
+use std::process::Abort;
+
+// One setting, above whose range the value of address 1 is after two moves. Address 2 is none of its.
+fn schema(rt: &impl Abort, memory: Global) -> Schema {
+    let table = toml::table_from_slice(memory, VOLUME)
+        .ok()
+        .expect(rt, "no table");
+    Schema::from_table(memory, &table).expect(rt, "no schema")
+}
+
+// The store after two moves, of which a step is cut, if a fuse is armed.
+fn scanned(rt: &impl Abort, memory: Global, fuse: Option<Fuse>) -> Store<MemFlash> {
+    opened(rt, moved_twice(rt, memory, fuse))
+}
+
+// The same with an index.
+fn indexed(rt: &impl Abort, memory: Global, fuse: Option<Fuse>) -> IndexedStore<MemFlash> {
+    reopened(rt, memory, moved_twice(rt, memory, fuse))
+}
+
+fn moved_twice(rt: &impl Abort, memory: Global, fuse: Option<Fuse>) -> MemFlash {
+    let mut flash = device(rt, memory, TWO_MOVES);
+    if let Some(fuse) = fuse {
+        flash.arm(fuse);
+    }
+    flash
+}
+
+// The store with an index of a device, with power turned on.
+fn reopened(rt: &impl Abort, memory: Global, mut flash: MemFlash) -> IndexedStore<MemFlash> {
+    flash.power_on();
+    IndexedStore::open(memory, flash)
+        .ok()
+        .expect(rt, "no store")
+}
+
+// Whether the setting is the one that is stale, and reads as its default.
+fn is_stale<V: Variables>(memory: Global, schema: &Schema, store: &V) -> bool {
+    let Ok(entries) = schema.stale(memory, store) else {
+        return false;
+    };
+    entries.as_slice() == [1].as_slice() && schema.get(store, "volume") == Ok(Reading::Default(5))
+}
+
+// Whether the schema tidies so many addresses away, and is stale before it and behind it.
+fn tidies<V: Variables>(memory: Global, schema: &Schema, store: &mut V, count: u64) -> bool {
+    is_stale(memory, schema, store)
+        && schema.tidy(store) == Ok(count)
+        && is_stale(memory, schema, store)
+}
+
+#[test]
+fn a_second_schema(rt: HostRuntime) {
+    let schema = schema(&rt, rt.alloc());
+    let mut store = scanned(&rt, rt.alloc(), None);
+    for count in [1, 0] {
+        same(
+            &rt,
+            count,
+            tidies(rt.alloc(), &schema, &mut store, count),
+            true,
+        );
+    }
+    let text = text_of(&rt, rt.alloc(), &store.into_flash());
+    same(&rt, "scanned", text.as_slice(), TIDIED);
+    let mut store = indexed(&rt, rt.alloc(), None);
+    for count in [1, 0] {
+        same(
+            &rt,
+            count,
+            tidies(rt.alloc(), &schema, &mut store, count),
+            true,
+        );
+    }
+    let text = text_of(&rt, rt.alloc(), &store.into_flash());
+    same(&rt, "indexed", text.as_slice(), TIDIED);
+}
+
+/// The steps of the tidying: an erase, the receive word, the element that stays, and two marks.
+const STEPS: u64 = 5;
+
+// Whether a tidying is cut.
+fn is_cut<V: Variables>(schema: &Schema, store: &mut V) -> bool {
+    schema.tidy(store) == Err(TidyFault::Cut) && !store.is_on()
+}
+
+// Whether address 1 has 13 before and behind a tidying, which leaves it alone.
+fn has_thirteen<V: Variables>(schema: &Schema, store: &mut V, one: Address) -> bool {
+    let before = store.read(one);
+    let tidied = schema.tidy(store);
+    before == Ok(Some(13)) && tidied.is_ok() && store.read(one) == before && store.live_count() == 1
+}
+
+// Cuts the tidying of a store without an index, and opens it again.
+fn cut_scanned(rt: &impl Abort, memory: Global, schema: &Schema, fuse: Fuse) -> bool {
+    let mut store = scanned(rt, memory, Some(fuse));
+    let is_cut = is_cut(schema, &mut store);
+    let mut store = opened(rt, store.into_flash());
+    is_cut && has_thirteen(schema, &mut store, address(rt, 1))
+}
+
+// The same of a store with one.
+fn cut_indexed(rt: &impl Abort, memory: Global, schema: &Schema, fuse: Fuse) -> bool {
+    let mut store = indexed(rt, memory, Some(fuse));
+    let is_cut = is_cut(schema, &mut store);
+    let mut store = reopened(rt, memory, store.into_flash());
+    is_cut && has_thirteen(schema, &mut store, address(rt, 1))
+}
+
+#[test]
+fn each_step_of_a_tidying_is_cut(rt: HostRuntime) {
+    let schema = schema(&rt, rt.alloc());
+    for after in 0..STEPS {
+        for tear in [Tear::Nothing, Tear::Done, Tear::Torn, Tear::Mixed] {
+            let fuse = Fuse { after, tear };
+            let found = (
+                cut_scanned(&rt, rt.alloc(), &schema, fuse),
+                cut_indexed(&rt, rt.alloc(), &schema, fuse),
+            );
+            same(&rt, fuse, found, (true, true));
+        }
+    }
+}
