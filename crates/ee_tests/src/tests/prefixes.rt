@@ -36,17 +36,17 @@ fn bad_line(memory: Global, kind: Kind, text: &[u8]) -> Option<u64> {
     }
 }
 
-// How many lines of a text end, and whether it breaks off behind the last of them.
-fn ended_lines(text: &[u8]) -> (u64, bool) {
-    let mut lines = 0;
-    let mut is_broken = false;
+// The number of the line that a text breaks off in, and whether it breaks off behind the line before it.
+fn last_line(text: &[u8]) -> (u64, bool) {
+    let mut line = 1u64;
+    let mut is_whole = true;
     for byte in text {
-        is_broken = *byte != b'\n';
-        if !is_broken {
-            lines += 1;
+        is_whole = *byte == b'\n';
+        if is_whole {
+            line = line.saturating_add(1);
         }
     }
-    (lines, is_broken)
+    (line, is_whole)
 }
 
 #[test]
@@ -58,9 +58,9 @@ fn each_proper_prefix(rt: HostRuntime) {
     ] {
         for length in 0..text.len() {
             let front = &text[..length];
-            let (lines, is_broken) = ended_lines(front);
-            let is_good = matches!(kind, Kind::Script) && !is_broken;
-            let wanted = if is_good { None } else { Some(lines + 1) };
+            let (line, is_whole) = last_line(front);
+            let is_good = matches!(kind, Kind::Script) && is_whole;
+            let wanted = if is_good { None } else { Some(line) };
             same(
                 &rt,
                 (kind, length),
