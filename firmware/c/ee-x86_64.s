@@ -1,13 +1,13 @@
 /* ee: variables in flash, the library of ee.h as one file, for Linux on x86-64.
  *
- * sum of sources: f8c9f2427c8b4c0b6d3d5a1a5044ca96855baa80ca5d9f9ee5c114fe75ae5aa5
+ * sum of sources: 57622495ab42c8c77644752484fa57ac34cd50da42eba990448146fa686a4ae2
  * sum of the text below: 57a1bb0b8bd98474c321e2fc4dc2c50e7ac24db1dac2c1594776eb9bda289a74
  * made by: firmware/c/assemble
  * compiler: rustc 1.96.0 (ac68faa20 2026-05-25) (built from a source tarball), LLVM 22.1.8
  * words: --target x86_64-unknown-linux-gnu -C panic=abort -C embed-bitcode=yes -C opt-level=s -C llvm-args=--inline-threshold=40 -C codegen-units=1 -C lto=fat --emit asm,link
  * asks of others: memcpy
  *
- * Of firmware/rust/ee-store, which is proved, firmware/c/src/lib.rs, which is written by hand, and what these take of Rust's
+ * Of firmware/rust/ee-store, which is proved, firmware/c/src, which is written by hand, and what these take of Rust's
  * own library. Change none of it here. */
 	.section	.text.ee_core_formatting_write_format_Device,"ax",@progbits
 	.type	ee_core_formatting_write_format_Device,@function

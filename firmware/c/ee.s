@@ -1,6 +1,6 @@
 /* ee: variables in flash, the library of ee.h as one file, for every Cortex-M.
  *
- * sum of sources: f8c9f2427c8b4c0b6d3d5a1a5044ca96855baa80ca5d9f9ee5c114fe75ae5aa5
+ * sum of sources: 57622495ab42c8c77644752484fa57ac34cd50da42eba990448146fa686a4ae2
  * sum of the text below: 939d3670e7cdf03015b4624a0113a5676937ad340361145a32de60048bb0a9d2
  * made by: firmware/c/assemble
  * compiler: rustc 1.96.0 (ac68faa20 2026-05-25) (built from a source tarball), LLVM 22.1.8
@@ -8,7 +8,7 @@
  * asks of others: __aeabi_uidiv, __aeabi_uidivmod, memcpy
  * stack: 672 bytes, and what memcpy and your functions take
  *
- * Of firmware/rust/ee-store, which is proved, firmware/c/src/lib.rs, which is written by hand, and what these take of Rust's
+ * Of firmware/rust/ee-store, which is proved, firmware/c/src, which is written by hand, and what these take of Rust's
  * own library. Change none of it here. */
 	.syntax	unified
 	.eabi_attribute	67, "2.09"
