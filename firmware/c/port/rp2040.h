@@ -12,7 +12,7 @@
 #include <stddef.h>
 #include <stdint.h>
 
-#include "../ee.h"
+#include "ee.h"
 
 #ifdef __cplusplus
 extern "C" {

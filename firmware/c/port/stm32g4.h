@@ -15,7 +15,7 @@
 
 #include <stdint.h>
 
-#include "../ee.h"
+#include "ee.h"
 
 #ifdef __cplusplus
 extern "C" {
