@@ -1,7 +1,7 @@
 /* ee: variables in flash, the library of ee.h as one file, for Cortex-M3, M4, M7 and M33.
  *
- * sum of sources: 57622495ab42c8c77644752484fa57ac34cd50da42eba990448146fa686a4ae2
- * sum of the text below: f97c38b028c3243a1ea1b1bca9ce7e9822b9498879b613981864b64c9bbb69b0
+ * sum of sources: 4f6967c0f1989f3df8dc7c38bbed84d60ca37cc4c77ede531cb89d103e66ce0c
+ * sum of the text below: cf07d992de287d00d54a21692da88314538ece77f5f1776a7fc6ddd940c54dc8
  * made by: firmware/c/assemble
  * compiler: rustc 1.96.0 (ac68faa20 2026-05-25) (built from a source tarball), LLVM 22.1.8
  * words: --target thumbv7m-none-eabi -C panic=abort -C embed-bitcode=yes -C opt-level=s -C llvm-args=--inline-threshold=40 -C codegen-units=1 -C lto=fat --emit asm,link
@@ -2004,16 +2004,26 @@ shim_numbers_Looked_ee_pairs_nor_Nor_read:
 	.code	16
 	.thumb_func
 ee_clean:
-	cbz	r0, .LBB23_7
+	cbz	r0, .LBB23_4
 	push	{r4, r5, r6, r7, lr}
 	add	r7, sp, #12
-	str	r11, [sp, #-4]!
+	str	r8, [sp, #-4]!
+	add.w	r8, r0, #28
 	mov	r4, r0
-	ldr	r0, [r0, #28]
-	cbz	r0, .LBB23_10
+	ldr.w	r0, [r8]
+	cbz	r0, .LBB23_3
 	ldr	r0, [r4, #8]
+	cmp	r0, r8
+	beq	.LBB23_5
+.LBB23_3:
+	movs	r0, #10
+	b	.LBB23_12
+.LBB23_4:
+	movs	r0, #13
+	bx	lr
+.LBB23_5:
 	ldr	r0, [r0]
-	cbz	r0, .LBB23_8
+	cbz	r0, .LBB23_10
 	ldr	r0, [r4]
 	ldrb	r1, [r4, #24]
 	cmp	r1, #0
@@ -2024,35 +2034,29 @@ ee_clean:
 	cmp	r1, r6
 	it	hi
 	movhi	r6, r1
-.LBB23_4:
+.LBB23_7:
 	cmp	r6, r1
-	beq	.LBB23_8
+	beq	.LBB23_10
 	mov	r5, r1
 	ldrd	r0, r1, [r4, #4]
 	mov	r2, r5
 	bl	ee_pages_state_is_blank_Device
 	adds	r1, r5, #1
 	cmp	r0, #0
-	bne	.LBB23_4
+	bne	.LBB23_7
 	ldr	r0, [r4, #8]
 	mov	r1, r5
 	bl	shim_Device_erased
-	b	.LBB23_9
-.LBB23_7:
-	movs	r0, #13
-	bx	lr
-.LBB23_8:
+	b	.LBB23_11
+.LBB23_10:
 	movs	r0, #1
-.LBB23_9:
-	ldr	r1, [r4, #28]
+.LBB23_11:
+	ldr.w	r1, [r8]
 	cmp	r1, #0
 	it	eq
 	moveq	r0, #9
-	b	.LBB23_11
-.LBB23_10:
-	movs	r0, #10
-.LBB23_11:
-	ldr	r11, [sp], #4
+.LBB23_12:
+	ldr	r8, [sp], #4
 	pop	{r4, r5, r6, r7, pc}
 	.size	ee_clean, .-ee_clean
 
@@ -2063,45 +2067,57 @@ ee_clean:
 	.code	16
 	.thumb_func
 ee_counts:
-	cmp	r0, #0
-	beq	.LBB24_10
+	cbz	r0, .LBB24_5
 	push	{r4, r5, r6, r7, lr}
 	add	r7, sp, #12
 	push.w	{r8, r9, r10, r11}
 	sub	sp, #36
+	add.w	r11, r0, #28
 	mov	r10, r0
-	ldr	r0, [r0, #28]
-	cmp	r0, #0
-	beq	.LBB24_11
+	ldr.w	r0, [r11]
+	cbz	r0, .LBB24_3
+	ldr.w	r0, [r10, #8]
+	cmp	r0, r11
+	beq	.LBB24_6
+.LBB24_3:
+	movs	r0, #10
+.LBB24_4:
+	add	sp, #36
+	pop.w	{r8, r9, r10, r11}
+	pop	{r4, r5, r6, r7, pc}
+.LBB24_5:
+	movs	r0, #13
+	bx	lr
+.LBB24_6:
 	mov	r9, r1
 	cmp	r1, #0
-	beq	.LBB24_12
+	beq	.LBB24_14
 	ldrb.w	r1, [r10, #24]
 	mov	r0, r10
 	bl	ee_pages_read_live_count_Device
 	str	r0, [sp, #4]
 	ldr.w	r0, [r10]
-	cbz	r0, .LBB24_13
+	cbz	r0, .LBB24_15
 	ldrb.w	r1, [r10, #24]
-	add.w	r11, sp, #16
+	add	r6, sp, #16
 	str.w	r9, [sp]
-	movs	r6, #0
+	mov.w	r8, #0
 	cmp	r1, #0
 	it	ne
 	movne	r1, r0
 	ldr.w	r9, [r10, #4]
-	mov.w	r8, #0
+	mov.w	r11, #0
 	str	r1, [sp, #8]
 	str	r0, [sp, #12]
-.LBB24_5:
+.LBB24_9:
 	sub.w	r0, r9, #4
-	cbz	r0, .LBB24_8
+	cbz	r0, .LBB24_12
 	ldr	r0, [sp, #8]
 	movs	r5, #4
-	add.w	r4, r8, r0
-.LBB24_7:
+	add.w	r4, r11, r0
+.LBB24_11:
 	ldr.w	r1, [r10, #8]
-	mov	r0, r11
+	mov	r0, r6
 	mov	r2, r4
 	mov	r3, r5
 	bl	shim_Device_ee_flash_device_Flash_word
@@ -2110,52 +2126,47 @@ ee_counts:
 	eor	r0, r0, #2
 	orrs	r0, r1
 	it	eq
-	addeq	r6, #1
+	addeq.w	r8, r8, #1
 	cmp	r9, r5
-	bne	.LBB24_7
-.LBB24_8:
-	add.w	r8, r8, #1
+	bne	.LBB24_11
+.LBB24_12:
+	add.w	r11, r11, #1
 	ldr	r0, [sp, #12]
-	cmp	r8, r0
-	bne	.LBB24_5
-	ldr.w	r8, [r10]
+	cmp	r11, r0
+	bne	.LBB24_9
+	ldr.w	r4, [r10]
+	add.w	r11, r10, #28
 	ldrb.w	r0, [r10, #24]
-	mov	r4, r8
+	mov	r6, r4
 	cmp	r0, #0
 	it	ne
-	movne	r4, #0
+	movne	r6, #0
 	ldr.w	r9, [sp]
-	b	.LBB24_14
-.LBB24_10:
+	b	.LBB24_16
+.LBB24_14:
 	movs	r0, #13
-	bx	lr
-.LBB24_11:
-	movs	r0, #10
-	b	.LBB24_19
-.LBB24_12:
-	movs	r0, #13
-	b	.LBB24_19
-.LBB24_13:
+	b	.LBB24_4
+.LBB24_15:
+	movs	r6, #0
 	movs	r4, #0
 	mov.w	r8, #0
-	movs	r6, #0
-.LBB24_14:
-	add.w	r0, r4, r8
+.LBB24_16:
+	adds	r0, r6, r4
 	movs	r5, #0
-	cmp	r4, r0
-	bhs	.LBB24_16
-.LBB24_15:
+	cmp	r6, r0
+	bhs	.LBB24_18
+.LBB24_17:
 	ldrd	r0, r1, [r10, #4]
-	mov	r2, r4
+	mov	r2, r6
 	bl	ee_pages_state_is_blank_Device
 	eor	r0, r0, #1
-	adds	r4, #1
+	adds	r6, #1
 	add	r5, r0
-	subs.w	r8, r8, #1
-	bne	.LBB24_15
-.LBB24_16:
-	ldr.w	r0, [r10, #28]
-	cbz	r0, .LBB24_18
+	subs	r4, #1
+	bne	.LBB24_17
+.LBB24_18:
+	ldr.w	r0, [r11]
+	cbz	r0, .LBB24_20
 	ldrd	r0, r1, [r10]
 	subs	r1, #4
 	ldrd	r2, r3, [r10, #12]
@@ -2164,15 +2175,12 @@ ee_counts:
 	add.w	r1, r9, #8
 	strd	r0, r3, [r9]
 	ldr	r0, [sp, #4]
-	stm	r1!, {r0, r5, r6}
+	stm.w	r1, {r0, r5, r8}
 	movs	r0, #0
-	b	.LBB24_19
-.LBB24_18:
+	b	.LBB24_4
+.LBB24_20:
 	movs	r0, #9
-.LBB24_19:
-	add	sp, #36
-	pop.w	{r8, r9, r10, r11}
-	pop	{r4, r5, r6, r7, pc}
+	b	.LBB24_4
 	.size	ee_counts, .-ee_counts
 
 	.section	.text.ee_forget,"ax",%progbits
@@ -2182,30 +2190,43 @@ ee_counts:
 	.code	16
 	.thumb_func
 ee_forget:
-	cbz	r0, .LBB25_9
+	cbz	r0, .LBB25_5
 	push	{r4, r5, r6, r7, lr}
 	add	r7, sp, #12
-	str	r11, [sp, #-4]!
+	str	r8, [sp, #-4]!
 	sub	sp, #8
+	add.w	r6, r0, #28
 	mov	r4, r0
-	ldr	r0, [r0, #28]
-	cbz	r0, .LBB25_10
-	subs	r0, r1, #1
-	mov	r5, r1
-	movw	r1, #65533
-	uxth	r0, r0
-	cmp	r0, r1
-	bhi	.LBB25_11
+	ldr	r0, [r6]
+	cbz	r0, .LBB25_3
 	ldr	r0, [r4, #8]
+	cmp	r0, r6
+	beq	.LBB25_6
+.LBB25_3:
+	movs	r0, #10
+.LBB25_4:
+	add	sp, #8
+	ldr	r8, [sp], #4
+	pop	{r4, r5, r6, r7, pc}
+.LBB25_5:
+	movs	r0, #13
+	bx	lr
+.LBB25_6:
+	mov	r5, r1
+	subs	r1, #1
+	movw	r2, #65533
+	uxth	r1, r1
+	cmp	r1, r2
+	bhi	.LBB25_13
 	ldr	r0, [r0]
-	cbz	r0, .LBB25_8
-	add.w	r6, r4, #12
+	cbz	r0, .LBB25_12
+	add.w	r8, r4, #12
 	mov	r0, r4
 	mov	r2, r5
-	mov	r1, r6
+	mov	r1, r8
 	bl	ee_pages_read_latest_Device
 	cmp	r0, #1
-	bne	.LBB25_12
+	bne	.LBB25_14
 	ldrd	r0, r2, [r4]
 	subs	r2, #4
 	ldr	r3, [r4, #16]
@@ -2214,45 +2235,37 @@ ee_forget:
 	itt	eq
 	ldreq	r0, [r4, #12]
 	addseq.w	r0, r0, #2
-	beq	.LBB25_8
+	beq	.LBB25_12
 	movs	r0, #1
 	str	r1, [sp, #4]
 	strh.w	r0, [sp]
 	mov	r2, sp
 	mov	r0, r4
-	mov	r1, r6
+	mov	r1, r8
 	strh.w	r5, [sp, #2]
 	bl	ee_core_changing_make_change_Device
 	uxtb	r0, r0
-	cbz	r0, .LBB25_14
+	cmp	r0, #0
+	beq	.LBB25_4
 	cmp	r0, #2
-	bne	.LBB25_15
-.LBB25_8:
-	movs	r0, #3
-	b	.LBB25_13
-.LBB25_9:
-	movs	r0, #13
-	bx	lr
-.LBB25_10:
-	movs	r0, #10
-	b	.LBB25_14
-.LBB25_11:
-	movs	r0, #12
-	b	.LBB25_14
+	bne	.LBB25_16
 .LBB25_12:
-	movs	r0, #4
+	movs	r0, #3
+	b	.LBB25_15
 .LBB25_13:
-	ldr	r1, [r4, #28]
+	movs	r0, #12
+	b	.LBB25_4
+.LBB25_14:
+	movs	r0, #4
+.LBB25_15:
+	ldr	r1, [r6]
 	cmp	r1, #0
 	it	eq
 	moveq	r0, #9
-.LBB25_14:
-	add	sp, #8
-	ldr	r11, [sp], #4
-	pop	{r4, r5, r6, r7, pc}
-.LBB25_15:
+	b	.LBB25_4
+.LBB25_16:
 	movs	r0, #0
-	b	.LBB25_13
+	b	.LBB25_15
 	.size	ee_forget, .-ee_forget
 
 	.section	.text.ee_format,"ax",%progbits
@@ -2278,76 +2291,83 @@ ee_format:
 ee_next:
 	push	{r4, r5, r6, r7, lr}
 	add	r7, sp, #12
-	push.w	{r8, r9, r11}
+	push.w	{r8, r9, r10}
 	sub	sp, #160
-	cbz	r0, .LBB27_10
+	cbz	r0, .LBB27_4
+	add.w	r5, r0, #28
 	mov	r6, r0
-	ldr	r0, [r0, #28]
-	cbz	r0, .LBB27_11
-	mov	r9, r1
+	ldr	r0, [r5]
+	cbz	r0, .LBB27_3
+	ldr	r0, [r6, #8]
+	cmp	r0, r5
+	beq	.LBB27_6
+.LBB27_3:
+	movs	r0, #10
+	b	.LBB27_5
+.LBB27_4:
 	movs	r0, #13
-	cbz	r1, .LBB27_15
-	mov	r8, r2
-	cbz	r2, .LBB27_15
-	ldrh.w	r5, [r9]
+.LBB27_5:
+	add	sp, #160
+	pop.w	{r8, r9, r10}
+	pop	{r4, r5, r6, r7, pc}
+.LBB27_6:
+	mov	r10, r1
+	movs	r0, #13
+	cmp	r1, #0
+	beq	.LBB27_5
+	mov	r9, r2
+	cmp	r2, #0
+	beq	.LBB27_5
+	ldrh.w	r4, [r10]
 	movw	r0, #65535
-	cmp	r5, r0
-	beq	.LBB27_12
-	add	r4, sp, #8
-	mov	r0, r4
+	cmp	r4, r0
+	beq	.LBB27_14
+	add.w	r8, sp, #8
+	mov	r0, r8
 	bl	ee_pages_batch_LiveBatch_new
-	mov	r2, r5
-	cmp	r5, #0
+	mov	r2, r4
+	cmp	r4, #0
 	it	ne
 	movne	r2, #1
-.LBB27_6:
+.LBB27_10:
 	ldrb	r1, [r6, #24]
 	mov	r0, r6
-	mov	r3, r5
-	str	r4, [sp]
+	mov	r3, r4
+	str.w	r8, [sp]
 	bl	ee_pages_batch_next_batch_Device
 	ldr	r0, [sp, #156]
 	cmp	r0, #17
-	bhs	.LBB27_16
-	cbnz	r0, .LBB27_13
+	bhs	.LBB27_17
+	cbnz	r0, .LBB27_15
 	ldrh.w	r0, [sp, #8]
-	cbz	r0, .LBB27_14
+	cbz	r0, .LBB27_16
 	movs	r2, #1
-	ldrh.w	r5, [sp, #10]
-	b	.LBB27_6
-.LBB27_10:
-	movs	r0, #13
-	b	.LBB27_15
-.LBB27_11:
-	movs	r0, #10
-	b	.LBB27_15
-.LBB27_12:
+	ldrh.w	r4, [sp, #10]
+	b	.LBB27_10
+.LBB27_14:
 	movs	r0, #12
-	b	.LBB27_15
-.LBB27_13:
-	ldr	r1, [r6, #28]
+	b	.LBB27_5
+.LBB27_15:
+	ldr	r1, [r5]
 	movs	r0, #0
 	cmp	r1, #0
 	iteee	eq
 	moveq	r0, #9
 	ldrne	r0, [sp, #32]
 	ldrhne.w	r1, [sp, #28]
-	strhne.w	r1, [r9]
+	strhne.w	r1, [r10]
 	itt	ne
-	strne.w	r0, [r8]
+	strne.w	r0, [r9]
 	movne	r0, #0
-	b	.LBB27_15
-.LBB27_14:
-	ldr	r1, [r6, #28]
+	b	.LBB27_5
+.LBB27_16:
+	ldr	r1, [r5]
 	movs	r0, #1
 	cmp	r1, #0
 	it	eq
 	moveq	r0, #9
-.LBB27_15:
-	add	sp, #160
-	pop.w	{r8, r9, r11}
-	pop	{r4, r5, r6, r7, pc}
-.LBB27_16:
+	b	.LBB27_5
+.LBB27_17:
 	bl	core_slice_index_slice_index_fail
 	.size	ee_next, .-ee_next
 
@@ -2372,50 +2392,54 @@ ee_open:
 	.code	16
 	.thumb_func
 ee_read:
-	cbz	r0, .LBB29_8
+	cbz	r0, .LBB29_4
 	push	{r4, r5, r7, lr}
 	add	r7, sp, #8
-	mov	r5, r0
-	ldr	r0, [r0, #28]
-	cbz	r0, .LBB29_9
 	mov	r4, r2
-	cbz	r2, .LBB29_10
-	subs	r0, r1, #1
 	mov	r2, r1
-	movw	r1, #65533
-	uxth	r0, r0
-	cmp	r0, r1
-	bhi	.LBB29_11
+	add.w	r1, r0, #28
+	mov	r5, r0
+	ldr	r0, [r1]
+	cbz	r0, .LBB29_3
 	ldr	r0, [r5, #8]
+	cmp	r0, r1
+	beq	.LBB29_5
+.LBB29_3:
+	movs	r0, #10
+	pop	{r4, r5, r7, pc}
+.LBB29_4:
+	movs	r0, #13
+	bx	lr
+.LBB29_5:
+	cbz	r4, .LBB29_11
+	subs	r1, r2, #1
+	movw	r3, #65533
+	uxth	r1, r1
+	cmp	r1, r3
+	bhi	.LBB29_12
 	ldr	r0, [r0]
-	cbz	r0, .LBB29_7
+	cbz	r0, .LBB29_10
 	add.w	r1, r5, #12
 	mov	r0, r5
 	bl	ee_pages_read_latest_Device
 	ldr	r2, [r5, #28]
-	cbz	r2, .LBB29_12
+	cbz	r2, .LBB29_13
 	mvn	r2, #2
 	tst	r0, r2
-	bne	.LBB29_13
-.LBB29_7:
+	bne	.LBB29_14
+.LBB29_10:
 	movs	r0, #1
 	pop	{r4, r5, r7, pc}
-.LBB29_8:
-	movs	r0, #13
-	bx	lr
-.LBB29_9:
-	movs	r0, #10
-	pop	{r4, r5, r7, pc}
-.LBB29_10:
-	movs	r0, #13
-	pop	{r4, r5, r7, pc}
 .LBB29_11:
-	movs	r0, #12
+	movs	r0, #13
 	pop	{r4, r5, r7, pc}
 .LBB29_12:
-	movs	r0, #9
+	movs	r0, #12
 	pop	{r4, r5, r7, pc}
 .LBB29_13:
+	movs	r0, #9
+	pop	{r4, r5, r7, pc}
+.LBB29_14:
 	movs	r0, #0
 	str	r1, [r4]
 	pop	{r4, r5, r7, pc}
@@ -2442,40 +2466,47 @@ ee_start:
 	.code	16
 	.thumb_func
 ee_write:
-	cbz	r0, .LBB31_6
+	cbz	r0, .LBB31_5
 	push	{r4, r5, r6, r7, lr}
 	add	r7, sp, #12
-	str	r11, [sp, #-4]!
+	str	r8, [sp, #-4]!
 	sub	sp, #8
+	add.w	r6, r0, #28
 	mov	r4, r0
-	ldr	r0, [r0, #28]
-	cbz	r0, .LBB31_7
-	subs	r0, r1, #1
-	mov	r5, r1
-	movw	r1, #65533
-	uxth	r0, r0
-	cmp	r0, r1
-	bhi	.LBB31_8
+	ldr	r0, [r6]
+	cbz	r0, .LBB31_3
 	ldr	r0, [r4, #8]
-	ldr	r0, [r0]
-	cbz	r0, .LBB31_12
-	mov	r0, r4
-	mov	r1, r5
-	mov	r6, r2
-	bl	ee_core_store_Store_Device_is_full_for
-	cbz	r0, .LBB31_9
-	movs	r0, #2
-	b	.LBB31_13
-.LBB31_6:
+	cmp	r0, r6
+	beq	.LBB31_6
+.LBB31_3:
+	movs	r0, #10
+.LBB31_4:
+	add	sp, #8
+	ldr	r8, [sp], #4
+	pop	{r4, r5, r6, r7, pc}
+.LBB31_5:
 	movs	r0, #13
 	bx	lr
-.LBB31_7:
-	movs	r0, #10
-	b	.LBB31_14
-.LBB31_8:
+.LBB31_6:
+	mov	r5, r1
+	subs	r1, #1
+	mov	r8, r2
+	movw	r2, #65533
+	uxth	r1, r1
+	cmp	r1, r2
+	bhi	.LBB31_10
+	ldr	r0, [r0]
+	cbz	r0, .LBB31_14
+	mov	r0, r4
+	mov	r1, r5
+	bl	ee_core_store_Store_Device_is_full_for
+	cbz	r0, .LBB31_11
+	movs	r0, #2
+	b	.LBB31_15
+.LBB31_10:
 	movs	r0, #12
-	b	.LBB31_14
-.LBB31_9:
+	b	.LBB31_4
+.LBB31_11:
 	ldrd	r0, r1, [r4]
 	subs	r1, #4
 	ldr	r2, [r4, #16]
@@ -2485,32 +2516,30 @@ ee_write:
 	cmp	r2, r3
 	it	eq
 	addseq.w	r0, r0, #2
-	beq	.LBB31_12
+	beq	.LBB31_14
 	movs	r0, #0
 	mov	r2, sp
 	strh.w	r0, [sp]
 	mov	r0, r4
-	str	r6, [sp, #4]
+	str.w	r8, [sp, #4]
 	strh.w	r5, [sp, #2]
 	bl	ee_core_changing_make_change_Device
 	uxtb	r0, r0
-	cbz	r0, .LBB31_14
+	cmp	r0, #0
+	beq	.LBB31_4
 	cmp	r0, #2
-	bne	.LBB31_15
-.LBB31_12:
+	bne	.LBB31_16
+.LBB31_14:
 	movs	r0, #3
-.LBB31_13:
-	ldr	r1, [r4, #28]
+.LBB31_15:
+	ldr	r1, [r6]
 	cmp	r1, #0
 	it	eq
 	moveq	r0, #9
-.LBB31_14:
-	add	sp, #8
-	ldr	r11, [sp], #4
-	pop	{r4, r5, r6, r7, pc}
-.LBB31_15:
+	b	.LBB31_4
+.LBB31_16:
 	movs	r0, #0
-	b	.LBB31_13
+	b	.LBB31_15
 	.size	ee_write, .-ee_write
 
 	.section	.text.ee_write_all,"ax",%progbits
@@ -2524,115 +2553,125 @@ ee_write_all:
 	add	r7, sp, #12
 	push.w	{r8, r9, r10, r11}
 	sub	sp, #20
-	cbz	r0, .LBB32_7
+	cbz	r0, .LBB32_9
+	add.w	r10, r0, #28
 	mov	r4, r0
-	ldr	r0, [r0, #28]
-	cbz	r0, .LBB32_8
+	ldr.w	r0, [r10]
+	cbz	r0, .LBB32_3
+	ldr	r0, [r4, #8]
+	cmp	r0, r10
+	beq	.LBB32_4
+.LBB32_3:
+	movs	r5, #10
+	b	.LBB32_10
+.LBB32_4:
 	mov	r6, r1
-	cbz	r1, .LBB32_7
+	cbz	r1, .LBB32_9
 	mov	r8, r2
 	lsls	r5, r2, #3
-	movs	r0, #0
-.LBB32_4:
-	cmp	r5, r0
-	beq	.LBB32_9
-	ldrh	r1, [r6, r0]
-	adds	r0, #8
-	adds	r1, #1
-	uxth	r1, r1
-	cmp	r1, #2
-	bhs	.LBB32_4
+	movs	r1, #0
+.LBB32_6:
+	cmp	r5, r1
+	beq	.LBB32_11
+	ldrh	r2, [r6, r1]
+	adds	r1, #8
+	adds	r2, #1
+	uxth	r2, r2
+	cmp	r2, #2
+	bhs	.LBB32_6
 	movs	r5, #12
-	b	.LBB32_32
-.LBB32_7:
-	movs	r5, #13
-	b	.LBB32_32
-.LBB32_8:
-	movs	r5, #10
-	b	.LBB32_32
+	b	.LBB32_10
 .LBB32_9:
-	ldr	r0, [r4, #8]
+	movs	r5, #13
+.LBB32_10:
+	mov	r0, r5
+	add	sp, #20
+	pop.w	{r8, r9, r10, r11}
+	pop	{r4, r5, r6, r7, pc}
+.LBB32_11:
 	ldr	r0, [r0]
 	cmp	r0, #0
-	beq	.LBB32_30
+	beq	.LBB32_32
 	cmp.w	r8, #0
-	beq	.LBB32_14
+	beq	.LBB32_16
 	cmp.w	r8, #1
-	bne	.LBB32_15
+	bne	.LBB32_17
 	ldrh	r5, [r6]
 	mov	r0, r4
 	ldr.w	r8, [r6, #4]
 	mov	r1, r5
 	bl	ee_core_store_Store_Device_is_full_for
 	cmp	r0, #0
-	beq	.LBB32_27
-.LBB32_13:
-	movs	r5, #2
-	b	.LBB32_31
-.LBB32_14:
-	mov	r5, r8
-	b	.LBB32_32
+	beq	.LBB32_29
 .LBB32_15:
+	movs	r5, #2
+	b	.LBB32_33
+.LBB32_16:
+	mov	r5, r8
+	b	.LBB32_10
+.LBB32_17:
 	movs	r0, #0
 	mov.w	r12, #0
-.LBB32_16:
+.LBB32_18:
 	ldrh.w	r2, [r6, r12, lsl #3]
 	add.w	r12, r12, #1
 	movs	r3, #0
-.LBB32_17:
+.LBB32_19:
 	cmp	r0, r3
-	beq	.LBB32_19
+	beq	.LBB32_21
 	ldrh	r1, [r6, r3]
 	adds	r3, #8
 	cmp	r1, r2
-	bne	.LBB32_17
-	b	.LBB32_26
-.LBB32_19:
+	bne	.LBB32_19
+	b	.LBB32_28
+.LBB32_21:
 	adds	r0, #8
 	cmp	r12, r8
-	bne	.LBB32_16
+	bne	.LBB32_18
 	ldrd	r0, r1, [r4]
 	subs	r1, #4
 	muls	r0, r1, r0
 	cmp	r8, r0
-	bhi	.LBB32_13
+	bhi	.LBB32_15
 	ldrb	r1, [r4, #24]
 	str	r0, [sp, #8]
 	mov	r0, r4
 	bl	ee_pages_read_live_count_Device
-	add.w	r9, r4, #12
-	mov	r10, r0
-	mov.w	r11, #0
-.LBB32_22:
-	ldrh.w	r2, [r6, r11]
+	mov	r11, r0
+	mov.w	r9, #0
+	add.w	r1, r4, #12
+	str	r1, [sp, #4]
+.LBB32_24:
+	ldrh.w	r2, [r6, r9]
+	add.w	r1, r4, #12
 	mov	r0, r4
-	mov	r1, r9
 	bl	ee_pages_read_latest_Device
-	add.w	r11, r11, #8
+	add.w	r1, r4, #12
+	add.w	r9, r9, #8
 	cmp	r0, #0
 	it	eq
-	addeq.w	r10, r10, #1
-	cmp	r5, r11
-	bne	.LBB32_22
+	addeq.w	r11, r11, #1
+	cmp	r5, r9
+	bne	.LBB32_24
 	ldr	r0, [sp, #8]
-	cmp	r10, r0
-	bhi	.LBB32_13
-	ldr.w	r0, [r9]
+	cmp	r11, r0
+	bhi	.LBB32_15
+	ldr	r0, [r1]
 	adds	r0, #2
-	beq	.LBB32_30
+	beq	.LBB32_32
+	ldr	r1, [sp, #4]
 	movs	r5, #0
 	mov	r0, r4
-	mov	r1, r9
 	mov	r2, r6
 	mov	r3, r8
 	str	r5, [sp]
 	bl	ee_core_changing_move_unindexed_Device
-	cbnz	r0, .LBB32_30
-	b	.LBB32_31
-.LBB32_26:
+	cbnz	r0, .LBB32_32
+	b	.LBB32_33
+.LBB32_28:
 	movs	r5, #14
-	b	.LBB32_31
-.LBB32_27:
+	b	.LBB32_33
+.LBB32_29:
 	ldrd	r0, r1, [r4]
 	subs	r1, #4
 	ldr	r2, [r4, #16]
@@ -2642,7 +2681,7 @@ ee_write_all:
 	cmp	r2, r3
 	it	eq
 	addseq.w	r0, r0, #2
-	beq	.LBB32_30
+	beq	.LBB32_32
 	add	r2, sp, #12
 	strh.w	r5, [sp, #14]
 	movs	r5, #0
@@ -2651,24 +2690,20 @@ ee_write_all:
 	strh.w	r5, [sp, #12]
 	bl	ee_core_changing_make_change_Device
 	uxtb	r0, r0
-	cbz	r0, .LBB32_33
+	cbz	r0, .LBB32_34
 	cmp	r0, #2
-	bne	.LBB32_31
-.LBB32_30:
+	bne	.LBB32_33
+.LBB32_32:
 	movs	r5, #3
-.LBB32_31:
-	ldr	r0, [r4, #28]
+.LBB32_33:
+	ldr.w	r0, [r10]
 	cmp	r0, #0
 	it	eq
 	moveq	r5, #9
-.LBB32_32:
-	mov	r0, r5
-	add	sp, #20
-	pop.w	{r8, r9, r10, r11}
-	pop	{r4, r5, r6, r7, pc}
-.LBB32_33:
+	b	.LBB32_10
+.LBB32_34:
 	mov	r5, r0
-	b	.LBB32_32
+	b	.LBB32_10
 	.size	ee_write_all, .-ee_write_all
 
 	.section	.text.unlikely.core_panicking_panic_const_panic_const_div_by_zero,"ax",%progbits

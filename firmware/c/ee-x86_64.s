@@ -1,7 +1,7 @@
 /* ee: variables in flash, the library of ee.h as one file, for Linux on x86-64.
  *
- * sum of sources: 57622495ab42c8c77644752484fa57ac34cd50da42eba990448146fa686a4ae2
- * sum of the text below: 57a1bb0b8bd98474c321e2fc4dc2c50e7ac24db1dac2c1594776eb9bda289a74
+ * sum of sources: 4f6967c0f1989f3df8dc7c38bbed84d60ca37cc4c77ede531cb89d103e66ce0c
+ * sum of the text below: 2af8940d3f6c0dfae64ee4a67b1ca163b2f0995cde0a80bb1c11f8943cad472a
  * made by: firmware/c/assemble
  * compiler: rustc 1.96.0 (ac68faa20 2026-05-25) (built from a source tarball), LLVM 22.1.8
  * words: --target x86_64-unknown-linux-gnu -C panic=abort -C embed-bitcode=yes -C opt-level=s -C llvm-args=--inline-threshold=40 -C codegen-units=1 -C lto=fat --emit asm,link
@@ -2405,32 +2405,41 @@ ee_clean:
 	.cfi_def_cfa_offset 24
 	pushq	%r14
 	.cfi_def_cfa_offset 32
-	pushq	%r12
+	pushq	%r13
 	.cfi_def_cfa_offset 40
-	pushq	%rbx
+	pushq	%r12
 	.cfi_def_cfa_offset 48
-	.cfi_offset %rbx, -48
-	.cfi_offset %r12, -40
+	pushq	%rbx
+	.cfi_def_cfa_offset 56
+	pushq	%rax
+	.cfi_def_cfa_offset 64
+	.cfi_offset %rbx, -56
+	.cfi_offset %r12, -48
+	.cfi_offset %r13, -40
 	.cfi_offset %r14, -32
 	.cfi_offset %r15, -24
 	.cfi_offset %rbp, -16
 	movq	%rdi, %rbx
-	cmpq	$0, 48(%rdi)
-	je	.LBB23_4
-	movq	16(%rbx), %rax
+	leaq	48(%rdi), %r15
+	movl	$10, %eax
+	cmpq	$0, (%r15)
+	je	.LBB23_11
+	movq	16(%rbx), %rcx
+	cmpq	%r15, %rcx
+	jne	.LBB23_11
 	movl	$1, %ebp
-	cmpq	$0, (%rax)
+	cmpq	$0, (%rcx)
 	je	.LBB23_10
-	xorl	%r12d, %r12d
+	xorl	%r13d, %r13d
 	cmpb	$0, 44(%rbx)
-	movq	(%rbx), %r15
-	cmoveq	%r15, %r12
-	addq	%r12, %r15
+	movq	(%rbx), %r12
+	cmoveq	%r12, %r13
+	addq	%r13, %r12
 .LBB23_7:
-	cmpq	%r15, %r12
+	cmpq	%r12, %r13
 	jae	.LBB23_10
-	movq	%r12, %r14
-	incq	%r12
+	movq	%r13, %r14
+	incq	%r13
 	movq	8(%rbx), %rdi
 	movq	16(%rbx), %rsi
 	movq	%r14, %rdx
@@ -2442,31 +2451,17 @@ ee_clean:
 	callq	shim_Device_erased
 	movzbl	%al, %ebp
 .LBB23_10:
-	cmpq	$0, 48(%rbx)
+	cmpq	$0, (%r15)
 	movl	$9, %eax
 	cmovnel	%ebp, %eax
-	jmp	.LBB23_11
-.LBB23_1:
-	.cfi_def_cfa_offset 8
-	.cfi_restore %rbx
-	.cfi_restore %rbp
-	.cfi_restore %r12
-	.cfi_restore %r14
-	.cfi_restore %r15
-	movl	$13, %eax
-	retq
-.LBB23_4:
-	.cfi_def_cfa_offset 48
-	.cfi_offset %rbx, -48
-	.cfi_offset %rbp, -16
-	.cfi_offset %r12, -40
-	.cfi_offset %r14, -32
-	.cfi_offset %r15, -24
-	movl	$10, %eax
 .LBB23_11:
+	addq	$8, %rsp
+	.cfi_def_cfa_offset 56
 	popq	%rbx
-	.cfi_def_cfa_offset 40
+	.cfi_def_cfa_offset 48
 	popq	%r12
+	.cfi_def_cfa_offset 40
+	popq	%r13
 	.cfi_def_cfa_offset 32
 	popq	%r14
 	.cfi_def_cfa_offset 24
@@ -2476,9 +2471,13 @@ ee_clean:
 	.cfi_def_cfa_offset 8
 	.cfi_restore %rbx
 	.cfi_restore %r12
+	.cfi_restore %r13
 	.cfi_restore %r14
 	.cfi_restore %r15
 	.cfi_restore %rbp
+	retq
+.LBB23_1:
+	movl	$13, %eax
 	retq
 	.size	ee_clean, .-ee_clean
 	.cfi_endproc
@@ -2512,102 +2511,12 @@ ee_counts:
 	.cfi_offset %r15, -24
 	.cfi_offset %rbp, -16
 	movq	%rdi, %r14
-	cmpq	$0, 48(%rdi)
-	je	.LBB24_2
-	movq	%rsi, %r13
-	testq	%rsi, %rsi
-	je	.LBB24_18
-	movl	44(%r14), %esi
-	movq	%r14, %rdi
-	callq	ee_pages_read_live_count_Device
-	movq	(%r14), %rdx
-	xorl	%ebp, %ebp
-	movb	44(%r14), %cl
-	testq	%rdx, %rdx
-	movq	%rax, 16(%rsp)
-	je	.LBB24_5
-	movq	%r13, 8(%rsp)
-	movq	8(%r14), %rbx
-	xorl	%r15d, %r15d
-	testb	%cl, %cl
-	movl	$0, %eax
-	cmovneq	%rdx, %rax
-	movq	%rax, 24(%rsp)
-	xorl	%ebp, %ebp
-	movq	%rdx, 32(%rsp)
-.LBB24_7:
-	leaq	-4(%rbx), %rax
-	testq	%rax, %rax
-	je	.LBB24_10
-	movq	24(%rsp), %rax
-	leaq	(%rax,%rbp), %r12
-	movl	$4, %r13d
-.LBB24_9:
-	movq	16(%r14), %rdi
-	movq	%r12, %rsi
-	movq	%r13, %rdx
-	callq	shim_Device_ee_flash_device_Flash_word
-	xorl	%ecx, %ecx
-	cmpq	$2, %rax
-	sete	%cl
-	addl	%ecx, %r15d
-	incq	%r13
-	cmpq	%r13, %rbx
-	jne	.LBB24_9
-.LBB24_10:
-	incq	%rbp
-	movq	32(%rsp), %rdx
-	cmpq	%rdx, %rbp
-	jne	.LBB24_7
-	movq	(%r14), %rbx
-	movb	44(%r14), %cl
-	movq	8(%rsp), %r13
-	xorl	%ebp, %ebp
-	jmp	.LBB24_12
-.LBB24_2:
+	leaq	48(%rdi), %r13
 	movl	$10, %eax
-	jmp	.LBB24_18
-.LBB24_5:
-	xorl	%ebx, %ebx
-	xorl	%r15d, %r15d
-.LBB24_12:
-	testb	%cl, %cl
-	movl	$0, %edx
-	cmoveq	%rbx, %rdx
-	leaq	(%rdx,%rbx), %rax
-	cmpq	%rax, %rdx
-	jae	.LBB24_15
-	xorl	%ebp, %ebp
-.LBB24_14:
-	leaq	1(%rdx), %r12
-	movq	8(%r14), %rdi
-	movq	16(%r14), %rsi
-	callq	ee_pages_state_is_blank_Device
-	xorb	$1, %al
-	movzbl	%al, %eax
-	addl	%eax, %ebp
-	movq	%r12, %rdx
-	decq	%rbx
-	jne	.LBB24_14
-.LBB24_15:
-	cmpq	$0, 48(%r14)
-	je	.LBB24_16
-	movl	8(%r14), %eax
-	movl	24(%r14), %ecx
-	addl	$-4, %eax
-	imull	(%r14), %eax
-	movl	40(%r14), %edx
-	movl	%eax, (%r13)
-	movl	%ecx, 4(%r13)
-	movq	16(%rsp), %rax
-	movl	%eax, 8(%r13)
-	movl	%ebp, 12(%r13)
-	movl	%r15d, 16(%r13)
-	movl	%edx, 20(%r13)
-	xorl	%eax, %eax
-	jmp	.LBB24_18
-.LBB24_16:
-	movl	$9, %eax
+	cmpq	$0, (%r13)
+	je	.LBB24_18
+	cmpq	%r13, 16(%r14)
+	je	.LBB24_3
 .LBB24_18:
 	addq	$40, %rsp
 	.cfi_def_cfa_offset 56
@@ -2631,6 +2540,108 @@ ee_counts:
 	.cfi_restore %rbp
 .LBB24_19:
 	retq
+.LBB24_3:
+	.cfi_def_cfa_offset 96
+	.cfi_offset %rbx, -56
+	.cfi_offset %rbp, -16
+	.cfi_offset %r12, -48
+	.cfi_offset %r13, -40
+	.cfi_offset %r14, -32
+	.cfi_offset %r15, -24
+	movq	%rsi, %rbx
+	movl	$13, %eax
+	testq	%rsi, %rsi
+	je	.LBB24_18
+	movl	44(%r14), %esi
+	movq	%r14, %rdi
+	callq	ee_pages_read_live_count_Device
+	movq	%rax, 8(%rsp)
+	movq	(%r14), %rcx
+	xorl	%r12d, %r12d
+	movb	44(%r14), %al
+	testq	%rcx, %rcx
+	movq	%rbx, 16(%rsp)
+	je	.LBB24_5
+	movq	8(%r14), %rbx
+	xorl	%ebp, %ebp
+	testb	%al, %al
+	movl	$0, %eax
+	cmovneq	%rcx, %rax
+	movq	%rax, 24(%rsp)
+	xorl	%r15d, %r15d
+	movq	%rcx, 32(%rsp)
+.LBB24_7:
+	leaq	-4(%rbx), %rax
+	testq	%rax, %rax
+	je	.LBB24_10
+	movq	24(%rsp), %rax
+	leaq	(%r15,%rax), %r12
+	movl	$4, %r13d
+.LBB24_9:
+	movq	16(%r14), %rdi
+	movq	%r12, %rsi
+	movq	%r13, %rdx
+	callq	shim_Device_ee_flash_device_Flash_word
+	xorl	%ecx, %ecx
+	cmpq	$2, %rax
+	sete	%cl
+	addl	%ecx, %ebp
+	incq	%r13
+	cmpq	%r13, %rbx
+	jne	.LBB24_9
+.LBB24_10:
+	incq	%r15
+	movq	32(%rsp), %rcx
+	cmpq	%rcx, %r15
+	jne	.LBB24_7
+	movq	(%r14), %rbx
+	movb	44(%r14), %al
+	leaq	48(%r14), %r13
+	xorl	%r12d, %r12d
+	jmp	.LBB24_12
+.LBB24_5:
+	xorl	%ebx, %ebx
+	xorl	%ebp, %ebp
+.LBB24_12:
+	testb	%al, %al
+	movl	$0, %edx
+	cmoveq	%rbx, %rdx
+	leaq	(%rdx,%rbx), %rax
+	cmpq	%rax, %rdx
+	jae	.LBB24_15
+	xorl	%r12d, %r12d
+.LBB24_14:
+	leaq	1(%rdx), %r15
+	movq	8(%r14), %rdi
+	movq	16(%r14), %rsi
+	callq	ee_pages_state_is_blank_Device
+	xorb	$1, %al
+	movzbl	%al, %eax
+	addl	%eax, %r12d
+	movq	%r15, %rdx
+	decq	%rbx
+	jne	.LBB24_14
+.LBB24_15:
+	cmpq	$0, (%r13)
+	je	.LBB24_16
+	movl	8(%r14), %eax
+	movl	24(%r14), %ecx
+	addl	$-4, %eax
+	imull	(%r14), %eax
+	movl	40(%r14), %edx
+	movq	16(%rsp), %rdi
+	movl	%eax, (%rdi)
+	movl	%ecx, 4(%rdi)
+	movq	8(%rsp), %rax
+	movl	%eax, 8(%rdi)
+	movl	%r12d, 12(%rdi)
+	movl	%ebp, 16(%rdi)
+	movl	%edx, 20(%rdi)
+	xorl	%eax, %eax
+	jmp	.LBB24_18
+.LBB24_16:
+	movl	$9, %eax
+	jmp	.LBB24_18
 	.size	ee_counts, .-ee_counts
 	.cfi_endproc
 
@@ -2645,21 +2656,30 @@ ee_forget:
 	.cfi_def_cfa_offset 16
 	pushq	%r14
 	.cfi_def_cfa_offset 24
-	pushq	%rbx
+	pushq	%r12
 	.cfi_def_cfa_offset 32
-	.cfi_offset %rbx, -32
+	pushq	%rbx
+	.cfi_def_cfa_offset 40
+	pushq	%rax
+	.cfi_def_cfa_offset 48
+	.cfi_offset %rbx, -40
+	.cfi_offset %r12, -32
 	.cfi_offset %r14, -24
 	.cfi_offset %r15, -16
 	movq	%rdi, %rbx
-	cmpq	$0, 48(%rdi)
-	je	.LBB25_4
+	leaq	48(%rdi), %r12
+	movl	$10, %eax
+	cmpq	$0, (%r12)
+	je	.LBB25_15
+	movq	16(%rbx), %rcx
+	cmpq	%r12, %rcx
+	jne	.LBB25_15
 	movl	%esi, %r14d
-	leal	-1(%r14), %ecx
+	leal	-1(%r14), %edx
 	movl	$12, %eax
-	cmpw	$-3, %cx
+	cmpw	$-3, %dx
 	ja	.LBB25_15
-	movq	16(%rbx), %rax
-	cmpq	$0, (%rax)
+	cmpq	$0, (%rcx)
 	je	.LBB25_7
 	leaq	24(%rbx), %r15
 	movq	%rbx, %rdi
@@ -2679,37 +2699,32 @@ ee_forget:
 .LBB25_7:
 	movl	$3, %ecx
 .LBB25_14:
-	cmpq	$0, 48(%rbx)
+	cmpq	$0, (%r12)
 	movl	$9, %eax
 	cmovnel	%ecx, %eax
-	jmp	.LBB25_15
-.LBB25_1:
-	.cfi_def_cfa_offset 8
-	.cfi_restore %rbx
-	.cfi_restore %r14
-	.cfi_restore %r15
-	movl	$13, %eax
-	retq
-.LBB25_4:
-	.cfi_def_cfa_offset 32
-	.cfi_offset %rbx, -32
-	.cfi_offset %r14, -24
-	.cfi_offset %r15, -16
-	movl	$10, %eax
 .LBB25_15:
+	addq	$8, %rsp
+	.cfi_def_cfa_offset 40
 	popq	%rbx
+	.cfi_def_cfa_offset 32
+	popq	%r12
 	.cfi_def_cfa_offset 24
 	popq	%r14
 	.cfi_def_cfa_offset 16
 	popq	%r15
 	.cfi_def_cfa_offset 8
 	.cfi_restore %rbx
+	.cfi_restore %r12
 	.cfi_restore %r14
 	.cfi_restore %r15
 	retq
+.LBB25_1:
+	movl	$13, %eax
+	retq
 .LBB25_11:
-	.cfi_def_cfa_offset 32
-	.cfi_offset %rbx, -32
+	.cfi_def_cfa_offset 48
+	.cfi_offset %rbx, -40
+	.cfi_offset %r12, -32
 	.cfi_offset %r14, -24
 	.cfi_offset %r15, -16
 	shlq	$32, %rdx
@@ -2765,68 +2780,50 @@ ee_next:
 	.cfi_offset %r14, -32
 	.cfi_offset %r15, -24
 	.cfi_offset %rbp, -16
-	movl	$13, %eax
 	testq	%rdi, %rdi
-	je	.LBB27_16
+	je	.LBB27_1
 	movq	%rdi, %r15
-	cmpq	$0, 48(%rdi)
-	je	.LBB27_2
+	leaq	48(%rdi), %r12
+	movl	$10, %eax
+	cmpq	$0, (%r12)
+	je	.LBB27_17
+	cmpq	%r12, 16(%r15)
+	jne	.LBB27_17
 	movq	%rsi, %r14
 	testq	%rsi, %rsi
-	je	.LBB27_16
+	je	.LBB27_1
 	movq	%rdx, %rbx
+	movl	$13, %eax
 	testq	%rdx, %rdx
-	je	.LBB27_16
+	je	.LBB27_17
 	movzwl	(%r14), %ebp
 	cmpw	$-1, %bp
-	je	.LBB27_6
+	je	.LBB27_7
 	xorl	%r13d, %r13d
 	testw	%bp, %bp
 	setne	%r13b
-	leaq	8(%rsp), %r12
-	movq	%r12, %rdi
+	leaq	8(%rsp), %rdi
 	callq	ee_pages_batch_LiveBatch_new
-.LBB27_8:
+.LBB27_9:
 	movl	44(%r15), %esi
 	movq	%r15, %rdi
 	movl	%r13d, %edx
 	movl	%ebp, %ecx
-	movq	%r12, %r8
+	leaq	8(%rsp), %r8
 	callq	ee_pages_batch_next_batch_Device
 	movq	152(%rsp), %rdi
 	cmpq	$17, %rdi
-	jae	.LBB27_17
+	jae	.LBB27_18
 	testq	%rdi, %rdi
-	jne	.LBB27_13
+	jne	.LBB27_14
 	cmpb	$0, 160(%rsp)
-	je	.LBB27_11
+	je	.LBB27_12
 	movw	$1, %r13w
 	movzwl	162(%rsp), %ebp
-	jmp	.LBB27_8
-.LBB27_2:
-	movl	$10, %eax
-	jmp	.LBB27_16
-.LBB27_6:
-	movl	$12, %eax
-	jmp	.LBB27_16
-.LBB27_13:
-	cmpq	$0, 48(%r15)
-	je	.LBB27_14
-	movzwl	24(%rsp), %eax
-	movl	28(%rsp), %ecx
-	movw	%ax, (%r14)
-	movl	%ecx, (%rbx)
-	xorl	%eax, %eax
-	jmp	.LBB27_16
-.LBB27_11:
-	xorl	%eax, %eax
-	cmpq	$0, 48(%r15)
-	sete	%al
-	leal	1(,%rax,8), %eax
-	jmp	.LBB27_16
-.LBB27_14:
-	movl	$9, %eax
-.LBB27_16:
+	jmp	.LBB27_9
+.LBB27_1:
+	movl	$13, %eax
+.LBB27_17:
 	addq	$168, %rsp
 	.cfi_def_cfa_offset 56
 	popq	%rbx
@@ -2842,8 +2839,29 @@ ee_next:
 	popq	%rbp
 	.cfi_def_cfa_offset 8
 	retq
-.LBB27_17:
+.LBB27_7:
 	.cfi_def_cfa_offset 224
+	movl	$12, %eax
+	jmp	.LBB27_17
+.LBB27_14:
+	cmpq	$0, (%r12)
+	je	.LBB27_15
+	movzwl	24(%rsp), %eax
+	movl	28(%rsp), %ecx
+	movw	%ax, (%r14)
+	movl	%ecx, (%rbx)
+	xorl	%eax, %eax
+	jmp	.LBB27_17
+.LBB27_12:
+	xorl	%eax, %eax
+	cmpq	$0, (%r12)
+	sete	%al
+	leal	1(,%rax,8), %eax
+	jmp	.LBB27_17
+.LBB27_15:
+	movl	$9, %eax
+	jmp	.LBB27_17
+.LBB27_18:
 	callq	core_slice_index_slice_index_fail
 	.size	ee_next, .-ee_next
 	.cfi_endproc
@@ -2874,19 +2892,39 @@ ee_read:
 	.cfi_def_cfa_offset 32
 	.cfi_offset %rbx, -24
 	.cfi_offset %r14, -16
-	movq	%rdi, %r14
-	cmpq	$0, 48(%rdi)
-	je	.LBB29_2
 	movq	%rdx, %rbx
-	testq	%rdx, %rdx
-	je	.LBB29_10
 	movl	%esi, %edx
-	leal	-1(%rdx), %ecx
+	movq	%rdi, %r14
+	leaq	48(%rdi), %rsi
+	movl	$10, %eax
+	cmpq	$0, (%rsi)
+	je	.LBB29_10
+	movq	16(%r14), %rcx
+	cmpq	%rsi, %rcx
+	je	.LBB29_3
+.LBB29_10:
+	addq	$8, %rsp
+	.cfi_def_cfa_offset 24
+	popq	%rbx
+	.cfi_def_cfa_offset 16
+	popq	%r14
+	.cfi_def_cfa_offset 8
+	.cfi_restore %rbx
+	.cfi_restore %r14
+.LBB29_11:
+	retq
+.LBB29_3:
+	.cfi_def_cfa_offset 32
+	.cfi_offset %rbx, -24
+	.cfi_offset %r14, -16
+	movl	$13, %eax
+	testq	%rbx, %rbx
+	je	.LBB29_10
+	leal	-1(%rdx), %esi
 	movl	$12, %eax
-	cmpw	$-3, %cx
+	cmpw	$-3, %si
 	ja	.LBB29_10
-	movq	16(%r14), %rax
-	cmpq	$0, (%rax)
+	cmpq	$0, (%rcx)
 	je	.LBB29_6
 	leaq	24(%r14), %rsi
 	movq	%r14, %rdi
@@ -2901,23 +2939,7 @@ ee_read:
 	movl	%edx, (%rbx)
 	xorl	%eax, %eax
 	jmp	.LBB29_10
-.LBB29_2:
-	movl	$10, %eax
-.LBB29_10:
-	addq	$8, %rsp
-	.cfi_def_cfa_offset 24
-	popq	%rbx
-	.cfi_def_cfa_offset 16
-	popq	%r14
-	.cfi_def_cfa_offset 8
-	.cfi_restore %rbx
-	.cfi_restore %r14
-.LBB29_11:
-	retq
 .LBB29_6:
-	.cfi_def_cfa_offset 32
-	.cfi_offset %rbx, -24
-	.cfi_offset %r14, -16
 	movl	$1, %eax
 	jmp	.LBB29_10
 .LBB29_8:
@@ -2948,78 +2970,82 @@ ee_write:
 	.cfi_def_cfa_offset 16
 	pushq	%r14
 	.cfi_def_cfa_offset 24
-	pushq	%rbx
+	pushq	%r12
 	.cfi_def_cfa_offset 32
-	.cfi_offset %rbx, -32
+	pushq	%rbx
+	.cfi_def_cfa_offset 40
+	pushq	%rax
+	.cfi_def_cfa_offset 48
+	.cfi_offset %rbx, -40
+	.cfi_offset %r12, -32
 	.cfi_offset %r14, -24
 	.cfi_offset %r15, -16
-	movq	%rdi, %rbx
-	cmpq	$0, 48(%rdi)
-	je	.LBB31_4
-	movl	%esi, %r14d
-	leal	-1(%r14), %ecx
-	movl	$12, %eax
-	cmpw	$-3, %cx
-	ja	.LBB31_15
-	movq	16(%rbx), %rax
-	cmpq	$0, (%rax)
-	je	.LBB31_7
+	movq	%rdi, %r14
+	leaq	48(%rdi), %r12
+	movl	$10, %eax
+	cmpq	$0, (%r12)
+	je	.LBB31_15
+	movq	16(%r14), %rcx
+	cmpq	%r12, %rcx
+	jne	.LBB31_15
 	movl	%edx, %r15d
-	movq	%rbx, %rdi
-	movl	%r14d, %esi
+	movl	%esi, %ebx
+	leal	-1(%rbx), %edx
+	movl	$12, %eax
+	cmpw	$-3, %dx
+	ja	.LBB31_15
+	cmpq	$0, (%rcx)
+	je	.LBB31_7
+	movq	%r14, %rdi
+	movl	%ebx, %esi
 	callq	ee_core_store_Store_Device_is_full_for
 	movl	$2, %ecx
 	testb	%al, %al
 	jne	.LBB31_14
-	movq	8(%rbx), %rax
+	movq	8(%r14), %rax
 	addq	$-4, %rax
-	imulq	(%rbx), %rax
-	cmpq	%rax, 24(%rbx)
+	imulq	(%r14), %rax
+	cmpq	%rax, 24(%r14)
 	jne	.LBB31_11
-	cmpl	$-2, 40(%rbx)
+	cmpl	$-2, 40(%r14)
 	jne	.LBB31_11
 .LBB31_7:
 	movl	$3, %ecx
 .LBB31_14:
-	cmpq	$0, 48(%rbx)
+	cmpq	$0, (%r12)
 	movl	$9, %eax
 	cmovnel	%ecx, %eax
-	jmp	.LBB31_15
-.LBB31_1:
-	.cfi_def_cfa_offset 8
-	.cfi_restore %rbx
-	.cfi_restore %r14
-	.cfi_restore %r15
-	movl	$13, %eax
-	retq
-.LBB31_4:
-	.cfi_def_cfa_offset 32
-	.cfi_offset %rbx, -32
-	.cfi_offset %r14, -24
-	.cfi_offset %r15, -16
-	movl	$10, %eax
 .LBB31_15:
+	addq	$8, %rsp
+	.cfi_def_cfa_offset 40
 	popq	%rbx
+	.cfi_def_cfa_offset 32
+	popq	%r12
 	.cfi_def_cfa_offset 24
 	popq	%r14
 	.cfi_def_cfa_offset 16
 	popq	%r15
 	.cfi_def_cfa_offset 8
 	.cfi_restore %rbx
+	.cfi_restore %r12
 	.cfi_restore %r14
 	.cfi_restore %r15
 	retq
+.LBB31_1:
+	movl	$13, %eax
+	retq
 .LBB31_11:
-	.cfi_def_cfa_offset 32
-	.cfi_offset %rbx, -32
+	.cfi_def_cfa_offset 48
+	.cfi_offset %rbx, -40
+	.cfi_offset %r12, -32
 	.cfi_offset %r14, -24
 	.cfi_offset %r15, -16
-	leaq	24(%rbx), %rsi
+	leaq	24(%r14), %rsi
 	shlq	$32, %r15
-	shll	$16, %r14d
-	orq	%r15, %r14
-	movq	%rbx, %rdi
-	movq	%r14, %rdx
+	shll	$16, %ebx
+	orq	%r15, %rbx
+	movq	%r14, %rdi
+	movq	%rbx, %rdx
 	callq	ee_core_changing_make_change_Device
 	movzbl	%al, %eax
 	testb	%al, %al
@@ -3061,30 +3087,63 @@ ee_write_all:
 	.cfi_offset %r15, -24
 	.cfi_offset %rbp, -16
 	movq	%rdi, %rbx
-	cmpq	$0, 48(%rdi)
-	je	.LBB32_2
+	leaq	48(%rdi), %rbp
+	movl	$10, %eax
+	cmpq	$0, (%rbp)
+	je	.LBB32_31
+	movq	16(%rbx), %rcx
+	cmpq	%rbp, %rcx
+	je	.LBB32_3
+.LBB32_31:
+	addq	$24, %rsp
+	.cfi_def_cfa_offset 56
+	popq	%rbx
+	.cfi_def_cfa_offset 48
+	popq	%r12
+	.cfi_def_cfa_offset 40
+	popq	%r13
+	.cfi_def_cfa_offset 32
+	popq	%r14
+	.cfi_def_cfa_offset 24
+	popq	%r15
+	.cfi_def_cfa_offset 16
+	popq	%rbp
+	.cfi_def_cfa_offset 8
+	.cfi_restore %rbx
+	.cfi_restore %r12
+	.cfi_restore %r13
+	.cfi_restore %r14
+	.cfi_restore %r15
+	.cfi_restore %rbp
+.LBB32_32:
+	retq
+.LBB32_3:
+	.cfi_def_cfa_offset 80
+	.cfi_offset %rbx, -56
+	.cfi_offset %rbp, -16
+	.cfi_offset %r12, -48
+	.cfi_offset %r13, -40
+	.cfi_offset %r14, -32
+	.cfi_offset %r15, -24
 	movq	%rsi, %r14
+	movl	$13, %eax
 	testq	%rsi, %rsi
 	je	.LBB32_31
 	movl	%edx, %r15d
-	leaq	(,%r15,8), %rbp
+	leaq	(,%r15,8), %r12
 	xorl	%eax, %eax
 .LBB32_5:
-	cmpq	%rax, %rbp
+	cmpq	%rax, %r12
 	je	.LBB32_8
-	movl	(%r14,%rax), %ecx
-	incl	%ecx
+	movl	(%r14,%rax), %esi
+	incl	%esi
 	addq	$8, %rax
-	cmpw	$2, %cx
+	cmpw	$2, %si
 	jae	.LBB32_5
 	movl	$12, %eax
 	jmp	.LBB32_31
-.LBB32_2:
-	movl	$10, %eax
-	jmp	.LBB32_31
 .LBB32_8:
-	movq	16(%rbx), %rax
-	cmpq	$0, (%rax)
+	cmpq	$0, (%rcx)
 	je	.LBB32_29
 	testl	%edx, %edx
 	je	.LBB32_10
@@ -3095,7 +3154,7 @@ ee_write_all:
 	movq	%rbx, %rdi
 	movl	%r15d, %esi
 	callq	ee_core_store_Store_Device_is_full_for
-	movl	$2, %r12d
+	movl	$2, %r13d
 	testb	%al, %al
 	jne	.LBB32_30
 	movq	8(%rbx), %rax
@@ -3116,11 +3175,11 @@ ee_write_all:
 	movzbl	%al, %eax
 	testb	%al, %al
 	je	.LBB32_31
-	xorl	%r12d, %r12d
+	xorl	%r13d, %r13d
 	cmpl	$2, %eax
 	jne	.LBB32_30
 .LBB32_29:
-	movl	$3, %r12d
+	movl	$3, %r13d
 	jmp	.LBB32_30
 .LBB32_10:
 	movl	%edx, %eax
@@ -3146,7 +3205,7 @@ ee_write_all:
 	movq	8(%rbx), %rax
 	addq	$-4, %rax
 	imulq	(%rbx), %rax
-	movl	$2, %r12d
+	movl	$2, %r13d
 	cmpq	%r15, %rax
 	jb	.LBB32_30
 	movq	%rax, 8(%rsp)
@@ -3164,14 +3223,15 @@ ee_write_all:
 	movq	16(%rsp), %rax
 	adcq	$0, %rax
 	addq	$8, %r13
-	cmpq	%r13, %rbp
+	cmpq	%r13, %r12
 	jne	.LBB32_20
 	leaq	24(%rbx), %rsi
 	cmpq	8(%rsp), %rax
+	movl	$2, %r13d
 	ja	.LBB32_30
 	cmpl	$-2, 40(%rbx)
 	je	.LBB32_29
-	xorl	%r12d, %r12d
+	xorl	%r13d, %r13d
 	movq	%rbx, %rdi
 	movq	%r14, %rdx
 	movq	%r15, %rcx
@@ -3181,34 +3241,12 @@ ee_write_all:
 	jne	.LBB32_29
 	jmp	.LBB32_30
 .LBB32_17:
-	movl	$14, %r12d
+	movl	$14, %r13d
 .LBB32_30:
-	cmpq	$0, 48(%rbx)
+	cmpq	$0, (%rbp)
 	movl	$9, %eax
-	cmovnel	%r12d, %eax
-.LBB32_31:
-	addq	$24, %rsp
-	.cfi_def_cfa_offset 56
-	popq	%rbx
-	.cfi_def_cfa_offset 48
-	popq	%r12
-	.cfi_def_cfa_offset 40
-	popq	%r13
-	.cfi_def_cfa_offset 32
-	popq	%r14
-	.cfi_def_cfa_offset 24
-	popq	%r15
-	.cfi_def_cfa_offset 16
-	popq	%rbp
-	.cfi_def_cfa_offset 8
-	.cfi_restore %rbx
-	.cfi_restore %r12
-	.cfi_restore %r13
-	.cfi_restore %r14
-	.cfi_restore %r15
-	.cfi_restore %rbp
-.LBB32_32:
-	retq
+	cmovnel	%r13d, %eax
+	jmp	.LBB32_31
 	.size	ee_write_all, .-ee_write_all
 	.cfi_endproc
 

@@ -1,12 +1,12 @@
 /* ee: variables in flash, the library of ee.h as one file, for every Cortex-M.
  *
- * sum of sources: 57622495ab42c8c77644752484fa57ac34cd50da42eba990448146fa686a4ae2
- * sum of the text below: 939d3670e7cdf03015b4624a0113a5676937ad340361145a32de60048bb0a9d2
+ * sum of sources: 4f6967c0f1989f3df8dc7c38bbed84d60ca37cc4c77ede531cb89d103e66ce0c
+ * sum of the text below: b013c351f75b45f5087ee7433a12c8490884c71b02bf0da6e4190d463868720b
  * made by: firmware/c/assemble
  * compiler: rustc 1.96.0 (ac68faa20 2026-05-25) (built from a source tarball), LLVM 22.1.8
  * words: --target thumbv6m-none-eabi -C panic=abort -C embed-bitcode=yes -C opt-level=s -C llvm-args=--inline-threshold=40 -C codegen-units=1 -C lto=fat --emit asm,link
  * asks of others: __aeabi_uidiv, __aeabi_uidivmod, memcpy
- * stack: 672 bytes, and what memcpy and your functions take
+ * stack: 680 bytes, and what memcpy and your functions take
  *
  * Of firmware/rust/ee-store, which is proved, firmware/c/src, which is written by hand, and what these take of Rust's
  * own library. Change none of it here. */
@@ -2393,42 +2393,47 @@ shim_numbers_Looked_ee_pairs_nor_Nor_read:
 ee_clean:
 	push	{r4, r5, r6, r7, lr}
 	add	r7, sp, #12
-	sub	sp, #4
-	cmp	r0, #0
-	beq	.LBB23_5
-	mov	r5, r0
-	ldr	r0, [r0, #28]
+	sub	sp, #12
 	cmp	r0, #0
 	beq	.LBB23_6
-	ldr	r0, [r5, #8]
-	ldr	r1, [r0]
+	mov	r5, r0
+	mov	r2, r0
+	adds	r2, #28
+	ldr	r1, [r2]
+	movs	r0, #10
+	cmp	r1, #0
+	beq	.LBB23_7
+	ldr	r1, [r5, #8]
+	cmp	r1, r2
+	bne	.LBB23_7
+	ldr	r1, [r1]
 	movs	r0, #1
 	cmp	r1, #0
-	beq	.LBB23_14
-	str	r0, [sp]
+	beq	.LBB23_16
+	str	r0, [sp, #4]
 	ldr	r0, [r5]
 	ldrb	r1, [r5, #24]
 	cmp	r1, #0
-	bne	.LBB23_7
+	str	r2, [sp, #8]
+	bne	.LBB23_8
 	mov	r1, r0
-	b	.LBB23_8
-.LBB23_5:
-	movs	r0, #13
-	b	.LBB23_16
+	b	.LBB23_9
 .LBB23_6:
-	movs	r0, #10
-	b	.LBB23_16
+	movs	r0, #13
 .LBB23_7:
-	movs	r1, #0
+	add	sp, #12
+	pop	{r4, r5, r6, r7, pc}
 .LBB23_8:
+	movs	r1, #0
+.LBB23_9:
 	adds	r0, r1, r0
 	cmp	r1, r0
 	mov	r4, r1
-	bhi	.LBB23_10
+	bhi	.LBB23_11
 	mov	r4, r0
-.LBB23_10:
+.LBB23_11:
 	cmp	r4, r1
-	beq	.LBB23_13
+	beq	.LBB23_14
 	mov	r6, r1
 	ldr	r0, [r5, #4]
 	ldr	r1, [r5, #8]
@@ -2436,21 +2441,21 @@ ee_clean:
 	bl	ee_pages_state_is_blank_Device
 	adds	r1, r6, #1
 	cmp	r0, #0
-	bne	.LBB23_10
+	bne	.LBB23_11
 	ldr	r0, [r5, #8]
 	mov	r1, r6
 	bl	shim_Device_erased
-	b	.LBB23_14
-.LBB23_13:
-	ldr	r0, [sp]
+	b	.LBB23_15
 .LBB23_14:
-	ldr	r1, [r5, #28]
-	cmp	r1, #0
-	bne	.LBB23_16
-	movs	r0, #9
+	ldr	r0, [sp, #4]
+.LBB23_15:
+	ldr	r2, [sp, #8]
 .LBB23_16:
-	add	sp, #4
-	pop	{r4, r5, r6, r7, pc}
+	ldr	r1, [r2]
+	cmp	r1, #0
+	bne	.LBB23_7
+	movs	r0, #9
+	b	.LBB23_7
 	.size	ee_clean, .-ee_clean
 
 	.section	.text.ee_counts,"ax",%progbits
@@ -2463,52 +2468,60 @@ ee_counts:
 	push	{r4, r5, r6, r7, lr}
 	add	r7, sp, #12
 	sub	sp, #60
-	mov	r2, r0
-	movs	r0, #13
-	cmp	r2, #0
-	beq	.LBB24_24
 	mov	r5, r1
-	ldr	r1, [r2, #28]
-	cmp	r1, #0
-	beq	.LBB24_15
+	movs	r1, #13
+	cmp	r0, #0
+	beq	.LBB24_16
+	mov	r3, r0
+	mov	r4, r0
+	adds	r4, #28
+	ldr	r2, [r4]
+	movs	r0, #10
+	cmp	r2, #0
+	beq	.LBB24_17
+	ldr	r2, [r3, #8]
+	cmp	r2, r4
+	bne	.LBB24_17
 	cmp	r5, #0
-	beq	.LBB24_24
-	ldrb	r1, [r2, #24]
-	mov	r0, r2
-	str	r2, [sp, #36]
+	mov	r0, r1
+	beq	.LBB24_17
+	str	r4, [sp, #12]
+	ldrb	r1, [r3, #24]
+	mov	r0, r3
+	str	r3, [sp, #36]
 	bl	ee_pages_read_live_count_Device
 	ldr	r3, [sp, #36]
-	str	r0, [sp, #8]
+	str	r0, [sp, #4]
 	ldr	r2, [r3]
 	movs	r1, #0
 	cmp	r2, #0
 	mov	r6, r1
 	mov	r4, r1
 	str	r1, [sp, #32]
-	str	r5, [sp, #12]
-	beq	.LBB24_18
-	str	r1, [sp, #4]
+	str	r5, [sp, #8]
+	beq	.LBB24_20
+	str	r1, [sp]
 	ldrb	r0, [r3, #24]
 	cmp	r0, #0
 	str	r2, [sp, #16]
-	bne	.LBB24_6
+	bne	.LBB24_7
 	str	r0, [sp, #16]
-.LBB24_6:
+.LBB24_7:
 	ldr	r5, [r3, #4]
 	subs	r0, r5, #4
 	str	r0, [sp, #20]
 	movs	r1, #0
 	str	r1, [sp, #32]
 	str	r2, [sp, #24]
-.LBB24_7:
+.LBB24_8:
 	ldr	r0, [sp, #20]
 	cmp	r0, #0
 	str	r1, [sp, #28]
-	beq	.LBB24_12
+	beq	.LBB24_13
 	ldr	r0, [sp, #16]
 	adds	r6, r1, r0
 	movs	r4, #4
-.LBB24_9:
+.LBB24_10:
 	ldr	r1, [r3, #8]
 	add	r0, sp, #40
 	mov	r2, r6
@@ -2519,40 +2532,42 @@ ee_counts:
 	eors	r1, r0
 	ldr	r0, [sp, #44]
 	orrs	r0, r1
-	bne	.LBB24_11
+	bne	.LBB24_12
 	ldr	r0, [sp, #32]
 	adds	r0, r0, #1
 	str	r0, [sp, #32]
-.LBB24_11:
+.LBB24_12:
 	adds	r4, r4, #1
 	cmp	r5, r4
 	ldr	r3, [sp, #36]
-	bne	.LBB24_9
-.LBB24_12:
+	bne	.LBB24_10
+.LBB24_13:
 	ldr	r1, [sp, #28]
 	adds	r1, r1, #1
 	ldr	r2, [sp, #24]
 	cmp	r1, r2
-	bne	.LBB24_7
+	bne	.LBB24_8
 	ldr	r4, [r3]
 	ldrb	r0, [r3, #24]
 	cmp	r0, #0
-	bne	.LBB24_16
+	bne	.LBB24_18
 	mov	r6, r4
-	b	.LBB24_17
-.LBB24_15:
-	movs	r0, #10
-	b	.LBB24_24
+	b	.LBB24_19
 .LBB24_16:
-	movs	r6, #0
+	mov	r0, r1
 .LBB24_17:
-	ldr	r1, [sp, #4]
+	add	sp, #60
+	pop	{r4, r5, r6, r7, pc}
 .LBB24_18:
+	movs	r6, #0
+.LBB24_19:
+	ldr	r1, [sp]
+.LBB24_20:
 	adds	r0, r6, r4
 	cmp	r6, r0
-	bhs	.LBB24_21
+	bhs	.LBB24_23
 	movs	r1, #0
-.LBB24_20:
+.LBB24_22:
 	ldr	r0, [r3, #4]
 	mov	r5, r1
 	ldr	r1, [r3, #8]
@@ -2564,11 +2579,12 @@ ee_counts:
 	adds	r1, r5, r1
 	adds	r6, r6, #1
 	subs	r4, r4, #1
-	bne	.LBB24_20
-.LBB24_21:
-	ldr	r0, [r3, #28]
+	bne	.LBB24_22
+.LBB24_23:
+	ldr	r0, [sp, #12]
+	ldr	r0, [r0]
 	cmp	r0, #0
-	beq	.LBB24_23
+	beq	.LBB24_25
 	ldr	r0, [r3]
 	mov	r4, r1
 	ldr	r1, [r3, #4]
@@ -2576,21 +2592,19 @@ ee_counts:
 	ldr	r3, [r3, #16]
 	subs	r1, r1, #4
 	muls	r1, r0, r1
-	ldr	r5, [sp, #12]
+	ldr	r5, [sp, #8]
 	stm	r5!, {r1, r3}
-	ldr	r0, [sp, #8]
+	ldr	r0, [sp, #4]
 	str	r0, [r5]
 	str	r4, [r5, #4]
 	ldr	r0, [sp, #32]
 	str	r0, [r5, #8]
 	str	r2, [r5, #12]
 	movs	r0, #0
-	b	.LBB24_24
-.LBB24_23:
+	b	.LBB24_17
+.LBB24_25:
 	movs	r0, #9
-.LBB24_24:
-	add	sp, #60
-	pop	{r4, r5, r6, r7, pc}
+	b	.LBB24_17
 	.size	ee_counts, .-ee_counts
 
 	.section	.text.ee_forget,"ax",%progbits
@@ -2602,81 +2616,85 @@ ee_counts:
 ee_forget:
 	push	{r4, r5, r6, r7, lr}
 	add	r7, sp, #12
-	sub	sp, #12
-	cmp	r0, #0
-	beq	.LBB25_10
-	mov	r5, r0
-	ldr	r0, [r0, #28]
+	sub	sp, #20
 	cmp	r0, #0
 	beq	.LBB25_11
-	mov	r6, r1
-	subs	r0, r1, #1
-	uxth	r0, r0
-	ldr	r1, .LCPI25_0
-	cmp	r0, r1
-	bhi	.LBB25_12
+	mov	r5, r0
+	mov	r6, r0
+	adds	r6, #28
+	ldr	r0, [r6]
+	movs	r4, #10
+	cmp	r0, #0
+	beq	.LBB25_12
 	ldr	r0, [r5, #8]
+	cmp	r0, r6
+	bne	.LBB25_12
+	mov	r3, r1
+	subs	r1, r1, #1
+	uxth	r1, r1
+	ldr	r2, .LCPI25_0
+	cmp	r1, r2
+	bhi	.LBB25_13
 	ldr	r0, [r0]
 	movs	r4, #3
 	cmp	r0, #0
-	beq	.LBB25_14
+	beq	.LBB25_15
 	mov	r1, r5
 	adds	r1, #12
 	mov	r0, r5
-	str	r1, [sp]
-	mov	r2, r6
+	str	r1, [sp, #4]
+	str	r3, [sp, #8]
+	mov	r2, r3
 	bl	ee_pages_read_latest_Device
 	cmp	r0, #1
-	bne	.LBB25_13
+	bne	.LBB25_14
 	ldm	r5!, {r0, r2}
 	subs	r2, r2, #4
 	muls	r2, r0, r2
 	ldr	r0, [r5, #8]
 	subs	r5, #8
 	cmp	r0, r2
-	bne	.LBB25_7
+	bne	.LBB25_8
 	ldr	r0, [r5, #12]
 	adds	r0, r0, #2
-	beq	.LBB25_14
-.LBB25_7:
-	add	r2, sp, #4
-	strh	r6, [r2, #2]
+	beq	.LBB25_15
+.LBB25_8:
+	add	r2, sp, #12
+	ldr	r0, [sp, #8]
+	strh	r0, [r2, #2]
 	movs	r0, #1
 	strh	r0, [r2]
-	str	r1, [sp, #8]
+	str	r1, [sp, #16]
 	mov	r0, r5
-	ldr	r1, [sp]
+	ldr	r1, [sp, #4]
 	bl	ee_core_changing_make_change_Device
 	uxtb	r0, r0
 	cmp	r0, #0
 	beq	.LBB25_17
 	cmp	r0, #2
-	beq	.LBB25_14
+	beq	.LBB25_15
 	movs	r4, #0
-	b	.LBB25_14
-.LBB25_10:
-	movs	r4, #13
-	b	.LBB25_16
+	b	.LBB25_15
 .LBB25_11:
-	movs	r4, #10
-	b	.LBB25_16
+	movs	r4, #13
 .LBB25_12:
-	movs	r4, #12
-	b	.LBB25_16
-.LBB25_13:
-	movs	r4, #4
-.LBB25_14:
-	ldr	r0, [r5, #28]
-	cmp	r0, #0
-	bne	.LBB25_16
-	movs	r4, #9
-.LBB25_16:
 	mov	r0, r4
-	add	sp, #12
+	add	sp, #20
 	pop	{r4, r5, r6, r7, pc}
+.LBB25_13:
+	movs	r4, #12
+	b	.LBB25_12
+.LBB25_14:
+	movs	r4, #4
+.LBB25_15:
+	ldr	r0, [r6]
+	cmp	r0, #0
+	bne	.LBB25_12
+	movs	r4, #9
+	b	.LBB25_12
 .LBB25_17:
 	mov	r4, r0
-	b	.LBB25_16
+	b	.LBB25_12
 	.p2align	2
 .LCPI25_0:
 	.long	65533
@@ -2705,87 +2723,97 @@ ee_format:
 ee_next:
 	push	{r4, r5, r6, r7, lr}
 	add	r7, sp, #12
-	sub	sp, #164
+	sub	sp, #172
+	movs	r5, #13
+	cmp	r0, #0
+	beq	.LBB27_11
 	mov	r6, r0
-	movs	r0, #13
-	cmp	r6, #0
-	beq	.LBB27_19
-	ldr	r3, [r6, #28]
+	mov	r4, r0
+	adds	r4, #28
+	ldr	r3, [r4]
+	movs	r0, #10
 	cmp	r3, #0
-	beq	.LBB27_10
+	beq	.LBB27_12
+	ldr	r3, [r6, #8]
+	cmp	r3, r4
+	bne	.LBB27_12
 	cmp	r1, #0
-	beq	.LBB27_19
+	beq	.LBB27_11
 	cmp	r2, #0
-	beq	.LBB27_19
+	mov	r0, r5
+	beq	.LBB27_12
+	str	r1, [sp, #12]
 	ldrh	r5, [r1]
 	ldr	r0, .LCPI27_0
 	cmp	r5, r0
-	beq	.LBB27_11
-	str	r1, [sp, #4]
+	beq	.LBB27_13
 	str	r2, [sp, #8]
-	add	r4, sp, #12
-	mov	r0, r4
+	add	r0, sp, #20
+	str	r0, [sp, #16]
 	bl	ee_pages_batch_LiveBatch_new
 	subs	r0, r5, #1
 	mov	r2, r5
 	sbcs	r2, r0
-	adds	r4, #148
-.LBB27_6:
+	ldr	r0, [sp, #16]
+	adds	r0, #148
+	str	r0, [sp, #16]
+.LBB27_7:
 	ldrb	r1, [r6, #24]
-	add	r0, sp, #12
+	add	r0, sp, #20
 	str	r0, [sp]
 	mov	r0, r6
 	mov	r3, r5
 	bl	ee_pages_batch_next_batch_Device
-	ldr	r0, [r4]
+	ldr	r0, [sp, #16]
+	ldr	r0, [r0]
 	cmp	r0, #17
-	bhs	.LBB27_20
+	bhs	.LBB27_21
 	cmp	r0, #0
-	bne	.LBB27_12
-	add	r0, sp, #12
+	bne	.LBB27_14
+	add	r0, sp, #20
 	ldrh	r0, [r0]
 	cmp	r0, #0
-	beq	.LBB27_16
-	add	r0, sp, #12
+	beq	.LBB27_18
+	add	r0, sp, #20
 	ldrh	r5, [r0, #2]
 	movs	r2, #1
-	b	.LBB27_6
-.LBB27_10:
-	movs	r0, #10
-	b	.LBB27_19
+	b	.LBB27_7
 .LBB27_11:
-	movs	r0, #12
-	b	.LBB27_19
+	mov	r0, r5
 .LBB27_12:
-	add	r1, sp, #12
-	ldr	r3, [r6, #28]
+	add	sp, #172
+	pop	{r4, r5, r6, r7, pc}
+.LBB27_13:
+	movs	r0, #12
+	b	.LBB27_12
+.LBB27_14:
+	add	r1, sp, #20
+	ldr	r3, [r4]
 	movs	r0, #9
 	movs	r2, #0
 	cmp	r3, #0
-	beq	.LBB27_14
+	ldr	r3, [sp, #12]
+	beq	.LBB27_16
 	mov	r0, r2
-.LBB27_14:
+.LBB27_16:
 	ldr	r2, [sp, #8]
-	ldr	r3, [sp, #4]
-	beq	.LBB27_19
+	beq	.LBB27_12
 	ldrh	r0, [r1, #20]
-	ldr	r1, [sp, #36]
+	ldr	r1, [sp, #44]
 	strh	r0, [r3]
 	str	r1, [r2]
 	movs	r0, #0
-	b	.LBB27_19
-.LBB27_16:
-	ldr	r0, [r6, #28]
-	cmp	r0, #0
-	beq	.LBB27_18
-	movs	r0, #1
-	b	.LBB27_19
+	b	.LBB27_12
 .LBB27_18:
-	movs	r0, #9
-.LBB27_19:
-	add	sp, #164
-	pop	{r4, r5, r6, r7, pc}
+	ldr	r0, [r4]
+	cmp	r0, #0
+	beq	.LBB27_20
+	movs	r0, #1
+	b	.LBB27_12
 .LBB27_20:
+	movs	r0, #9
+	b	.LBB27_12
+.LBB27_21:
 	bl	core_slice_index_slice_index_fail
 	.p2align	2
 .LCPI27_0:
@@ -2816,25 +2844,31 @@ ee_read:
 	push	{r4, r5, r6, r7, lr}
 	add	r7, sp, #12
 	sub	sp, #4
-	movs	r4, #13
-	cmp	r0, #0
-	beq	.LBB29_10
 	mov	r6, r0
-	ldr	r0, [r0, #28]
-	cmp	r0, #0
-	beq	.LBB29_8
-	mov	r5, r2
-	cmp	r2, #0
-	beq	.LBB29_10
+	movs	r0, #13
+	cmp	r6, #0
+	beq	.LBB29_9
+	mov	r4, r2
 	mov	r2, r1
-	subs	r0, r1, #1
+	mov	r3, r6
+	adds	r3, #28
+	ldr	r1, [r3]
+	movs	r5, #10
+	cmp	r1, #0
+	beq	.LBB29_10
+	ldr	r1, [r6, #8]
+	cmp	r1, r3
+	bne	.LBB29_10
+	cmp	r4, #0
+	mov	r5, r0
+	beq	.LBB29_10
+	subs	r0, r2, #1
 	uxth	r0, r0
-	ldr	r1, .LCPI29_0
-	cmp	r0, r1
-	bhi	.LBB29_9
-	ldr	r0, [r6, #8]
-	ldr	r0, [r0]
-	movs	r4, #1
+	ldr	r3, .LCPI29_0
+	cmp	r0, r3
+	bhi	.LBB29_11
+	ldr	r0, [r1]
+	movs	r5, #1
 	cmp	r0, #0
 	beq	.LBB29_10
 	mov	r1, r6
@@ -2843,25 +2877,25 @@ ee_read:
 	bl	ee_pages_read_latest_Device
 	ldr	r2, [r6, #28]
 	cmp	r2, #0
-	beq	.LBB29_11
+	beq	.LBB29_12
 	movs	r2, #2
 	mvns	r2, r2
 	tst	r0, r2
 	beq	.LBB29_10
-	str	r1, [r5]
-	movs	r4, #0
-	b	.LBB29_10
-.LBB29_8:
-	movs	r4, #10
+	str	r1, [r4]
+	movs	r5, #0
 	b	.LBB29_10
 .LBB29_9:
-	movs	r4, #12
+	mov	r5, r0
 .LBB29_10:
-	mov	r0, r4
+	mov	r0, r5
 	add	sp, #4
 	pop	{r4, r5, r6, r7, pc}
 .LBB29_11:
-	movs	r4, #9
+	movs	r5, #12
+	b	.LBB29_10
+.LBB29_12:
+	movs	r5, #9
 	b	.LBB29_10
 	.p2align	2
 .LCPI29_0:
@@ -2891,81 +2925,85 @@ ee_start:
 ee_write:
 	push	{r4, r5, r6, r7, lr}
 	add	r7, sp, #12
-	sub	sp, #12
-	cmp	r0, #0
-	beq	.LBB31_6
-	mov	r5, r0
-	ldr	r0, [r0, #28]
+	sub	sp, #20
 	cmp	r0, #0
 	beq	.LBB31_7
-	mov	r6, r1
-	subs	r0, r1, #1
-	uxth	r0, r0
-	ldr	r1, .LCPI31_0
-	cmp	r0, r1
-	bhi	.LBB31_8
+	mov	r5, r0
+	mov	r6, r0
+	adds	r6, #28
+	ldr	r0, [r6]
+	movs	r4, #10
+	cmp	r0, #0
+	beq	.LBB31_8
 	ldr	r0, [r5, #8]
+	cmp	r0, r6
+	bne	.LBB31_8
+	str	r1, [sp, #8]
+	subs	r1, r1, #1
+	uxth	r1, r1
+	ldr	r3, .LCPI31_0
+	cmp	r1, r3
+	bhi	.LBB31_9
 	ldr	r0, [r0]
 	movs	r4, #3
 	cmp	r0, #0
-	beq	.LBB31_14
-	str	r2, [sp]
+	beq	.LBB31_15
+	str	r2, [sp, #4]
 	mov	r0, r5
-	mov	r1, r6
+	ldr	r1, [sp, #8]
 	bl	ee_core_store_Store_Device_is_full_for
 	cmp	r0, #0
-	beq	.LBB31_9
+	beq	.LBB31_10
 	movs	r4, #2
-	b	.LBB31_14
-.LBB31_6:
-	movs	r4, #13
-	b	.LBB31_16
+	b	.LBB31_15
 .LBB31_7:
-	movs	r4, #10
-	b	.LBB31_16
+	movs	r4, #13
 .LBB31_8:
-	movs	r4, #12
-	b	.LBB31_16
+	mov	r0, r4
+	add	sp, #20
+	pop	{r4, r5, r6, r7, pc}
 .LBB31_9:
+	movs	r4, #12
+	b	.LBB31_8
+.LBB31_10:
 	ldm	r5!, {r0, r1}
 	subs	r1, r1, #4
 	muls	r1, r0, r1
 	ldr	r0, [r5, #8]
 	subs	r5, #8
 	cmp	r0, r1
-	bne	.LBB31_11
+	bne	.LBB31_12
 	ldr	r0, [r5, #12]
 	adds	r0, r0, #2
-	beq	.LBB31_14
-.LBB31_11:
+	beq	.LBB31_15
+.LBB31_12:
 	mov	r1, r5
 	adds	r1, #12
-	add	r2, sp, #4
-	strh	r6, [r2, #2]
-	movs	r6, #0
-	strh	r6, [r2]
-	ldr	r0, [sp]
+	add	r2, sp, #12
+	ldr	r0, [sp, #8]
+	strh	r0, [r2, #2]
+	movs	r0, #0
 	str	r0, [sp, #8]
+	strh	r0, [r2]
+	ldr	r0, [sp, #4]
+	str	r0, [sp, #16]
 	mov	r0, r5
 	bl	ee_core_changing_make_change_Device
 	uxtb	r0, r0
 	cmp	r0, #0
 	beq	.LBB31_17
 	cmp	r0, #2
-	beq	.LBB31_14
-	mov	r4, r6
-.LBB31_14:
-	ldr	r0, [r5, #28]
+	beq	.LBB31_15
+	ldr	r4, [sp, #8]
+.LBB31_15:
+	ldr	r0, [r6]
 	cmp	r0, #0
-	bne	.LBB31_16
+	bne	.LBB31_8
 	movs	r4, #9
-.LBB31_16:
-	mov	r0, r4
-	add	sp, #12
-	pop	{r4, r5, r6, r7, pc}
+	b	.LBB31_8
 .LBB31_17:
 	mov	r4, r0
-	b	.LBB31_16
+	b	.LBB31_8
 	.p2align	2
 .LCPI31_0:
 	.long	65533
@@ -2980,66 +3018,71 @@ ee_write:
 ee_write_all:
 	push	{r4, r5, r6, r7, lr}
 	add	r7, sp, #12
-	sub	sp, #36
-	movs	r5, #13
-	cmp	r0, #0
-	beq	.LBB32_8
-	mov	r3, r0
-	ldr	r0, [r0, #28]
-	cmp	r0, #0
-	beq	.LBB32_7
+	sub	sp, #44
 	mov	r6, r1
-	cmp	r1, #0
+	movs	r1, #13
+	cmp	r0, #0
 	beq	.LBB32_8
-	lsls	r4, r2, #3
-	movs	r0, #0
-.LBB32_4:
-	cmp	r4, r0
-	beq	.LBB32_9
-	ldrh	r1, [r6, r0]
-	adds	r1, r1, #1
-	uxth	r1, r1
-	adds	r0, #8
-	cmp	r1, #2
-	bhs	.LBB32_4
-	movs	r5, #12
-	b	.LBB32_8
-.LBB32_7:
+	mov	r4, r0
+	str	r2, [sp, #32]
+	mov	r3, r0
+	adds	r3, #28
+	ldr	r0, [r3]
 	movs	r5, #10
+	cmp	r0, #0
+	beq	.LBB32_9
+	ldr	r0, [r4, #8]
+	cmp	r0, r3
+	bne	.LBB32_9
+	cmp	r6, #0
+	mov	r5, r1
+	beq	.LBB32_9
+	ldr	r1, [sp, #32]
+	lsls	r5, r1, #3
+	movs	r1, #0
+.LBB32_5:
+	cmp	r5, r1
+	beq	.LBB32_10
+	ldrh	r2, [r6, r1]
+	adds	r2, r2, #1
+	uxth	r2, r2
+	adds	r1, #8
+	cmp	r2, #2
+	bhs	.LBB32_5
+	movs	r5, #12
+	b	.LBB32_9
 .LBB32_8:
-	mov	r0, r5
-	add	sp, #36
-	pop	{r4, r5, r6, r7, pc}
+	mov	r5, r1
 .LBB32_9:
-	ldr	r0, [r3, #8]
+	mov	r0, r5
+	add	sp, #44
+	pop	{r4, r5, r6, r7, pc}
+.LBB32_10:
 	ldr	r0, [r0]
 	cmp	r0, #0
-	beq	.LBB32_33
-	cmp	r2, #0
-	beq	.LBB32_14
-	cmp	r2, #1
+	beq	.LBB32_34
+	str	r5, [sp, #24]
+	ldr	r5, [sp, #32]
+	cmp	r5, #0
+	beq	.LBB32_9
+	str	r3, [sp, #28]
+	cmp	r5, #1
 	bne	.LBB32_15
-	ldr	r4, [r6, #4]
+	ldr	r0, [r6, #4]
+	str	r0, [sp, #32]
 	ldrh	r5, [r6]
-	mov	r0, r3
+	mov	r0, r4
 	mov	r1, r5
-	mov	r6, r3
 	bl	ee_core_store_Store_Device_is_full_for
 	cmp	r0, #0
-	beq	.LBB32_29
+	beq	.LBB32_30
 	movs	r5, #2
-	mov	r3, r6
-	b	.LBB32_34
-.LBB32_14:
-	mov	r5, r2
-	b	.LBB32_8
+	b	.LBB32_29
 .LBB32_15:
-	str	r2, [sp, #20]
-	str	r3, [sp, #24]
 	movs	r5, #0
 	mov	r1, r5
 	mov	r2, r5
-	str	r5, [sp, #16]
+	str	r5, [sp, #20]
 .LBB32_16:
 	lsls	r3, r2, #3
 	ldrh	r3, [r6, r3]
@@ -3054,112 +3097,111 @@ ee_write_all:
 	b	.LBB32_28
 .LBB32_19:
 	adds	r1, #8
-	ldr	r0, [sp, #20]
+	ldr	r0, [sp, #32]
 	cmp	r2, r0
-	ldr	r5, [sp, #16]
+	ldr	r5, [sp, #20]
 	bne	.LBB32_16
-	ldr	r3, [sp, #24]
-	ldm	r3!, {r0, r1}
+	ldm	r4!, {r0, r1}
 	subs	r1, r1, #4
 	muls	r1, r0, r1
 	movs	r5, #2
-	ldr	r0, [sp, #20]
-	subs	r3, #8
+	ldr	r0, [sp, #32]
+	subs	r4, #8
 	cmp	r0, r1
-	bhi	.LBB32_34
-	str	r1, [sp, #4]
-	ldrb	r1, [r3, #24]
-	mov	r0, r3
+	bhi	.LBB32_29
+	str	r1, [sp, #8]
+	ldrb	r1, [r4, #24]
+	mov	r0, r4
 	bl	ee_pages_read_live_count_Device
-	ldr	r3, [sp, #24]
-	str	r0, [sp, #12]
-	mov	r0, r3
-	adds	r0, #12
-	str	r0, [sp, #8]
-	movs	r0, #0
-.LBB32_22:
 	str	r0, [sp, #16]
-	ldrh	r2, [r6, r0]
-	mov	r0, r3
-	ldr	r1, [sp, #8]
+	mov	r0, r4
+	adds	r0, #12
+	str	r0, [sp, #12]
+	movs	r1, #0
+.LBB32_22:
+	str	r1, [sp, #20]
+	ldrh	r2, [r6, r1]
+	mov	r0, r4
+	ldr	r1, [sp, #12]
 	bl	ee_pages_read_latest_Device
 	cmp	r0, #0
 	bne	.LBB32_24
-	ldr	r0, [sp, #12]
-	adds	r0, r0, #1
-	str	r0, [sp, #12]
-.LBB32_24:
 	ldr	r0, [sp, #16]
-	adds	r0, #8
-	cmp	r4, r0
-	ldr	r3, [sp, #24]
+	adds	r0, r0, #1
+	str	r0, [sp, #16]
+.LBB32_24:
+	ldr	r1, [sp, #20]
+	adds	r1, #8
+	ldr	r0, [sp, #24]
+	cmp	r0, r1
 	bne	.LBB32_22
-	ldr	r0, [sp, #4]
-	ldr	r1, [sp, #12]
-	cmp	r1, r0
-	ldr	r2, [sp, #20]
-	bhi	.LBB32_34
 	ldr	r0, [sp, #8]
+	ldr	r1, [sp, #16]
+	cmp	r1, r0
+	ldr	r3, [sp, #28]
+	bhi	.LBB32_35
+	ldr	r0, [sp, #12]
 	ldr	r0, [r0]
 	adds	r0, r0, #2
-	beq	.LBB32_33
+	beq	.LBB32_34
 	movs	r5, #0
 	str	r5, [sp]
-	mov	r0, r3
-	ldr	r1, [sp, #8]
-	mov	r3, r2
+	mov	r0, r4
+	ldr	r1, [sp, #12]
 	mov	r2, r6
+	ldr	r3, [sp, #32]
 	bl	ee_core_changing_move_unindexed_Device
-	ldr	r3, [sp, #24]
+	ldr	r3, [sp, #28]
 	cmp	r0, #0
-	bne	.LBB32_33
-	b	.LBB32_34
+	bne	.LBB32_34
+	b	.LBB32_35
 .LBB32_28:
 	movs	r5, #14
-	ldr	r3, [sp, #24]
-	b	.LBB32_34
 .LBB32_29:
-	ldm	r6!, {r0, r1}
+	ldr	r3, [sp, #28]
+	b	.LBB32_35
+.LBB32_30:
+	ldm	r4!, {r0, r1}
 	subs	r1, r1, #4
 	muls	r1, r0, r1
-	ldr	r0, [r6, #8]
-	subs	r6, #8
+	ldr	r0, [r4, #8]
+	subs	r4, #8
 	cmp	r0, r1
-	mov	r3, r6
-	bne	.LBB32_31
-	ldr	r0, [r3, #12]
+	ldr	r3, [sp, #28]
+	bne	.LBB32_32
+	ldr	r0, [r4, #12]
 	adds	r0, r0, #2
-	beq	.LBB32_33
-.LBB32_31:
-	mov	r1, r3
+	beq	.LBB32_34
+.LBB32_32:
+	mov	r1, r4
 	adds	r1, #12
-	add	r2, sp, #28
+	add	r2, sp, #36
 	strh	r5, [r2, #2]
 	movs	r5, #0
 	strh	r5, [r2]
-	str	r4, [sp, #32]
-	mov	r4, r3
-	mov	r0, r3
+	ldr	r0, [sp, #32]
+	str	r0, [sp, #40]
+	mov	r0, r4
 	bl	ee_core_changing_make_change_Device
 	uxtb	r0, r0
 	cmp	r0, #0
-	beq	.LBB32_36
+	beq	.LBB32_37
 	cmp	r0, #2
-	mov	r3, r4
-	bne	.LBB32_34
-.LBB32_33:
-	movs	r5, #3
+	ldr	r3, [sp, #28]
+	bne	.LBB32_35
 .LBB32_34:
-	ldr	r0, [r3, #28]
-	cmp	r0, #0
-	beq	.LBB32_35
-	b	.LBB32_8
+	movs	r5, #3
 .LBB32_35:
-	movs	r5, #9
-	b	.LBB32_8
+	ldr	r0, [r3]
+	cmp	r0, #0
+	beq	.LBB32_36
+	b	.LBB32_9
 .LBB32_36:
+	movs	r5, #9
+	b	.LBB32_9
+.LBB32_37:
 	mov	r5, r0
-	b	.LBB32_8
+	b	.LBB32_9
 	.size	ee_write_all, .-ee_write_all
 
 	.section	.text.unlikely.core_panicking_panic_const_panic_const_div_by_zero,"ax",%progbits

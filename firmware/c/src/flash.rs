@@ -4,7 +4,7 @@ use crate::numbers::Numbers;
 use core::cell::Cell;
 use core::ffi::c_void;
 use core::mem::MaybeUninit;
-use core::ptr::null;
+use core::ptr::{eq, null};
 use ee_store::proved::{self, Cut, Flash as _, Pairs};
 use ee_store::{Shape, Word};
 
@@ -49,6 +49,11 @@ impl Device {
     /// and what it shows is null or such a flash.
     pub unsafe fn new(power: *const Power, shape: Shape) -> Device {
         Device { power, shape }
+    }
+
+    /// Whether it looks at this power.
+    pub fn is_in(&self, power: &Power) -> bool {
+        eq(self.power, power)
     }
 
     fn power(&self) -> &Power {

@@ -81,7 +81,8 @@ impl Running<'_> {
     }
 }
 
-/// The store in the memory that C lends, while it is on. The pointer is null, or good: to what `opened` left, or to zeros.
+/// The store in the memory that C lends, while it is on. The pointer is null, or good: to what `opened` left, to a copy of
+/// that, or to zeros.
 unsafe fn running<'a>(memory: *const Memory) -> Result<Running<'a>, u32> {
     // SAFETY: a pointer that is not null is good.
     let Some(power) = (unsafe { memory.as_ref() }).map(|memory| &memory.power) else {
@@ -90,8 +91,12 @@ unsafe fn running<'a>(memory: *const Memory) -> Result<Running<'a>, u32> {
     if power.get().is_null() {
         return Err(EE_OFF);
     }
-    // SAFETY: where it is on `opened` wrote the store. C owes that no other call is on it.
+    // SAFETY: where it is on `opened` wrote the store, or this is a copy. C owes that no other call is on it.
     let store = unsafe { &mut *addr_of!((*memory).store).cast::<Kept>().cast_mut() };
+    // A copy is off: its device looks at the memory that it was opened in.
+    if !store.flash().is_in(power) {
+        return Err(EE_OFF);
+    }
     Ok(Running { power, store })
 }
 

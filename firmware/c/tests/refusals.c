@@ -24,6 +24,21 @@ static void zeros(void) {
     }
 }
 
+/* A copy of an open store is off, and the store goes on; the copy can be opened. */
+static void copies(void) {
+    ee_flash flash = flash_of(&p);
+    ee_store copy;
+    CHECK(ee_start(&store, &flash) == EE_OK && ee_write(&store, 1, 10) == EE_OK);
+    copy = store;
+    value = 99, address = 0;
+    CHECK(ee_read(&copy, 1, &value) == EE_OFF && ee_next(&copy, &address, &value) == EE_OFF);
+    CHECK(ee_counts(&copy, &numbers) == EE_OFF && value == 99 && address == 0);
+    CHECK(ee_write(&copy, 1, 11) == EE_OFF && ee_forget(&copy, 1) == EE_OFF && ee_clean(&copy) == EE_OFF);
+    CHECK(ee_write_all(&copy, list, 2) == EE_OFF);
+    CHECK(ee_read(&store, 1, &value) == EE_OK && value == 10);
+    CHECK(ee_open(&copy, &flash) == EE_OK && ee_read(&copy, 1, &value) == EE_OK && value == 10);
+}
+
 static void nulls(void) {
     ee_flash flash = flash_of(&p), lacking;
     CHECK(ee_open(NULL, &flash) == EE_NULL);
@@ -300,6 +315,8 @@ static void unreadable_numbers(void) {
 int main(int count, char **argument) {
     blank(&p, 1, 6);
     zeros();
+    copies();
+    blank(&p, 1, 6);
     nulls();
     shapes();
     statuses();
