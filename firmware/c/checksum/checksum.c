@@ -219,8 +219,8 @@ uint64_t checksum(void) {
     sum = 0;
     seed = 20261123;
     for (int shape = 0; shape < SHAPES; shape++) {
-        flash = (ee_flash){.pages = shapes[shape].pages, .page_words = shapes[shape].page_words, .word = word, .program = program,
-                           .erase = erase, .pairs = PAIRS};
+        flash.pages = shapes[shape].pages, flash.page_words = shapes[shape].page_words;
+        flash.word = word, flash.program = program, flash.erase = erase, flash.pairs = PAIRS;
         if (!run()) return 0;
     }
     return sum;

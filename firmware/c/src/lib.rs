@@ -91,12 +91,9 @@ unsafe fn running<'a>(memory: *const Memory) -> Result<Running<'a>, u32> {
     if power.get().is_null() {
         return Err(EE_OFF);
     }
-    // SAFETY: where it is on `opened` wrote the store, or this is a copy. C owes that no other call is on it.
+    // SAFETY: where it is on `opened` wrote the store, here or where this one was copied from. C owes that no other call is on it.
     let store = unsafe { &mut *addr_of!((*memory).store).cast::<Kept>().cast_mut() };
-    // A copy is off: its device looks at the memory that it was opened in.
-    if !store.flash().is_in(power) {
-        return Err(EE_OFF);
-    }
+    store.flash().look_at(power);
     Ok(Running { power, store })
 }
 
