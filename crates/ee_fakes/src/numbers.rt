@@ -14,9 +14,9 @@ use std::alloc::{AllocError, Allocator, Global};
 pub enum NumberFate<'a> {
     /// It is done.
     Done,
-    /// Power is cut in it. The masks say which bits are ones that the step wouldn't leave so, or not yet: of a programmed
-    /// number the first mask, beside the ones of the number asked for; of each number of an erased page the one of its
-    /// place, beside the ones that it had. Past the end of the masks there are none.
+    /// Power is cut in it. A mask has the ones that are left beside those that stay: a programmed number keeps the ones of
+    /// the number asked for and has the first mask's too, and each number of an erased page keeps its own and has those of
+    /// the mask at its place. Past the end of the masks there are none.
     Cut(&'a [u64]),
 }
 
