@@ -7,6 +7,8 @@ mod cuts;
 mod driving;
 mod formats;
 mod outside;
+mod pairs;
+mod refused_opening;
 mod tidying;
 
 use ee_codec::Address;

@@ -1,4 +1,4 @@
-use Rattle.std.proofs.Common.{◌≡◌, ℕ, map, replicate}
+use Rattle.std.proofs.Common.{◌≡◌, map, replicate}
 use Rattle.ee_flash.specs.Device.{all_ones}
 use Rattle.ee_fakes.proofs.numbers.blank_pages.Given as goal
 

@@ -1,4 +1,4 @@
-use Rattle.std.proofs.Common.{arith, ap, sym, ◌∙◌, ◌<◌, ◌≤◌, ◌≡◌, length, set, replicate, vec_len, List, ℕ, map}
+use Rattle.std.proofs.Common.{arith, ap, ◌∙◌, ◌≡◌, length, set, replicate, vec_len, List, ℕ, map}
 use Rattle.std.proofs.lemmas.List.{length-replicate}
 use Rattle.std.proofs.lemmas.List.Elements.{All-replicate}
 use Rattle.ee_flash.specs.Device.{all_ones}

@@ -1,4 +1,4 @@
-use Rattle.std.proofs.Common.{arith, ap, sym, ◌∙◌, ◌<◌, ◌≡◌, length, set, List, ℕ, map}
+use Rattle.std.proofs.Common.{arith, ap, sym, ◌∙◌, set, List, ℕ, map}
 use Rattle.std.proofs.lemmas.List.{length-set}
 use Rattle.std.proofs.lemmas.List.Elements.{All-set}
 use Rattle.ee_pairs.specs.Nor.{IsNorNumber, NorDevice, number_count}
