@@ -78,8 +78,8 @@ typedef struct ee_flash {
 /* What `word` answers where the read itself failed. */
 enum { EE_READ_FAILED = 0x00ee00ee };
 
-/* A store, in memory that the caller lends. ee_start, ee_open or ee_format comes before every other call on it; one of zeros is
- * off. The memory may be moved between two calls, and of two copies one is used. */
+/* A store, in memory that the caller lends, which stays where it is. ee_start, ee_open or ee_format comes before every other
+ * call on it. One of zeros is off, and so is a copy of one. */
 typedef struct ee_store {
     uintptr_t words[8];
 } ee_store;

@@ -4,7 +4,7 @@ use crate::numbers::Numbers;
 use core::cell::Cell;
 use core::ffi::c_void;
 use core::mem::MaybeUninit;
-use core::ptr::null;
+use core::ptr::{eq, null};
 use ee_store::proved::{self, Cut, Flash as _, Pairs};
 use ee_store::{Shape, Word};
 
@@ -38,9 +38,9 @@ const READ_FAILED: u32 = 0x00ee_00ee;
 pub type Power = Cell<*const Flash>;
 
 /// The device of words, which are pairs of numbers where the flash has those.
-#[derive(Clone)]
+#[derive(Clone, Copy)]
 pub struct Device {
-    power: Cell<*const Power>,
+    power: *const Power,
     pub(crate) shape: Shape,
 }
 
@@ -48,20 +48,17 @@ impl Device {
     /// The device on a flash of this shape, none of whose functions is null. The pointer is good while the device is used,
     /// and what it shows is null or such a flash.
     pub unsafe fn new(power: *const Power, shape: Shape) -> Device {
-        Device {
-            power: Cell::new(power),
-            shape,
-        }
+        Device { power, shape }
     }
 
-    /// C may have moved the memory since the last call: the power is the one that stands there.
-    pub fn look_at(&self, power: &Power) {
-        self.power.set(power);
+    /// Whether it looks at this power.
+    pub fn is_in(&self, power: &Power) -> bool {
+        eq(self.power, power)
     }
 
     fn power(&self) -> &Power {
         // SAFETY: as of `new`.
-        unsafe { &*self.power.get() }
+        unsafe { &*self.power }
     }
 
     /// C's flash, while it is on.
@@ -82,7 +79,7 @@ impl Device {
 
     fn numbers_of<'a>(&self, flash: &'a Flash) -> Numbers<'a> {
         Numbers {
-            device: self.clone(),
+            device: *self,
             flash,
         }
     }

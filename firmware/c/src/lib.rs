@@ -81,20 +81,38 @@ impl Running<'_> {
     }
 }
 
-/// The store in the memory that C lends, while it is on. The pointer is null, or good: to what `opened` left, to a copy of
-/// that, or to zeros.
-unsafe fn running<'a>(memory: *const Memory) -> Result<Running<'a>, u32> {
+/// Why the store in the memory that C lends is not on, or EE_OK. The pointer is null, or good: to what `opened` left, to a copy
+/// of that, or to zeros.
+#[inline(never)]
+unsafe fn standing(memory: *const Memory) -> u32 {
     // SAFETY: a pointer that is not null is good.
     let Some(power) = (unsafe { memory.as_ref() }).map(|memory| &memory.power) else {
-        return Err(EE_NULL);
+        return EE_NULL;
     };
     if power.get().is_null() {
-        return Err(EE_OFF);
+        return EE_OFF;
     }
-    // SAFETY: where it is on `opened` wrote the store, here or where this one was copied from. C owes that no other call is on it.
-    let store = unsafe { &mut *addr_of!((*memory).store).cast::<Kept>().cast_mut() };
-    store.flash().look_at(power);
-    Ok(Running { power, store })
+    // SAFETY: where it is not null `opened` wrote the store, here or where this one was copied from.
+    let store = unsafe { &*addr_of!((*memory).store).cast::<Kept>() };
+    // A copy is off: its device looks at the memory that it was opened in.
+    match store.flash().is_in(power) {
+        true => EE_OK,
+        false => EE_OFF,
+    }
+}
+
+/// The store in the memory that C lends, while it is on. The pointer is as of `standing`.
+unsafe fn running<'a>(memory: *const Memory) -> Result<Running<'a>, u32> {
+    match unsafe { standing(memory) } {
+        // SAFETY: it is on, so the memory has a store. C owes that no other call is on it.
+        EE_OK => Ok(unsafe {
+            Running {
+                power: &(*memory).power,
+                store: &mut *addr_of!((*memory).store).cast::<Kept>().cast_mut(),
+            }
+        }),
+        status => Err(status),
+    }
 }
 
 #[no_mangle]

@@ -24,20 +24,19 @@ static void zeros(void) {
     }
 }
 
-/* A store goes on where its memory is moved, and is off there once the flash failed. */
-static void moves(void) {
+/* A copy of an open store is off, and the store goes on; the copy can be opened. */
+static void copies(void) {
     ee_flash flash = flash_of(&p);
-    ee_store moved;
+    ee_store copy;
     CHECK(ee_start(&store, &flash) == EE_OK && ee_write(&store, 1, 10) == EE_OK);
-    moved = store;
-    memset(&store, 0xff, sizeof store);
-    for (uint32_t n = 0; n < 20; n++) CHECK(ee_write(&moved, 2, n) == EE_OK && ee_read(&moved, 1, &value) == EE_OK && value == 10);
-    CHECK(ee_clean(&moved) == EE_OK && ee_counts(&moved, &numbers) == EE_OK && numbers.live == 2);
-    p.cut_in = p.steps + 1, p.tear = TEAR_TORN;
-    CHECK(ee_write(&moved, 2, 21) == EE_DRIVER && ee_read(&moved, 1, &value) == EE_OFF);
-    p.cut_in = 0;
-    memset(&store, 0, sizeof store);
-    CHECK(ee_read(&store, 1, &value) == EE_OFF && ee_open(&store, &flash) == EE_OK && ee_read(&store, 1, &value) == EE_OK);
+    copy = store;
+    value = 99, address = 0;
+    CHECK(ee_read(&copy, 1, &value) == EE_OFF && ee_next(&copy, &address, &value) == EE_OFF);
+    CHECK(ee_counts(&copy, &numbers) == EE_OFF && value == 99 && address == 0);
+    CHECK(ee_write(&copy, 1, 11) == EE_OFF && ee_forget(&copy, 1) == EE_OFF && ee_clean(&copy) == EE_OFF);
+    CHECK(ee_write_all(&copy, list, 2) == EE_OFF);
+    CHECK(ee_read(&store, 1, &value) == EE_OK && value == 10);
+    CHECK(ee_open(&copy, &flash) == EE_OK && ee_read(&copy, 1, &value) == EE_OK && value == 10);
 }
 
 static void nulls(void) {
@@ -316,7 +315,7 @@ static void unreadable_numbers(void) {
 int main(int count, char **argument) {
     blank(&p, 1, 6);
     zeros();
-    moves();
+    copies();
     blank(&p, 1, 6);
     nulls();
     shapes();
