@@ -5,7 +5,7 @@
 //! - `ListFlash`: a flash device whose steps are done or cut as a list says, each word of a cut step by itself, and that
 //!   counts the words that are read.
 //! - `ListNor`: the same of a flash of plain numbers, each bit of a cut step by itself; it counts its steps.
-//! - `images`: the texts that several tests read; `same`, `shape`: what they compare by, and make shapes by.
+//! - `images`: the texts that several tests read.
 //!
 //! Only tests stand on this crate. So the product's crates hold no unsafe code and no help for tests; the one `unsafe impl`
 //! stands here, with its proof.
@@ -17,7 +17,6 @@ mod list;
 mod numbers;
 mod reader;
 mod refusing;
-mod wanted;
 mod writer;
 
 pub use fate::{Fate, Left};
@@ -25,5 +24,4 @@ pub use list::ListFlash;
 pub use numbers::{ListNor, NumberFate};
 pub use reader::FailingReader;
 pub use refusing::Refusing;
-pub use wanted::{same, shape};
 pub use writer::{FailingWriter, Stop};

@@ -12,12 +12,28 @@ mod refused_opening;
 mod tidying;
 
 use ee_codec::Address;
-use ee_fakes::{same, shape};
-use ee_flash::{Flash, MemFlash};
+use ee_flash::{Flash, MemFlash, Shape};
 use ee_image::{read_image, write_image};
 use ee_store::{Store, open};
 use std::alloc::Global;
+use std::fmt::Debug;
 use std::process::Abort;
+
+/// A value is the one that is wanted. A failure names its place in a table or a loop. Each assertion that stands in a test
+/// is proved there; a call of this one costs next to nothing.
+fn same<P: Debug + Copy, T: PartialEq + Debug + Copy>(
+    rt: &impl Abort,
+    place: P,
+    found: T,
+    wanted: T,
+) {
+    assert_eq!(rt; found, wanted, "at {place:?}");
+}
+
+/// The shape with these numbers of pages and words, which are in range.
+fn shape(rt: &impl Abort, pages: usize, words: usize) -> Shape {
+    Shape::new(pages, words).expect(rt, "no shape")
+}
 
 /// The address of a number that has one.
 fn address(rt: &impl Abort, number: u16) -> Address {
