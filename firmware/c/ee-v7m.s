@@ -1,7 +1,7 @@
 /* ee: variables in flash, the library of ee.h as one file, for Cortex-M3, M4, M7 and M33.
  *
- * sum of sources: 15c7b15ee123e75b2b7cd16e1e7531b70954fefaa87224049f82bfa8c9e46631
- * sum of the text below: aed46ae9f7b8ad5f21e14079150709890b4bab6cbd2aa5d11f696ea75563ae17
+ * sum of sources: 30eb4205083597b8ff3febf5ea5b0a9d685e726cf72a2c470321967bc1f04b82
+ * sum of the text below: 88675aedd0f5f69e55a7b8fcdddff467b76e530996e1cfc458f45a8238293d09
  * made by: firmware/c/assemble
  * compiler: rustc 1.96.0 (ac68faa20 2026-05-25) (built from a source tarball), LLVM 22.1.8
  * words: --target thumbv7m-none-eabi -C panic=abort -C embed-bitcode=yes -C opt-level=s -C llvm-args=--inline-threshold=40 -C codegen-units=1 -C lto=fat --emit asm,link
@@ -1663,66 +1663,60 @@ shim_opening_kept:
 	.code	16
 	.thumb_func
 shim_opening_opened:
-	cmp	r0, #0
-	beq	.LBB20_19
 	push	{r4, r5, r6, r7, lr}
 	add	r7, sp, #12
 	push.w	{r8, r9, r10, r11}
 	sub	sp, #92
+	cmp	r0, #0
+	beq	.LBB20_17
 	mov	r9, r0
 	movs	r0, #0
-	mov	r5, r9
+	mov	r6, r9
 	cmp	r1, #0
-	str	r0, [r5, #28]!
+	str	r0, [r6, #28]!
 	beq	.LBB20_17
 	ldr	r0, [r1, #12]
 	cmp	r0, #0
 	beq	.LBB20_17
 	ldr	r0, [r1, #16]
-	cmp	r0, #0
-	beq	.LBB20_17
+	cbz	r0, .LBB20_17
 	ldr	r0, [r1, #20]
-	cmp	r0, #0
-	beq	.LBB20_17
+	cbz	r0, .LBB20_17
 	ldr	r3, [r1, #4]
-	mov	r10, r2
-	movs	r0, #11
-	subs	r2, r3, #1
-	cmp	r2, #63
-	itttt	ls
-	ldrls	r6, [r1, #8]
-	subls	r2, r6, #5
-	lsrls	r2, r2, #2
-	cmpls	r2, #126
+	movs	r5, #11
+	subs	r0, r3, #1
+	cmp	r0, #63
 	bhi	.LBB20_18
+	ldr	r4, [r1, #8]
+	subs	r0, r4, #5
+	lsrs	r0, r0, #2
+	cmp	r0, #126
+	itt	ls
+	ldrls	r0, [r1, #24]
+	cmpls	r0, #1
+	bhi	.LBB20_18
+	str	r1, [r6]
 	ldr	r0, [r1, #24]
-	cmp	r0, #1
-	bhi	.LBB20_20
-	str	r1, [r5]
-	ldr	r0, [r1, #24]
-	cmp	r0, #0
-	beq	.LBB20_32
+	cbz	r0, .LBB20_19
 	add	r0, sp, #24
-	strd	r5, r10, [sp, #36]
-	stm	r0!, {r1, r3, r6}
-	lsls	r0, r3, #1
-	cmp.w	r10, #2
-	str	r5, [sp, #16]
-	strd	r6, r3, [sp, #8]
-	bne	.LBB20_21
-	add.w	r11, sp, #24
-	str	r0, [sp, #20]
+	cmp	r2, #2
+	str	r6, [sp, #16]
+	stm	r0!, {r1, r3, r4, r6}
+	str	r2, [sp, #40]
+	strd	r4, r3, [sp, #8]
+	bne	.LBB20_20
+	add	r6, sp, #24
+	lsl.w	r11, r3, #1
 	movs	r5, #0
-	mov	r0, r6
-	mov.w	r10, #2
+	mov	r0, r4
 .LBB20_10:
-	add.w	r8, r5, #1
-	lsls	r6, r0, #1
+	add.w	r10, r5, #1
+	lsl.w	r8, r0, #1
 	movs	r4, #0
 .LBB20_11:
-	cmp	r6, r4
+	cmp	r8, r4
 	beq	.LBB20_15
-	mov	r0, r11
+	mov	r0, r6
 	mov	r1, r5
 	mov	r2, r4
 	bl	shim_numbers_Looked_ee_pairs_nor_Nor_read
@@ -1733,134 +1727,138 @@ shim_opening_opened:
 	ldr	r0, [sp, #36]
 	mov	r1, r5
 	bl	shim_Device_erased
+	movs	r5, #2
 	cmp	r0, #0
-	bne	.LBB20_31
-	ldr	r0, [sp, #20]
-	cmp	r8, r0
-	beq	.LBB20_31
+	bne	.LBB20_28
+	cmp	r10, r11
+	beq	.LBB20_28
 	b	.LBB20_16
 .LBB20_15:
-	ldr	r0, [sp, #20]
-	cmp	r8, r0
-	beq	.LBB20_30
+	cmp	r10, r11
+	beq	.LBB20_27
 .LBB20_16:
 	ldr	r0, [sp, #32]
-	mov	r5, r8
+	mov	r5, r10
 	b	.LBB20_10
 .LBB20_17:
-	movs	r0, #13
+	movs	r5, #13
 .LBB20_18:
+	mov	r0, r5
 	add	sp, #92
 	pop.w	{r8, r9, r10, r11}
 	pop	{r4, r5, r6, r7, pc}
 .LBB20_19:
-	movs	r0, #13
-	bx	lr
+	mov	r5, r2
+	b	.LBB20_29
 .LBB20_20:
-	movs	r0, #11
-	b	.LBB20_18
-.LBB20_21:
+	lsls	r0, r3, #1
+	movs	r5, #0
 	str	r0, [sp]
-	mov.w	r10, #0
-.LBB20_22:
+.LBB20_21:
 	ldr	r0, [sp, #32]
 	movs	r6, #1
 	add.w	r8, r0, #1
-	add.w	r0, r10, #1
+	adds	r0, r5, #1
 	str	r0, [sp, #4]
-.LBB20_23:
+.LBB20_22:
 	subs.w	r8, r8, #1
-	beq	.LBB20_25
+	beq	.LBB20_24
 	add.w	r11, sp, #24
 	adds	r0, r6, #2
 	subs	r2, r6, #1
 	str	r0, [sp, #20]
 	mov	r0, r11
-	mov	r1, r10
+	mov	r1, r5
 	bl	shim_numbers_Looked_ee_pairs_nor_Nor_read
-	mov	r4, r0
-	mov	r5, r1
+	mov	r10, r0
+	mov	r4, r1
 	mov	r0, r11
-	mov	r1, r10
+	mov	r1, r5
 	mov	r2, r6
 	bl	shim_numbers_Looked_ee_pairs_nor_Nor_read
 	ldr	r6, [sp, #20]
-	mvns	r3, r4
+	mvn.w	r3, r10
 	subs	r0, r0, r3
-	mvn.w	r2, r5
+	mvn.w	r2, r4
 	sbcs.w	r0, r1, r2
-	bhs	.LBB20_23
-	b	.LBB20_27
-.LBB20_25:
-	ldrd	r0, r10, [sp]
-	cmp	r10, r0
-	bne	.LBB20_22
-	ldr.w	r10, [sp, #40]
-	b	.LBB20_31
-.LBB20_27:
-	ldr	r5, [sp, #16]
-	ldrd	r6, r3, [sp, #8]
+	bhs	.LBB20_22
+	b	.LBB20_26
+.LBB20_24:
+	ldrd	r0, r5, [sp]
+	cmp	r5, r0
+	bne	.LBB20_21
+	ldr	r5, [sp, #40]
+	b	.LBB20_28
+.LBB20_26:
 	ldr	r0, [sp, #24]
-	cbz	r0, .LBB20_32
-	ldr	r0, [r5]
-	cbz	r0, .LBB20_41
-	movs	r0, #8
-	b	.LBB20_39
-.LBB20_30:
-	mov.w	r10, #2
-.LBB20_31:
-	ldr	r5, [sp, #16]
-	ldrd	r6, r3, [sp, #8]
-.LBB20_32:
-	cmp.w	r10, #0
-	beq	.LBB20_35
-	cmp.w	r10, #1
-	bne	.LBB20_40
-	add	r4, sp, #24
+	cmp	r0, #0
+	it	ne
+	movne	r5, #8
+	ldr	r6, [sp, #16]
+	ldrd	r4, r3, [sp, #8]
+	beq	.LBB20_29
+	b	.LBB20_35
+.LBB20_27:
+	movs	r5, #2
+.LBB20_28:
+	ldr	r6, [sp, #16]
+	ldrd	r4, r3, [sp, #8]
+.LBB20_29:
+	cbz	r5, .LBB20_32
+	cmp	r5, #1
+	bne	.LBB20_39
+	add	r0, sp, #80
 	add	r1, sp, #80
-	str	r5, [sp, #88]
+	stm	r0!, {r3, r4, r6}
+	add	r4, sp, #24
 	mov	r0, r4
-	strd	r3, r6, [sp, #80]
 	bl	ee_core_first_start_start_Device
-	b	.LBB20_36
-.LBB20_35:
-	add	r4, sp, #24
+	b	.LBB20_33
+.LBB20_32:
+	add	r0, sp, #80
 	add	r1, sp, #80
-	str	r5, [sp, #88]
+	stm	r0!, {r3, r4, r6}
+	add	r4, sp, #24
 	mov	r0, r4
-	strd	r3, r6, [sp, #80]
 	bl	ee_core_opening_open_Device
-.LBB20_36:
+.LBB20_33:
 	mov	r0, r9
 	mov	r1, r4
-.LBB20_37:
+.LBB20_34:
 	bl	shim_opening_kept
-	ldr	r1, [r5]
-	cbz	r1, .LBB20_41
-	cbz	r0, .LBB20_42
-.LBB20_39:
-	movs	r1, #0
-	str	r1, [r5]
+	mov	r5, r0
+.LBB20_35:
+	ldr	r0, [r6]
+	cbz	r0, .LBB20_38
+	cbz	r5, .LBB20_41
+.LBB20_37:
+	movs	r0, #0
+	str	r0, [r6]
 	b	.LBB20_18
-.LBB20_40:
-	add	r0, sp, #52
+.LBB20_38:
+	movs	r5, #9
+	b	.LBB20_18
+.LBB20_39:
+	add	r0, sp, #24
 	add	r1, sp, #24
-	str	r5, [sp, #32]
-	strd	r3, r6, [sp, #24]
+	stm	r0!, {r3, r4, r6}
+	add	r0, sp, #52
 	bl	ee_core_opening_format_Device
 	ldrb.w	r0, [sp, #76]
 	cmp	r0, #2
-	bne	.LBB20_43
+	bne	.LBB20_42
+	ldr	r0, [r6]
+	movs	r5, #9
+	cmp	r0, #0
+	beq.w	.LBB20_18
+	b	.LBB20_37
 .LBB20_41:
-	movs	r0, #9
+	movs	r5, #0
 	b	.LBB20_18
 .LBB20_42:
-	movs	r0, #0
-	b	.LBB20_18
-.LBB20_43:
 	add	r1, sp, #52
 	mov	r0, r9
-	b	.LBB20_37
+	b	.LBB20_34
 	.size	shim_opening_opened, .-shim_opening_opened
 
 	.section	.text.shim_Device_ee_flash_device_Flash_word,"ax",%progbits

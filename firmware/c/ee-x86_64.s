@@ -1,7 +1,7 @@
 /* ee: variables in flash, the library of ee.h as one file, for Linux on x86-64.
  *
- * sum of sources: 15c7b15ee123e75b2b7cd16e1e7531b70954fefaa87224049f82bfa8c9e46631
- * sum of the text below: fba1fbf4c16c425d618ff62796504f6413c797441fd09676a9463d73a84b98ab
+ * sum of sources: 30eb4205083597b8ff3febf5ea5b0a9d685e726cf72a2c470321967bc1f04b82
+ * sum of the text below: 90e9355203fde7bf5bd47bc3fe7409550bb1c5093629e880893ac3763273f1e9
  * made by: firmware/c/assemble
  * compiler: rustc 1.96.0 (ac68faa20 2026-05-25) (built from a source tarball), LLVM 22.1.8
  * words: --target x86_64-unknown-linux-gnu -C panic=abort -C embed-bitcode=yes -C opt-level=s -C llvm-args=--inline-threshold=40 -C codegen-units=1 -C lto=fat --emit asm,link
@@ -1981,7 +1981,7 @@ shim_opening_opened:
 	.cfi_startproc
 	movl	$13, %eax
 	testq	%rdi, %rdi
-	je	.LBB20_41
+	je	.LBB20_42
 	pushq	%rbp
 	.cfi_def_cfa_offset 16
 	pushq	%r15
@@ -2005,13 +2005,13 @@ shim_opening_opened:
 	movq	%rdi, %rbx
 	movq	$0, 48(%rdi)
 	testq	%rsi, %rsi
-	je	.LBB20_40
+	je	.LBB20_41
 	cmpq	$0, 16(%rsi)
-	je	.LBB20_40
+	je	.LBB20_41
 	cmpq	$0, 24(%rsi)
-	je	.LBB20_40
+	je	.LBB20_41
 	cmpq	$0, 32(%rsi)
-	je	.LBB20_40
+	je	.LBB20_41
 	movl	%edx, %r14d
 	movl	8(%rsi), %edi
 	movl	12(%rsi), %ebp
@@ -2023,9 +2023,9 @@ shim_opening_opened:
 	setae	%dl
 	movl	$11, %eax
 	orb	%cl, %dl
-	jne	.LBB20_40
+	jne	.LBB20_41
 	cmpl	$1, 40(%rsi)
-	ja	.LBB20_40
+	ja	.LBB20_41
 	leaq	48(%rbx), %r15
 	movq	%rsi, (%r15)
 	cmpl	$0, 40(%rsi)
@@ -2116,8 +2116,8 @@ shim_opening_opened:
 	movl	$8, %eax
 	movq	80(%rsp), %r15
 	cmpq	$0, (%r15)
-	jne	.LBB20_16
-	jmp	.LBB20_35
+	je	.LBB20_35
+	jmp	.LBB20_16
 .LBB20_25:
 	movl	$2, %r14d
 	jmp	.LBB20_28
@@ -2156,10 +2156,12 @@ shim_opening_opened:
 	cmpq	$0, (%r15)
 	je	.LBB20_35
 	testl	%eax, %eax
-	je	.LBB20_39
-.LBB20_16:
-	movq	$0, (%r15)
-	jmp	.LBB20_40
+	jne	.LBB20_16
+	xorl	%eax, %eax
+	jmp	.LBB20_41
+.LBB20_35:
+	movl	$9, %eax
+	jmp	.LBB20_41
 .LBB20_36:
 	leaq	8(%rsp), %rsi
 	movq	%rdi, (%rsi)
@@ -2170,12 +2172,12 @@ shim_opening_opened:
 	callq	ee_core_opening_format_Device
 	cmpb	$2, 44(%r14)
 	jne	.LBB20_37
-.LBB20_35:
 	movl	$9, %eax
-	jmp	.LBB20_40
-.LBB20_39:
-	xorl	%eax, %eax
-.LBB20_40:
+	cmpq	$0, (%r15)
+	je	.LBB20_41
+.LBB20_16:
+	movq	$0, (%r15)
+.LBB20_41:
 	addq	$152, %rsp
 	.cfi_def_cfa_offset 56
 	popq	%rbx
@@ -2196,7 +2198,7 @@ shim_opening_opened:
 	.cfi_restore %r14
 	.cfi_restore %r15
 	.cfi_restore %rbp
-.LBB20_41:
+.LBB20_42:
 	retq
 .LBB20_37:
 	.cfi_def_cfa_offset 208

@@ -1,7 +1,7 @@
 /* ee: variables in flash, the library of ee.h as one file, for every Cortex-M.
  *
- * sum of sources: 15c7b15ee123e75b2b7cd16e1e7531b70954fefaa87224049f82bfa8c9e46631
- * sum of the text below: 1a7138c2c9e95b5957dea1e4a3dde641e7be6a35e73602c5e6870f35f39bcc31
+ * sum of sources: 30eb4205083597b8ff3febf5ea5b0a9d685e726cf72a2c470321967bc1f04b82
+ * sum of the text below: 7c16afcf097b2f0e928c4190e75ea3da679bc53da8e00253de9f50857d0cf98d
  * made by: firmware/c/assemble
  * compiler: rustc 1.96.0 (ac68faa20 2026-05-25) (built from a source tarball), LLVM 22.1.8
  * words: --target thumbv6m-none-eabi -C panic=abort -C embed-bitcode=yes -C opt-level=s -C llvm-args=--inline-threshold=40 -C codegen-units=1 -C lto=fat --emit asm,link
@@ -1972,51 +1972,37 @@ shim_opening_opened:
 	mov	r6, r0
 	movs	r0, #13
 	cmp	r6, #0
-	bne	.LBB20_1
-	b	.LBB20_40
-.LBB20_1:
-	movs	r5, #0
-	str	r5, [r6, #28]
+	beq	.LBB20_19
+	movs	r4, #0
+	str	r4, [r6, #28]
 	cmp	r1, #0
-	bne	.LBB20_2
-	b	.LBB20_40
-.LBB20_2:
-	ldr	r3, [r1, #12]
-	cmp	r3, #0
-	bne	.LBB20_3
-	b	.LBB20_40
-.LBB20_3:
-	ldr	r3, [r1, #16]
-	cmp	r3, #0
-	bne	.LBB20_4
-	b	.LBB20_40
-.LBB20_4:
-	ldr	r3, [r1, #20]
-	cmp	r3, #0
-	bne	.LBB20_5
-	b	.LBB20_40
-.LBB20_5:
+	beq	.LBB20_19
+	mov	r3, r0
+	ldr	r0, [r1, #12]
+	cmp	r0, #0
+	beq	.LBB20_18
+	ldr	r0, [r1, #16]
+	cmp	r0, #0
+	beq	.LBB20_18
+	str	r4, [sp, #24]
+	ldr	r0, [r1, #20]
+	cmp	r0, #0
+	mov	r0, r3
+	beq	.LBB20_19
 	ldr	r3, [r1, #4]
-	subs	r4, r3, #1
-	movs	r0, #11
-	cmp	r4, #63
-	bls	.LBB20_6
-	b	.LBB20_40
-.LBB20_6:
-	str	r5, [sp, #24]
+	subs	r0, r3, #1
+	movs	r5, #11
+	cmp	r0, #63
+	bhi	.LBB20_20
 	ldr	r4, [r1, #8]
-	subs	r5, r4, #5
-	lsrs	r5, r5, #2
-	cmp	r5, #126
-	bls	.LBB20_7
-	b	.LBB20_40
-.LBB20_7:
-	ldr	r5, [r1, #24]
-	cmp	r5, #1
-	bls	.LBB20_8
-	b	.LBB20_40
-.LBB20_8:
-	str	r2, [sp, #28]
+	subs	r0, r4, #5
+	lsrs	r0, r0, #2
+	cmp	r0, #126
+	bhi	.LBB20_20
+	ldr	r0, [r1, #24]
+	cmp	r0, #1
+	mov	r0, r5
+	bhi	.LBB20_19
 	str	r4, [sp, #16]
 	str	r3, [sp, #20]
 	mov	r5, r6
@@ -2024,23 +2010,22 @@ shim_opening_opened:
 	str	r1, [r5]
 	ldr	r0, [r1, #24]
 	cmp	r0, #0
-	beq	.LBB20_29
-	str	r5, [sp, #12]
+	beq	.LBB20_21
 	str	r5, [sp, #60]
-	ldr	r2, [sp, #16]
-	str	r2, [sp, #56]
+	ldr	r3, [sp, #16]
+	str	r3, [sp, #56]
 	ldr	r0, [sp, #20]
 	str	r0, [sp, #52]
 	str	r1, [sp, #48]
-	ldr	r1, [sp, #28]
-	str	r1, [sp, #64]
-	cmp	r1, #2
+	str	r2, [sp, #64]
+	cmp	r2, #2
+	str	r5, [sp, #12]
 	str	r6, [sp, #8]
-	bne	.LBB20_18
+	bne	.LBB20_22
 	lsls	r0, r0, #1
 	str	r0, [sp, #36]
 	movs	r5, #0
-	mov	r0, r2
+	mov	r0, r3
 	str	r5, [sp, #40]
 .LBB20_11:
 	lsls	r4, r0, #1
@@ -2064,34 +2049,46 @@ shim_opening_opened:
 	bl	shim_Device_erased
 	movs	r1, #2
 	cmp	r0, #0
-	bne	.LBB20_28
+	bne	.LBB20_32
 	ldr	r0, [sp, #36]
 	ldr	r5, [sp, #44]
 	cmp	r5, r0
-	beq	.LBB20_28
+	mov	r0, r1
+	beq	.LBB20_33
 	b	.LBB20_17
 .LBB20_16:
 	ldr	r0, [sp, #36]
 	ldr	r5, [sp, #44]
 	cmp	r5, r0
-	beq	.LBB20_27
+	beq	.LBB20_31
 .LBB20_17:
 	ldr	r0, [sp, #56]
 	b	.LBB20_11
 .LBB20_18:
+	mov	r0, r3
+.LBB20_19:
+	add	sp, #116
+	pop	{r4, r5, r6, r7, pc}
+.LBB20_20:
+	mov	r0, r5
+	b	.LBB20_19
+.LBB20_21:
+	mov	r0, r2
+	b	.LBB20_34
+.LBB20_22:
 	lsls	r0, r0, #1
 	str	r0, [sp, #4]
 	ldr	r1, [sp, #24]
-.LBB20_19:
+.LBB20_23:
 	ldr	r0, [sp, #56]
 	adds	r5, r0, #1
 	str	r1, [sp, #28]
 	adds	r0, r1, #1
 	str	r0, [sp, #24]
 	movs	r6, #1
-.LBB20_20:
+.LBB20_24:
 	subs	r5, r5, #1
-	beq	.LBB20_22
+	beq	.LBB20_26
 	adds	r0, r6, #2
 	str	r0, [sp, #44]
 	subs	r2, r6, #1
@@ -2113,38 +2110,40 @@ shim_opening_opened:
 	subs	r0, r0, r3
 	sbcs	r1, r2
 	ldr	r6, [sp, #44]
-	bhs	.LBB20_20
-	b	.LBB20_24
-.LBB20_22:
+	bhs	.LBB20_24
+	b	.LBB20_28
+.LBB20_26:
 	ldr	r1, [sp, #24]
 	ldr	r0, [sp, #4]
 	cmp	r1, r0
-	bne	.LBB20_19
-	ldr	r1, [sp, #64]
-	b	.LBB20_28
-.LBB20_24:
-	ldr	r0, [sp, #48]
-	cmp	r0, #0
-	ldr	r5, [sp, #12]
-	ldr	r6, [sp, #8]
-	beq	.LBB20_29
-	ldr	r0, [r5]
-	cmp	r0, #0
-	beq	.LBB20_38
-	movs	r0, #8
-	b	.LBB20_36
-.LBB20_27:
-	movs	r1, #2
+	bne	.LBB20_23
+	ldr	r0, [sp, #64]
+	b	.LBB20_33
 .LBB20_28:
-	str	r1, [sp, #28]
+	movs	r0, #8
+	ldr	r1, [sp, #48]
+	cmp	r1, #0
 	ldr	r5, [sp, #12]
 	ldr	r6, [sp, #8]
-.LBB20_29:
+	beq	.LBB20_30
+	str	r0, [sp, #28]
+.LBB20_30:
 	ldr	r0, [sp, #28]
+	beq	.LBB20_34
+	b	.LBB20_40
+.LBB20_31:
+	movs	r0, #2
+	b	.LBB20_33
+.LBB20_32:
+	mov	r0, r1
+.LBB20_33:
+	ldr	r5, [sp, #12]
+	ldr	r6, [sp, #8]
+.LBB20_34:
 	cmp	r0, #0
-	beq	.LBB20_32
+	beq	.LBB20_37
 	cmp	r0, #1
-	bne	.LBB20_37
+	bne	.LBB20_44
 	str	r5, [sp, #112]
 	ldr	r0, [sp, #16]
 	str	r0, [sp, #108]
@@ -2154,8 +2153,8 @@ shim_opening_opened:
 	add	r1, sp, #104
 	mov	r0, r4
 	bl	ee_core_first_start_start_Device
-	b	.LBB20_33
-.LBB20_32:
+	b	.LBB20_38
+.LBB20_37:
 	str	r5, [sp, #112]
 	ldr	r0, [sp, #16]
 	str	r0, [sp, #108]
@@ -2165,21 +2164,29 @@ shim_opening_opened:
 	add	r1, sp, #104
 	mov	r0, r4
 	bl	ee_core_opening_open_Device
-.LBB20_33:
+.LBB20_38:
 	mov	r0, r6
 	mov	r1, r4
-.LBB20_34:
+.LBB20_39:
 	bl	shim_opening_kept
-	ldr	r1, [r5]
-	cmp	r1, #0
-	beq	.LBB20_38
+.LBB20_40:
+	mov	r1, r0
+	ldr	r0, [r5]
 	cmp	r0, #0
-	beq	.LBB20_39
-.LBB20_36:
-	movs	r1, #0
-	str	r1, [r5]
-	b	.LBB20_40
-.LBB20_37:
+	beq	.LBB20_43
+	mov	r0, r1
+	cmp	r1, #0
+	beq	.LBB20_46
+.LBB20_42:
+	mov	r1, r0
+	movs	r0, #0
+	str	r0, [r5]
+	mov	r0, r1
+	b	.LBB20_19
+.LBB20_43:
+	movs	r0, #9
+	b	.LBB20_19
+.LBB20_44:
 	str	r5, [sp, #56]
 	ldr	r0, [sp, #16]
 	str	r0, [sp, #52]
@@ -2191,19 +2198,20 @@ shim_opening_opened:
 	bl	ee_core_opening_format_Device
 	ldrb	r0, [r4, #24]
 	cmp	r0, #2
-	bne	.LBB20_41
-.LBB20_38:
-	movs	r0, #9
-	b	.LBB20_40
-.LBB20_39:
+	bne	.LBB20_47
+	ldr	r0, [r5]
+	movs	r1, #9
+	cmp	r0, #0
+	mov	r0, r1
+	beq	.LBB20_19
+	b	.LBB20_42
+.LBB20_46:
 	movs	r0, #0
-.LBB20_40:
-	add	sp, #116
-	pop	{r4, r5, r6, r7, pc}
-.LBB20_41:
+	b	.LBB20_19
+.LBB20_47:
 	add	r1, sp, #76
 	mov	r0, r6
-	b	.LBB20_34
+	b	.LBB20_39
 	.size	shim_opening_opened, .-shim_opening_opened
 
 	.section	.text.shim_Device_ee_flash_device_Flash_word,"ax",%progbits

@@ -7,16 +7,17 @@ use crate::{
     EE_UNFORMATTED, EE_WRONG_SHAPE,
 };
 use core::cell::Cell;
-use core::ptr::{addr_of, null};
+use core::mem::MaybeUninit;
+use core::ptr::{addr_of, addr_of_mut, null};
 use ee_store::proved::{self, OpenFault, Pairs};
 use ee_store::{ScanFault, Shape};
 
-/// Keeps what an opening gave in the memory that C lends, and gives its status.
+/// Keeps what an opening gave in the store of the memory that C lends, and gives its status.
 #[inline(never)]
-fn kept(memory: &mut Memory, opened: Result<Kept, (Device, OpenFault)>) -> u32 {
+fn kept(lent: &mut MaybeUninit<Kept>, opened: Result<Kept, (Device, OpenFault)>) -> u32 {
     match opened {
         Ok(store) => {
-            memory.store.write(store);
+            lent.write(store);
             EE_OK
         }
         Err((_, OpenFault::Scan(ScanFault::Unformatted))) => EE_UNFORMATTED,
@@ -47,11 +48,12 @@ fn prepared(numbers: Numbers, how: How) -> Result<How, u32> {
 
 /// Opens a store over C's flash, and keeps it in the memory that C lends. Pointers are null or good.
 unsafe fn opened(lent: *mut Memory, flash: *const Flash, how: How) -> u32 {
-    // SAFETY: a pointer that is not null is good, here and below.
-    let Some(memory) = (unsafe { lent.as_mut() }) else {
+    if lent.is_null() {
         return EE_NULL;
-    };
-    memory.power.set(null());
+    }
+    // SAFETY: a pointer that is not null is good, here and below. The device looks at the power while the store is written.
+    let power = unsafe { &*addr_of!((*lent).power) };
+    power.set(null());
     let Some(given) = (unsafe { flash.as_ref() }) else {
         return EE_NULL;
     };
@@ -62,26 +64,28 @@ unsafe fn opened(lent: *mut Memory, flash: *const Flash, how: How) -> u32 {
     let (Some(shape), 0..=1) = (shape, given.pairs) else {
         return EE_WRONG_SHAPE;
     };
-    memory.power.set(flash);
+    power.set(flash);
     // SAFETY: the flash has all functions, and C keeps it and the memory where they are.
-    let device = unsafe { Device::new(addr_of!((*lent).power), shape) };
+    let device = unsafe { Device::new(power, shape) };
     let numbers = device.numbers();
+    // The device looks at the power while the store is written.
+    let memory = unsafe { &mut *addr_of_mut!((*lent).store) };
     let status = match numbers.map_or(Ok(how), |numbers| prepared(numbers, how)) {
         Ok(How::Open) => kept(memory, proved::open(device)),
         Ok(How::Start) => kept(memory, proved::start(device)),
         Ok(How::Format) => match proved::format(device) {
             Ok(store) => kept(memory, Ok(store)),
             // It was cut, and is off.
-            Err(_) => return EE_DRIVER,
+            Err(_) => EE_DRIVER,
         },
         Err(status) => status,
     };
     // What the store says counts only where the flash didn't fail.
-    if memory.power.get().is_null() {
+    if power.get().is_null() {
         return EE_DRIVER;
     }
     if status != EE_OK {
-        memory.power.set(null());
+        power.set(null());
     }
     status
 }
