@@ -11,7 +11,8 @@
  * flash by the three functions of an `ee_flash`. Whatever these answer, none is asked for a page or a word that the flash does
  * not have.
  *
- * Every call answers a status. Pointers that are NULL are refused with EE_NULL; all others must be good. No call may be
+ * Every call answers a status: one of its own list below, or, before these, EE_NULL, EE_OFF, EE_WRONG_SHAPE or EE_WRONG_NUMBER,
+ * by which a call refuses its pointers, its store, its flash or an address. Pointers that are NULL are refused with EE_NULL; all others must be good. No call may be
  * made from inside one of the three functions, nor from an interrupt or a thread that may break into a call on the same
  * store.
  *
@@ -50,8 +51,8 @@ extern "C" {
 /* A flash. It stays where it is, and as it is, while a store is open on it; it may be a constant. */
 typedef struct ee_flash {
     void *context; /* given to each of the three functions; the library does not look at it */
-    uint32_t pages;
-    uint32_t page_words;
+    uint32_t pages;      /* of one set, 1 to 64: the flash has twice as many */
+    uint32_t page_words; /* 5 to 512 */
     /* Reads a word. 0, and the word in `value`: all ones is an erased word. EE_READ_FAILED where the read itself failed, as on a
      * bus that isn't up, and nothing is known of the word: the call makes no step after that and answers EE_DRIVER, and the
      * store is off. Any other number where the word can't be read (an uncorrectable ECC error). A word reads the same until it

@@ -11,12 +11,13 @@ use core::cell::Cell;
 /// What the store's promises rest on:
 ///
 /// - The shape stays as it is.
-/// - A word reads the same until it is programmed or its page is erased, and then reads as it was left.
+/// - A word reads the same until it is programmed or its page is erased, power cuts included, and then reads as it was
+///   left.
 /// - A call of `program` that is `Ok` leaves the word as given and all else as it was; one of `erase` that is `Ok`
 ///   leaves each word of the page erased and all else as it was.
 /// - Where power fails in `program`, or it ends in an error, its word alone may have changed: it is erased still, holds
 ///   the number or is torn. Where that happens in `erase`, each word of its page is as before, erased or torn.
-/// - No call of the store is made from inside one of these three.
+/// - No call of the store is made from inside one of these functions.
 ///
 /// `&mut D` is a driver too, so a driver can be lent.
 pub trait Driver {
@@ -27,7 +28,7 @@ pub trait Driver {
     fn shape(&self) -> Shape;
 
     /// What a word of a page holds. A word with an uncorrectable ECC error is [`Word::Torn`]; one that reads as all
-    /// ones counts as erased.
+    /// ones counts as erased. A driver that answers `Torn` for a read that failed lets `start` erase every value.
     ///
     /// # Errors
     ///
@@ -50,8 +51,8 @@ pub trait Driver {
     /// As of `program`.
     fn erase(&mut self, page: usize) -> Result<(), Self::Error>;
 
-    /// Whether a word that is erased stays so where power fails in an erase of its page: so it is where cells go one way.
-    /// Then [`start`](crate::start) makes the first store only over what a first start itself may have left.
+    /// Whether a word that is erased stays so where power fails in an erase of its page: so it is where cells go one way,
+    /// and [`Pairs`](crate::Pairs) answers so. Then [`start`](crate::start) makes the first store only over what a first start itself may have left.
     fn keeps_erased(&self) -> bool {
         false
     }

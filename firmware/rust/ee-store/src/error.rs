@@ -14,7 +14,8 @@ pub enum ReadFault<E> {
     Off,
     /// The driver failed in this call. Nothing was written, and the store is off from here on.
     Driver(E),
-    /// Words changed between two looks, as those of no flash do. Nothing was written, and the store is off from here on.
+    /// Words changed between two looks, as a brown-out can leave them. Nothing was written, and the store is off from here
+    /// on.
     Unsteady,
 }
 
@@ -23,9 +24,9 @@ pub enum ReadFault<E> {
 pub enum OpenFault<E> {
     /// The flash holds no store. Nothing was written.
     Scan(ScanFault),
-    /// The driver failed, in reading a word or in setting a mark. The variables are as before.
+    /// The driver failed. `open` and `start` keep every variable; `format` may have erased any.
     Driver(E),
-    /// Words changed between two looks, as those of no flash do. The variables are as before, if there are any.
+    /// Words changed between two looks, as a brown-out can leave them. Nothing is promised of any value.
     Unsteady,
 }
 
@@ -65,7 +66,7 @@ pub enum WriteFault<E> {
     Spent,
     /// The driver failed in this call. The address has its old value or the new one, and no other changed.
     Driver(E),
-    /// Words changed between two looks, as those of no flash do. It is as after `Driver`.
+    /// Words changed between two looks, as a brown-out can leave them. Nothing is promised of any value.
     Unsteady,
 }
 
@@ -83,7 +84,7 @@ pub enum WriteAllFault<E> {
     Spent,
     /// The driver failed in this call. Every value of the list is there or none, and no other address changed.
     Driver(E),
-    /// Words changed between two looks, as those of no flash do. It is as after `Driver`.
+    /// Words changed between two looks, as a brown-out can leave them. Nothing is promised of any value.
     Unsteady,
 }
 
@@ -99,7 +100,7 @@ pub enum ForgetFault<E> {
     Spent,
     /// The driver failed in this call. The address has its value still or has none, and no other changed.
     Driver(E),
-    /// Words changed between two looks, as those of no flash do. It is as after `Driver`.
+    /// Words changed between two looks, as a brown-out can leave them. Nothing is promised of any value.
     Unsteady,
 }
 
@@ -110,7 +111,7 @@ pub enum CleanFault<E> {
     Off,
     /// The driver failed in this call. The variables are as before.
     Driver(E),
-    /// Words changed between two looks, as those of no flash do. It is as after `Driver`.
+    /// Words changed between two looks, as a brown-out can leave them. Nothing is promised of any value.
     Unsteady,
 }
 
