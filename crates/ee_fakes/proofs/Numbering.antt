@@ -1,5 +1,5 @@
 -- Pages of numbers, each a `Vec` of its own.
-use Rattle.std.proofs.Common.{◌≡◌, ℕ, ◌<◌, List, [], Vec, length, get_or, set, drop, map, None, true, refl, sym, ap, ◌∙◌, arith}
+use Rattle.std.proofs.Common.{◌≡◌, ℕ, ◌<◌, List, [], Vec, false, length, get_or, set, drop, map, None, true, refl, sym, ap, ◌∙◌, arith}
 use Rattle.std.specs.Vec.{with_items}
 use Rattle.std.specs.List.{All}
 use Rattle.std.proofs.lemmas.List.{get_or-map, get_or-set_same, length-map, length-set, map-set, take_at}
@@ -40,14 +40,15 @@ pub written_through : {A : Type 0} (found : Vec ℕ A) (numbers : List ℕ) → 
 written_through found numbers as_long = take_at numbers (drop (length numbers) found.items) found.len (omega (arith, found.ok.0, as_long))
 
 -- an erase that leaves these numbers of a page is cut
-pub IsNorCutIn-erase : (page : ℕ) (numbers : List ℕ) (old new : NorDevice) → old.on ≡ true → page < length old.image → old.cuts_left ≡ None → KeepsBits (numbers_at old page) numbers → new ≡ with_power_lost (with_nor_page_worn page (with_numbers page numbers old)) → IsNorCutIn (EraseNumbers page) old new
-IsNorCutIn-erase page numbers old new on in_range any keeps is_new =
+pub IsNorCutIn-erase : (page : ℕ) (numbers : List ℕ) (old new : NorDevice) → old.on ≡ true → old.clears_first ≡ false → page < length old.image → old.cuts_left ≡ None → KeepsBits (numbers_at old page) numbers → new ≡ with_power_lost (with_nor_page_worn page (with_numbers page numbers old)) → IsNorCutIn (EraseNumbers page) old new
+IsNorCutIn-erase page numbers old new on keeping in_range any keeps is_new =
     let same : get_or (set old.image page numbers) page [] ≡ numbers = get_or-set_same old.image page numbers [] in_range in
     rw is_new (record {
       was_on = on;
       is_off = refl;
       same_size = refl;
-      image = rw same (keeps, refl);
+      same_kind = refl;
+      image = rw (same, keeping) (keeps, refl);
       wear = refl;
       cuts = refl;
       cuts_left = rw any refl;

@@ -1,5 +1,5 @@
 -- Why devices whose fates are listed are formed.
-use Rattle.std.specs.Prelude.{◌≡◌, ◌≤◌, ℕ, ◌*◌, Bool, None, List, length}
+use Rattle.std.specs.Prelude.{false, ◌≡◌, ◌≤◌, ℕ, ◌*◌, Bool, None, List, length}
 use Rattle.std.specs.List.{All}
 use Rattle.ee_flash.specs.Device.{IsBelowAllOnes, IsFormed, all_ones}
 use Rattle.ee_flash.specs.Formed.{below_all_ones, length-pages_of, page_lengths}
@@ -20,7 +20,7 @@ IsFormed-listed size cells wear cuts on limits filled below worn fits cut = reco
   cuts_left_fit = λ left none. cc;
 }
 
-pub IsNorFormed-listed : (size : Size) (image : List (List ℕ)) (wear : List ℕ) (cuts : ℕ) (on : Bool) → IsWithinLimits size → length image ≡ page_count size → All (λ page. length page ≡ number_count size) image → All (All IsNorNumber) image → length wear ≡ page_count size → All IsNorNumber wear → cuts ≤ all_ones → IsNorFormed (record { size = size; image = image; wear = wear; cuts = cuts; cuts_left = None; on = on })
+pub IsNorFormed-listed : (size : Size) (image : List (List ℕ)) (wear : List ℕ) (cuts : ℕ) (on : Bool) → IsWithinLimits size → length image ≡ page_count size → All (λ page. length page ≡ number_count size) image → All (All IsNorNumber) image → length wear ≡ page_count size → All IsNorNumber wear → cuts ≤ all_ones → IsNorFormed (record { size = size; clears_first = false; image = image; wear = wear; cuts = cuts; cuts_left = None; on = on })
 IsNorFormed-listed size image wear cuts on limits pages numbers fit worn fits cut = record {
   within_limits = limits;
   image_length = pages;

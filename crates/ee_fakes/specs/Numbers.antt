@@ -10,6 +10,7 @@ use Rattle.ee_fakes.specs.declared.numbers.ListNor.{ListNor}
 abbrev pub blank_nor : Size → NorDevice
 blank_nor size = record {
   size = size;
+  clears_first = false;
   image = replicate (page_count size) (replicate (number_count size) all_ones);
   wear = replicate (page_count size) 0;
   cuts = 0;
@@ -26,6 +27,7 @@ module _ {A : Type 0} where
   abbrev pub nor_of_list : ListNor A → NorDevice
   nor_of_list flash = record {
     size = flash.shape;
+    clears_first = false;
     image = map (λ page. page.items) flash.pages.items;
     wear = flash.wear.items;
     cuts = flash.cuts;

@@ -203,6 +203,13 @@ impl<A: Allocator> Flash for ListFlash<'_, A> {
         self.cells[self.page_start(page) + at]
     }
 
+    fn run<'a>(&'a self, page: usize, at: usize, room: &'a mut [u64]) -> &'a [u64] {
+        for (behind, number) in room.iter_mut().enumerate() {
+            *number = self.word(page, at + behind).number();
+        }
+        room
+    }
+
     // As of any device, and besides exactly what the list says.
     fn program(&mut self, page: usize, at: usize, value: u64) -> Result<(), Cut>
         requires page_in_range { page < page_count (device_of_list self.old).size }

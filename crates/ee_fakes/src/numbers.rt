@@ -1,5 +1,5 @@
 //! A flash of plain numbers whose steps are done or cut as a list says.
-ghost use Rattle.std.specs.Prelude.{◌≡◌, ◌*◌, ◌<◌, ◌≤◌, length, map, replicate, IfOk, OnErr, OnOk, vec_len, true, false};
+ghost use Rattle.std.specs.Prelude.{◌≡◌, ◌+◌, ◌*◌, ◌<◌, ◌≤◌, drop, length, map, replicate, take, IfOk, OnErr, OnOk, vec_len, true, false};
 ghost use Rattle.std.specs.List.{All};
 ghost use Rattle.ee_flash.specs.Device.{all_ones};
 ghost use Rattle.ee_flash.specs.Size.{IsWithinLimits, page_count};
@@ -174,6 +174,14 @@ impl<'a, A: Allocator> ListNor<'a, A> {
     }
 }
 
+// So many numbers from a place on.
+fn part(numbers: &[u64], at: usize, count: usize) -> &[u64]
+    requires { at + count ≤ length numbers.now }
+    ensures { result.now ≡ take count (drop at numbers.now) }
+{
+    &numbers[at..at + count]
+}
+
 impl<A: Allocator> Nor for ListNor<'_, A> {
     ghost use Rattle.ee_fakes.specs.Formed.{IsNorFormed-listed};
     ghost use Rattle.ee_fakes.specs.Numbers.{nor_of_list};
@@ -189,6 +197,10 @@ impl<A: Allocator> Nor for ListNor<'_, A> {
         self.shape
     }
 
+    fn clears_first(&self) -> bool {
+        false
+    }
+
     fn wear(&self, page: usize) -> u64 {
         self.wear[page]
     }
@@ -199,6 +211,14 @@ impl<A: Allocator> Nor for ListNor<'_, A> {
 
     fn read(&self, page: usize, at: usize) -> u64 {
         self.pages[page][at]
+    }
+
+    // A part of the pages has its numbers in memory, so that both ways are taken.
+    fn window(&self, page: usize, at: usize, count: usize) -> Option<&[u64]> {
+        if page % 2 == 0 {
+            return None;
+        }
+        Some(part(&self.pages[page], at, count))
     }
 
     fn program(&mut self, page: usize, at: usize, number: u64) -> Result<(), Cut> {

@@ -5,4 +5,5 @@ mod Fuses
 mod Joined
 mod Endurance
 mod Premises
+mod Runs
 pub mod Public

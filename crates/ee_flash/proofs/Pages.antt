@@ -3,7 +3,7 @@ use Rattle.std.proofs.Common.{◌≡◌, ◌≢◌, ◌⊎◌, inl, inr, ℕ, �
 use borrow.Rule.Slice.PartMut.{put_mid}
 use Rattle.std.specs.List.{All}
 use Rattle.std.proofs.lemmas.Bool.{cases_eq, cases_order}
-use Rattle.std.proofs.lemmas.List.{ext_get_or, get_or-drop, get_or-set_other, get_or-set_same, get_or-take, get_or-replicate, length-set, length-replicate, places, same_lists, take_at}
+use Rattle.std.proofs.lemmas.List.{ext_get_or, get_or-drop, get_or-set_other, get_or-set_same, get_or-take, get_or-replicate, length-set, length-replicate, places, same_lists, take-take, take_at, drop-drop, drop-take}
 use Rattle.std.proofs.lemmas.List.Elements.{All-append, All-drop, All-take}
 use Rattle.ee_flash.specs.Device.{IsBelowAllOnes}
 use Rattle.std.proofs.lemmas.Nat.{mul-add-lt, same_from_place, row_fits}
@@ -181,3 +181,15 @@ module _ (size : Size) (cells : List Word) (page : ℕ) (tear : Tear) (filled : 
     own_page = torn_left ∙ ap (set (pages_of size cells) page) (sym torn_page);
     below_all_ones = torn_below;
   }
+
+-- the words of a page from a place on, as they stand among all
+pub run-pages_of : (size : Size) (cells : List Word) (page at count : ℕ) → page < page_count size → at + count ≤ size.words
+    → take count (drop (page * size.words + at) cells) ≡ take count (drop at (get_or (pages_of size cells) page []))
+run-pages_of size cells page at count in_range within =
+    let rest = drop (page * size.words) cells in
+    let left = size.words - at in
+    let ends : at + left ≡ size.words = omega arith in
+    ap (take count) (sym (drop-drop at (page * size.words) cells))
+    ∙ sym (take-take count left (drop at rest) (omega arith))
+    ∙ ap (take count) (sym (drop-take at left rest) ∙ ap (λ (end : ℕ). drop at (take end rest)) ends)
+    ∙ ap (λ words. take count (drop at words)) (sym (page-pages_of size cells page [] in_range))

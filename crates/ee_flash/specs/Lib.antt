@@ -3,6 +3,7 @@ pub mod Device
 pub mod Wear
 pub mod Step
 pub mod Power
+pub mod Runs
 pub mod Fuse
 pub mod Pages
 pub mod Formed

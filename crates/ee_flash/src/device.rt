@@ -1,6 +1,7 @@
 //! The flash device as the layers above know it: words are programmed, pages erased, and power is cut.
-ghost use Rattle.std.specs.Prelude.{◌<◌, ◌≡◌, ◌⊎◌, OnErr, OnOk, true};
+ghost use Rattle.std.specs.Prelude.{◌<◌, ◌≤◌, ◌+◌, ◌≡◌, ◌⊎◌, OnErr, OnOk, length, true};
 ghost use Rattle.ee_flash.specs.Device.{Device, IsBelowAllOnes, IsFormed, IsOn, all_ones, wear_at, word_at};
+ghost use Rattle.ee_flash.specs.Runs.{run_of};
 ghost use Rattle.ee_flash.specs.Size.{page_count};
 ghost use Rattle.ee_flash.specs.Step.{Erase, IsCutIn, IsUntouched, Program, with_page_erased, with_word_programmed};
 
@@ -42,6 +43,14 @@ pub trait Flash {
         requires place_in_range { at < (device self.now).size.words }
         ensures value { result ≡ word_at (device self.now) page at }
         ensures below_all_ones { IsBelowAllOnes result };
+
+    /// The numbers of the words from a place on, as many as there is room for, whether power is on
+    /// or off: `u64::MAX` of an erased word, 0 of a torn one. They stand in the room, or where the
+    /// device has them. `word` tells a torn word from one that holds 0.
+    fn run<'a>(&'a self, page: usize, at: usize, room: &'a mut [u64]) -> &'a [u64]
+        requires page_in_range { page < page_count (device self.now).size }
+        requires places_in_range { at + length room.old ≤ (device self.now).size.words }
+        ensures { result.now ≡ run_of (device self.now) page at (length room.old) };
 
     /// Programs an erased word with a number below `u64::MAX`.
     ///

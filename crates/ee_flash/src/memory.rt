@@ -1,9 +1,10 @@
 //! The flash device in memory: its words, the wears of its pages, and a fuse that may cut a step.
 ghost use Rattle.std.specs.Bool.{MatchBool};
-ghost use Rattle.std.specs.Prelude.{true, ◌<◌, ◌≤◌, ◌*◌, ◌≡◌, ◌⊎◌, ◌+◌, ◌↔◌, IfErr, IfNone, IfOk, IfSome, IsTrue, OnErr, OnOk, is_ok, replicate, vec_len};
+ghost use Rattle.std.specs.Prelude.{true, ◌<◌, ◌≤◌, ◌*◌, ◌≡◌, ◌⊎◌, ◌+◌, ◌↔◌, IfErr, IfNone, IfOk, IfSome, IsTrue, OnErr, OnOk, is_ok, length, map, replicate, vec_len};
 ghost use Rattle.std.specs.List.{All};
 ghost use Rattle.ee_flash.specs.Cells.{IsFirstAllOnes};
 ghost use Rattle.ee_flash.specs.Device.{IsBelowAllOnes, all_ones, page_at};
+ghost use Rattle.ee_flash.specs.Runs.{number_of};
 ghost use Rattle.ee_flash.specs.Size.{IsWithinLimits, page_count};
 
 use crate::fuse::tear_words;
@@ -226,6 +227,16 @@ fn first_all_ones(words: &[Word]) -> Option<usize>
     None
 }
 
+/// Puts the numbers of these words into the room, which is as long.
+fn put_numbers(words: &[Word], room: &mut [u64])
+    requires { length room.old ≡ length words.now }
+    ensures { room.new ≡ map number_of words.now }
+{
+    for (at, number) in room.iter_mut().enumerate() {
+        *number = words[at].number();
+    }
+}
+
 impl<A: Allocator> Flash for MemFlash<A> {
     ghost use Rattle.ee_flash.specs.Memory.{Passes, after_step, device_of, memory_of, with_device};
     ghost use Rattle.ee_flash.specs.Device.{IsOn, word_at};
@@ -254,6 +265,12 @@ impl<A: Allocator> Flash for MemFlash<A> {
 
     fn word(&self, page: usize, at: usize) -> Word {
         self.cells[self.page_start(page) + at]
+    }
+
+    fn run<'a>(&'a self, page: usize, at: usize, room: &'a mut [u64]) -> &'a [u64] {
+        let start = self.page_start(page) + at;
+        put_numbers(&self.cells[start..start + room.len()], room);
+        room
     }
 
     /// Programs an erased word, as any device does; what a cut leaves is what the fuse says.

@@ -1,4 +1,6 @@
 //! A word of flash as it reads: erased, held or torn.
+ghost use Rattle.std.specs.Prelude.{◌≡◌};
+ghost use Rattle.ee_flash.specs.Runs.{number_of};
 
 /// What a word of flash holds, as it reads.
 ///
@@ -11,4 +13,19 @@ pub enum Word {
     Held(u64),
     /// An uncorrectable ECC error: the word reads as unreadable.
     Torn,
+}
+
+impl Word {
+    /// Its number in a run: `u64::MAX` where it is erased, and 0 where it is torn.
+    ///
+    /// Source: ours.
+    pub fn number(self) -> u64
+        ensures { result ≡ number_of self }
+    {
+        match self {
+            Word::Erased => u64::MAX,
+            Word::Held(value) => value,
+            Word::Torn => 0,
+        }
+    }
 }

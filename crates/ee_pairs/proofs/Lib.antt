@@ -1,5 +1,6 @@
 mod Bits
 mod Words
+mod PairRuns
 mod High
 mod Steps
 mod Wipes

@@ -1,18 +1,18 @@
 -- A step of words is one or two steps of numbers.
-use Rattle.std.proofs.Common.{rules, ◌≡◌, ◌≢◌, ◌⊎◌, inl, inr, ℕ, ◌+◌, ◌*◌, ◌<◌, ◌≤◌, List, [], length, get_or, set, replicate, map, true, false, Result, Ok, Err, OnOk, OnErr, refl, sym, subst, ap, ◌∙◌, arith}
+use Rattle.std.proofs.Common.{rules, Bool, ◌≡◌, ◌≢◌, ◌⊎◌, inl, inr, ℕ, ◌+◌, ◌*◌, ◌<◌, ◌≤◌, List, [], length, get_or, set, replicate, map, true, false, Result, Ok, Err, OnOk, OnErr, refl, sym, subst, ap, ◌∙◌, arith}
 use Rattle.std.proofs.lemmas.Bool.{eq-eqb, ne_eqb}
 use Rattle.std.proofs.lemmas.List.{get_or-map, get_or-set_other, get_or-set_same, length-set, map-set, set-get_or, set-set}
 use Rattle.ee_flash.specs.Device.{Device, all_ones, page_at, word_at}
 use Rattle.ee_flash.specs.Size.{Size, page_count}
-use Rattle.ee_flash.specs.Step.{Erase, IsCutIn, IsUntouched, MayLeave, Program, with_word, with_word_programmed}
+use Rattle.ee_flash.specs.Step.{Erase, IsCutIn, IsPartlyErased, IsUntouched, MayLeave, Program, with_word, with_word_programmed}
 use Rattle.ee_flash.specs.declared.word.Word.{Word}
 use Rattle.ee_flash.specs.declared.word.Word.TheVariants.{Erased, Held, Torn}
-use Rattle.ee_pairs.specs.Nor.{EraseNumbers, IsNorCutIn, IsNorFormed, IsNorUntouched, NorDevice, ProgramNumber, number_at, number_in, numbers_at, with_number, with_numbers, with_numbers_erased}
-use Rattle.ee_pairs.specs.Pairs.{IsHigh, NoLowPair, complement, paired_device, pair_in, pair_word, pair_words}
+use Rattle.ee_pairs.specs.Nor.{EraseNumbers, IsNorCutIn, IsNorFormed, IsNorNumber, IsNorUntouched, KeepsBits, MayEraseLeave, NorDevice, ProgramNumber, number_at, number_in, numbers_at, with_number, with_numbers, with_numbers_erased}
+use Rattle.ee_pairs.specs.Pairs.{IsHigh, IsSafe, NoLowPair, complement, paired_device, pair_in, pair_word, pair_words}
 use Rattle.ee_pairs.specs.Formed.{get_or-pair_words, number_fits, word_cases}
 use Rattle.ee_pairs.proofs.Bits.{no_less}
 use Rattle.ee_pairs.proofs.High.{high_blank, high_first, high_kept, high_second, no_low_with}
-use Rattle.ee_pairs.proofs.Words.{paired_device-with, first_cut, other_pairs, partly_erased, second_cut}
+use Rattle.ee_pairs.proofs.Words.{paired_device-with, first_cut, other_pairs, partly_erased, partly_unmade, second_cut}
 
 -- the word at a place
 pub word_there : (nor : NorDevice) (page at : ℕ) → IsNorFormed nor → page < page_count nor.size → at < nor.size.words → word_at (paired_device nor) page at ≡ pair_in (numbers_at nor page) at
@@ -144,9 +144,27 @@ module _ (nor : NorDevice) (page at : ℕ) (formed : IsNorFormed nor) (in_range 
     pub high_cut_second : (value : ℕ) (new : NorDevice) → value ≤ all_ones → IsNorCutIn (ProgramNumber page (2 * at + 1) (complement value)) (with_number page (2 * at) value nor) new → NoLowPair new
     high_cut_second value new fits cut = search (rules, no_low_with, high_of_second, no_less, one_page)
 
+  pub safe_after_first : IsSafe nor → (value : ℕ) → IsSafe (with_number page (2 * at) value nor)
+  safe_after_first safe value keeps = high_after_first (safe keeps) value
+
+-- power was off, and nothing changed
+safe_untouched : (nor new : NorDevice) → IsSafe nor → IsNorUntouched nor new → IsSafe new
+safe_untouched nor new safe untouched = rw untouched.same safe
+
+-- where a flash doesn't clear first, a cut erase keeps bits
+kept_bits : (first : Bool) (old new : List ℕ) → MayEraseLeave first old new → first ≡ false → KeepsBits old new
+kept_bits first old new left is = subst (λ first. MayEraseLeave first old new) is left
+
+-- what a cut erase leaves of the words of its page
+left_words : (first : Bool) (count : ℕ) (old new : List ℕ) → MayEraseLeave first old new
+    → ((at : ℕ) → IsNorNumber (number_in new at)) → (first ≡ false → IsHigh old)
+    → IsPartlyErased (pair_words count old) (pair_words count new)
+left_words true count old new left fits high = partly_unmade count old new left fits
+left_words false count old new left fits high = partly_erased count old new left fits (high refl)
+
 -- power was cut in an erase
-pub cut_erase : (nor new : NorDevice) (page : ℕ) → IsNorFormed nor → IsNorFormed new → page < page_count nor.size → NoLowPair nor → IsNorCutIn (EraseNumbers page) nor new → IsCutIn (Erase page) (paired_device nor) (paired_device new)
-cut_erase nor new page formed new_formed in_range high cut =
+pub cut_erase : (nor new : NorDevice) (page : ℕ) → IsNorFormed nor → IsNorFormed new → page < page_count nor.size → IsSafe nor → IsNorCutIn (EraseNumbers page) nor new → IsCutIn (Erase page) (paired_device nor) (paired_device new)
+cut_erase nor new page formed new_formed in_range safe cut =
     let words = pair_words nor.size.words in
     let within : page < length nor.image = omega (arith, formed.image_length) in
     let size = ap page_count cut.same_size in
@@ -160,8 +178,8 @@ cut_erase nor new page formed new_formed in_range high cut =
       is_off = cut.is_off;
       same_size = cut.same_size;
       image = (
-        rw (there, new_there) (partly_erased nor.size.words (numbers_at nor page) (numbers_at new page) cut.image.0
-            (λ at. number_fits (numbers_at new page) at (new_formed.numbers_fit page [] new_within)) (high page)),
+        rw (there, new_there) (left_words nor.clears_first nor.size.words (numbers_at nor page) (numbers_at new page) cut.image.0
+            (λ at. number_fits (numbers_at new page) at (new_formed.numbers_fit page [] new_within)) (λ keeps. safe keeps page)),
         image ∙ ap (map words) cut.image.1 ∙ rw new_there (map-set words nor.image page (numbers_at new page)),
       );
       wear = cut.wear;
@@ -169,27 +187,33 @@ cut_erase nor new page formed new_formed in_range high cut =
       cuts_left = cut.cuts_left;
     }
 
-pub high_cut_erase : (nor new : NorDevice) (page : ℕ) → NoLowPair nor → IsNorCutIn (EraseNumbers page) nor new → NoLowPair new
-high_cut_erase nor new page high cut = no_low_with nor new page (numbers_at new page) high (high_kept _ _ cut.image.0 (high page)) cut.image.1
+safe_cut_erase : (nor new : NorDevice) (page : ℕ) → IsSafe nor → IsNorCutIn (EraseNumbers page) nor new → IsSafe new
+safe_cut_erase nor new page safe cut keeps =
+    let kept = sym cut.same_kind ∙ keeps in
+    let high = safe kept in
+    let left = kept_bits nor.clears_first (numbers_at nor page) (numbers_at new page) cut.image.0 kept in
+    no_low_with nor new page (numbers_at new page) high (high_kept _ _ left (high page)) cut.image.1
 
 -- ---- what a call of the flash leaves
 
 -- an erase, whole or not
-module _ (nor new : NorDevice) (page : ℕ) (formed : IsNorFormed nor) (new_formed : IsNorFormed new) (in_range : page < page_count nor.size) (high : NoLowPair nor) where
-  pub high_erased : {T E : Type 0} (result : Result T E) → OnOk result (new ≡ with_numbers_erased page nor) → OnErr result (IsNorCutIn (EraseNumbers page) nor new ⊎ IsNorUntouched nor new) → NoLowPair new
-  high_erased (Ok x) done cut = no_low_with nor new page (replicate (2 * nor.size.words) all_ones) high (high_blank (2 * nor.size.words)) (ap (λ (nor : NorDevice). nor.image) done)
-  high_erased (Err e) done (inl cut) = high_cut_erase nor new page high cut
-  high_erased (Err e) done (inr untouched) = rw untouched.same high
+module _ (nor new : NorDevice) (page : ℕ) (formed : IsNorFormed nor) (new_formed : IsNorFormed new) (in_range : page < page_count nor.size) (safe : IsSafe nor) where
+  pub safe_erased : {T E : Type 0} (result : Result T E) → OnOk result (new ≡ with_numbers_erased page nor) → OnErr result (IsNorCutIn (EraseNumbers page) nor new ⊎ IsNorUntouched nor new) → IsSafe new
+  safe_erased (Ok x) done cut keeps =
+      let high = safe (sym (ap (λ (nor : NorDevice). nor.clears_first) done) ∙ keeps) in
+      no_low_with nor new page (replicate (2 * nor.size.words) all_ones) high (high_blank (2 * nor.size.words)) (ap (λ (nor : NorDevice). nor.image) done)
+  safe_erased (Err e) done (inl cut) keeps = safe_cut_erase nor new page safe cut keeps
+  safe_erased (Err e) done (inr untouched) keeps = safe_untouched nor new safe untouched keeps
 
   pub erase_left : IsNorCutIn (EraseNumbers page) nor new ⊎ IsNorUntouched nor new → IsCutIn (Erase page) (paired_device nor) (paired_device new) ⊎ IsUntouched (paired_device nor) (paired_device new)
-  erase_left (inl cut) = inl (cut_erase nor new page formed new_formed in_range high cut)
+  erase_left (inl cut) = inl (cut_erase nor new page formed new_formed in_range safe cut)
   erase_left (inr untouched) = inr (record { was_off = untouched.was_off; same = ap paired_device untouched.same })
 
 -- a program of the first number that was cut or off
 module _ (nor new : NorDevice) (page at value : ℕ) (formed : IsNorFormed nor) (in_range : page < page_count nor.size) (within : at < nor.size.words) (erased : word_at (paired_device nor) page at ≡ Erased) where
-  pub high_first_left : NoLowPair nor → IsNorCutIn (ProgramNumber page (2 * at) value) nor new ⊎ IsNorUntouched nor new → NoLowPair new
-  high_first_left high (inl cut) = high_cut_first nor page at formed in_range within erased high value new cut
-  high_first_left high (inr untouched) = rw untouched.same high
+  pub safe_first_left : IsSafe nor → IsNorCutIn (ProgramNumber page (2 * at) value) nor new ⊎ IsNorUntouched nor new → IsSafe new
+  safe_first_left safe (inl cut) keeps = high_cut_first nor page at formed in_range within erased (safe (sym cut.same_kind ∙ keeps)) value new cut
+  safe_first_left safe (inr untouched) keeps = safe_untouched nor new safe untouched keeps
 
   pub first_left : value < all_ones → IsNorCutIn (ProgramNumber page (2 * at) value) nor new ⊎ IsNorUntouched nor new → IsCutIn (Program page at value) (paired_device nor) (paired_device new) ⊎ IsUntouched (paired_device nor) (paired_device new)
   first_left below (inl cut) = inl (cut_first nor page at formed in_range within erased value new below cut)
@@ -197,10 +221,19 @@ module _ (nor new : NorDevice) (page at value : ℕ) (formed : IsNorFormed nor) 
 
   -- the second number, whole or not, after the first
   module _ (mid : NorDevice) (on : nor.on ≡ true) (put : mid ≡ with_number page (2 * at) value nor) (below : value < all_ones) where
-    pub high_second_left : {T E : Type 0} (result : Result T E) → NoLowPair nor → OnOk result (new ≡ with_number page (2 * at + 1) (complement value) mid) → OnErr result (IsNorCutIn (ProgramNumber page (2 * at + 1) (complement value)) mid new ⊎ IsNorUntouched mid new) → NoLowPair new
-    high_second_left (Ok x) high done cut = rw (done, put) (high_after_second nor page at formed in_range within erased high value (complement value) (omega arith) (omega arith))
-    high_second_left (Err e) high done (inl cut) = high_cut_second nor page at formed in_range within erased high value new (omega arith) (subst (λ mid. IsNorCutIn (ProgramNumber page (2 * at + 1) (complement value)) mid new) put cut)
-    high_second_left (Err e) high done (inr untouched) = rw (untouched.same, put) (high_after_first nor page at formed in_range within erased high value)
+    abbrev kind_of : NorDevice → Bool
+    kind_of nor = nor.clears_first
+
+    pub safe_second_left : {T E : Type 0} (result : Result T E) → IsSafe nor → OnOk result (new ≡ with_number page (2 * at + 1) (complement value) mid) → OnErr result (IsNorCutIn (ProgramNumber page (2 * at + 1) (complement value)) mid new ⊎ IsNorUntouched mid new) → IsSafe new
+    safe_second_left (Ok x) safe done cut keeps =
+        let high = safe (sym (ap kind_of done ∙ ap kind_of put) ∙ keeps) in
+        rw (done, put) (high_after_second nor page at formed in_range within erased high value (complement value) (omega arith) (omega arith))
+    safe_second_left (Err e) safe done (inl cut) keeps =
+        let high = safe (sym (cut.same_kind ∙ ap kind_of put) ∙ keeps) in
+        high_cut_second nor page at formed in_range within erased high value new (omega arith) (subst (λ mid. IsNorCutIn (ProgramNumber page (2 * at + 1) (complement value)) mid new) put cut)
+    safe_second_left (Err e) safe done (inr untouched) keeps =
+        let high = safe (sym (ap kind_of untouched.same ∙ ap kind_of put) ∙ keeps) in
+        rw (untouched.same, put) (high_after_first nor page at formed in_range within erased high value)
 
     pub second_done : new ≡ with_number page (2 * at + 1) (complement value) mid → paired_device new ≡ with_word_programmed page at value (paired_device nor)
     second_done done = search (rules, second_put, held_word)

@@ -5,7 +5,7 @@ use Rattle.std.proofs.lemmas.List.{ext_get_or, get_or-map, get_or_past, get_or-r
 use Rattle.ee_flash.specs.Device.{all_ones}
 use Rattle.ee_flash.specs.Step.{IsPartlyErased, with_page_erased, with_word}
 use Rattle.ee_flash.specs.declared.word.Word.TheVariants.{Erased, Held, Torn}
-use Rattle.ee_pairs.specs.Nor.{HasBits, IsNorNumber, KeepsBits, NorDevice, number_in, numbers_at, with_numbers, with_numbers_erased}
+use Rattle.ee_pairs.specs.Nor.{HasBits, IsNorNumber, KeepsBits, MakesNoPair, NorDevice, number_in, numbers_at, with_numbers, with_numbers_erased}
 use Rattle.ee_pairs.specs.Pairs.{paired_device, pair_in, sum_in, pair_word, pair_words}
 use Rattle.ee_pairs.specs.Formed.{get_or-pair_words, length-pair_words, word_cases}
 use Rattle.ee_pairs.proofs.Bits.{makes_no_number, no_less}
@@ -75,6 +75,30 @@ partly_erased count old new keeps fits high = record {
   each = λ at. elim (cases_lt at count) [
     | inl below ↦ rw (get_or-pair_words count new at Erased below, get_or-pair_words count old at Erased below)
         (erase_cut _ _ _ _ (fits (2 * at)) (high at) (keeps.each (2 * at)) (keeps.each (2 * at + 1)))
+    | inr past ↦ inr (inl (get_or_past (pair_words count new) at Erased (omega (arith, length-pair_words count new))))
+  ];
+}
+
+-- a word whose page was cleared first, and cut in its erase
+unmade_word : (number check left left_check : ℕ) → IsNorNumber left
+    → (left ≢ all_ones → left + left_check ≡ all_ones → (left ≡ number) × (left_check ≡ check))
+    → (pair_word left left_check ≡ pair_word number check) ⊎ ((pair_word left left_check ≡ Erased) ⊎ (pair_word left left_check ≡ Torn))
+unmade_word number check left left_check fits none = elim (word_cases left left_check) [
+  | inl erased ↦ inr (inl erased.2)
+  | inr (inl held) ↦
+      let is = held.1 in
+      let same = none held.0 (omega arith) in
+      inl (rw (same.0, same.1) refl)
+  | inr (inr torn) ↦ inr (inr torn)
+]
+
+pub partly_unmade : (count : ℕ) (old new : List ℕ) → MakesNoPair old new → ((at : ℕ) → IsNorNumber (number_in new at))
+    → IsPartlyErased (pair_words count old) (pair_words count new)
+partly_unmade count old new none fits = record {
+  as_long = length-pair_words count new ∙ sym (length-pair_words count old);
+  each = λ at. elim (cases_lt at count) [
+    | inl below ↦ rw (get_or-pair_words count new at Erased below, get_or-pair_words count old at Erased below)
+        (unmade_word _ _ _ _ (fits (2 * at)) (none.each at))
     | inr past ↦ inr (inl (get_or_past (pair_words count new) at Erased (omega (arith, length-pair_words count new))))
   ];
 }

@@ -1,7 +1,8 @@
 -- Words on a flash that has none: a number beside its complement.
-use Rattle.std.specs.Prelude.{◌<◌, ◌≤◌, ℕ, ◌+◌, ◌*◌, ◌-◌, ◌==◌, if◌then◌else◌, List, map}
+use Rattle.std.specs.Prelude.{◌≡◌, ◌<◌, ◌≤◌, ℕ, ◌+◌, ◌*◌, ◌-◌, ◌==◌, if◌then◌else◌, false, List, map}
 use Rattle.std.specs.List.{range_with_len}
 use Rattle.ee_flash.specs.Device.{Device, all_ones}
+use Rattle.ee_flash.specs.Runs.{number_of}
 use Rattle.ee_flash.specs.Size.{page_count}
 use Rattle.ee_flash.specs.declared.word.Word.{Word}
 use Rattle.ee_flash.specs.declared.word.Word.TheVariants.{Erased, Held, Torn}
@@ -27,6 +28,10 @@ pair_in numbers word = pair_word (number_in numbers (2 * word)) (number_in numbe
 unfoldable pub pair_words : ℕ → List ℕ → List Word
 pair_words count numbers = map (pair_in numbers) (range_with_len 0 count)
 
+-- the numbers of so many words of a page, from a word on, as a run of them has them
+abbrev pub run_of_pairs : List ℕ → ℕ → ℕ → List ℕ
+run_of_pairs numbers at count = map (λ word. number_of (pair_in numbers word)) (range_with_len at count)
+
 -- the device of words that a device of numbers is
 abbrev pub paired_device : NorDevice → Device
 paired_device nor = record {
@@ -46,9 +51,17 @@ sum_in numbers word = number_in numbers (2 * word) + number_in numbers (2 * word
 abbrev pub IsHigh : List ℕ → Type 0
 IsHigh numbers = (word : ℕ) → all_ones ≤ sum_in numbers word
 
+-- none of the words from one on, and before another
+abbrev pub AreHigh : List ℕ → ℕ → ℕ → Type 0
+AreHigh numbers from to = (word : ℕ) → from ≤ word → word < to → all_ones ≤ sum_in numbers word
+
 -- No word sums to less than all ones. Of one that did, an erase that is cut could make a number that nobody wrote.
 abbrev pub NoLowPair : NorDevice → Type 0
 NoLowPair nor = (page : ℕ) → IsHigh (numbers_at nor page)
+
+-- An erase that is cut makes no number: no word sums to less than all ones, or the flash clears first.
+abbrev pub IsSafe : NorDevice → Type 0
+IsSafe nor = nor.clears_first ≡ false → NoLowPair nor
 
 -- this word of a page is the first that sums to less than all ones
 pub record IsFirstLowIn (numbers : List ℕ) (word : ℕ) : Type 0 where
@@ -61,3 +74,8 @@ pub record IsFirstLow (nor : NorDevice) (pair : LowPair) : Type 0 where
   pub word_in_range : pair.word < nor.size.words
   pub first_in_its_page : IsFirstLowIn (numbers_at nor pair.page) pair.word
   pub none_before : (page : ℕ) → page < pair.page → IsHigh (numbers_at nor page)
+
+-- what keeps a flash from being one of words: its erases don't clear first, and this is its first word that sums to less than
+-- all ones
+abbrev pub IsLowFault : NorDevice → LowPair → Type 0
+IsLowFault nor pair = (nor.clears_first ≡ false) × IsFirstLow nor pair

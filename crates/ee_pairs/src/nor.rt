@@ -1,13 +1,13 @@
 //! A flash of plain numbers as a driver gives it: numbers are programmed, pages erased, and power is cut.
-ghost use Rattle.std.specs.Prelude.{◌<◌, ◌≡◌, ◌⊎◌, OnErr, OnOk, slice_index, true};
+ghost use Rattle.std.specs.Prelude.{◌<◌, ◌≤◌, ◌+◌, ◌≡◌, ◌⊎◌, IfSome, OnErr, OnOk, drop, slice_index, take, true};
 ghost use Rattle.ee_flash.specs.Device.{all_ones};
 ghost use Rattle.ee_flash.specs.Size.{page_count};
-ghost use Rattle.ee_pairs.specs.Nor.{EraseNumbers, IsNorCutIn, IsNorFormed, IsNorUntouched, NorDevice, ProgramNumber, number_at, number_count, with_number, with_numbers_erased};
+ghost use Rattle.ee_pairs.specs.Nor.{EraseNumbers, IsNorCutIn, IsNorFormed, IsNorUntouched, NorDevice, ProgramNumber, number_at, number_count, numbers_at, with_number, with_numbers_erased};
 
 use ee_flash::{Cut, Shape};
 
 /// A flash of plain numbers: they are programmed one at a time, and erased a page at a time. Its cells go from one to zero
-/// while a number is programmed, and from zero to one while a page is erased.
+/// while a number is programmed. While a page is erased they go from zero to one, and on some flashes all to zero first.
 ///
 /// Its shape counts words, each of which takes two numbers: a page has twice as many numbers as words. Pages are numbered from
 /// 0, those of the first set first, and so are the numbers of a page. Both are in range, as a condition of each call.
@@ -20,6 +20,10 @@ pub trait Nor {
     /// The pages of each set and the words of each page, of two numbers each.
     fn shape(&self) -> Shape
         ensures { result ≡ (nor self.now).size };
+
+    /// Whether an erase first clears the cells of its page.
+    fn clears_first(&self) -> bool
+        ensures { result ≡ (nor self.now).clears_first };
 
     /// How often a page was erased, saturating at `u64::MAX`.
     fn wear(&self, page: usize) -> u64
@@ -35,6 +39,14 @@ pub trait Nor {
         requires page_in_range { page < page_count (nor self.now).size }
         requires place_in_range { at < number_count (nor self.now).size }
         ensures { result ≡ number_at (nor self.now) page at };
+
+    /// So many numbers from a place of a page on, where the flash has them in memory, whether power
+    /// is on or off. `None` where it hasn't: then `read` gives each.
+    fn window(&self, page: usize, at: usize, count: usize) -> Option<&[u64]>
+        requires page_in_range { page < page_count (nor self.now).size }
+        requires places_in_range { at + count ≤ number_count (nor self.now).size }
+        ensures { IfSome result (λ numbers.
+            numbers.now ≡ take count (drop at (numbers_at (nor self.now) page))) };
 
     /// Programs a number, below `u64::MAX`, in a place that reads `u64::MAX`.
     ///
@@ -57,8 +69,9 @@ pub trait Nor {
     ///
     /// # Errors
     ///
-    /// `Cut`, only with the device off afterwards: power failed in this step, and each number of the page has every bit that
-    /// it had; or power was off before it, and nothing changed.
+    /// `Cut`, only with the device off afterwards: power failed in this step, or was off before it and nothing changed. A step
+    /// that was cut left each number of the page with every bit that it had. Where the flash clears first, it made no two
+    /// numbers of a word each other's complement.
     fn erase(&mut self, page: usize) -> Result<(), Cut>
         requires { page < page_count (nor self.old).size }
         ensures on { OnOk result ((nor self.old).on ≡ true) }

@@ -2,11 +2,12 @@
 ghost use Rattle.std.specs.Prelude.{◌≡◌, ℕ, IfErr, IfOk, true};
 ghost use Rattle.ee_flash.specs.Device.{all_ones};
 ghost use Rattle.ee_pairs.specs.Nor.{number_at};
-ghost use Rattle.ee_pairs.specs.Pairs.{IsFirstLow, NoLowPair, complement, pair_word};
+ghost use Rattle.ee_pairs.specs.Pairs.{IsLowFault, IsSafe, complement, pair_word};
 ghost use Rattle.ee_pairs.specs.Wiping.{IsWipeCut, wiped};
 
 use crate::low_pair::{LowPair, first_low};
 use crate::nor::Nor;
+use crate::runs::fill_run;
 use crate::wiping::wipe;
 use ee_flash::{Cut, Flash, Shape, Word};
 
@@ -16,22 +17,25 @@ use ee_flash::{Cut, Flash, Shape, Word};
 #[derive(Drop)]
 pub struct Pairs<N: Nor + Drop> {
     nor: N,
-    ghost no_low_pair: { NoLowPair (N.nor nor) },
+    ghost safe: { IsSafe (N.nor nor) },
 }
 
 impl<N: Nor + Drop> Pairs<N> {
     /// The device of words of a flash that a store wrote, or that is blank. It reads each number once, whether power is on
-    /// or off, and changes nothing.
+    /// or off, and changes nothing. Of a flash that clears first it reads none: there a cut erase leaves any numbers.
     ///
     /// # Errors
     ///
-    /// `LowPair`, with the flash as it was: the first word whose two numbers sum to less than `u64::MAX`. The flash held
-    /// something else; `wipe` makes it blank.
+    /// `LowPair`, with the flash as it was: it doesn't clear first, and this is the first word whose two numbers sum to less
+    /// than `u64::MAX`. The flash held something else; `wipe` makes it blank.
     pub fn of(nor: N) -> Result<Pairs<N>, (N, LowPair)>
         ensures same { IfOk result (λ pairs. N.nor pairs.nor ≡ N.nor nor) }
-        ensures fault { IfErr result (λ refused. IsFirstLow (N.nor nor) refused.1) }
+        ensures fault { IfErr result (λ refused. IsLowFault (N.nor nor) refused.1) }
         ensures untouched { IfErr result (λ refused. N.nor refused.0 ≡ N.nor nor) }
     {
+        if nor.clears_first() {
+            return Ok(Pairs { nor });
+        }
         match first_low(&nor) {
             None => Ok(Pairs { nor }),
             Some(low) => Err((nor, low)),
@@ -57,10 +61,10 @@ impl<N: Nor + Drop> Pairs<N> {
         }
     }
 
-    /// The device of words of a flash of which it is known that no word's numbers sum to less than `u64::MAX`, since it was
-    /// looked at before and only such devices wrote to it. Nothing is read.
+    /// The device of words of a flash that clears first, or of which it is known that no word's numbers sum to less than
+    /// `u64::MAX`, since it was looked at before and only such devices wrote to it. Nothing is read.
     pub fn known(nor: N) -> Pairs<N>
-        requires no_low_pair { NoLowPair (N.nor nor) }
+        requires safe { IsSafe (N.nor nor) }
         ensures same { N.nor result.nor ≡ N.nor nor }
     {
         Pairs { nor }
@@ -69,7 +73,7 @@ impl<N: Nor + Drop> Pairs<N> {
     /// The flash, as it is.
     pub fn into_nor(self) -> N
         ensures same { N.nor result ≡ N.nor self.nor }
-        ensures no_low_pair { NoLowPair (N.nor result) }
+        ensures safe { IsSafe (N.nor result) }
     {
         self.nor
     }
@@ -127,6 +131,11 @@ impl<N: Nor + Drop> Flash for Pairs<N> {
 
     fn word(&self, page: usize, at: usize) -> Word {
         word_of(self.nor.read(page, 2 * at), self.nor.read(page, 2 * at + 1))
+    }
+
+    fn run<'a>(&'a self, page: usize, at: usize, room: &'a mut [u64]) -> &'a [u64] {
+        fill_run(&self.nor, page, at, room);
+        room
     }
 
     // The complement of 0 is what an erased place reads as.

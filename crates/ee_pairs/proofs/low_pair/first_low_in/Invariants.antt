@@ -1,8 +1,10 @@
-use Rattle.std.proofs.Common.{ℕ, ◌<◌, ◌≤◌}
-use Rattle.ee_flash.specs.Device.{all_ones}
+use Rattle.std.proofs.Common.{◌-◌, ◌≤◌}
 use Rattle.ee_pairs.specs.Nor.{numbers_at}
-use Rattle.ee_pairs.specs.Pairs.{sum_in}
+use Rattle.ee_pairs.specs.Pairs.{AreHigh}
 use Rattle.ee_pairs.proofs.low_pair.first_low_in.Given as goal
 
-abbrev pub invariant-words : goal.invariant-words
-invariant-words g l = (k : ℕ) → k < l.word → all_ones ≤ sum_in (numbers_at (g.N.Nor.nor l.nor) l.page) k
+abbrev pub invariant-stretches : goal.invariant-stretches
+invariant-stretches g l = AreHigh (numbers_at (g.N.Nor.nor l.nor) l.page) 0 l.from × (l.from ≤ l.words)
+
+abbrev pub decreases-stretches : goal.decreases-stretches
+decreases-stretches g l = l.words - l.from

@@ -1,6 +1,6 @@
 use Rattle.std.proofs.Common.{rules}
 use Rattle.std.proofs.lemmas.Result.{on_err_weaker, on_ok_weaker}
-use Rattle.ee_pairs.proofs.Steps.{erased_first, first_left, high_after_first, high_first_left, high_second_left, second_done, second_left, still_erased, zero_done}
+use Rattle.ee_pairs.proofs.Steps.{erased_first, first_left, safe_after_first, safe_first_left, safe_second_left, second_done, second_left, still_erased, zero_done}
 use Rattle.ee_pairs.proofs.pairs.PairsFlash.program.Goals as goal
 
 pub program-requires-clause-erased : goal.program-requires-clause-erased
@@ -9,7 +9,7 @@ program-requires-clause-erased g c =
 
 pub invariant_of-self : goal.invariant_of-self
 invariant_of-self g c = record {
-  no_low_pair = high_first_left _ _ c.args.page c.args.at c.args.value (g.met.N.Nor.formed c.args.self.now.nor) c.requires.page_in_range c.requires.place_in_range c.requires.erased c.args.self.now.no_low_pair c.in_err-program.ensures.cut;
+  safe = safe_first_left _ _ c.args.page c.args.at c.args.value (g.met.N.Nor.formed c.args.self.now.nor) c.requires.page_in_range c.requires.place_in_range c.requires.erased c.args.self.now.safe c.in_err-program.ensures.cut;
 }
 
 pub returns-in_err-program-clause-cut : goal.returns-in_err-program-clause-cut
@@ -19,7 +19,7 @@ returns-in_err-program-clause-cut g c =
 
 pub invariant_of-self-then-check : goal.invariant_of-self-then-check
 invariant_of-self-then-check g c = record {
-  no_low_pair = rw c.in_ok-program.ensures.done (high_after_first _ c.args.page c.args.at (g.met.N.Nor.formed c.args.self.now.nor) c.requires.page_in_range c.requires.place_in_range c.requires.erased c.args.self.now.no_low_pair c.args.value);
+  safe = rw c.in_ok-program.ensures.done (safe_after_first _ c.args.page c.args.at (g.met.N.Nor.formed c.args.self.now.nor) c.requires.page_in_range c.requires.place_in_range c.requires.erased c.args.self.now.safe c.args.value);
 }
 
 pub returns-then-check-clause-done : goal.returns-then-check-clause-done
@@ -31,7 +31,7 @@ program-requires-2-clause-erased g c =
     rw c.in_ok-program.ensures.done (still_erased _ c.args.page c.args.at (g.met.N.Nor.formed c.args.self.now.nor) c.requires.page_in_range c.requires.place_in_range c.requires.erased c.args.value)
 
 pub invariant_of-self-2 : goal.invariant_of-self-2
-invariant_of-self-2 g c = search (rules, high_second_left)
+invariant_of-self-2 g c = search (rules, safe_second_left)
 
 pub returns-clause-done : goal.returns-clause-done
 returns-clause-done g c = search (rules, on_ok_weaker, second_done)
