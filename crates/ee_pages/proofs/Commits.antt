@@ -14,14 +14,14 @@ use Rattle.ee_codec.proofs.Public.{receive_of-receive}
 use Rattle.ee_codec.specs.Reading.{mark_of, receive_of}
 use Rattle.ee_codec.specs.Words.{mark_number, IsGeneration}
 use Rattle.ee_pages.specs.Filling.{IsCommitted, IsFilling}
-use Rattle.ee_pages.specs.Laws.{IsPageOf, KeepsLiveSet}
+use Rattle.ee_pages.specs.Laws.{IsPageOf, KeepsLiveSet, KeepsSide}
 use Rattle.ee_pages.specs.Legal.{IsLive, is_allowed, is_allowed_at}
 use Rattle.ee_pages.specs.Page.{marking, word_in}
 use Rattle.ee_pages.specs.Sets.{committed_generation, first_page, front, greater, is_mark, live_of, other, set_of, slots_of, word_of}
 use Rattle.ee_pages.specs.declared.side.Side.{Side}
 use Rattle.ee_pages.specs.declared.side.Side.TheVariants.{First, Second}
 use Rattle.ee_pages.specs.declared.state.Mark.TheVariants.{Active}
-use Rattle.ee_pages.proofs.OtherSet.{greater_first, greater_second, keeps_live, same_set}
+use Rattle.ee_pages.proofs.OtherSet.{greater_first, greater_second, kept_side_is_live, same_set}
 use Rattle.ee_pages.proofs.OwnSet.{header_word, own_set, page_of_set}
 use Rattle.ee_pages.proofs.Slots.{length-set_of}
 use Rattle.ee_pages.proofs.SetPrograms.{as_it_was}
@@ -44,13 +44,15 @@ pub live_commits : (side : Side) (device : Device) (generation : ℕ) → live_o
 live_commits First device generation live = only_first _ generation (greater_first _ _ generation live)
 live_commits Second device generation live = only_second _ generation (greater_second _ _ generation live)
 
-less_more : (n : ℕ) → (nat_lt (n + 1) n ≡ false) × (nat_lt n (n + 1) ≡ true)
-less_more n = (grind (arith, common_steps), grind (arith, common_steps))
+more_less : (g n : ℕ) → g < n → (nat_lt n g ≡ false) × (nat_lt g n ≡ true)
+more_less g n h = (grind (arith, common_steps), grind (arith, common_steps))
 
--- of two committed sets, one generation apart, the later one is live
-later_is_live : (side : Side) (device : Device) (generation : ℕ) → committed_generation (set_of side device) ≡ Some generation → committed_generation (set_of (other side) device) ≡ Some (generation + 1) → live_of device ≡ Some (other side, generation + 1)
-later_is_live First device generation before after = rw (before, after, (less_more generation).0, (less_more generation).1) refl
-later_is_live Second device generation before after = rw (before, after, (less_more generation).1) refl
+-- a set that is committed with a greater generation than the other, or alone, is live
+later_is_live : (side : Side) (device : Device) (generation : ℕ) (mine : Option ℕ) → committed_generation (set_of side device) ≡ mine → ((g : ℕ) → mine ≡ Some g → g < generation) → committed_generation (set_of (other side) device) ≡ Some generation → live_of device ≡ Some (other side, generation)
+later_is_live First device generation None before older after = rw (before, after) refl
+later_is_live First device generation (Some g) before older after = rw (before, after, (more_less g generation (older g refl)).0, (more_less g generation (older g refl)).1) refl
+later_is_live Second device generation None before older after = rw (before, after) refl
+later_is_live Second device generation (Some g) before older after = rw (before, after, (more_less g generation (older g refl)).1) refl
 
 pub first_in_range : (side : Side) (device : Device) → IsFormed device → first_page device.size side < length device.image
 first_in_range First device formed = omega (arith, formed.image_length, formed.within_limits.some_pages)
@@ -101,7 +103,7 @@ module _ (old new : Device) (side : Side) (formed : IsFormed old) (differs : Dif
 pub first_in_set : (side : Side) (device : Device) → IsFormed device → IsPageOf device.size side (first_page device.size side)
 first_in_set side device formed = record { from = omega arith; below = omega (arith, formed.within_limits.some_pages) }
 
-module _ (old new : Device) (side : Side) (generation count : ℕ) (live : IsLive old side generation) (filling : IsFilling old (other side) (generation + 1) count) (proper : generation + 1 < 4294967295) (taken : IsStep (marking (first_page old.size (other side)) Active) old new) where
+module _ (old new : Device) (side : Side) (generation count : ℕ) (older : (g : ℕ) → committed_generation (set_of side old) ≡ Some g → g < generation + 1) (filling : IsFilling old (other side) (generation + 1) count) (proper : generation + 1 < 4294967295) (taken : IsStep (marking (first_page old.size (other side)) Active) old new) where
   differs : DiffersInPage (first_page old.size (other side)) old new
   differs = step_changes_one_page (marking (first_page old.size (other side)) Active) old new taken
 
@@ -123,11 +125,10 @@ module _ (old new : Device) (side : Side) (generation count : ℕ) (live : IsLiv
       let pages = set_marked old new (other side) taken.formed differs (Held mark_number) is in
       let after : committed_generation (set_of (other side) new) ≡ Some (generation + 1) =
       ap committed_generation pages ∙ marked_commits (set_of (other side) old) (Held mark_number) some long ∙ ap receive_of filling.receives ∙ receive_of-receive (generation + 1) (omega arith, proper) in
-      let before : committed_generation (set_of side new) ≡ Some generation = ap committed_generation same_live ∙ live_commits side old generation live.live in
       record {
         live = record {
           formed = formed_after;
-          live = later_is_live side new generation before after;
+          live = later_is_live side new (generation + 1) _ (ap committed_generation same_live) older after;
           allowed = λ page at in_range within.
               let old_page : page < old.size.pages = omega (arith, ap (λ size. size.pages) differs.same_size) in
               let old_at : at < old.size.words = omega (arith, ap (λ size. size.words) differs.same_size) in
@@ -140,21 +141,47 @@ module _ (old new : Device) (side : Side) (generation count : ℕ) (live : IsLiv
         same_slots = ap slots_of pages ∙ header_word (set_of (other side) old) 0 1 (Held mark_number) (omega arith);
       }
 
-  keeps_by : (committed_generation (set_of (other side) new) ≡ committed_generation (set_of (other side) old)) ⊎ (committed_generation (set_of (other side) new) ≡ None) → KeepsLiveSet old new side generation
-  keeps_by after = keeps_live side old new generation live formed_after differs.same_size same_live after
+  keeps_by : (committed_generation (set_of (other side) new) ≡ committed_generation (set_of (other side) old)) ⊎ (committed_generation (set_of (other side) new) ≡ None) → KeepsSide old new side
+  keeps_by after = record { formed = formed_after; same_size = differs.same_size; same_set = same_live; same_slots = ap slots_of same_live; commits = after }
 
   -- a torn mark does not commit
-  torn_keeps : new.image ≡ (with_word (first_page old.size (other side)) 1 Torn old).image → KeepsLiveSet old new side generation
+  torn_keeps : new.image ≡ (with_word (first_page old.size (other side)) 1 Torn old).image → KeepsSide old new side
   torn_keeps is =
       let pages = set_marked old new (other side) taken.formed differs Torn is in
       keeps_by (inr (ap committed_generation pages ∙ marked_commits (set_of (other side) old) Torn some long))
 
-  outcomes : KeepsLiveSet old new side generation ⊎ IsCommitted old new (other side) (generation + 1)
+  outcomes : KeepsSide old new side ⊎ IsCommitted old new (other side) (generation + 1)
   outcomes = elim (step_leaves_pages (marking (first_page old.size (other side)) Active) old new taken) [
     | inl same ↦ inl (keeps_by (inl (ap committed_generation (as_it_was (other side) old new differs.same_size same))))
     | inr (inl held) ↦ inr (commits_whole held)
     | inr (inr torn) ↦ inl (torn_keeps torn)
   ]
+
+-- so it is whatever stands in the set that is left, if it is committed with no greater generation
+pub commits_over : (old new : Device) (side : Side) (generation count : ℕ) → ((g : ℕ) → committed_generation (set_of side old) ≡ Some g → g < generation + 1) → IsFilling old (other side) (generation + 1) count
+    → IsGeneration (generation + 1) → IsStep (marking (first_page old.size (other side)) Active) old new
+    → (set_of side new ≡ set_of side old)
+    × (KeepsSide old new side ⊎ IsCommitted old new (other side) (generation + 1))
+commits_over old new side generation count older filling proper taken =
+    let below : generation + 1 < 4294967295 = omega (arith, proper.1) in
+    (same_live old new side generation count older filling below taken, outcomes old new side generation count older filling below taken)
+
+pub whole_commits_over : (old new : Device) (side : Side) (generation count : ℕ) → ((g : ℕ) → committed_generation (set_of side old) ≡ Some g → g < generation + 1) → IsFilling old (other side) (generation + 1) count
+    → IsGeneration (generation + 1) → let step = marking (first_page old.size (other side)) Active in IsStep step old new → new ≡ device_after step old
+    → IsCommitted old new (other side) (generation + 1)
+whole_commits_over old new side generation count older filling proper taken whole =
+    let below : generation + 1 < 4294967295 = omega (arith, proper.1) in
+    commits_whole old new side generation count older filling below taken (ap (λ (device : Device). device.image) whole)
+
+abbrev number_in : Option ℕ → ℕ
+number_in None = 0
+number_in (Some n) = n
+
+same_some : (mine : Option ℕ) (generation g : ℕ) → mine ≡ Some generation → mine ≡ Some g → g < generation + 1
+same_some mine generation g is e = let same : generation ≡ g = ap number_in (sym is ∙ e) in omega (arith, same)
+
+pub older_live : (side : Side) (old : Device) (generation : ℕ) → live_of old ≡ Some (side, generation) → (g : ℕ) → committed_generation (set_of side old) ≡ Some g → g < generation + 1
+older_live side old generation live g e = same_some _ generation g (live_commits side old generation live) e
 
 pub commit_commits : (old new : Device) (side : Side) (generation count : ℕ) → IsLive old side generation → IsFilling old (other side) (generation + 1) count
     → IsGeneration (generation + 1) → IsStep (marking (first_page old.size (other side)) Active) old new
@@ -162,11 +189,17 @@ pub commit_commits : (old new : Device) (side : Side) (generation count : ℕ) �
     × (KeepsLiveSet old new side generation ⊎ IsCommitted old new (other side) (generation + 1))
 commit_commits old new side generation count live filling proper taken =
     let below : generation + 1 < 4294967295 = omega (arith, proper.1) in
-    (same_live old new side generation count live filling below taken, outcomes old new side generation count live filling below taken)
+    let older = older_live side old generation live.live in (
+      same_live old new side generation count older filling below taken,
+      elim (outcomes old new side generation count older filling below taken) [
+        | inl keeps ↦ inl (kept_side_is_live old new side generation live keeps)
+        | inr committed ↦ inr committed
+      ],
+    )
 
 pub whole_commit_commits : (old new : Device) (side : Side) (generation count : ℕ) → IsLive old side generation → IsFilling old (other side) (generation + 1) count
     → IsGeneration (generation + 1) → let step = marking (first_page old.size (other side)) Active in IsStep step old new → new ≡ device_after step old
     → IsCommitted old new (other side) (generation + 1)
 whole_commit_commits old new side generation count live filling proper taken whole =
     let below : generation + 1 < 4294967295 = omega (arith, proper.1) in
-    commits_whole old new side generation count live filling below taken (ap (λ (device : Device). device.image) whole)
+    commits_whole old new side generation count (older_live side old generation live.live) filling below taken (ap (λ (device : Device). device.image) whole)

@@ -1,25 +1,9 @@
 -- The slots before the first erased one.
 use Rattle.std.proofs.Common.{◌≡◌, inl, inr, ℕ, ◌+◌, ◌-◌, ◌<◌, ◌≤◌, Bool, true, false, cond, List, [], ◌∷◌, length, get_or, refl, subst, arith, suc}
 use Rattle.std.specs.List.{filter, prefix_len}
-use Rattle.std.proofs.lemmas.Bool.{cases_order, cases_lt}
-use Rattle.std.proofs.lemmas.List.Sums.{prefix_len-le-length, prefix_len_passes, prefix_len_stops}
+use Rattle.std.proofs.lemmas.Bool.{cases_lt}
 
 module _ {X : Type 0} (p : X → Bool) (d : X) where
-  -- what passes up to an element that does not
-  pub prefix_len_to : (xs : List X) (n : ℕ) → n < length xs → ((k : ℕ) → k < n → p (get_or xs k d) ≡ true) → p (get_or xs n d) ≡ false → prefix_len p xs ≡ n
-  prefix_len_to xs n h each stops = elim (cases_order (prefix_len p xs) n) [
-    | inl same ↦ same
-    | inr (inl less) ↦ let e = each (prefix_len p xs) less in let f = prefix_len_stops p xs d (omega arith) in cc
-    | inr (inr more) ↦ let e = prefix_len_passes p xs n d more in cc
-  ]
-
-  -- all pass
-  pub prefix_len_of_all : (xs : List X) → ((k : ℕ) → k < length xs → p (get_or xs k d) ≡ true) → prefix_len p xs ≡ length xs
-  prefix_len_of_all xs each = elim (cases_lt (prefix_len p xs) (length xs)) [
-    | inl less ↦ let e = each (prefix_len p xs) less in let f = prefix_len_stops p xs d less in cc
-    | inr end ↦ let most = prefix_len-le-length p xs in omega arith
-  ]
-
   -- a stretch further of elements that pass
   pub passes_on : (xs : List X) (from more : ℕ) → ((k : ℕ) → k < from → p (get_or xs k d) ≡ true) → ((k : ℕ) → k < more → p (get_or xs (from + k) d) ≡ true) → (k : ℕ) → k < from + more → p (get_or xs k d) ≡ true
   passes_on xs from more each further k h = elim (cases_lt k from) [

@@ -1,5 +1,5 @@
 -- What the last slots say.
-use Rattle.std.proofs.Common.{rules, ◌≡◌, ℕ, ◌+◌, ◌-◌, ◌*◌, ◌<◌, ◌≤◌, Option, Some, None, false, List, [], ◌∷◌, length, take, drop, ◌++◌, get_or, refl, sym, ap, ◌∙◌, arith, suc, zero}
+use Rattle.std.proofs.Common.{rules, ◌≡◌, ℕ, ◌+◌, ◌-◌, ◌*◌, ◌<◌, ◌≤◌, Option, Some, None, false, List, [], ◌∷◌, length, take, drop, ◌++◌, get_or, refl, sym, subst, ap, ◌∙◌, arith, suc, zero}
 use Rattle.std.proofs.Math.Nat.{div-mul-le_self}
 use Rattle.std.proofs.Math.Seq.{drop-cons}
 use Rattle.std.proofs.lemmas.List.{drop_all, get_or-drop, get_or-take, length-drop, length-take, length-take-le}
@@ -80,6 +80,18 @@ module _ (start count : ℕ) (words : List Word) (address : ℕ) (within : start
   -- what the last word of the row that says something says
   pub newest : (left : ℕ) (said : Option ℕ) → 0 < left → left ≤ count → latest_in (drop left (take count (drop start words))) address ≡ None → says (get_or words (start + (left - 1)) Erased) address ≡ Some said → latest_in (take count (drop start words)) address ≡ Some said
   newest left said some h silent e = latest_in-drop (left - 1) (take count (drop start words)) address said (one_lower left some h silent ∙ e)
+
+  -- words of the row that say nothing, before others that don't
+  pub silent_from : (fewer to : ℕ) → fewer ≤ to → to ≤ count → latest_in (drop to (take count (drop start words))) address ≡ None → ((k : ℕ) → to - fewer ≤ k → k < to → says (get_or words (start + k) Erased) address ≡ None)
+      → latest_in (drop (to - fewer) (take count (drop start words))) address ≡ None
+  silent_from zero to few within_row silent each =
+      let same : to ≡ to - 0 = omega arith in
+      subst (λ n. latest_in (drop n (take count (drop start words))) address ≡ None) same silent
+  silent_from (suc fewer) to few within_row silent each =
+      let next : to - 1 - fewer ≡ to - suc fewer = omega arith in
+      let last = one_lower to (omega arith) within_row silent ∙ each (to - 1) (omega arith) (omega arith) in
+      subst (λ n. latest_in (drop n (take count (drop start words))) address ≡ None) next
+      (silent_from fewer (to - 1) (omega arith) (omega arith) last (λ k low high. each k (omega (arith, low)) (omega (arith, high))))
 
 module _ (device : Device) (layout : Layout) (found : IsLayout device layout) where
   -- the layout's fill is how many slots stand before the first erased one

@@ -2,6 +2,7 @@ mod Slots
 mod Front
 mod Legal
 mod BlankWords
+mod Passes
 mod Scans
 mod ScanFaults
 mod LastSaid
@@ -22,5 +23,11 @@ mod LiveCounts
 mod Nearest
 mod BatchLists
 mod Premises
+mod Noting
+mod RunWords
+mod RunSlots
 mod LastElements
+mod Rescues
+mod RescueReads
+mod BadWords
 pub mod Public

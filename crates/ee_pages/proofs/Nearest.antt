@@ -69,7 +69,7 @@ said_in-other new (first ∷ rest) address other = elim (compared new.0 first.0)
   | inr (inr more) ↦ rw (behind new first rest more) (ap (λ (said : Option (Option ℕ)). cond (first.0 == address) (Some first.1) said) (said_in-other new rest address other))
 ]
 
-rising-noted : (above : ℕ) (new : Named) (list : List Named) → IsRising above list → above < new.0 → IsRising above (with_named new list)
+pub rising-noted : (above : ℕ) (new : Named) (list : List Named) → IsRising above list → above < new.0 → IsRising above (with_named new list)
 rising-noted above new [] rising low = (low, tt)
 rising-noted above new (first ∷ rest) rising low = elim (compared new.0 first.0) [
   | inl less ↦ rw (before new first rest less) (low, (less, rising.1))
@@ -159,6 +159,14 @@ few-noted_above n above (Some new) list = elim (cases_lt above new.0) [
   | inr high ↦ rw (le-ltb above new.0 high) (few-few n list)
 ]
 
+pub few-gathered : (n above : ℕ) (words : List Word) (list : List Named) → take n (with_each_named above words (take n list)) ≡ take n (with_each_named above words list)
+few-gathered n above [] list = few-few n list
+few-gathered n above (word ∷ words) list =
+    let said = slot_names (slot_of word) in
+    sym (few-gathered n above words (noted_above above said (take n list)))
+    ∙ ap (λ (l : List Named). take n (with_each_named above words l)) (few-noted_above n above said list)
+    ∙ few-gathered n above words (noted_above above said list)
+
 -- below the first address nothing is said
 nothing_below : (above : ℕ) (list : List Named) (address : ℕ) → IsRising above list → address ≤ above → said_in list address ≡ None
 nothing_below above [] address rising h = refl
@@ -180,7 +188,7 @@ last_named-further (suc n) above (first ∷ rest) rising some =
     omega (arith, rising.0)
 
 -- all of a list are before what is behind its last
-last-at_least : (above : ℕ) (list : List Named) → IsRising above list → above ≤ last_named above list
+pub last-at_least : (above : ℕ) (list : List Named) → IsRising above list → above ≤ last_named above list
 last-at_least above [] rising = omega arith
 last-at_least above (first ∷ rest) rising = let more = last-at_least first.0 rest rising.1 in omega (arith, rising.0)
 
@@ -308,6 +316,23 @@ last_is (first ∷ second ∷ rest) above default some =
     let one_less : length (first ∷ second ∷ rest) - 1 ≡ suc (length (second ∷ rest) - 1) = omega arith in
     ap (λ k. (get_or (first ∷ second ∷ rest) k default).0) one_less ∙ last_is (second ∷ rest) first.0 default (omega arith)
 
+-- each is above the one before it
+pub rising_at : (list : List Named) (above place : ℕ) (default : Named) → IsRising above list → 0 < place → place < length list → (get_or list (place - 1) default).0 < (get_or list place default).0
+rising_at [] above place default rising some within = absurd (omega (arith, within))
+rising_at (first ∷ rest) above zero default rising some within = absurd (omega (arith, some))
+rising_at (first ∷ []) above (suc place) default rising some within = absurd (omega (arith, within))
+rising_at (first ∷ second ∷ rest) above (suc zero) default rising some within = rising.1.0
+rising_at (first ∷ second ∷ rest) above (suc (suc place)) default rising some within =
+    let less : suc place - 1 ≡ place = omega arith in let one_less : suc (suc place) - 1 ≡ suc place = omega arith in
+    subst (λ k. (get_or (first ∷ second ∷ rest) k default).0 < (get_or rest place default).0) (sym one_less)
+    (subst (λ k. (get_or (second ∷ rest) k default).0 < (get_or rest place default).0) less (rising_at (second ∷ rest) first.0 (suc place) default rising.1 (omega arith) (omega arith)))
+
+-- what is noted anew of an address leaves the last address
+pub last-same : (list : List Named) (above place : ℕ) (new default : Named) → place < length list → (get_or list place default).0 ≡ new.0 → last_named above (set list place new) ≡ last_named above list
+last-same [] above place new default within same = absurd (omega (arith, within))
+last-same (first ∷ rest) above zero new default within same = ap (λ n. last_named n rest) (sym same)
+last-same (first ∷ rest) above (suc place) new default within same = last-same rest first.0 place new default (omega arith) same
+
 -- in a list of so many at most
 module _ (room : ℕ) where
   pub put_over : (list : List Named) (new : Named) (place : ℕ) (default : Named) → IsPlace new.0 list place → place < length list → (get_or list place default).0 ≡ new.0 → length list ≤ room → set list place new ≡ take room (with_named new list)
@@ -349,19 +374,22 @@ module _ (room : ℕ) where
   pub rising_of : (above : ℕ) (words : List Word) (list : List Named) → list ≡ take room (with_each_named above words []) → IsRising above list
   rising_of above words list e = subst (λ (l : List Named). IsRising above l) (sym e) (rising-take room above (with_each_named above words []) (rising-gathered above words [] tt))
 
-  pub few_of : (above : ℕ) (words : List Word) (list : List Named) → list ≡ take room (with_each_named above words []) → length list ≤ room
-  few_of above words list e = let long = length-take room (with_each_named above words []) in omega (arith, ap length e, min-le_left room (length (with_each_named above words [])))
+  pub few_taken : (all list : List Named) → list ≡ take room all → length list ≤ room
+  few_taken all list e = let long = length-take room all in omega (arith, ap length e, min-le_left room (length all))
 
-  -- one slot more
-  pub one_slot : (above : ℕ) (slots : List Word) (slot : ℕ) (word : Word) (named : Option Named) (list after : List Named) → slot < length slots → word ≡ get_or slots slot Erased → named ≡ slot_names (slot_of word) → list ≡ take room (with_each_named above (take slot slots) []) → after ≡ take room (noted_above above named list) → after ≡ take room (with_each_named above (take (slot + 1) slots) [])
-  one_slot above slots slot word named list after within is names before noted =
-      let start = with_each_named above (take slot slots) [] in let said = slot_names (slot_of (get_or slots slot Erased)) in
+  pub few_of : (above : ℕ) (words : List Word) (list : List Named) → list ≡ take room (with_each_named above words []) → length list ≤ room
+  few_of above words list e = few_taken (with_each_named above words []) list e
+
+  -- one word more
+  pub one_word : (above : ℕ) (words : List Word) (place : ℕ) (word : Word) (start list after : List Named) → place < length words → word ≡ get_or words place Erased → list ≡ take room (with_each_named above (take place words) start) → after ≡ take room (noted_above above (slot_names (slot_of word)) list) → after ≡ take room (with_each_named above (take (place + 1) words) start)
+  one_word above words place word start list after within is before noted =
+      let so_far = with_each_named above (take place words) start in let said = slot_names (slot_of word) in
       noted
-      ∙ ap (λ (new : Option Named). take room (noted_above above new list)) (names ∙ ap (λ (w : Word). slot_names (slot_of w)) is)
       ∙ ap (λ (l : List Named). take room (noted_above above said l)) before
-      ∙ few-noted_above room above said start
-      ∙ ap (take room) (sym (gathered-append above (take slot slots) (get_or slots slot Erased ∷ []) []))
-      ∙ ap (λ (words : List Word). take room (with_each_named above words [])) (sym (take_more slots slot Erased within))
+      ∙ few-noted_above room above said so_far
+      ∙ ap (λ (w : Word). take room (noted_above above (slot_names (slot_of w)) so_far)) is
+      ∙ ap (take room) (sym (gathered-append above (take place words) (get_or words place Erased ∷ []) start))
+      ∙ ap (λ (more : List Word). take room (with_each_named above more start)) (sym (take_more words place Erased within))
 
   through_is : 0 < room → (slots : List Word) (above : ℕ) (all : List Named) (through : Option ℕ) → IsRising above all → AreNext slots above above room all → IfNone through (length (take room all) < room) → IfSome through (λ last. length (take room all) ≡ room) → IfSome through (λ last. last ≡ last_named above (take room all)) → AreLiveThrough (meaning slots) above (living (take room all)) through
   through_is some slots above all None rising next none full last = record { next = next.next; rest = next.all none; further = full }

@@ -9,7 +9,7 @@ use Rattle.ee_flash.specs.declared.word.Word.{Word}
 use Rattle.ee_flash.specs.declared.word.Word.TheVariants.{Erased, Held, Torn}
 use Rattle.ee_flash.proofs.Public.{step_changes_one_page, step_keeps_formed, step_leaves_pages}
 use Rattle.ee_codec.specs.Reading.{mark_of, receive_of}
-use Rattle.ee_pages.specs.Laws.{CannotCommit, IsPageOf, KeepsLiveSet}
+use Rattle.ee_pages.specs.Laws.{CannotCommit, IsPageOf, KeepsLiveSet, KeepsSide}
 use Rattle.ee_pages.specs.Legal.{IsLive, is_allowed_at}
 use Rattle.ee_pages.specs.Meaning.{meaning}
 use Rattle.ee_pages.specs.Page.{word_in}
@@ -121,7 +121,7 @@ greater_second None (Some second) generation e = e
 greater_second (Some first) None generation e = let sides : First ≡ Second = ap side_in e in cc sides
 greater_second (Some first) (Some second) generation e = second_by (nat_lt second first) (nat_lt first second) first second generation e
 
-live_stays : (side : Side) (old new : Device) (generation : ℕ) → set_of side new ≡ set_of side old → (committed_generation (set_of (other side) new) ≡ committed_generation (set_of (other side) old)) ⊎ (committed_generation (set_of (other side) new) ≡ None) → live_of old ≡ Some (side, generation) → live_of new ≡ Some (side, generation)
+pub live_stays : (side : Side) (old new : Device) (generation : ℕ) → set_of side new ≡ set_of side old → (committed_generation (set_of (other side) new) ≡ committed_generation (set_of (other side) old)) ⊎ (committed_generation (set_of (other side) new) ≡ None) → live_of old ≡ Some (side, generation) → live_of new ≡ Some (side, generation)
 live_stays First old new generation same (inl as_before) e = rw (same, as_before) e
 live_stays First old new generation same (inr gone) e = rw (same, gone) (greater_first _ _ generation e)
 live_stays Second old new generation same (inl as_before) e = rw (same, as_before) e
@@ -144,18 +144,49 @@ keeps_live side old new generation live formed sizes same after = record {
   same_map = λ address. ap (λ (pages : List (List Word)). meaning (slots_of pages) address) same;
 }
 
-pub other_set_keeps_live : (step : Step) (old new : Device) (side : Side) (generation : ℕ) → IsLive old side generation → IsStep step old new
+pub other_set_keeps_side : (step : Step) (old new : Device) (side : Side) → IsStep step old new
     → IsPageOf old.size (other side) (page_of step) → CannotCommit (first_page old.size (other side)) step old
-    → KeepsLiveSet old new side generation × (set_of side new ≡ set_of side old)
-other_set_keeps_live step old new side generation live taken at may =
+    → KeepsSide old new side
+other_set_keeps_side step old new side taken at may =
     let differs = step_changes_one_page step old new taken in let formed = step_keeps_formed step old new taken in let same = same_set side old new (page_of step) differs at in
     let first : first_page new.size (other side) ≡ first_page old.size (other side) = ap (λ size. first_page size (other side)) differs.same_size in
     let new_commit : committed_generation (set_of (other side) new) ≡ commits (word_at new (first_page old.size (other side)) 0) (word_at new (first_page old.size (other side)) 1) =
     commits_by (other side) new formed ∙ ap (λ page. commits (word_at new page 0) (word_at new page 1)) first in
     let old_commit = commits_by (other side) old taken.formed in
-    let after : (committed_generation (set_of (other side) new) ≡ committed_generation (set_of (other side) old)) ⊎ (committed_generation (set_of (other side) new) ≡ None) =
-    elim (commit_after step old new (first_page old.size (other side)) taken may) [
-      | inl as_before ↦ inl (new_commit ∙ as_before ∙ sym old_commit)
-      | inr gone ↦ inr (new_commit ∙ gone)
-    ] in
-    (keeps_live side old new generation live formed differs.same_size same after, same)
+    record {
+      formed = formed;
+      same_size = differs.same_size;
+      same_set = same;
+      same_slots = ap slots_of same;
+      commits = elim (commit_after step old new (first_page old.size (other side)) taken may) [
+        | inl as_before ↦ inl (new_commit ∙ as_before ∙ sym old_commit)
+        | inr gone ↦ inr (new_commit ∙ gone)
+      ];
+    }
+
+pub kept_side_is_live : (old new : Device) (side : Side) (generation : ℕ) → IsLive old side generation → KeepsSide old new side → KeepsLiveSet old new side generation
+kept_side_is_live old new side generation live keeps = keeps_live side old new generation live keeps.formed keeps.same_size keeps.same_set keeps.commits
+
+pub other_set_keeps_live : (step : Step) (old new : Device) (side : Side) (generation : ℕ) → IsLive old side generation → IsStep step old new
+    → IsPageOf old.size (other side) (page_of step) → CannotCommit (first_page old.size (other side)) step old
+    → KeepsLiveSet old new side generation × (set_of side new ≡ set_of side old)
+other_set_keeps_live step old new side generation live taken at may =
+    let keeps = other_set_keeps_side step old new side taken at may in
+    (kept_side_is_live old new side generation live keeps, keeps.same_set)
+
+either_twice : (x y z : Option ℕ) → (y ≡ x) ⊎ (y ≡ None) → (z ≡ y) ⊎ (z ≡ None) → (z ≡ x) ⊎ (z ≡ None)
+either_twice x y z first (inr none) = inr none
+either_twice x y z (inl same) (inl again) = inl (again ∙ same)
+either_twice x y z (inr none) (inl again) = inr (again ∙ none)
+
+pub keeps_side_both : (old mid new : Device) (side : Side) → KeepsSide old mid side → KeepsSide mid new side → KeepsSide old new side
+keeps_side_both old mid new side first second = record {
+  formed = second.formed;
+  same_size = second.same_size ∙ first.same_size;
+  same_set = second.same_set ∙ first.same_set;
+  same_slots = second.same_slots ∙ first.same_slots;
+  commits = either_twice _ _ _ first.commits second.commits;
+}
+
+pub keeps_side_same : (old : Device) (side : Side) → IsFormed old → KeepsSide old old side
+keeps_side_same old side formed = record { formed = formed; same_size = refl; same_set = refl; same_slots = refl; commits = inl refl }

@@ -1,17 +1,14 @@
 -- What a scan has found out makes its answer.
-use Rattle.std.proofs.Common.{◌≡◌, ℕ, ◌+◌, ◌-◌, ◌/◌, ◌<◌, ◌≤◌, Bool, List, Option, Some, None, true, refl, sym, subst, ap, ◌∙◌, arith}
+use Rattle.std.proofs.Common.{◌≡◌, ℕ, ◌+◌, ◌-◌, ◌<◌, ◌≤◌, Bool, Option, Some, None, true, refl, sym, subst, ap, ◌∙◌, arith}
 use Rattle.std.proofs.lemmas.Bool.{le-ltb, lt-ltb, true≢false}
 use Rattle.ee_flash.specs.Device.{Device, IsFormed}
-use Rattle.ee_flash.specs.Size.{Size, slot_count}
-use Rattle.ee_flash.specs.declared.word.Word.{Word}
 use Rattle.ee_pages.specs.Layout.{IsFirstForeign, IsLayout, IsScanFault, IsUnformatted}
-use Rattle.ee_pages.specs.Legal.{IsLegal, is_allowed, is_allowed_at}
-use Rattle.ee_pages.specs.Sets.{committed_generation, first_page, front, greater, live_of, page_of_slot, set_of, slots_of, word_of}
+use Rattle.ee_pages.specs.Legal.{IsLegal, is_allowed_at}
+use Rattle.ee_pages.specs.Sets.{committed_generation, first_page, front, greater, live_of, page_of_slot, set_of, slots_of}
 use Rattle.ee_pages.specs.declared.find.ScanFault.TheVariants.{Foreign}
 use Rattle.ee_pages.specs.declared.side.Side.{Side}
 use Rattle.ee_pages.specs.declared.side.Side.TheVariants.{First, Second}
 use Rattle.ee_pages.proofs.Legal.{fill-front}
-use Rattle.ee_pages.proofs.Slots.{page_in_range, slot_below}
 
 same_page : (start page first : ℕ) → start ≡ first → page ≡ start + page - first
 same_page start page first e = omega arith
@@ -31,14 +28,6 @@ pub first_below : (device : Device) (side : Side) → first_page device.size sid
 first_below device First = omega arith
 first_below device Second = omega arith
 
--- so a page's number fits the machine
-pub current_below : (device : Device) (side : Side) (written : ℕ) → IsFormed device → written ≤ slot_count device.size → first_page device.size side + page_of_slot device.size (written - 1) < 128
-current_below device side written formed h =
-    omega (arith, page_in_range device (written - 1) (slot_below device written formed h), first_below device side, formed.within_limits.few_pages)
-
-pub current_is : (device : Device) (side : Side) (start last words written : ℕ) → start ≡ first_page device.size side → last ≡ written - 1 → words ≡ device.size.words → start + last / (words - 4) ≡ first_page device.size side + page_of_slot device.size (written - 1)
-current_is device side start last words written start_is last_is words_is = rw (start_is, last_is, words_is) refl
-
 -- whether the live set allows a word there
 abbrev allowed_in : Device → ℕ → ℕ → Option (Side × ℕ) → Bool
 allowed_in device page at None = true
@@ -50,10 +39,6 @@ foreign_not_legal device side generation page at live foreign legal =
     let same : Some (side, generation) ≡ Some (legal.0, legal.1) = sym live ∙ legal.2.live in let allowed = legal.2.allowed page at foreign.page_in_range foreign.place_in_range in
     let here : is_allowed_at device.size generation (set_of side device) page at ≡ true = subst (λ (found : Option (Side × ℕ)). allowed_in device page at found ≡ true) (sym same) allowed in
     true≢false (sym here ∙ foreign.foreign)
-
--- whether a word may stand there, as the code finds it
-pub allowed_there : (size shape : Size) (generation written page at : ℕ) (pages : List (List Word)) (word : Word) (result : Bool) → result ≡ is_allowed shape generation written page at word → shape ≡ size → written ≡ front (slots_of pages) → word ≡ word_of pages page at → is_allowed_at size generation pages page at ≡ result
-allowed_there size shape generation written page at pages word result is shape_is written_is word_is = sym (is ∙ rw (shape_is, written_is, word_is) refl)
 
 -- of two sets that are committed the one with the greater generation is live
 module _ (device : Device) (first second : ℕ) (first_is : Some first ≡ committed_generation (set_of First device)) (second_is : Some second ≡ committed_generation (set_of Second device)) where

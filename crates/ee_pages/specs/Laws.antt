@@ -1,6 +1,6 @@
 -- What a step keeps, in every outcome: each law is proved by the function of its name.
-use Rattle.std.specs.Prelude.{◌≡◌, ◌≢◌, ◌<◌, ◌≤◌, ◌⊎◌, ℕ, ◌+◌, false}
-use Rattle.ee_flash.specs.Device.{Device, page_at, word_at}
+use Rattle.std.specs.Prelude.{◌≡◌, ◌≢◌, ◌<◌, ◌≤◌, ◌⊎◌, ℕ, ◌+◌, None, false}
+use Rattle.ee_flash.specs.Device.{Device, IsFormed, page_at, word_at}
 use Rattle.ee_flash.specs.Laws.{IsStep, page_of}
 use Rattle.ee_flash.specs.Size.{Size}
 use Rattle.ee_flash.specs.Step.{Step, Program, Erase}
@@ -8,7 +8,7 @@ use Rattle.ee_flash.specs.declared.word.Word.TheVariants.{Erased}
 use Rattle.ee_pages.specs.Legal.{IsLive}
 use Rattle.ee_pages.specs.Meaning.{meaning}
 use Rattle.ee_pages.specs.Page.{is_blank}
-use Rattle.ee_pages.specs.Sets.{fill_of, first_page, other, set_of, slots_of}
+use Rattle.ee_pages.specs.Sets.{committed_generation, fill_of, first_page, other, set_of, slots_of}
 use Rattle.ee_pages.specs.declared.side.Side.{Side}
 
 -- the page, by its number in the device, is one of the set
@@ -48,3 +48,23 @@ StepKeepsOtherPages =
 abbrev pub ProgramLeavesWritten : Type 0
 ProgramLeavesWritten =
     (page at value : ℕ) (old new : Device) → IsStep (Program page at value) old new → (new.image ≡ old.image) ⊎ (is_blank (page_at new page) ≡ false)
+
+-- The set of this side is as before, page for page, and the other one commits as it did, or not at all. What stands in
+-- either is not said.
+pub record KeepsSide (old new : Device) (side : Side) : Type 0 where
+  pub formed : IsFormed new
+  pub same_size : new.size ≡ old.size
+  pub same_set : set_of side new ≡ set_of side old
+  pub same_slots : slots_of (set_of side new) ≡ slots_of (set_of side old)
+  pub commits : (committed_generation (set_of (other side) new) ≡ committed_generation (set_of (other side) old)) ⊎ (committed_generation (set_of (other side) new) ≡ None)
+
+-- every outcome of a step in the other set keeps this one, whatever stands in it, unless the step can commit the other
+abbrev pub OtherSetKeepsSide : Type 0
+OtherSetKeepsSide =
+    (step : Step) (old new : Device) (side : Side) → IsStep step old new
+    → IsPageOf old.size (other side) (page_of step) → CannotCommit (first_page old.size (other side)) step old
+    → KeepsSide old new side
+
+-- so a live set is kept
+abbrev pub KeptSideIsLive : Type 0
+KeptSideIsLive = (old new : Device) (side : Side) (generation : ℕ) → IsLive old side generation → KeepsSide old new side → KeepsLiveSet old new side generation

@@ -4,8 +4,8 @@ use Rattle.std.specs.List.{All}
 use Rattle.ee_flash.specs.Device.{Device}
 use Rattle.ee_flash.specs.Size.{Size}
 use Rattle.ee_flash.specs.declared.word.Word.{Word}
-use Rattle.ee_pages.specs.Page.{is_blank}
-use Rattle.ee_pages.specs.Sets.{committed_generation, fill_of, first_page, live_of, page_of_slot, set_of, slots_of}
+use Rattle.ee_pages.specs.Page.{is_blank, is_written}
+use Rattle.ee_pages.specs.Sets.{committed_generation, fill_of, first_page, live_of, page_of_slot, set_of, slots_of, word_of}
 use Rattle.ee_pages.specs.Legal.{IsLive, is_allowed_at}
 use Rattle.ee_pages.specs.declared.find.Layout.{Layout}
 use Rattle.ee_pages.specs.declared.find.ScanFault.{ScanFault}
@@ -44,3 +44,12 @@ IsScanFault device (Foreign page at) =
     ¬ IsUnformatted device
     × ((side : Side) × (generation : ℕ) × (live_of device ≡ Some (side, generation)) × (first_page device.size side ≤ page)
     × IsFirstForeign device.size generation (set_of side device) (page - first_page device.size side) at)
+
+-- the first word, by page and then place, that is written in the pages of a set behind one of them
+pub record IsWrittenBehind (device : Device) (side : Side) (page : ℕ) (place : ℕ × ℕ) : Type 0 where
+  pub behind : page < place.0
+  pub page_in_range : place.0 < device.size.pages
+  pub place_in_range : place.1 < device.size.words
+  pub written : is_written (word_of (set_of side device) place.0 place.1) ≡ true
+  pub pages_before : (k j : ℕ) → page < k → k < place.0 → j < device.size.words → is_written (word_of (set_of side device) k j) ≡ false
+  pub places_before : (j : ℕ) → j < place.1 → is_written (word_of (set_of side device) place.0 j) ≡ false

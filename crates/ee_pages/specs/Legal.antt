@@ -31,6 +31,12 @@ is_element slots.Free = false
 is_element slots.Spoiled = false
 is_element slots.Foreign = false
 
+-- a slot that is used: an element or a forgetting, or torn
+abbrev pub holds_slot : Word → Bool
+holds_slot Erased = false
+holds_slot Torn = true
+holds_slot (Held number) = is_element (slot_of (Held number))
+
 -- What may stand in each place of a live set of this generation:
 abbrev pub fits : ℕ → Place → Word → Bool
 -- first page, receive and active: as the commit demands, which is told apart

@@ -10,3 +10,6 @@ pub mod Filling
 pub mod Pending
 pub mod Nearest
 pub mod Elements
+pub mod Rescue
+pub mod RescuedSets
+pub mod RescueLaws

@@ -1,7 +1,8 @@
 -- The addresses of which slots say something, gathered slot by slot into a list by rising address.
-use Rattle.std.specs.Prelude.{◌≡◌, ◌<◌, ◌≤◌, ◌==◌, ℕ, nat_lt, if◌then◌else◌, Bool, true, false, Option, Some, None, List, [], ◌∷◌, zero, suc}
+use Rattle.std.specs.Prelude.{◌≡◌, ◌<◌, ◌≤◌, ◌==◌, ◌+◌, ◌/◌, ◌%◌, ◌^◌, ℕ, nat_lt, if◌then◌else◌, Option, Some, None, List, [], ◌∷◌, length, zero, suc}
 use Rattle.ee_flash.specs.declared.word.Word.{Word}
 use Rattle.ee_codec.specs.Reading.{slot_of}
+use Rattle.ee_codec.specs.Words.{IsAddress}
 use Rattle.ee_codec.specs.declared.slot.Slot.{Slot}
 use Rattle.ee_codec.specs.declared.slot.Slot.TheVariants.{Free, Spoiled, Element, Forgotten, Foreign}
 
@@ -56,12 +57,29 @@ abbrev pub last_named : ℕ → List Named → ℕ
 last_named above [] = above
 last_named above (first ∷ rest) = last_named first.0 rest
 
--- each address with its value, where the list beside says that it has one
-abbrev pub with_said : List (ℕ × ℕ) → List Bool → List Named
-with_said [] lives = []
-with_said (item ∷ items) [] = []
-with_said (item ∷ items) (true ∷ lives) = (item.0, Some item.1) ∷ with_said items lives
-with_said (item ∷ items) (false ∷ lives) = (item.0, None) ∷ with_said items lives
+-- the second list is as long as the first, and ends in the same address
+pub record HasSameLast (old new : List Named) : Type 0 where
+  pub same_length : length new ≡ length old
+  pub same_last : (above : ℕ) → last_named above new ≡ last_named above old
+
+-- the number is that of an element or a forgetting of a proper address, by the bits that hold one
+abbrev pub IsOfAddress : ℕ → Type 0
+IsOfAddress number = IsAddress (number % 2 ^ 16)
+
+-- the address in the number of an element or a forgetting, with what this says of it
+abbrev pub named_by : ℕ → Named
+named_by number = (number % 2 ^ 16, if number / 2 ^ 16 % 2 ^ 16 == 0 then Some (number / 2 ^ 32) else None)
+
+-- the address in it, with its value
+abbrev pub item_by : ℕ → ℕ × ℕ
+item_by number = (number % 2 ^ 16, number / 2 ^ 32)
+
+-- In a list that takes so many, so many addresses above one have a place: all, where it isn't full, and else those up to
+-- its last.
+pub record HasPlaces (room above span : ℕ) (list : List Named) : Type 0 where
+  pub free : length list < room → above + span ≡ 65534
+  pub full : length list ≡ room → above + span ≡ last_named above list
+  pub proper : above + span < 65535
 
 -- a batch as it is filled: its addresses with what is said of them, and with their values, if they all have one
 pub record Batch : Type 0 where

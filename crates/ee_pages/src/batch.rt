@@ -1,21 +1,23 @@
 //! The next live addresses, as many as are found in one look through the slots.
-ghost use Rattle.std.specs.Prelude.{◌≡◌, ◌≤◌, ◌<◌, ◌+◌, ◌-◌, ◌*◌, [], None, Some, length, take};
+ghost use Rattle.std.specs.Prelude.{◌≡◌, ◌≤◌, ◌<◌, ◌⊎◌, ◌+◌, ◌-◌, ◌*◌, ◌%◌, ◌/◌, ◌^◌, ℕ, [], None, length, map, take, true, false};
 ghost use Rattle.ee_flash.specs.Size.{header_words};
+ghost use Rattle.ee_flash.specs.declared.word.Word.TheVariants.{Held};
 ghost use Rattle.std.specs.List.{All};
 ghost use Rattle.ee_codec.specs.Reading.{slot_of};
 ghost use Rattle.ee_codec.specs.Words.{IsAddress};
-ghost use Rattle.ee_pages.specs.Layout.{IsLayout};
 ghost use Rattle.ee_pages.specs.Meaning.{meaning};
 ghost use Rattle.ee_pages.specs.LiveOrder.{AreLiveThrough, above_of};
-ghost use Rattle.ee_pages.specs.Nearest.{IsPlace, IsRising, Named, with_each_named, with_named, noted_above, slot_names};
+ghost use Rattle.ee_pages.specs.Nearest.{HasPlaces, IsRising, noted_above, slot_names, with_each_named};
 ghost use Rattle.ee_pages.specs.Sets.{set_of, slots_of};
 ghost use Rattle.ee_pages.specs.declared.batch_items.TheConstants.{BATCH};
 
-use crate::batch_items::{BATCH, Batch};
+use crate::batch_items::Batch;
 use crate::find::Layout;
-use crate::side::{Side, page_slot};
-use ee_codec::{Address, Slot, read_slot};
-use ee_flash::{Flash, HEADER_WORDS, Word};
+use crate::number::address_in;
+use crate::runs::{RUN, run_from};
+use crate::side::{Side, first_page};
+use ee_codec::Address;
+use ee_flash::{Flash, HEADER_WORDS};
 
 /// The live addresses of a stretch of addresses, with their values: as many as are found in one look
 /// through the slots.
@@ -57,13 +59,12 @@ pub fn next_batch<F: Flash>(
     after: Option<Address>,
     batch: &mut LiveBatch,
 )
-    requires { IsLayout (F.device flash.now) layout.now }
     ensures live { let slots = slots_of (set_of layout.now.side (F.device flash.now)) in
         AreLiveThrough (meaning slots) (above_of after) batch.new.found.items batch.new.through }
     ensures proper { All (λ found. IsAddress found.0) batch.new.found.items }
     ensures from { above_of after < 65535 }
 {
-    batch.found.clear();
+    batch.found.take_out();
     gather(flash, layout.side, number_of(after), &mut batch.found);
     batch.through = batch.found.last_if_full();
     batch.found.keep_living();
@@ -71,7 +72,8 @@ pub fn next_batch<F: Flash>(
 
 /// The number above which a batch begins.
 fn number_of(after: Option<Address>) -> u16
-    ensures { result ≡ above_of after }
+    ensures value { result ≡ above_of after }
+    ensures fits { result < 65535 }
 {
     match after {
         None => 0,
@@ -82,7 +84,8 @@ fn number_of(after: Option<Address>) -> u16
 /// Puts in the next addresses above this one of which a slot says something, each with what the last
 /// one says.
 fn gather<F: Flash>(flash: &F, side: Side, above: u16, nearest: &mut Batch)
-    requires { nearest.old.named ≡ [] }
+    requires above { above < 65535 }
+    requires empty { nearest.old.named ≡ [] }
     ensures { let slots = slots_of (set_of side (F.device flash.now)) in
         nearest.new.named ≡ take BATCH (with_each_named above slots []) }
 {
@@ -94,6 +97,7 @@ fn gather<F: Flash>(flash: &F, side: Side, above: u16, nearest: &mut Batch)
 /// Notes what the slots of a page say, behind those of the pages before.
 fn gather_page<F: Flash>(flash: &F, side: Side, page: usize, above: u16, nearest: &mut Batch)
     requires page_in_range { page < (F.device flash.now).size.pages }
+    requires above { above < 65535 }
     requires before { let device = F.device flash.now in nearest.old.named
         ≡ take BATCH (with_each_named above
         (take (page * (device.size.words - header_words)) (slots_of (set_of side device))) []) }
@@ -101,86 +105,74 @@ fn gather_page<F: Flash>(flash: &F, side: Side, page: usize, above: u16, nearest
         ≡ take BATCH (with_each_named above
         (take ((page + 1) * (device.size.words - header_words)) (slots_of (set_of side device))) []) }
 {
-    for slot in 0..flash.shape().words() - HEADER_WORDS {
-        note(above, page_slot(flash, side, page, slot), nearest);
+    let here = first_page(flash, side) + page;
+    let words = flash.shape().words();
+    let mut span = span_of(nearest, above);
+    let mut room = [1; RUN];
+    let mut at = HEADER_WORDS;
+    'runs: while at < words {
+        let run = run_from(flash, here, at, words, &mut room);
+        at += run.len();
+        span = note_all(above, span, run, nearest);
     }
 }
 
-/// Notes what a word says, if it is of an address above this one.
-fn note(above: u16, word: Word, nearest: &mut Batch)
+/// Notes what these numbers say, of so many addresses above this one, which are those that have a place
+/// in the batch. Gives how many have one then.
+#[inline(never)]
+fn note_all(above: u16, span: u32, numbers: &[u64], nearest: &mut Batch) -> u32
     requires rising { IsRising above nearest.old.named }
     requires few { length nearest.old.named ≤ BATCH }
-    ensures { nearest.new.named
-        ≡ take BATCH (noted_above above (slot_names (slot_of word)) nearest.old.named) }
+    requires places { HasPlaces BATCH above span nearest.old.named }
+    ensures noted { nearest.new.named
+        ≡ take BATCH (with_each_named above (map Held numbers.now) nearest.old.named) }
+    ensures places { HasPlaces BATCH above result nearest.new.named }
+{
+    let mut span = span;
+    for number in numbers {
+        span = note(above, span, *number, nearest);
+    }
+    span
+}
+
+/// Notes what a number says, if it is of one of so many addresses above this one.
+fn note(above: u16, span: u32, number: u64, nearest: &mut Batch) -> u32
+    requires rising { IsRising above nearest.old.named }
+    requires few { length nearest.old.named ≤ BATCH }
+    requires places { HasPlaces BATCH above span nearest.old.named }
+    ensures noted { nearest.new.named
+        ≡ take BATCH (noted_above above (slot_names (slot_of (Held number))) nearest.old.named) }
+    ensures places { HasPlaces BATCH above result nearest.new.named }
 {
     // Asked first, since most words are of an address that has no place in a batch.
-    let ending = ending_of(word);
-    if ending <= above || nearest.ends_before(ending) {
-        return;
+    if !is_within(address_in(number), above, span) {
+        return span;
     }
-    note_named(above, named(word), nearest);
-}
-
-/// The only address of which a word can say something, and 0 if there is none.
-fn ending_of(word: Word) -> u16
-    ensures { (name : Named) → slot_names (slot_of word) ≡ Some name → name.0 ≡ result }
-{
-    match word {
-        Word::Held(number) => (number & 0xffff) as u16,
-        _ => 0,
+    if nearest.note_last(number) {
+        return span;
     }
-}
-
-/// The address of which a word says something, with what it says.
-fn named(word: Word) -> Option<(Address, Option<u32>)>
-    ensures { result ≡ slot_names (slot_of word) }
-{
-    match read_slot(word) {
-        Slot::Element { address, value } => Some((address, Some(value))),
-        Slot::Forgotten { address, .. } => Some((address, None)),
-        _ => None,
-    }
-}
-
-/// Notes what is named, if it is an address above this one.
-fn note_named(above: u16, named: Option<(Address, Option<u32>)>, nearest: &mut Batch)
-    requires rising { IsRising above nearest.old.named }
-    requires few { length nearest.old.named ≤ BATCH }
-    ensures { nearest.new.named ≡ take BATCH (noted_above above named nearest.old.named) }
-{
-    if let Some((address, said)) = named {
-        note_said(above, address, said, nearest);
-    }
-}
-
-/// Notes what is said of an address, if it is above this one.
-fn note_said(above: u16, address: Address, said: Option<u32>, nearest: &mut Batch)
-    requires rising { IsRising above nearest.old.named }
-    requires few { length nearest.old.named ≤ BATCH }
-    ensures { nearest.new.named
-        ≡ take BATCH (noted_above above (Some (address, said)) nearest.old.named) }
-{
-    if address.get() <= above {
-        return;
-    }
-    let place = nearest.place_of(address);
-    if place < BATCH {
-        put(nearest, place, address, said);
-    }
-}
-
-/// Puts an address in its place, over what was noted of it; where there is no room the last one
-/// falls out.
-fn put(nearest: &mut Batch, place: usize, address: Address, said: Option<u32>)
-    requires place { IsPlace address nearest.old.named place }
-    requires within { place ≤ length nearest.old.named }
-    requires few { length nearest.old.named ≤ BATCH }
-    requires room { place < BATCH }
-    ensures { nearest.new.named ≡ take BATCH (with_named (address, said) nearest.old.named) }
-{
-    if nearest.has(place, address) {
-        nearest.set(place, address, said);
+    if nearest.note(number) {
+        span_of(nearest, above)
     } else {
-        nearest.insert(place, address, said);
+        span
     }
+}
+
+/// How many addresses above this one have a place in a batch.
+fn span_of(nearest: &Batch, above: u16) -> u32
+    requires above { above < 65535 }
+    requires rising { IsRising above nearest.now.named }
+    ensures { HasPlaces BATCH above result nearest.now.named }
+{
+    u32::from(nearest.greatest() - above)
+}
+
+/// Whether an address is one of so many above another one.
+fn is_within(address: u16, above: u16, span: u32) -> bool
+    requires { above + span < 65535 }
+    ensures yes { result ≡ true → (above < address) × (address ≤ above + span) }
+    ensures no { result ≡ false → (address ≤ above) ⊎ (above + span < address) }
+{
+    // One comparison, since what is no greater than `above` wraps.
+    u32::from(address).wrapping_sub(u32::from(above) + 1) < span
 }

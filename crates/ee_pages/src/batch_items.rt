@@ -1,15 +1,16 @@
 //! The room of a batch: up to `BATCH` addresses with their values, and while it is filled some with none.
-ghost use Rattle.std.specs.Prelude.{◌≡◌, ◌≢◌, ◌<◌, ◌≤◌, ◌+◌, ◌==◌, ℕ, [], ◌∷◌, ◌++◌, IfNone, IfSome, None, false, insert, length, slice_index_or, slice_set, take, true};
+ghost use Rattle.std.specs.Prelude.{◌≡◌, ◌≢◌, ◌<◌, ◌≤◌, ◌+◌, ◌-◌, ◌*◌, ◌/◌, ◌%◌, ◌^◌, ◌==◌, ℕ, [], ◌∷◌, ◌++◌, IfNone, IfSome, None, false, insert, length, map, slice_index, slice_index_or, slice_set, take, true};
 ghost use Rattle.std.specs.List.{All};
 ghost use Rattle.ee_codec.specs.Words.{IsAddress};
-ghost use Rattle.ee_pages.specs.Nearest.{IsPlace, IsRising, last_named, living, with_said};
+ghost use Rattle.ee_pages.specs.Nearest.{HasSameLast, IsOfAddress, IsRising, item_by, last_named, living, named_by, with_named};
 ghost use Rattle.ee_pages.specs.declared.batch_items.TheConstants.{BATCH};
 
-use ee_codec::Address;
+use crate::number::{address_in, gives_value, says_something};
+use ee_codec::{Address, element_word};
 use std::marker::Model;
 
 /// How many addresses a batch has room for.
-pub const BATCH: usize = 16;
+pub const BATCH: usize = 28;
 
 /// Addresses with their values, up to `BATCH`, in the value itself. While it is filled an address may
 /// stand in it that has no value.
@@ -17,26 +18,26 @@ pub const BATCH: usize = 16;
 /// Source: ours.
 #[derive(Drop)]
 pub struct Batch {
-    items: [(Address, u32); BATCH],
-    /// Which of the items have a value.
-    lives: [bool; BATCH],
+    /// The words of elements and forgettings, in the order of their addresses.
+    numbers: [u64; BATCH],
     len: usize,
 }
 
 impl Model for Batch {
-    ghost use Rattle.std.specs.Prelude.{◌≡◌, ◌≤◌, length, take};
-    ghost use Rattle.ee_pages.specs.Nearest.{Batch as Items, with_said};
+    ghost use Rattle.std.specs.Prelude.{◌≡◌, ◌≤◌, length, map, take};
+    ghost use Rattle.std.specs.List.{All};
+    ghost use Rattle.ee_pages.specs.Nearest.{Batch as Items, IsOfAddress, item_by, named_by};
     ghost use Rattle.ee_pages.specs.declared.batch_items.TheConstants.{BATCH};
 
     ghost Value = { Items };
 
     ghost view = { λ batch. record {
-      named = with_said (take batch.len batch.items) (take batch.len batch.lives);
-      items = take batch.len batch.items;
+      named = map named_by (take batch.len batch.numbers);
+      items = map item_by (take batch.len batch.numbers);
     } };
 
-    ghost invariant = { λ batch. (batch.len ≤ BATCH) × (length batch.items ≡ BATCH)
-        × (length batch.lives ≡ BATCH) };
+    ghost invariant = { λ batch. (batch.len ≤ BATCH) × (length batch.numbers ≡ BATCH)
+        × All IsOfAddress batch.numbers };
 }
 
 impl Batch {
@@ -45,9 +46,9 @@ impl Batch {
         ensures items { result.items ≡ [] }
         ensures named { result.named ≡ [] }
     {
+        // Any number of an address serves where there is none yet.
         Batch {
-            items: [(Address::default(), 0); BATCH],
-            lives: [false; BATCH],
+            numbers: [1; BATCH],
             len: 0,
         }
     }
@@ -75,70 +76,135 @@ impl Batch {
         self.len == BATCH
     }
 
-    /// The addresses with their values.
-    pub fn as_slice(&self) -> &[(Address, u32)]
-        ensures value { result.now ≡ self.now.items }
-        ensures fits { length result.now ≤ BATCH }
+    /// The address at this place, counted from 0, with its value. `None` behind the last.
+    #[inline(always)]
+    pub fn get(&self, place: usize) -> Option<(Address, u32)>
+        ensures found { IfSome result (λ found. (place < length self.now.items)
+            × (found ≡ slice_index_or self.now.items place found)) }
+        ensures none { IfNone result (length self.now.items ≤ place) }
+        ensures fits { length self.now.items ≤ BATCH }
     {
-        &self.items[..self.len]
+        if place >= self.len {
+            return None;
+        }
+        let number = self.numbers[place];
+        let address = Address::new(address_in(number))?;
+        Some((address, (number >> 32) as u32))
     }
 
     /// Puts an address with its value behind the others.
-    pub fn push(&mut self, item: (Address, u32))
+    pub fn push(&mut self, address: Address, value: u32)
         requires { length self.old.items < BATCH }
-        ensures items { self.new.items ≡ self.old.items ++ item ∷ [] }
+        ensures items { self.new.items ≡ self.old.items ++ (address, value) ∷ [] }
     {
-        self.items[self.len] = item;
-        self.lives[self.len] = true;
+        self.numbers[self.len] = element_word(address, value);
         self.len += 1;
     }
 
     /// Takes all addresses out.
-    pub(crate) fn clear(&mut self)
+    pub(crate) fn take_out(&mut self)
         ensures { self.new.named ≡ [] }
     {
         self.len = 0;
     }
 
-    /// How many of the addresses, which rise, are below this one. It looks from the last down, since
-    /// most addresses are above all.
-    pub(crate) fn place_of(&self, address: Address) -> usize
-        requires { (above : ℕ) × IsRising above self.now.named }
-        ensures place { IsPlace address self.now.named result }
-        ensures within { result ≤ length self.now.named }
+    /// Notes what an element or a forgetting says of the last address, if it is of that. It is asked first,
+    /// since an address that changes often has most of the slots.
+    #[inline(always)]
+    pub(crate) fn note_last(&mut self, number: u64) -> bool
+        requires proper { IsOfAddress number }
+        requires rising { (above : ℕ) × IsRising above self.old.named }
+        requires few { length self.old.named ≤ BATCH }
+        ensures kind { result ≡ true → number / 2 ^ 16 % 2 ^ 16 < 2 }
+        ensures noted { result ≡ true
+            → self.new.named ≡ take BATCH (with_named (named_by number) self.old.named) }
+        ensures same { result ≡ true → HasSameLast self.old.named self.new.named }
+        ensures other { result ≡ false → self.new.named ≡ self.old.named }
     {
-        place_in(&self.items[..self.len], address)
+        let len = self.len;
+        if len == 0 || !says_something(number) || !self.has(len - 1, address_in(number)) {
+            return false;
+        }
+        self.set(len - 1, number);
+        true
+    }
+
+    /// Notes what a number with an address says of it, over what was noted of it, if it is that of an
+    /// element or a forgetting. Where there is no room the last address falls out. Says whether there may
+    /// be another last address, or one more, than before.
+    #[inline(never)]
+    pub(crate) fn note(&mut self, number: u64) -> bool
+        requires proper { IsOfAddress number }
+        requires rising { (above : ℕ) × IsRising above self.old.named }
+        requires few { length self.old.named ≤ BATCH }
+        ensures noted { number / 2 ^ 16 % 2 ^ 16 < 2
+            → self.new.named ≡ take BATCH (with_named (named_by number) self.old.named) }
+        ensures unsaid { 2 ≤ number / 2 ^ 16 % 2 ^ 16 → self.new.named ≡ self.old.named }
+        ensures same { result ≡ false → HasSameLast self.old.named self.new.named }
+    {
+        says_something(number) && self.put(number)
+    }
+
+    /// The same for an element or a forgetting.
+    fn put(&mut self, number: u64) -> bool
+        requires proper { IsOfAddress number }
+        requires rising { (above : ℕ) × IsRising above self.old.named }
+        requires few { length self.old.named ≤ BATCH }
+        ensures noted { self.new.named ≡ take BATCH (with_named (named_by number) self.old.named) }
+        ensures same { result ≡ false → HasSameLast self.old.named self.new.named }
+    {
+        let address = address_in(number);
+        let through = self.place_through(address);
+        if through > 0 && self.has(through - 1, address) {
+            self.set(through - 1, number);
+            return false;
+        }
+        if through < BATCH {
+            self.insert(through, number);
+        }
+        true
+    }
+
+    /// How many of the addresses, which rise, are no greater than this one.
+    fn place_through(&self, address: u16) -> usize
+        ensures within { result ≤ length self.now.named }
+        ensures through { 0 < result
+            → (slice_index_or self.now.named (result - 1) (0, None)).0 ≤ address }
+        ensures behind { result < length self.now.named
+            → address < (slice_index_or self.now.named result (0, None)).0 }
+    {
+        place_in(&self.numbers[..self.len], address)
     }
 
     /// Whether this address stands at this place.
-    pub(crate) fn has(&self, place: usize, address: Address) -> bool
+    fn has(&self, place: usize, address: u16) -> bool
         ensures yes { result ≡ true → (place < length self.now.named)
             × ((slice_index_or self.now.named place (0, None)).0 ≡ address) }
         ensures no { result ≡ false → place < length self.now.named
             → (slice_index_or self.now.named place (0, None)).0 ≢ address }
     {
-        place < self.len && self.items[place].0.get() == address.get()
+        place < self.len && address_in(self.numbers[place]) == address
     }
 
-    /// Notes of the address at this place what is said of it.
-    pub(crate) fn set(&mut self, place: usize, address: Address, said: Option<u32>)
+    /// Notes of the address at this place what a number says of it.
+    fn set(&mut self, place: usize, number: u64)
+        requires proper { IsOfAddress number }
         requires within { place < length self.old.named }
         requires room { place < BATCH }
-        ensures { self.new.named ≡ slice_set self.old.named place (address, said) }
+        ensures { self.new.named ≡ slice_set self.old.named place (named_by number) }
     {
-        self.items[place] = (address, said.unwrap_or(0));
-        self.lives[place] = said.is_some();
+        self.numbers[place] = number;
     }
 
-    /// Puts an address in at this place. Where there is no room the last one falls out.
-    pub(crate) fn insert(&mut self, place: usize, address: Address, said: Option<u32>)
+    /// Puts a number in at this place. Where there is no room the last one falls out.
+    fn insert(&mut self, place: usize, number: u64)
+        requires proper { IsOfAddress number }
         requires within { place ≤ length self.old.named }
         requires room { place < BATCH }
-        ensures { self.new.named ≡ take BATCH (insert self.old.named place (address, said)) }
+        ensures { self.new.named ≡ take BATCH (insert self.old.named place (named_by number)) }
     {
         let end = one_more(self.len);
-        put_in(&mut self.items, place, end, (address, said.unwrap_or(0)));
-        put_in(&mut self.lives, place, end, said.is_some());
+        put_in(&mut self.numbers, place, end, number);
         self.len = end;
     }
 
@@ -152,19 +218,21 @@ impl Batch {
         if self.len < BATCH {
             return None;
         }
-        let (last, _) = self.items[BATCH - 1];
-        Some(last)
+        Address::new(address_in(self.numbers[BATCH - 1]))
     }
 
-    /// Whether there is no room for one more, and the last address is below this number.
-    pub(crate) fn ends_before(&self, number: u16) -> bool
-        ensures full { result ≡ true → length self.now.named ≡ BATCH }
-        ensures last { (above : ℕ) → result ≡ true → last_named above self.now.named < number }
+    /// The greatest address that has a place in it: the last one, where there is no room for one more.
+    pub(crate) fn greatest(&self) -> u16
+        ensures room { length self.now.named < BATCH → result ≡ 65534 }
+        ensures full { (above : ℕ) → length self.now.named ≡ BATCH
+            → result ≡ last_named above self.now.named }
+        ensures fits { length self.now.named ≤ BATCH }
+        ensures proper { IsAddress result }
     {
-        match self.last_if_full() {
-            None => false,
-            Some(last) => last.get() < number,
+        if self.len < BATCH {
+            return u16::MAX - 1;
         }
+        address_in(self.numbers[BATCH - 1])
     }
 
     /// Keeps those that have a value.
@@ -172,7 +240,7 @@ impl Batch {
         ensures items { self.new.items ≡ living self.old.named }
         ensures proper { All (λ found. IsAddress found.0) self.new.items }
     {
-        self.len = keep(&mut self.items, &self.lives, self.len);
+        self.len = keep(&mut self.numbers, self.len);
     }
 }
 
@@ -187,27 +255,30 @@ fn one_more(count: usize) -> usize
     if count < BATCH { count + 1 } else { BATCH }
 }
 
-/// How many of these addresses, which rise, are below this one.
-fn place_in(rising: &[(Address, u32)], address: Address) -> usize
-    requires { (above : ℕ) × IsRising above rising.now }
-    ensures place { IsPlace address rising.now result }
+/// How many of these addresses, which rise, are no greater than this one. It looks from the last down,
+/// since most addresses are above all.
+fn place_in(rising: &[u64], address: u16) -> usize
     ensures within { result ≤ length rising.now }
+    ensures through { 0 < result → slice_index rising.now (result - 1) % 2 ^ 16 ≤ address }
+    ensures behind { result < length rising.now
+        → address < slice_index rising.now result % 2 ^ 16 }
 {
     let mut place = rising.len();
-    'behind: while place > 0 && address.get() <= rising[place - 1].0.get() {
+    'behind: while place > 0 && address < address_in(rising[place - 1]) {
         place -= 1;
     }
     place
 }
 
-/// Puts an item in at this place of a list, and moves what stands from there on to before `end` one
+/// Puts a number in at this place of a list, and moves what stands from there on to before `end` one
 /// further; the last of these falls out.
-fn put_in<T: Copy>(list: &mut [T], place: usize, end: usize, item: T)
+fn put_in(list: &mut [u64], place: usize, end: usize, number: u64)
     requires place { place ≤ end }
     requires end { end ≤ length list.old }
-    ensures { take end list.new ≡ take end (insert list.old place item) }
+    ensures put { take end list.new ≡ take end (insert list.old place number) }
+    ensures proper { All IsOfAddress list.old → IsOfAddress number → All IsOfAddress list.new }
 {
-    let mut carried = item;
+    let mut carried = number;
     for at in place..end {
         let next = list[at];
         list[at] = carried;
@@ -215,31 +286,21 @@ fn put_in<T: Copy>(list: &mut [T], place: usize, end: usize, item: T)
     }
 }
 
-/// Moves those of the first `count` that have a value to the front, and says how many there are.
-fn keep(items: &mut [(Address, u32)], lives: &[bool], count: usize) -> usize
-    requires items { count ≤ length items.old }
-    requires lives { count ≤ length lives.now }
-    ensures living { take result items.new
-        ≡ living (with_said (take count items.old) (take count lives.now)) }
+/// Moves those of the first `count` that give a value to the front, and says how many there are.
+fn keep(numbers: &mut [u64], count: usize) -> usize
+    requires { count ≤ length numbers.old }
+    ensures living { map item_by (take result numbers.new)
+        ≡ living (map named_by (take count numbers.old)) }
     ensures few { result ≤ count }
-    ensures proper { All (λ found. IsAddress found.0) (take result items.new) }
+    ensures proper { All IsOfAddress numbers.old → All IsOfAddress numbers.new }
 {
     let mut kept = 0;
     for place in 0..count {
-        if lives[place] {
-            let item = items[place];
-            put_at(items, kept, item.0, item.1);
+        let number = numbers[place];
+        if gives_value(number) {
+            numbers[kept] = number;
             kept += 1;
         }
     }
     kept
-}
-
-/// Puts an address with its value at this place.
-fn put_at(items: &mut [(Address, u32)], place: usize, address: Address, value: u32)
-    requires { place < length items.old }
-    ensures items { items.new ≡ slice_set items.old place (address, value) }
-    ensures proper { IsAddress address }
-{
-    items[place] = (address, value);
 }

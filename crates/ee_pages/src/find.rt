@@ -1,17 +1,22 @@
 //! The scan: where the live set of a legal image is and how far it is used, or why an image isn't legal.
 ghost use Rattle.std.specs.Bool.{MatchBool};
-ghost use Rattle.std.specs.Prelude.{◌≡◌, ◌<◌, ◌≤◌, ◌↔◌, ℕ, ◌+◌, ◌*◌, ◌-◌, slice_index_or, IfErr, IfNone, IfOk, IfSome, IsTrue, None, Some, false, is_ok, true};
+ghost use Rattle.std.specs.Prelude.{◌≡◌, ◌<◌, ◌≤◌, ◌↔◌, ℕ, ◌+◌, ◌*◌, ◌-◌, IfErr, IfNone, IfOk, IfSome, IsTrue, None, OnOk, Some, false, is_ok, length, slice_index, true};
+ghost use Rattle.ee_codec.specs.Reading.{slot_of};
 ghost use Rattle.ee_codec.specs.Words.{IsGeneration};
-ghost use Rattle.ee_flash.specs.Size.{header_words, slot_count};
-ghost use Rattle.ee_pages.specs.Layout.{IsFirstForeign, IsLayout, IsScanFault, IsUnformatted};
-ghost use Rattle.ee_pages.specs.Legal.{IsLegal, is_allowed_at};
+ghost use Rattle.ee_flash.specs.Device.{word_at};
+ghost use Rattle.ee_flash.specs.Size.{header_words, page_count};
+ghost use Rattle.ee_flash.specs.declared.word.Word.TheVariants.{Held};
+ghost use Rattle.ee_pages.specs.Layout.{IsFirstForeign, IsLayout, IsScanFault, IsUnformatted, IsWrittenBehind};
+ghost use Rattle.ee_pages.specs.Legal.{IsLegal, fits as may_stand, holds_slot, is_allowed_at, is_element, place_of as place};
 ghost use Rattle.ee_pages.specs.Page.{is_written as written};
-ghost use Rattle.ee_pages.specs.Sets.{front, live_of, set_of, slots_of};
+ghost use Rattle.ee_pages.specs.Sets.{front, live_of, page_of_slot, set_of, slots_of, word_of};
 
-use crate::side::{Side, committed, first_page, page_slot, set_word};
-use crate::state::{is_blank, is_written};
-use crate::table::is_allowed;
-use ee_flash::{Flash, HEADER_WORDS, Word};
+use crate::number::is_slot;
+use crate::runs::{RUN, run_from};
+use crate::side::{Side, committed, first_page, set_word};
+use crate::state::{blank_to, is_blank, is_torn};
+use crate::table::{fits, place_of};
+use ee_flash::{Flash, HEADER_WORDS};
 
 /// Where the live set of a legal image is and how far it is used.
 ///
@@ -44,7 +49,8 @@ pub enum ScanFault {
     Foreign { page: usize, at: usize },
 }
 
-/// Finds the live set of a legal image. It reads each word of the live set at most three times.
+/// Finds the live set of a legal image. It reads each word of the live set at most twice, and behind
+/// each torn slot once more the words that stood in one run with it, up to 15.
 ///
 /// Source: one of two sets takes the writes, AN4894; the rest is ours.
 ///
@@ -60,18 +66,17 @@ pub fn scan<F: Flash>(flash: &F) -> Result<Layout, ScanFault>
         return Err(ScanFault::Unformatted);
     }
     let (side, generation) = live_set(flash)?;
-    let written = count_front(flash, side);
     let start = first_page(flash, side);
-    match first_foreign(flash, side, generation, written) {
-        Some((page, at)) => Err(ScanFault::Foreign {
+    match front_of(flash, side, generation) {
+        Err((page, at)) => Err(ScanFault::Foreign {
             page: start + page,
             at,
         }),
-        None => Ok(Layout {
+        Ok((fill, page)) => Ok(Layout {
             side,
             generation,
-            fill: written,
-            current: start + written.saturating_sub(1) / (flash.shape().words() - HEADER_WORDS),
+            fill,
+            current: start + page,
         }),
     }
 }
@@ -116,93 +121,195 @@ fn live_set<F: Flash>(flash: &F) -> Result<(Side, u32), ScanFault>
     }
 }
 
-/// How many slots of a set stand before the first erased one. Page by page, since finding a slot by its
-/// number takes a division.
-fn count_front<F: Flash>(flash: &F, side: Side) -> usize
-    ensures front { result ≡ front (slots_of (set_of side (F.device flash.now))) }
-    ensures within { result ≤ slot_count (F.device flash.now).size }
-{
-    let shape = flash.shape();
-    let slots = shape.words() - HEADER_WORDS;
-    for page in 0..shape.pages() {
-        let front = front_of_page(flash, side, page);
-        if front < slots {
-            return page * slots + front;
-        }
-    }
-    shape.slots()
-}
-
-/// How many slots of a page of a set stand before the first erased one of them.
-fn front_of_page<F: Flash>(flash: &F, side: Side, page: usize) -> usize
-    requires page_in_range { page < (F.device flash.now).size.pages }
-    ensures within { result ≤ (F.device flash.now).size.words - header_words }
-    ensures before { let device = F.device flash.now in (k : ℕ) → k < result
-        → written (slice_index_or (slots_of (set_of side device))
-        (page * (device.size.words - header_words) + k) Word.Erased) ≡ true }
-    ensures erased { let device = F.device flash.now in result < device.size.words - header_words
-        → written (slice_index_or (slots_of (set_of side device))
-        (page * (device.size.words - header_words) + result) Word.Erased) ≡ false }
-{
-    let slots = flash.shape().words() - HEADER_WORDS;
-    for slot in 0..slots {
-        if !is_written(page_slot(flash, side, page, slot)) {
-            return slot;
-        }
-    }
-    slots
-}
-
-/// The first word of a live set, by page and then place, that may not stand there. The page is
-/// counted from the set's first.
-fn first_foreign<F: Flash>(
+/// How many slots of a live set are used, and the page of the last of them, the first page where none
+/// is; or the first word, by page and then place, that may not stand there. Pages are counted from the
+/// set's first.
+fn front_of<F: Flash>(
     flash: &F,
     side: Side,
     generation: u32,
-    written: usize,
-) -> Option<(usize, usize)>
-    requires generation { IsGeneration generation }
-    requires written { written ≡ front (slots_of (set_of side (F.device flash.now))) }
-    ensures found { let device = F.device flash.now in IfSome result
-        (λ place. IsFirstForeign device.size generation (set_of side device) place.0 place.1) }
-    ensures none { let device = F.device flash.now in IfNone result
+) -> Result<(usize, usize), (usize, usize)>
+    requires { IsGeneration generation }
+    ensures front { IfOk result
+        (λ used. used.0 ≡ front (slots_of (set_of side (F.device flash.now)))) }
+    ensures page { IfOk result
+        (λ used. used.1 ≡ page_of_slot (F.device flash.now).size (used.0 - 1)) }
+    ensures within { IfOk result (λ used. used.1 < (F.device flash.now).size.pages) }
+    ensures allowed { let device = F.device flash.now in OnOk result
         ((page at : ℕ) → page < device.size.pages → at < device.size.words
         → is_allowed_at device.size generation (set_of side device) page at ≡ true) }
+    ensures found { let device = F.device flash.now in IfErr result
+        (λ place. IsFirstForeign device.size generation (set_of side device) place.0 place.1) }
 {
-    for page in 0..flash.shape().pages() {
-        if let Some(at) = foreign_in_page(flash, side, generation, written, page) {
-            return Some((page, at));
+    let shape = flash.shape();
+    for page in 0..shape.pages() {
+        match front_of_page(flash, side, generation, page) {
+            Err(at) => return Err((page, at)),
+            Ok(used) => {
+                if used < shape.words() - HEADER_WORDS {
+                    return front_in(flash, side, page, used);
+                }
+            }
         }
     }
-    None
+    Ok((shape.slots(), shape.pages() - 1))
 }
 
-/// The first word of a page of a live set that may not stand there.
-fn foreign_in_page<F: Flash>(
+/// The same, where the first slot that isn't used is this one of a page: behind it all has to be erased.
+fn front_in<F: Flash>(
+    flash: &F,
+    side: Side,
+    page: usize,
+    used: usize,
+) -> Result<(usize, usize), (usize, usize)>
+    requires page_in_range { page < (F.device flash.now).size.pages }
+    requires slot_in_range { used < (F.device flash.now).size.words - header_words }
+    ensures front { let size = (F.device flash.now).size in IfOk result
+        (λ front. front.0 ≡ page * (size.words - header_words) + used) }
+    ensures page { let size = (F.device flash.now).size in IfOk result
+        (λ front. front.1 ≡ page_of_slot size (front.0 - 1)) }
+    ensures within { IfOk result (λ front. front.1 < (F.device flash.now).size.pages) }
+    ensures blank { let device = F.device flash.now in OnOk result
+        ((k j : ℕ) → page < k → k < device.size.pages → j < device.size.words
+        → written (word_of (set_of side device) k j) ≡ false) }
+    ensures found { IfErr result (IsWrittenBehind (F.device flash.now) side page) }
+{
+    blank_behind(flash, side, page)?;
+    let slots = flash.shape().words() - HEADER_WORDS;
+    let last = if used == 0 {
+        page.saturating_sub(1)
+    } else {
+        page
+    };
+    Ok((page * slots + used, last))
+}
+
+/// That the pages of a set behind this one are blank, or their first word, by page and then place, that
+/// is written.
+fn blank_behind<F: Flash>(flash: &F, side: Side, page: usize) -> Result<(), (usize, usize)>
+    requires { page < (F.device flash.now).size.pages }
+    ensures blank { let device = F.device flash.now in OnOk result
+        ((k j : ℕ) → page < k → k < device.size.pages → j < device.size.words
+        → written (word_of (set_of side device) k j) ≡ false) }
+    ensures found { IfErr result (IsWrittenBehind (F.device flash.now) side page) }
+{
+    let shape = flash.shape();
+    let first = first_page(flash, side);
+    for behind in page + 1..shape.pages() {
+        let at = blank_to(flash, first + behind, 0);
+        if at < shape.words() {
+            return Err((behind, at));
+        }
+    }
+    Ok(())
+}
+
+/// How many slots of a page of a live set are used, where all before them are; or the first word of the
+/// page that may not stand there.
+fn front_of_page<F: Flash>(
     flash: &F,
     side: Side,
     generation: u32,
-    written: usize,
     page: usize,
-) -> Option<usize>
+) -> Result<usize, usize>
     requires generation { IsGeneration generation }
     requires page_in_range { page < (F.device flash.now).size.pages }
-    requires written { written ≡ front (slots_of (set_of side (F.device flash.now))) }
-    ensures within { IfSome result (λ at. at < (F.device flash.now).size.words) }
-    ensures foreign { let device = F.device flash.now in IfSome result
-        (λ at. is_allowed_at device.size generation (set_of side device) page at ≡ false) }
-    ensures before { let device = F.device flash.now in IfSome result (λ at. (j : ℕ) → j < at
+    requires before { let device = F.device flash.now in
+        page * (device.size.words - header_words) ≤ front (slots_of (set_of side device)) }
+    ensures within { IfOk result (λ used. used ≤ (F.device flash.now).size.words - header_words) }
+    ensures used { let device = F.device flash.now in IfOk result
+        (λ used. page * (device.size.words - header_words) + used ≤ front (slots_of (set_of side device))) }
+    ensures front { let device = F.device flash.now in IfOk result
+        (λ used. used < device.size.words - header_words
+        → front (slots_of (set_of side device)) ≡ page * (device.size.words - header_words) + used) }
+    ensures allowed { let device = F.device flash.now in OnOk result ((j : ℕ) → j < device.size.words
         → is_allowed_at device.size generation (set_of side device) page j ≡ true) }
-    ensures none { let device = F.device flash.now in IfNone result
-        ((j : ℕ) → j < device.size.words
+    ensures place_in_range { IfErr result (λ at. at < (F.device flash.now).size.words) }
+    ensures foreign { let device = F.device flash.now in IfErr result
+        (λ at. is_allowed_at device.size generation (set_of side device) page at ≡ false) }
+    ensures before { let device = F.device flash.now in IfErr result (λ at. (j : ℕ) → j < at
         → is_allowed_at device.size generation (set_of side device) page j ≡ true) }
 {
-    let shape = flash.shape();
-    for at in 0..shape.words() {
-        let word = set_word(flash, side, page, at);
-        if !is_allowed(shape, generation, written, page, at, word) {
+    if let Some(at) = foreign_in_header(flash, side, generation, page) {
+        return Err(at);
+    }
+    let here = first_page(flash, side) + page;
+    let end = used_to(flash, here);
+    // Behind the slots that are used all have to be erased, the next one first of all.
+    let written = blank_to(flash, here, end);
+    if written < flash.shape().words() {
+        return Err(written);
+    }
+    Ok(end - HEADER_WORDS)
+}
+
+/// The first word of the header of a page of a live set that doesn't fit its place.
+fn foreign_in_header<F: Flash>(flash: &F, side: Side, generation: u32, page: usize) -> Option<usize>
+    requires generation { IsGeneration generation }
+    requires page_in_range { page < (F.device flash.now).size.pages }
+    ensures within { IfSome result (λ at. at < header_words) }
+    ensures foreign { IfSome result (λ at. may_stand generation (place page at)
+        (word_of (set_of side (F.device flash.now)) page at) ≡ false) }
+    ensures before { IfSome result (λ at. (j : ℕ) → j < at → may_stand generation (place page j)
+        (word_of (set_of side (F.device flash.now)) page j) ≡ true) }
+    ensures none { IfNone result ((j : ℕ) → j < header_words → may_stand generation (place page j)
+        (word_of (set_of side (F.device flash.now)) page j) ≡ true) }
+{
+    for at in 0..HEADER_WORDS {
+        if !fits(
+            generation,
+            place_of(page, at),
+            set_word(flash, side, page, at),
+        ) {
             return Some(at);
         }
     }
     None
+}
+
+/// The place of a page's first slot that is neither torn nor has an element or a forgetting; as many as
+/// the page has words where each is or has. It stays out of the opening, whose stack is deep without it.
+#[inline(never)]
+fn used_to<F: Flash>(flash: &F, page: usize) -> usize
+    requires { page < page_count (F.device flash.now).size }
+    ensures from { header_words ≤ result }
+    ensures within { result ≤ (F.device flash.now).size.words }
+    ensures before { (j : ℕ) → header_words ≤ j → j < result
+        → holds_slot (word_at (F.device flash.now) page j) ≡ true }
+    ensures end { result < (F.device flash.now).size.words
+        → holds_slot (word_at (F.device flash.now) page result) ≡ false }
+{
+    let words = flash.shape().words();
+    let mut room = [1; RUN];
+    let mut at = HEADER_WORDS;
+    'runs: while at < words {
+        let run = run_from(flash, page, at, words, &mut room);
+        let slots = slots_in(run);
+        let all = slots == run.len();
+        at += slots;
+        if !all {
+            // A torn word is 0 in a run, as one that holds 0 is.
+            if !is_torn(flash.word(page, at)) {
+                return at;
+            }
+            at += 1;
+        }
+    }
+    words
+}
+
+/// How many numbers, from the first on, are each of an element or a forgetting.
+fn slots_in(numbers: &[u64]) -> usize
+    ensures within { result ≤ length numbers.now }
+    ensures before { (k : ℕ) → k < result
+        → is_element (slot_of (Held (slice_index numbers.now k))) ≡ true }
+    ensures end { result < length numbers.now
+        → is_element (slot_of (Held (slice_index numbers.now result))) ≡ false }
+{
+    for (place, number) in numbers.iter().enumerate() {
+        if !is_slot(*number) {
+            return place;
+        }
+    }
+    numbers.len()
 }

@@ -1,14 +1,26 @@
 //! Laws that hold of every device and every step, each the contract of a function that does nothing.
 ghost use Rattle.ee_pages.specs.Elements.{LastElementCounts};
 ghost use Rattle.ee_pages.specs.Filling.{CommitCommits, FirstCommitCommits, OpensPage, OpensSet, StagesChange, WholeCommitCommits};
-ghost use Rattle.ee_pages.specs.Laws.{OtherSetKeepsLive, ProgramLeavesWritten, StepKeepsOtherPages};
+ghost use Rattle.ee_pages.specs.Laws.{KeptSideIsLive, OtherSetKeepsLive, OtherSetKeepsSide, ProgramLeavesWritten, StepKeepsOtherPages};
 ghost use Rattle.ee_pages.specs.Pending.{ChangeCounts, EraseLowersPending, FullSetHasNoBlankPage, LiveWithinFill, ProgramKeepsPending, WholeEraseLowersPending};
 ghost use Rattle.ee_pages.specs.Pushing.{MarkKeepsLive, PushTakes, WholePushTakes};
+ghost use Rattle.ee_pages.specs.RescueLaws.{HeldIsRescued, LegalIsBadWhereTorn, LiveIsHeld, LiveIsRescued, LosesASet, OneWordCostsItsValue, BadWordLeavesHeld, BadWaitingWordLeavesHeld, WaitingWordCostsNothing};
 
 /// Every outcome of a step in the set that is not live keeps the live set, its slots, its fill and
 /// its meaning, and the image legal, unless the step can commit that other set.
 pub fn other_set_keeps_live()
     ensures { OtherSetKeepsLive }
+{}
+
+/// Every outcome of a step in one set keeps the other, whatever stands in either, unless the step can
+/// commit the set that it is in.
+pub fn other_set_keeps_side()
+    ensures { OtherSetKeepsSide }
+{}
+
+/// A live set that is kept so is live still.
+pub fn kept_side_is_live()
+    ensures { KeptSideIsLive }
 {}
 
 /// Every outcome of a step leaves each page but its own as it was, so blank or not.
@@ -105,4 +117,50 @@ pub fn first_commit_commits()
 /// Source: AN4894.
 pub fn last_element_counts()
     ensures { LastElementCounts }
+{}
+
+/// On a legal image the live set is rescued, with its map and its generation.
+pub fn live_is_rescued()
+    ensures { LiveIsRescued }
+{}
+
+/// On a legal image the bad words of the live set are its torn ones.
+pub fn legal_is_bad_where_torn()
+    ensures { LegalIsBadWhereTorn }
+{}
+
+/// One word of the live set that went bad costs its own value, and no more. Of the two words that
+/// commit the set it takes that the other set isn't begun, or is marked whole.
+pub fn one_word_costs_its_value()
+    ensures { OneWordCostsItsValue }
+{}
+
+/// One word of the set that waits costs nothing, by the same premise on its commit words.
+pub fn waiting_word_costs_nothing()
+    ensures { WaitingWordCostsNothing }
+{}
+
+/// There are two sets for which that premise fails, and a bad commit word costs the live one.
+pub fn one_word_can_cost_a_set()
+    ensures { LosesASet }
+{}
+
+/// A set that is live but for what stands behind its first words is rescued, and stays so.
+pub fn held_is_rescued()
+    ensures { HeldIsRescued }
+{}
+
+/// The live set of a legal image is such a set.
+pub fn live_is_held()
+    ensures { LiveIsHeld }
+{}
+
+/// It stays one after one word of it went bad, but for the two that commit it.
+pub fn bad_word_leaves_held()
+    ensures { BadWordLeavesHeld }
+{}
+
+/// Or one of the set that waits, but for the two that commit that set.
+pub fn bad_waiting_word_leaves_held()
+    ensures { BadWaitingWordLeavesHeld }
 {}

@@ -1,6 +1,5 @@
 //! What the slots of a live set say: values, the next live address, how many are live, how many torn.
-ghost use Rattle.std.specs.Prelude.{◌≡◌, ◌<◌, ◌≤◌, ◌+◌, ◌-◌, ◌*◌, ℕ, IfSome, drop, slice_index_or, take, true};
-ghost use Rattle.ee_codec.specs.Reading.{ends_in as word_ends_in};
+ghost use Rattle.std.specs.Prelude.{◌≡◌, ◌<◌, ◌≤◌, ◌+◌, ◌-◌, ◌*◌, ◌%◌, ◌^◌, ◌≢◌, ℕ, IfSome, drop, length, slice_index, slice_index_or, take};
 ghost use Rattle.ee_codec.specs.Words.{IsAddress};
 ghost use Rattle.ee_flash.specs.Size.{header_words, slot_count};
 ghost use Rattle.ee_pages.specs.Layout.{IsLayout};
@@ -10,9 +9,11 @@ ghost use Rattle.ee_pages.specs.Sets.{set_of, slots_of, torn_of};
 
 use crate::batch::{LiveBatch, next_batch};
 use crate::find::Layout;
+use crate::number::{address_in, gives_value, says_something};
+use crate::runs::RUN;
 use crate::side::{Side, first_page, page_slot, set_slot};
 use crate::state::is_torn;
-use ee_codec::{Address, Slot, ends_in, read_slot};
+use ee_codec::Address;
 use ee_flash::{Flash, HEADER_WORDS, Word};
 
 /// The word in a slot of the live set, by the slot's number, counted from 0 and below the capacity.
@@ -20,16 +21,15 @@ use ee_flash::{Flash, HEADER_WORDS, Word};
 ///
 /// Source: ours.
 pub fn slot_word<F: Flash>(flash: &F, layout: &Layout, slot: usize) -> Word
-    requires layout { IsLayout (F.device flash.now) layout.now }
-    requires slot_in_range { slot < slot_count (F.device flash.now).size }
+    requires { slot < slot_count (F.device flash.now).size }
     ensures { let slots = slots_of (set_of layout.now.side (F.device flash.now)) in
         result ≡ slice_index_or slots slot Word.Erased }
 {
     set_slot(flash, layout.side, slot)
 }
 
-/// The value of an address, `None` if it has none. It reads each slot once at most, from the newest
-/// down to the first that says something of the address. The layout is the image's.
+/// The value of an address, `None` if it has none. It reads the slots in runs from the newest down, each
+/// once, to the run with the first that says something of the address. The layout is the image's.
 ///
 /// Source: the last element written for an address is its value, AN4894; a forgetting is ours.
 pub fn latest<F: Flash>(flash: &F, layout: &Layout, address: Address) -> Option<u32>
@@ -61,7 +61,6 @@ pub fn next_live<F: Flash>(
     layout: &Layout,
     after: Option<Address>,
 ) -> Option<(Address, u32)>
-    requires { IsLayout (F.device flash.now) layout.now }
     ensures next { let slots = slots_of (set_of layout.now.side (F.device flash.now)) in
         IsNextLive (meaning slots) (above_of after) result }
     ensures proper { IfSome result (λ found. IsAddress found.0) }
@@ -70,8 +69,8 @@ pub fn next_live<F: Flash>(
     let mut batch = LiveBatch::new();
     'batches: loop {
         next_batch(flash, layout, behind, &mut batch);
-        if let Some(found) = batch.found.as_slice().first() {
-            return Some(*found);
+        if let Some(found) = batch.found.get(0) {
+            return Some(found);
         }
         let Some(through) = batch.through else {
             return None;
@@ -85,7 +84,6 @@ pub fn next_live<F: Flash>(
 ///
 /// Source: ours.
 pub fn live_count<F: Flash>(flash: &F, layout: &Layout) -> usize
-    requires { IsLayout (F.device flash.now) layout.now }
     ensures { let slots = slots_of (set_of layout.now.side (F.device flash.now)) in
         result ≡ live_in (meaning slots) }
 {
@@ -107,7 +105,6 @@ pub fn live_count<F: Flash>(flash: &F, layout: &Layout) -> usize
 ///
 /// Source: ours.
 pub fn torn_slots<F: Flash>(flash: &F, layout: &Layout) -> usize
-    requires { IsLayout (F.device flash.now) layout.now }
     ensures { let slots = slots_of (set_of layout.now.side (F.device flash.now)) in
         result ≡ torn_of slots }
 {
@@ -151,34 +148,52 @@ fn said_in_page<F: Flash>(
         let slots = slots_of (set_of side (F.device flash.now)) in
         result ≡ latest_in (take used (drop before slots)) address }
 {
-    for slot in (0..used).rev() {
-        if let Some(said) = says(page_slot(flash, side, page, slot), address) {
-            return Some(said);
+    let here = first_page(flash, side) + page;
+    let mut room = [1; RUN];
+    let mut left = used;
+    'runs: while left > 0 {
+        let count = RUN.min(left);
+        left -= count;
+        let run = flash.run(here, HEADER_WORDS + left, &mut room[..count]);
+        let ends = ending_in(run, address);
+        if ends > 0 {
+            if let Some(said) = said(run[ends - 1]) {
+                return Some(said);
+            }
+            left += ends - 1;
         }
     }
     None
 }
 
-/// What a word says of an address: nothing, or that it has a value or none from here on.
-fn says(word: Word, address: Address) -> Option<Option<u32>>
-    ensures { result ≡ word_says word address }
+/// How many of these numbers stand up to the last that ends in an address, 0 where none does. It does no
+/// more than that, since most numbers end in another one.
+#[inline(never)]
+fn ending_in(numbers: &[u64], address: Address) -> usize
+    ensures within { result ≤ length numbers.now }
+    ensures ends { 0 < result → slice_index numbers.now (result - 1) % 2 ^ 16 ≡ address }
+    ensures proper { 0 < result → IsAddress address }
+    ensures behind { (k : ℕ) → result ≤ k → k < length numbers.now
+        → slice_index numbers.now k % 2 ^ 16 ≢ address }
 {
-    // Asked first, since most words are of another address.
-    if !ends_in(word, address) {
-        return None;
+    let mut left = numbers.len();
+    'behind: while left > 0 && address_in(numbers[left - 1]) != address.get() {
+        left -= 1;
     }
-    said(word)
+    left
 }
 
-/// What a word says of the address that it ends in. It stays out of the loop that asks for an
-/// address, which runs over most words and is short without it.
-#[inline(never)]
-fn said(word: Word) -> Option<Option<u32>>
-    ensures { (address : ℕ) → word_ends_in word address ≡ true → result ≡ word_says word address }
+/// What a number says of the address that it ends in: nothing, or that it has a value or none from here
+/// on.
+fn said(number: u64) -> Option<Option<u32>>
+    ensures { IsAddress (number % 2 ^ 16) → result ≡ word_says (Word.Held number) (number % 2 ^ 16) }
 {
-    match read_slot(word) {
-        Slot::Element { value, .. } => Some(Some(value)),
-        Slot::Forgotten { .. } => Some(None),
-        _ => None,
+    if !says_something(number) {
+        return None;
+    }
+    if gives_value(number) {
+        Some(Some((number >> 32) as u32))
+    } else {
+        Some(None)
     }
 }

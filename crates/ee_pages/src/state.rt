@@ -1,9 +1,10 @@
 //! What a page's header says: the last word of it that is written names the state.
-ghost use Rattle.std.specs.Prelude.{◌≡◌, ◌<◌};
-ghost use Rattle.ee_flash.specs.Device.{page_at};
+ghost use Rattle.std.specs.Prelude.{◌≡◌, ◌<◌, ◌≤◌, ◌≢◌, ℕ, false, length, slice_index, true};
+ghost use Rattle.ee_flash.specs.Device.{all_ones, page_at, word_at};
 ghost use Rattle.ee_flash.specs.Size.{page_count};
 ghost use Rattle.ee_pages.specs.Page.{is_blank as blank, is_torn as torn, is_written as written, state_of_words};
 
+use crate::runs::{RUN, run_from};
 use ee_flash::{Flash, Word};
 
 /// What a page's header says of it. A torn mark counts as present.
@@ -66,12 +67,65 @@ pub fn is_blank<F: Flash>(flash: &F, page: usize) -> bool
     requires { page < page_count (F.device flash.now).size }
     ensures { result ≡ blank (page_at (F.device flash.now) page) }
 {
-    for at in 0..flash.shape().words() {
-        if is_written(flash.word(page, at)) {
-            return false;
+    // Asked first, since it is written in most pages that aren't blank.
+    if is_written(flash.word(page, 0)) {
+        return false;
+    }
+    blank_to(flash, page, 0) == flash.shape().words()
+}
+
+/// The place, from one on, of a page's first word that is written; as many as it has words where none
+/// is.
+pub(crate) fn blank_to<F: Flash>(flash: &F, page: usize, from: usize) -> usize
+    requires page_in_range { page < page_count (F.device flash.now).size }
+    requires place_in_range { from ≤ (F.device flash.now).size.words }
+    ensures from { from ≤ result }
+    ensures within { result ≤ (F.device flash.now).size.words }
+    ensures before { (j : ℕ) → from ≤ j → j < result
+        → written (word_at (F.device flash.now) page j) ≡ false }
+    ensures end { result < (F.device flash.now).size.words
+        → written (word_at (F.device flash.now) page result) ≡ true }
+{
+    let words = flash.shape().words();
+    let mut room = [1; RUN];
+    let mut at = from;
+    'runs: while at < words {
+        let run = run_from(flash, page, at, words, &mut room);
+        // Asked first, since most runs are, and it is a shorter loop than one that counts.
+        if !is_erased(run) {
+            return at + erased_in(run);
+        }
+        at += run.len();
+    }
+    words
+}
+
+/// Whether all numbers are all ones.
+fn is_erased(numbers: &[u64]) -> bool
+    ensures yes { result ≡ true → (k : ℕ) → k < length numbers.now
+        → slice_index numbers.now k ≡ all_ones }
+    ensures no { result ≡ false → ¬ ((k : ℕ) → k < length numbers.now
+        → slice_index numbers.now k ≡ all_ones) }
+{
+    let mut all = u64::MAX;
+    for number in numbers {
+        all &= *number;
+    }
+    all == u64::MAX
+}
+
+/// How many numbers, from the first on, are all ones.
+fn erased_in(numbers: &[u64]) -> usize
+    ensures within { result ≤ length numbers.now }
+    ensures before { (k : ℕ) → k < result → slice_index numbers.now k ≡ all_ones }
+    ensures end { result < length numbers.now → slice_index numbers.now result ≢ all_ones }
+{
+    for (place, number) in numbers.iter().enumerate() {
+        if *number != u64::MAX {
+            return place;
         }
     }
-    true
+    numbers.len()
 }
 
 /// Whether something was programmed into the word, whole or torn.

@@ -1,11 +1,11 @@
 //! Which word may stand in which place of a live set: what makes an image legal.
-ghost use Rattle.std.specs.Prelude.{◌≡◌, ◌<◌};
+ghost use Rattle.std.specs.Prelude.{◌≡◌};
 ghost use Rattle.ee_codec.specs.Words.{IsGeneration};
-ghost use Rattle.ee_pages.specs.Legal.{fits as may_stand, is_allowed as allowed, place_of as place};
+ghost use Rattle.ee_pages.specs.Legal.{fits as may_stand, place_of as place};
 
 use crate::state::is_written;
 use ee_codec::{MarkRead, Slot, read_mark, read_slot, receive_word};
-use ee_flash::{HEADER_WORDS, Shape, Word};
+use ee_flash::Word;
 
 /// The places of a live set, by what may stand in them.
 #[derive(Clone, Copy)]
@@ -23,7 +23,7 @@ pub(crate) enum Place {
 }
 
 /// The place of a word of a set.
-fn place_of(page: usize, at: usize) -> Place
+pub(crate) fn place_of(page: usize, at: usize) -> Place
     ensures { result ≡ place page at }
 {
     if at > 3 {
@@ -41,8 +41,10 @@ fn place_of(page: usize, at: usize) -> Place
     }
 }
 
-/// Whether the word may stand in the place of a live set of this generation.
-fn fits(generation: u32, place: Place, word: Word) -> bool
+/// Whether the word may stand in the place of a live set of this generation. It stands in each of its
+/// callers, so that an opening has the same code in firmware whether bad words are counted or not.
+#[inline(always)]
+pub(crate) fn fits(generation: u32, place: Place, word: Word) -> bool
     requires { IsGeneration generation }
     ensures { result ≡ may_stand generation place word }
 {
@@ -56,23 +58,4 @@ fn fits(generation: u32, place: Place, word: Word) -> bool
         Place::Erasing => !is_written(word),
         Place::InSlot => !matches!(read_slot(word), Slot::Foreign),
     }
-}
-
-/// Whether the word fits its place, and is erased if a slot before it is: `written` slots stand
-/// before the first erased one.
-pub(crate) fn is_allowed(
-    shape: Shape,
-    generation: u32,
-    written: usize,
-    page: usize,
-    at: usize,
-    word: Word,
-) -> bool
-    requires generation { IsGeneration generation }
-    requires page_in_range { page < shape.pages }
-    requires place_in_range { at < shape.words }
-    ensures { result ≡ allowed shape generation written page at word }
-{
-    let before = page * (shape.words() - HEADER_WORDS) + at.saturating_sub(HEADER_WORDS);
-    fits(generation, place_of(page, at), word) && (!is_written(word) || before <= written)
 }

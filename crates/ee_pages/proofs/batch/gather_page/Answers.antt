@@ -1,28 +1,43 @@
-use Rattle.std.proofs.Common.{◌≡◌, ◌+◌, ◌-◌, ◌*◌, ◌<◌, [], take, length, refl, subst, ap, arith}
-use Rattle.ee_codec.specs.Reading.{slot_of}
-use Rattle.ee_pages.specs.Nearest.{slot_names, with_each_named}
-use Rattle.ee_pages.specs.Sets.{set_of, slots_of}
+use Rattle.std.proofs.Common.{◌≡◌, ◌+◌, ◌-◌, ◌*◌, ◌≤◌, [], take, length, subst, ap, arith, ◌∙◌}
+use Rattle.ee_flash.specs.Runs.{run_of}
 use Rattle.ee_flash.specs.Size.{Size}
-use Rattle.ee_pages.proofs.Nearest.{few_of, in_set, one_slot, rising_of}
-use Rattle.ee_pages.proofs.Slots.{length-slots}
+use Rattle.ee_pages.specs.Nearest.{with_each_named}
+use Rattle.ee_pages.specs.Sets.{set_of, slots_of}
+use Rattle.ee_pages.proofs.Nearest.{few_of, rising_of}
+use Rattle.ee_pages.proofs.RunSlots.{run_gathers}
 use Rattle.ee_pages.specs.declared.batch_items.TheConstants.{BATCH}
 use Rattle.ee_pages.proofs.batch.gather_page.Goals as goal
 
-pub note-requires-clause-rising : goal.note-requires-clause-rising
-note-requires-clause-rising g c =
+pub span_of-span-requires-clause-rising : goal.span_of-span-requires-clause-rising
+span_of-span-requires-clause-rising g c =
     let device = g.F.Flash.device c.args.flash.now in
-    rising_of BATCH c.args.above (take (c.args.page * (device.size.words - 4) + c.loop-slot.slot) (slots_of (set_of c.args.side device))) c.loop-slot.nearest.named c.loop-slot.invariant
+    rising_of BATCH c.args.above (take (c.args.page * (device.size.words - 4)) (slots_of (set_of c.args.side device))) c.args.nearest.now.named c.requires.before
 
-pub note-requires-clause-few : goal.note-requires-clause-few
-note-requires-clause-few g c =
+pub note_all-span-requires-clause-rising : goal.note_all-span-requires-clause-rising
+note_all-span-requires-clause-rising g c =
     let device = g.F.Flash.device c.args.flash.now in
-    few_of BATCH c.args.above (take (c.args.page * (device.size.words - 4) + c.loop-slot.slot) (slots_of (set_of c.args.side device))) c.loop-slot.nearest.named c.loop-slot.invariant
+    rising_of BATCH c.args.above (take (c.args.page * (device.size.words - 4) + (c.runs.at - 4)) (slots_of (set_of c.args.side device))) c.runs.nearest.named c.runs.invariant.named
 
-pub loop-slot-preserved : goal.loop-slot-preserved
-loop-slot-preserved g c =
-    let device = g.F.Flash.device c.args.flash.now in let slots = slots_of (set_of c.args.side device) in let formed = g.met.F.Flash.formed c.args.flash.now in
-    let place = c.args.page * (device.size.words - 4) + c.loop-slot.slot in let more : place + 1 ≡ c.args.page * (device.size.words - 4) + (c.loop-slot.slot + 1) = omega arith in
-    let few : c.loop-slot.slot < device.size.words - 4 = omega (arith, c.loop-slot-test.true, c.words-slot-end.ensures.value, ap (λ (size : Size). size.words) c.shape.ensures) in
-    let within : place < length slots = omega (arith, length-slots c.args.side device formed, in_set c.args.page device.size.pages (device.size.words - 4) c.loop-slot.slot c.requires.page_in_range few) in
-    subst (λ n. c.note.new.nearest.named ≡ take BATCH (with_each_named c.args.above (take n slots) [])) more
-    (one_slot BATCH c.args.above slots place c.page_slot.result (slot_names (slot_of c.page_slot.result)) c.loop-slot.nearest.named c.note.new.nearest.named within c.page_slot.ensures refl c.loop-slot.invariant c.note.ensures)
+pub note_all-span-requires-clause-few : goal.note_all-span-requires-clause-few
+note_all-span-requires-clause-few g c =
+    let device = g.F.Flash.device c.args.flash.now in
+    few_of BATCH c.args.above (take (c.args.page * (device.size.words - 4) + (c.runs.at - 4)) (slots_of (set_of c.args.side device))) c.runs.nearest.named c.runs.invariant.named
+
+pub runs-preserved : goal.runs-preserved
+runs-preserved g c =
+    let device = g.F.Flash.device c.args.flash.now in let slots = slots_of (set_of c.args.side device) in
+    let row = device.size.words - 4 in let here = c.first_page.result + c.args.page in
+    let from = c.runs.at - 4 in let count = length c.run_from-run.result.now in let so_far = c.runs.invariant in let run = c.run_from-run.ensures in
+    let words : c.words-words.result ≡ device.size.words = c.words-words.ensures.value ∙ ap (λ (size : Size). size.words) c.shape.ensures in
+    let ends : c.runs.at + count ≤ device.size.words = omega (arith, run.within, words) in
+    let at : c.runs.at ≡ 4 + from = omega (arith, so_far.from) in
+    let next : c.args.page * row + from + count ≡ c.args.page * row + (c.runs.at + count - 4) = omega (arith, so_far.from) in
+    record {
+      named = subst (λ n. c.note_all-span.new.nearest.named ≡ take BATCH (with_each_named c.args.above (take n slots) [])) next
+          (run_gathers device c.args.side c.args.page here (g.met.F.Flash.formed c.args.flash.now) c.requires.page_in_range (ap (λ n. n + c.args.page) c.first_page.ensures)
+          BATCH c.args.above from count c.run_from-run.result.now c.runs.nearest.named c.note_all-span.new.nearest.named
+          (run.numbers ∙ ap (λ n. run_of device here n count) at) (omega (arith, ends, at)) so_far.named c.note_all-span.ensures.noted);
+      from = omega (arith, so_far.from);
+      within = ends;
+      places = c.note_all-span.ensures.places;
+    }

@@ -1,15 +1,14 @@
-use Rattle.std.proofs.Common.{◌≡◌, ◌≤◌, ℕ, length, take, drop}
+use Rattle.std.proofs.Common.{◌≡◌, ◌≤◌, length, map, take, drop}
 use Rattle.std.specs.List.{All}
-use Rattle.ee_codec.specs.Words.{IsAddress}
-use Rattle.ee_pages.specs.Nearest.{living as living_of, with_said}
+use Rattle.ee_pages.specs.Nearest.{IsOfAddress, item_by, living as living_of, named_by}
 use Rattle.ee_pages.proofs.batch_items.keep.Given as goal
 
 abbrev pub invariant-loop-place : goal.invariant-loop-place
 invariant-loop-place l = record {
-  living : take l.kept l.items ≡ living_of (with_said (take l.place l.fn.items) (take l.place l.lives));
-  rest : drop l.place l.items ≡ drop l.place l.fn.items;
-  as_long : length l.items ≡ length l.fn.items;
+  living : map item_by (take l.kept l.numbers) ≡ living_of (map named_by (take l.place l.fn.numbers));
+  rest : drop l.place l.numbers ≡ drop l.place l.fn.numbers;
+  as_long : length l.numbers ≡ length l.fn.numbers;
   few : l.kept ≤ l.place;
   within : l.place ≤ l.fn.count;
-  proper : All (λ (found : ℕ × ℕ). IsAddress found.0) (take l.kept l.items);
+  proper : All IsOfAddress l.fn.numbers → All IsOfAddress l.numbers;
 }

@@ -1,9 +1,9 @@
-use Rattle.std.proofs.Common.{sym, ap}
+use Rattle.std.proofs.Common.{◌≤◌, length, sym, ap, arith}
 use Rattle.ee_pages.specs.Nearest.{Batch}
-use Rattle.ee_pages.proofs.BatchLists.{said_anew}
+use Rattle.ee_pages.proofs.BatchLists.{set_anew}
 use Rattle.ee_pages.proofs.batch_items.Batch.set.Goals as goal
 
 pub returns : goal.returns
 returns c =
-    let i = c.self.inside in
-    rw (c.unwrap_or.ensures, c.is_some.ensures, sym (ap (λ (b : Batch). b.named) c.self.view_is)) (said_anew i.len i.items i.lives c.args.place c.args.address c.args.said)
+    let i = c.self.inside in let few : i.len ≤ length i.numbers = omega (arith, c.self.invariant.0, c.self.invariant.1) in
+    rw (sym (ap (λ (b : Batch). b.named) c.self.view_is)) (set_anew i.len i.numbers few c.args.place c.args.number)

@@ -1,0 +1,35 @@
+//! What the number of a word says in the place of a slot.
+ghost use Rattle.std.specs.Prelude.{◌≡◌, ◌<◌, ◌≤◌, ◌/◌, ◌%◌, ◌^◌, ◌==◌, false, true};
+ghost use Rattle.ee_codec.specs.Reading.{slot_of};
+ghost use Rattle.ee_flash.specs.declared.word.Word.TheVariants.{Held};
+ghost use Rattle.ee_pages.specs.Legal.{is_element};
+
+/// Whether a number is that of an element or a forgetting.
+pub(crate) fn is_slot(number: u64) -> bool
+    ensures { result ≡ is_element (slot_of (Held number)) }
+{
+    // One comparison for an address that is neither 0 nor 65535, since 0 wraps.
+    address_in(number).wrapping_sub(1) < u16::MAX - 1 && says_something(number)
+}
+
+/// The address in the number of an element or a forgetting.
+pub(crate) fn address_in(number: u64) -> u16
+    ensures { result ≡ number % 2 ^ 16 }
+{
+    (number & 0xffff) as u16
+}
+
+/// Whether a number with an address is that of an element or a forgetting.
+pub(crate) fn says_something(number: u64) -> bool
+    ensures yes { result ≡ true → number / 2 ^ 16 % 2 ^ 16 < 2 }
+    ensures no { result ≡ false → 2 ≤ number / 2 ^ 16 % 2 ^ 16 }
+{
+    (number >> 16) & 0xffff < 2
+}
+
+/// Whether the number of an element or a forgetting gives its address a value.
+pub(crate) fn gives_value(number: u64) -> bool
+    ensures { result ≡ (number / 2 ^ 16 % 2 ^ 16 == 0) }
+{
+    (number >> 16) & 0xffff == 0
+}

@@ -1,0 +1,31 @@
+//! The words of a page, several at a time.
+ghost use Rattle.std.specs.Prelude.{◌≡◌, ◌<◌, ◌≤◌, ◌+◌, length};
+ghost use Rattle.ee_flash.specs.Runs.{run_of};
+ghost use Rattle.ee_flash.specs.Size.{page_count};
+ghost use Rattle.ee_pages.specs.declared.runs.TheConstants.{RUN};
+
+use ee_flash::Flash;
+
+/// How many words a loop over a page asks its flash for at once.
+pub(crate) const RUN: usize = 16;
+
+/// The numbers of the words of a page from a place on: up to `RUN` of them, all before `end`, and at
+/// least one.
+#[inline(always)]
+pub(crate) fn run_from<'a, F: Flash>(
+    flash: &'a F,
+    page: usize,
+    at: usize,
+    end: usize,
+    room: &'a mut [u64; RUN],
+) -> &'a [u64]
+    requires page_in_range { page < page_count (F.device flash.now).size }
+    requires place_in_range { at < end }
+    requires end_in_range { end ≤ (F.device flash.now).size.words }
+    ensures numbers { result.now ≡ run_of (F.device flash.now) page at (length result.now) }
+    ensures some { 0 < length result.now }
+    ensures within { at + length result.now ≤ end }
+{
+    let count = RUN.min(end - at);
+    flash.run(page, at, &mut room[..count])
+}
